@@ -41,7 +41,7 @@ class Builds(unittest.TestCase):
         """What it says, its status, and what it built."""
         self.makes, self.made = makes, []
         text = io.StringIO()
-        with contextlib.redirect_stdout(text), contextlib.redirect_stderr(text):
+        with contextlib.redirect_stdout(text), contextlib.redirect_stderr(text), mock.patch.object(build_program, "tell"):
             status = build_program.main(list(words))
         return text.getvalue(), status, [path.name for path in self.made]
 

@@ -14,11 +14,13 @@ use Rattle.cx_core.specs.State.{Instance, State}
 use Rattle.core_runs.proofs.ImageLaws.{image_shared}
 use Rattle.cx_core.proofs.Claims.{shared_below}
 use Rattle.cx_core.proofs.ReplicaWords.{replica_at}
+use Rattle.core_queue.specs.NotedSets.{OwnSetsHold, SetNotesHold}
 use Rattle.cx_rule.specs.declared.rule.Known.{Known}
 use Rattle.cx_rule.specs.Fitting.{loads_of}
 use Rattle.cx_rule.specs.Rule.{IsBehindNotes, IsOrigin, IsTraced, NotesHold}
 use Rattle.cx_rule.proofs.Traced.{image_origin}
 use Rattle.cx_rule.proofs.Entries.{entries_from}
+use Rattle.cx_rule.proofs.Having.{has_of_history}
 
 -- words that were loaded and are there
 loads_lead : (region : ℕ) (word : ℕ → ℕ) (words : List ℕ) (loaded : List (ℕ × ℕ)) → ((i : ℕ) → i < region → slice_index words i ≡ word i) → All (λ (x : ℕ × ℕ). (x.0 < region) × (word x.0 ≡ x.1)) loaded → NotesLead (loads_of loaded) words words
@@ -40,16 +42,18 @@ shared_there instance s law some caller l at h mine =
       loads_lead region (vol_word instance s.words h.replica) words h.loaded (λ i below. replica_at instance.callers region s.words h.replica i below) (law.regions.loaded caller l at h mine),
     )
 
-pub behind_notes : (instance : Instance) (s : State) (law : Lawful instance s) → 0 < length instance.base.words → (caller : ℕ) (l : Local) → slice_get s.locals caller ≡ Some l →
-    (k : Known) → k.local ≡ shown l → NotesHold instance law.history k.noted → IsTraced instance law.history k.accesses l → IsBehindNotes instance k
-behind_notes instance s law some caller l at k shows noted traced = record {
+pub behind_notes : (instance : Instance) (s : State) (law : Lawful instance s) → 0 < length instance.base.words → (l : Local) (k : Known) → slice_get s.locals k.local.number ≡ Some l →
+    k.local ≡ shown l → NotesHold instance law.history k.noted → IsTraced instance law.history k.accesses l →
+    SetNotesHold instance s law.history k.sets → OwnSetsHold instance law.history l.cells → IsBehindNotes instance k
+behind_notes instance s law some l k at shows noted traced sets own = record {
   history = law.history;
   small = law.tickets.below;
   entries = entries_from instance s law;
   noted = noted;
+  had = has_of_history instance s law k l at shows noted sets own;
   first = traced.first;
   now = traced.now;
   origin = traced.origin;
   leads = traced.leads;
-  shared = λ h has. shared_there instance s law some caller l at h (ap (λ (x : Local). x.shared) (sym shows) ∙ has);
+  shared = λ h has. shared_there instance s law some k.local.number l at h (ap (λ (x : Local). x.shared) (sym shows) ∙ has);
 }

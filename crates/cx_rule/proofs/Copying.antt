@@ -78,9 +78,9 @@ agree_lists known n agree first now from read long long' leads leads' =
     noted_tells n known.accesses i a.0 small a.1 first now long leads ∙ sym (noted_tells n loads i a.0 small a.2 from read long' leads')))
 
 -- so whatever fits is equal
-pub agree_equal : (lines : ℕ) (lawful : List ℕ → Type 0) (base : Base) (known : Known) (n : ℕ) → n ≡ region_words lines → AgreeTo known n → AreEqual lines lawful base known
-agree_equal lines lawful base known n is agree first now from read fits reads =
-    agree_lists known n agree first now from read (fits.origin.size.long ∙ sym is) (reads.fits.origin.size.long ∙ sym is) fits.leads reads.fits.leads
+pub agree_equal : (lines : ℕ) (lawful : List ℕ → Type 0) (base : Base) (step : List ℕ → List ℕ → List ℕ × List ℕ) (known : Known) (n : ℕ) → n ≡ region_words lines → AgreeTo known n → AreEqual lines lawful base step known
+agree_equal lines lawful base step known n is agree first now from read fits reads =
+    agree_lists known n agree first now from read (fits.fits.origin.size.long ∙ sym is) (reads.fits.origin.size.long ∙ sym is) fits.fits.leads reads.fits.leads
 
 -- The release of a shared right whose words were copied makes them what is noted of the replica held exclusively: they are a
 -- full image, and they are there.

@@ -1,13 +1,12 @@
 -- What is really there fits what a caller noted. So what is said of all that fits is true of it: entries that the caller has and
 -- that lead on from a full image lead to the full image after their place.
-use Rattle.std.proofs.Common.{inl, inr, ◌≡◌, ◌+◌, ◌-◌, ◌^◌, ◌<◌, ◌≤◌, ℕ, suc, List, ◌∷◌, length, slice_index, refl, ap, sym, subst, ◌∙◌, arith, Some}
+use Rattle.std.proofs.Common.{◌≡◌, ◌+◌, ◌-◌, ◌^◌, ◌<◌, ◌≤◌, ℕ, suc, List, ◌∷◌, length, slice_index, refl, ap, sym, subst, ◌∙◌, arith, Some}
 use Rattle.std.proofs.lemmas.List.{ext_get_or}
 use Rattle.std.proofs.lemmas.Option.{same_Some, slice_get_within}
 use Rattle.std.specs.List.{slice_get}
 use Rattle.cx_base.specs.Noted.{Note, NotesLead}
 use Rattle.cx_core.specs.declared.entry.Base.{Base}
 use Rattle.cx_core.specs.declared.entry.Entry.{Entry}
-use Rattle.cx_core.specs.declared.local.Linked.{Linked}
 use Rattle.cx_core.specs.Base.{LawfulBase}
 use Rattle.cx_core.specs.History.{AreLawful, IsFull, IsLawfulEntry, full_image}
 use Rattle.cx_core.specs.Merge.{IsLinked}
@@ -18,8 +17,8 @@ use Rattle.cx_core.specs.WriteSet.{stored}
 use Rattle.cx_core.proofs.HistoryLemmas.{ObjectLaws, full_lawful, full_next}
 use Rattle.cx_rule.specs.declared.rule.Known.{Known}
 use Rattle.cx_rule.specs.declared.rule.Noted.{Noted}
-use Rattle.cx_rule.specs.Fitting.{Chain, Fits, Fitting, HasEntry, IsNoted, IsOwn, ReplayedTo, base_of, entries_of, no_set, start, with_entry, with_set}
-use Rattle.cx_rule.specs.Having.{IsOfHistory, Has}
+use Rattle.cx_rule.specs.Fitting.{Fits, FitsOn, Fitting, Has, IsNoted, ReplayedTo, base_of, has_of, start, with_entry, with_set}
+use Rattle.cx_rule.specs.Having.{IsOfHistory}
 use Rattle.cx_rule.specs.Rule.{IsBehindNotes, IsEntryFrom, IsOrigin, NotesHold}
 
 -- entries by their callers' numbers in a lawful base are lawful
@@ -30,6 +29,27 @@ entries_lawful lines lawful instance history base from i entry at =
     let most = e.most in
     let least = base.numbers entry.caller e.caller in
     record { caller = e.caller; some = e.some; most = omega arith; op = e.op }
+
+-- an entry that is noted whole is the history's
+pub noted_linked : (instance : Instance) (history : List Entry) → ((i : ℕ) (entry : Entry) → slice_get history i ≡ Some entry → IsEntryFrom instance i entry) →
+    (notes : List Noted) (ticket : ℕ) (e : Entry) → NotesHold instance history notes → instance.base.place ≤ ticket → IsNoted notes ticket e → IsLinked instance.base.place history ticket e
+noted_linked instance history entries notes ticket e hold from noted =
+    let first = noted.each 0 (omega arith) in
+    let is = hold first.0 _ first.1 from in
+    let x = is.entry in
+    let op = (entries _ x is.linked.at).op in
+    let words : (i : ℕ) → i < 145 → slice_index (x.number ∷ x.op) i ≡ slice_index (e.number ∷ e.op) i = λ i below. (
+    let at = noted.each i below in
+    let here = hold at.0 _ at.1 from in
+    let same : here.entry ≡ x = same_Some here.entry x (sym here.linked.at ∙ is.linked.at) in
+    ap (λ (y : Entry). slice_index (y.number ∷ y.op) i) (sym same) ∙ here.word) in
+    let l = op.long in
+    let ops : x.op ≡ e.op = ext_get_or 0 x.op e.op (l ∙ sym noted.long) (λ i below. words (suc i) (omega (arith, below, l))) in
+    let all : x ≡ e =
+    ap (λ c. (let y : Entry = record { caller = c; number = x.number; op = x.op } in y)) is.caller
+    ∙ ap (λ k. (let y : Entry = record { caller = e.caller; number = k; op = x.op } in y)) (words 0 (omega arith))
+    ∙ ap (λ ws. (let y : Entry = record { caller = e.caller; number = e.number; op = ws } in y)) ops in
+    subst (λ y. IsLinked instance.base.place history ticket y) all is.linked
 
 module _ (lines : ℕ) (lawful : List ℕ → Type 0) (instance : Instance) (laws : ObjectLaws lines lawful instance.step) (base : LawfulBase lines lawful instance.base) (history : List Entry)
     (small : instance.base.place + length history ≤ 2 ^ 40) (entries : (i : ℕ) (entry : Entry) → slice_get history i ≡ Some entry → IsEntryFrom instance i entry) where
@@ -53,35 +73,15 @@ module _ (lines : ℕ) (lawful : List ℕ → Type 0) (instance : Instance) (law
   pub traced_fits : (accesses : List Note) (first now : List ℕ) → IsOrigin instance history first → NotesLead accesses first now → Fits lines lawful instance.base accesses first now
   traced_fits accesses first now o leads = record { origin = full_base first (origin_full first o); from = o.from; leads = leads }
 
-  -- an entry that is noted whole is the history's
-  pub noted_linked : (notes : List Noted) (ticket : ℕ) (e : Entry) → NotesHold instance history notes → instance.base.place ≤ ticket → IsNoted notes ticket e → IsLinked instance.base.place history ticket e
-  noted_linked notes ticket e hold from noted =
-      let first = noted.each 0 (omega arith) in
-      let is = hold first.0 _ first.1 from in
-      let x = is.entry in
-      let op = (entries _ x is.linked.at).op in
-      let words : (i : ℕ) → i < 145 → slice_index (x.number ∷ x.op) i ≡ slice_index (e.number ∷ e.op) i = λ i below. (
-      let at = noted.each i below in
-      let here = hold at.0 _ at.1 from in
-      let same : here.entry ≡ x = same_Some here.entry x (sym here.linked.at ∙ is.linked.at) in
-      ap (λ (y : Entry). slice_index (y.number ∷ y.op) i) (sym same) ∙ here.word) in
-      let l = op.long in
-      let ops : x.op ≡ e.op = ext_get_or 0 x.op e.op (l ∙ sym noted.long) (λ i below. words (suc i) (omega (arith, below, l))) in
-      let all : x ≡ e =
-      ap (λ c. (let y : Entry = record { caller = c; number = x.number; op = x.op } in y)) is.caller
-      ∙ ap (λ k. (let y : Entry = record { caller = e.caller; number = k; op = x.op } in y)) (words 0 (omega arith))
-      ∙ ap (λ ws. (let y : Entry = record { caller = e.caller; number = e.number; op = ws } in y)) ops in
-      subst (λ y. IsLinked instance.base.place history ticket y) all is.linked
-
   -- so it is lawful at its ticket
   pub noted_lawful : (notes : List Noted) (ticket : ℕ) (e : Entry) → NotesHold instance history notes → instance.base.place ≤ ticket → IsNoted notes ticket e → IsLawfulEntry ticket e
   noted_lawful notes ticket e hold from noted =
-      let linked = noted_linked notes ticket e hold from noted in
+      let linked = noted_linked instance history entries notes ticket e hold from noted in
       let there : instance.base.place + (ticket - instance.base.place) ≡ ticket = omega arith in
       subst (λ t. IsLawfulEntry t e) there (are_lawful (ticket - instance.base.place) e linked.at)
 
   -- entries and sets that are the history's lead in order from a full image to full images
-  pub chain_on : (has : Has) → IsOfHistory instance history has → (first : List ℕ) → IsFull instance history first → (place : ℕ) (now : List ℕ) → Chain instance.step has.entry has.set first place now →
+  pub chain_on : (has : Has) → IsOfHistory instance history has → (first : List ℕ) → IsFull instance history first → (place : ℕ) (now : List ℕ) → ReplayedTo instance.step has first place now →
       (instance.base.place ≤ place) × (place ≤ instance.base.place + length history) × (now ≡ full_image instance.step instance.base history place)
   chain_on has hold first origin place now (start _ _ at is) =
       (subst (λ q. instance.base.place ≤ q) (sym at) origin.from, subst (λ q. q ≤ instance.base.place + length history) (sym at) origin.to, is ∙ origin.full ∙ ap (full_image instance.step instance.base history) (sym at))
@@ -104,21 +104,10 @@ module _ (lines : ℕ) (lawful : List ℕ → Type 0) (instance : Instance) (law
         is ∙ ap (stored (slice_index pairs 0) pairs) r.2 ∙ l.1.gives ∙ ap (full_image instance.step instance.base history) (sym at),
       )
 
-  -- the own entries are the history's
-  abbrev pub OwnLinked : List Linked → Type 0
-  OwnLinked own = (ticket : ℕ) (e : Entry) → IsOwn own ticket e → IsLinked instance.base.place history ticket e
-
-  -- entries alone
-  entries_of_history : (known : Known) → NotesHold instance history known.noted → OwnLinked known.local.own → IsOfHistory instance history (record { entry = HasEntry (entries_of known); set = no_set })
-  entries_of_history known hold own = record {
-    entries = λ t e from has. elim has [ inl read ↦ noted_linked known.noted t e hold from read | inr mine ↦ own t e mine ];
-    sets = λ t pairs from none. absurd none;
-  }
-
   -- so they are the full image after their place
-  pub chain_full : (known : Known) → NotesHold instance history known.noted → OwnLinked known.local.own → (first : List ℕ) → IsOrigin instance history first → (place : ℕ) (now : List ℕ) → ReplayedTo instance.step (entries_of known) first place now → IsFull instance history now × (place_of now ≡ place)
-  chain_full known hold own first origin place now chain =
-      let r = chain_on (record { entry = HasEntry (entries_of known); set = no_set }) (entries_of_history known hold own) first (origin_full first origin) place now chain in
+  pub chain_full : (has : Has) → IsOfHistory instance history has → (first : List ℕ) → IsOrigin instance history first → (place : ℕ) (now : List ℕ) → ReplayedTo instance.step has first place now → IsFull instance history now × (place_of now ≡ place)
+  chain_full has hold first origin place now chain =
+      let r = chain_on has hold first (origin_full first origin) place now chain in
       let at : place_of now ≡ place = ap place_of r.2 ∙ (full_at place r.0 r.1).at_place in (
         record {
           from = subst (λ q. instance.base.place ≤ q) (sym at) r.0;
@@ -128,12 +117,28 @@ module _ (lines : ℕ) (lawful : List ℕ → Type 0) (instance : Instance) (law
         at,
       )
 
--- some pair fits what a caller noted, and each entry that is noted whole is lawful
-pub fitting : (lines : ℕ) (lawful : List ℕ → Type 0) (instance : Instance) → ObjectLaws lines lawful instance.step → LawfulBase lines lawful instance.base → (known : Known) → IsBehindNotes instance known → Fitting lines lawful instance.base known
-fitting lines lawful instance laws base known behind = record {
-  exclusive = ∣ (behind.first, behind.now, traced_fits lines lawful instance laws base behind.history behind.small behind.entries known.accesses behind.first behind.now behind.origin behind.leads) ∣₁;
-  shared = λ h has. (
-      let s = behind.shared h has in
-      ∣ (s.0, s.0, record { fits = traced_fits lines lawful instance laws base behind.history behind.small behind.entries _ s.0 s.0 s.1 s.2; same = refl }) ∣₁);
-  entries = λ ticket entry from noted. noted_lawful lines lawful instance laws base behind.history behind.small behind.entries known.noted ticket entry behind.noted from noted;
-}
+  -- what is there fits, and stays lawful through what is the history's
+  pub traced_on : (has : Has) → IsOfHistory instance history has → (accesses : List Note) (first now : List ℕ) → IsOrigin instance history first → NotesLead accesses first now → FitsOn lines lawful instance.base instance.step has accesses first now
+  traced_on has hold accesses first now origin leads = record {
+    fits = traced_fits accesses first now origin leads;
+    stays = λ place mid chain. (
+        let r = chain_on has hold first (origin_full first origin) place mid chain in
+        subst (λ ws. LawfulBase lines lawful (let b : Base = record { place = place; words = ws } in b)) (sym r.2) (full_at place r.0 r.1));
+  }
+
+-- some pair fits what a caller noted, each entry that is noted whole is lawful, and each set that it has is one of a region
+pub fitting : (lines : ℕ) (lawful : List ℕ → Type 0) (instance : Instance) → ObjectLaws lines lawful instance.step → LawfulBase lines lawful instance.base → (known : Known) → IsBehindNotes instance known → Fitting lines lawful instance.base instance.step known
+fitting lines lawful instance laws base known behind =
+    let history = behind.history in
+    record {
+      exclusive = ∣ (behind.first, behind.now, traced_on lines lawful instance laws base history behind.small behind.entries (has_of known) behind.had known.accesses behind.first behind.now behind.origin behind.leads) ∣₁;
+      shared = λ h has. (
+          let s = behind.shared h has in
+          ∣ (s.0, s.0, record { fits = traced_fits lines lawful instance laws base history behind.small behind.entries _ s.0 s.0 s.1 s.2; same = refl }) ∣₁);
+      entries = λ ticket entry from noted. noted_lawful lines lawful instance laws base history behind.small behind.entries known.noted ticket entry behind.noted from noted;
+      sets = λ ticket pairs from has. (
+          let l = behind.had.sets ticket pairs from has in
+          let below = l.0 in
+          let long = (full_at lines lawful instance laws base history behind.small behind.entries ticket from (omega (arith, below))).size.long in
+          record { few = l.1.few; within = λ m fewer. (let w = l.1.within m fewer in omega (arith, w, long, base.size.long)) });
+    }

@@ -24,15 +24,17 @@ use Rattle.cx_core.specs.State.{Instance, State, one_more}
 use Rattle.cx_core.proofs.HistoryLemmas.{ObjectLaws}
 use Rattle.cx_core.proofs.MergeLemmas.{history_is}
 use Rattle.cx_core.proofs.HeldLists.{at_true, mapped}
+use Rattle.core_queue.specs.NotedSets.{OwnSetsHold, SetNotesHold}
 use Rattle.cx_rule.specs.declared.rule.Known.{Known}
-use Rattle.cx_rule.specs.Fitting.{Fits, IsReplayed, IsReplayedToPlace, ReplayedTo, TellsWord, entries_of}
+use Rattle.cx_rule.specs.Fitting.{IsReplayed, IsReplayedToPlace, ReplayedTo, TellsWord, has_of}
 use Rattle.cx_rule.specs.Learns.{LearnsBy}
 use Rattle.cx_rule.specs.Rule.{IsTraced, NotesHold, RuleHolds}
 use Rattle.cx_rule.specs.Steps.{IsBlind, IsLearned, Teaches}
 use Rattle.cx_rule.specs.Seats.{is_outdated, kind_found, known_after, known_local, known_of, marked_load, place_noted, unseen}
-use Rattle.cx_rule.proofs.Fitting.{chain_full, traced_fits}
-use Rattle.cx_rule.proofs.Keeps.{allows, blind_teaches, learns_of}
-use Rattle.cx_rule.proofs.Entries.{entries_from, own_linked}
+use Rattle.cx_rule.proofs.Fitting.{chain_full}
+use Rattle.cx_rule.proofs.Having.{has_of_history, there_on}
+use Rattle.cx_rule.proofs.Keeps.{allows, blind_teaches, learns_of, learns_there}
+use Rattle.cx_rule.proofs.Entries.{entries_from}
 
 abbrev blank : HeldExclusive → HeldExclusive
 blank h = record h { words = [] }
@@ -83,55 +85,47 @@ full_now {instance = instance} s law l h has full =
     (subst (λ hs. IsFull instance hs h.words) (sym (history_is instance.base.place law.history s.locals law.tickets.merged)) full)
 
 module _ (lines : ℕ) (lawful : List ℕ → Type 0) (instance : Instance) (laws : ObjectLaws lines lawful instance.step) (base : LawfulBase lines lawful instance.base) where
-  -- where entries that the caller has lead to whatever fits, they lead to the words of the replica that is held
+  -- where what the seat has leads to whatever fits, it leads to the words of the replica that is held
   held_full : (words : List ℕ) (locals : List Local) (law : Lawful instance (record { words = words; locals = locals })) (known : Known) (l : Local) (h : HeldExclusive) →
-      slice_get locals known.local.number ≡ Some l → known.local ≡ shown l → l.exclusive ≡ Some h → NotesHold instance law.history known.noted → (traced : IsTraced instance law.history known.accesses l) → (place : ℕ) → ReplayedTo instance.step (entries_of known) traced.first place traced.now →
+      slice_get locals known.local.number ≡ Some l → known.local ≡ shown l → l.exclusive ≡ Some h → NotesHold instance law.history known.noted → (traced : IsTraced instance law.history known.accesses l) →
+      SetNotesHold instance (record { words = words; locals = locals }) law.history known.sets → OwnSetsHold instance law.history l.cells → (place : ℕ) → ReplayedTo instance.step (has_of known) traced.first place traced.now →
       IsFull instance law.history h.words × (place_of h.words ≡ place)
-  held_full words locals law known l h of_caller shows has noted traced place chain =
+  held_full words locals law known l h of_caller shows has noted traced sets own place chain =
       let state : State = record { words = words; locals = locals } in
-      let entries = entries_from instance state law in
-      let own = own_linked instance state law known l of_caller shows in
-      let full = chain_full lines lawful instance laws base law.history law.tickets.below entries known noted own traced.first traced.origin place traced.now chain in
+      let had = has_of_history instance state law known l of_caller shows noted sets own in
+      let full = chain_full lines lawful instance laws base law.history law.tickets.below (entries_from instance state law) (has_of known) had traced.first traced.origin place traced.now chain in
       subst (λ ws. IsFull instance law.history ws × (place_of ws ≡ place)) (traced.held h has) full
-
-  -- what is traced fits
-  fits_there : (words : List ℕ) (locals : List Local) (law : Lawful instance (record { words = words; locals = locals })) → (known : Known) (l : Local) (traced : IsTraced instance law.history known.accesses l) →
-      Fits lines lawful instance.base known.accesses traced.first traced.now
-  fits_there words locals law known l traced =
-      traced_fits lines lawful instance laws base law.history law.tickets.below (entries_from instance (record { words = words; locals = locals }) law) known.accesses traced.first traced.now traced.origin traced.leads
 
   -- an exclusive right is given up on a full image
   pub learns_release : (r : ℕ) (known : Known) (word : ℕ) → IsClean instance.callers r known.local → word ≡ step_word instance (ReleaseExclusive r) known.local → IsReplayed lines lawful instance.base instance.step known →
       LearnsBy instance (λ _. ReleaseExclusive r) known word (λ x. new_word instance (ReleaseExclusive r) known.local x)
-  learns_release r known word clean at replayed words _ =
-      learns_of instance (ReleaseExclusive r) known words word _ tt at (λ locals law l of_caller shows noted traced. (
+  learns_release r known word clean at replayed words _ locals law l of_caller shows noted traced sets own some =
       let state : State = record { words = words; locals = locals } in
       let held = mapped (λ (h : HeldExclusive). h.replica) l.exclusive r (held_on known l shows ∙ clean.1) in
-      let chain = replayed traced.first traced.now (fits_there words locals law known l traced) in
-      let full = held_full words locals law known l held.0 of_caller shows held.1 noted traced chain.0 chain.1 in
-      record {
+      let chain = replayed traced.first traced.now (there_on instance state law known l of_caller shows noted sets own lines lawful laws base traced) in
+      let full = held_full words locals law known l held.0 of_caller shows held.1 noted traced sets own chain.0 chain.1 in
+      learns_there instance (ReleaseExclusive r) known words word _ tt at locals law l of_caller shows noted traced sets some (record {
         guard = (clean_on instance.callers r known l shows clean, full_now state law l held.0 held.1 full.0);
         new_is = refl;
         shows = ap (λ (x : Local). next instance unseen (ReleaseExclusive r) x (slice_index words word)) shows;
-      }))
+      })
 
   -- and turned into a shared one, at the place that was noted
   pub learns_downgrade : (r : ℕ) (known : Known) (word : ℕ) → IsClean instance.callers r known.local → word ≡ step_word instance (Downgrade r) known.local → IsReplayedToPlace lines lawful instance.base instance.step known →
       LearnsBy instance (λ _. Downgrade r) known word (λ x. new_word instance (Downgrade r) known.local x)
-  learns_downgrade r known word clean at replayed words _ =
-      learns_of instance (Downgrade r) known words word _ tt at (λ locals law l of_caller shows noted traced. (
+  learns_downgrade r known word clean at replayed words _ locals law l of_caller shows noted traced sets own some =
       let state : State = record { words = words; locals = locals } in
       let held = mapped (λ (h : HeldExclusive). h.replica) l.exclusive r (held_on known l shows ∙ clean.1) in
       let place = place_noted 0 known.accesses in
-      let chain = replayed traced.first traced.now (fits_there words locals law known l traced) in
-      let full = held_full words locals law known l held.0 of_caller shows held.1 noted traced place chain in
+      let chain = replayed traced.first traced.now (there_on instance state law known l of_caller shows noted sets own lines lawful laws base traced) in
+      let full = held_full words locals law known l held.0 of_caller shows held.1 noted traced sets own place chain in
       let is : place_of (held_words l.exclusive) ≡ place = ap (λ o. place_of (held_words o)) held.1 ∙ full.1 in
-      record {
+      learns_there instance (Downgrade r) known words word _ tt at locals law l of_caller shows noted traced sets some (record {
         guard = (clean_on instance.callers r known l shows clean, full_now state law l held.0 held.1 full.0);
         new_is = refl;
         shows = ap (λ (x : Local). known_local instance (Downgrade r) (record known { local = x }) 0) shows
             ∙ ap (λ (p : ℕ). record l { exclusive = None; downgraded = Some (record { replica = r; place = p }); steps = one_more l.steps }) (sym is);
-      }))
+      })
 
 -- a load, whose mark as a refusal depends on the word found
 outdated_shows : (instance : Instance) (words : List ℕ) (r i : ℕ) (l : Local) → is_outdated instance r i l (slice_index words (vol_at instance.callers (length instance.base.words) r i)) ≡ true → ShowsOutdated instance.callers (length instance.base.words) words r i l

@@ -214,7 +214,7 @@ event_leaves instance kind s id known after word new held view learns =
     let there : get_elem? (set s.views id (after ∷ [])) id ≡ some (after ∷ []) = set_here s.views id (after ∷ []) (view_within s.views id (known ∷ []) view) in
     let mine = then.each id 0 (after ∷ []) after there refl in (
       subst (IsLawfulLocal instance) (sym mine.shows) (lawful_shown instance mine.local (own_lawful instance _ then.locals after.local.number mine.local then.law mine.of_caller)),
-      behind_notes instance _ then.law then.some after.local.number mine.local mine.of_caller after mine.shows mine.notes mine.traced,
+      behind_notes instance _ then.law then.some mine.local after mine.of_caller mine.shows mine.notes mine.traced (then.sets id 0 (after ∷ []) after there refl) (then.own after.local.number mine.local mine.of_caller),
     )
 
 -- what it teaches

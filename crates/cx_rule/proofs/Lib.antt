@@ -14,3 +14,4 @@ pub mod Replies
 pub mod Raising
 pub mod Offering
 pub mod Having
+pub mod HasMore

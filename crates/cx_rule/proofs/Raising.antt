@@ -26,15 +26,16 @@ use Rattle.cx_core.specs.Shown.{shown}
 use Rattle.cx_core.specs.State.{Instance, State}
 use Rattle.cx_core.proofs.HistoryLemmas.{ObjectLaws}
 use Rattle.cx_core.proofs.MergeLemmas.{history_is}
+use Rattle.core_queue.specs.NotedSets.{OwnSetsHold, SetNotesHold}
 use Rattle.cx_rule.specs.declared.rule.Known.{Known}
-use Rattle.cx_rule.specs.declared.rule.Noted.{Noted}
-use Rattle.cx_rule.specs.Fitting.{Fits, ReadFits, ReplayedTo, entries_of, loaded_of, loads_of}
+use Rattle.cx_rule.specs.Fitting.{FitsKnown, FitsOn, Has, ReadFits, ReplayedTo, has_of, loaded_of, loads_of}
 use Rattle.cx_rule.specs.Raises.{AnswersOf, IsRaiseLearned, TeachesRaised, TellsAnswers, TellsReads, TellsReply, answered_local, known_answered, op_in, read_at}
 use Rattle.cx_rule.specs.Rule.{IsTraced, NotesHold, RuleHolds}
 use Rattle.cx_rule.specs.Seats.{place_noted}
 use Rattle.cx_rule.proofs.Behind.{shared_there}
-use Rattle.cx_rule.proofs.Entries.{entries_from, own_linked}
+use Rattle.cx_rule.proofs.Entries.{entries_from}
 use Rattle.cx_rule.proofs.Fitting.{chain_full, entries_lawful, origin_full, traced_fits}
+use Rattle.cx_rule.proofs.Having.{has_of_history, there_on}
 use Rattle.cx_rule.proofs.Keeps.{event_held, event_leaves, seat_lawful}
 use Rattle.cx_rule.proofs.Replies.{reply_of_full, slot_of_full, unanswered_last}
 
@@ -50,7 +51,8 @@ can_raise instance code (Some op) l can = can
 
 module _ (lines : ℕ) (lawful : List ℕ → Type 0) (instance : Instance) (laws : ObjectLaws lines lawful instance.step) (base : LawfulBase lines lawful instance.base) where
   module _ (words : List ℕ) (locals : List Local) (law : Lawful instance (record { words = words; locals = locals })) (known : Known) (l : Local) (of_caller : slice_get locals known.local.number ≡ Some l) (shows : known.local ≡ shown l)
-      (noted : NotesHold instance law.history known.noted) (traced : IsTraced instance law.history known.accesses l) where
+      (noted : NotesHold instance law.history known.noted) (traced : IsTraced instance law.history known.accesses l)
+      (sets : SetNotesHold instance (record { words = words; locals = locals }) law.history known.sets) (own : OwnSetsHold instance law.history l.cells) where
     abbrev state : State
     state = record { words = words; locals = locals }
 
@@ -61,9 +63,9 @@ module _ (lines : ℕ) (lawful : List ℕ → Type 0) (instance : Instance) (law
     reply_told : (x : Linked) (reply : List ℕ) → unanswered l ≡ Some x → TellsReply lines lawful instance.base instance.step known x.ticket reply → reply ≡ reply_after instance law.history x.ticket x.entry.op
     reply_told x reply is tells =
         let entries = entries_from instance state law in
-        let fits = traced_fits lines lawful instance laws base law.history law.tickets.below entries known.accesses traced.first traced.now traced.origin traced.leads in
+        let fits = there_on instance state law known l of_caller shows noted sets own lines lawful laws base traced in
         let place = place_noted 0 known.accesses in
-        let full = chain_full lines lawful instance laws base law.history law.tickets.below entries known noted (own_linked instance state law known l of_caller shows) traced.first traced.origin place traced.now (tells.replayed traced.first traced.now fits) in
+        let full = chain_full lines lawful instance laws base law.history law.tickets.below entries (has_of known) (has_of_history instance state law known l of_caller shows noted sets own) traced.first traced.origin place traced.now (tells.replayed traced.first traced.now fits) in
         let last = unanswered_last instance law.history locals known.local.number l law.tickets of_caller x is in
         let above : x.ticket < place_of traced.now = subst (λ p. x.ticket < p) (sym full.1) tells.above in
         sym (tells.slot traced.first traced.now fits)
@@ -122,9 +124,9 @@ module _ (lines : ℕ) (lawful : List ℕ → Type 0) (instance : Instance) (law
       let count = length l.answered + length answers in
       let count_is : length known.local.answered + length answers ≡ count = ap (λ (x : Local). length x.answered + length answers) shows in
       let given : answers ≡ answers_below instance scene.history place (unanswered l) =
-      answers_told words locals law known l of_caller shows noted traced place answers tells ∙ ap (λ (h : List Entry). answers_below instance h place (unanswered l)) (sym same) in
+      answers_told words locals law known l of_caller shows noted traced sets own place answers tells ∙ ap (λ (h : List Entry). answers_below instance h place (unanswered l)) (sym same) in
       let given_reads : read_at place (length known.local.answered + length answers) read ≡ reads_at instance scene.history place count (op_in read) =
-      reads_told words locals law known l of_caller shows noted traced some code (length known.local.answered + length answers) read can reads
+      reads_told words locals law known l of_caller shows noted traced sets own some code (length known.local.answered + length answers) read can reads
       ∙ ap (λ (n : ℕ). reads_at instance law.history place n (op_in read)) count_is
       ∙ ap (λ (h : List Entry). reads_at instance h place count (op_in read)) (sym same) in
       record {
@@ -153,14 +155,15 @@ module _ (lines : ℕ) (lawful : List ℕ → Type 0) (base : Base) (step : List
   tells_one x reply is below tells =
       subst (λ (o : Option Linked). AnswersOf lines lawful base step known place o (record { ticket = x.ticket; reply = reply } ∷ [])) (sym is) (inr (record { below = below; reply = reply; tells = tells; are = refl }))
 
--- a reply is told as long as what is noted stays
-pub reply_still : (lines : ℕ) (lawful : List ℕ → Type 0) (base : Base) (step : List ℕ → List ℕ → List ℕ × List ℕ) (known known' : Known) (ticket : ℕ) (reply : List ℕ) → entries_of known' ≡ entries_of known → known'.accesses ≡ known.accesses →
+-- a reply is told as long as what the seat has, and what is noted, stay
+pub reply_still : (lines : ℕ) (lawful : List ℕ → Type 0) (base : Base) (step : List ℕ → List ℕ → List ℕ × List ℕ) (known known' : Known) (ticket : ℕ) (reply : List ℕ) → has_of known' ≡ has_of known → known'.accesses ≡ known.accesses →
     known'.local.number ≡ known.local.number → TellsReply lines lawful base step known ticket reply → TellsReply lines lawful base step known' ticket reply
-reply_still lines lawful base step known known' ticket reply entries accesses number tells =
-    let turn = λ (first now : List ℕ) (fits : Fits lines lawful base known'.accesses first now). subst (λ (ns : List Note). Fits lines lawful base ns first now) accesses fits in
+reply_still lines lawful base step known known' ticket reply has accesses number tells =
+    let turn : (first now : List ℕ) → FitsKnown lines lawful base step known' first now → FitsKnown lines lawful base step known first now =
+    λ first now fits. subst (λ (h : Has). FitsOn lines lawful base step h known.accesses first now) has (subst (λ (ns : List Note). FitsOn lines lawful base step (has_of known') ns first now) accesses fits) in
     record {
-      replayed = λ first now fits. subst (λ (es : List Noted × List Linked). ReplayedTo step es first (place_noted 0 known'.accesses) now) (sym entries)
-          (subst (λ (ns : List Note). ReplayedTo step (entries_of known) first (place_noted 0 ns) now) (sym accesses) (tells.replayed first now (turn first now fits)));
+      replayed = λ first now fits. subst (λ (h : Has). ReplayedTo step h first (place_noted 0 known'.accesses) now) (sym has)
+          (subst (λ (ns : List Note). ReplayedTo step (has_of known) first (place_noted 0 ns) now) (sym accesses) (tells.replayed first now (turn first now fits)));
       above = subst (λ (ns : List Note). ticket < place_noted 0 ns) (sym accesses) tells.above;
       slot = λ first now fits. ap (λ n. slot_reply n now) number ∙ tells.slot first now (turn first now fits);
     }

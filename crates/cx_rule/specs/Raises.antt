@@ -13,7 +13,7 @@ use Rattle.cx_core.specs.Region.{object_part, slot_reply}
 use Rattle.cx_core.specs.RootEvents.{CanRaise, raised_floor, unanswered}
 use Rattle.cx_core.specs.State.{Instance, one_more}
 use Rattle.cx_rule.specs.declared.rule.Known.{Known}
-use Rattle.cx_rule.specs.Fitting.{Fits, IsReplayedToPlace, ReadFits, loaded_of}
+use Rattle.cx_rule.specs.Fitting.{FitsKnown, IsReplayedToPlace, ReadFits, loaded_of}
 use Rattle.cx_rule.specs.Learns.{LearnsAnyway}
 use Rattle.cx_rule.specs.Rule.{IsBehindNotes, IsLawfulLocal}
 use Rattle.cx_rule.specs.Running.{IsSeatOf, Running, instance_at}
@@ -24,7 +24,7 @@ use Rattle.cx_rule.specs.Seats.{IsAtLimit, IsWithinLimit, Seated, place_noted}
 pub record TellsReply (lines : ℕ) (lawful : List ℕ → Type 0) (base : Base) (step : List ℕ → List ℕ → List ℕ × List ℕ) (known : Known) (ticket : ℕ) (reply : List ℕ) : Type 0 where
   pub replayed : IsReplayedToPlace lines lawful base step known
   pub above : ticket < place_noted 0 known.accesses
-  pub slot : (first now : List ℕ) → Fits lines lawful base known.accesses first now → slot_reply known.local.number now ≡ reply
+  pub slot : (first now : List ℕ) → FitsKnown lines lawful base step known first now → slot_reply known.local.number now ≡ reply
 
 -- an entry with a ticket below a place is answered, with a reply that is told
 pub record TellsAnswer (lines : ℕ) (lawful : List ℕ → Type 0) (base : Base) (step : List ℕ → List ℕ → List ℕ × List ℕ) (known : Known) (place ticket : ℕ) (answers : List Answer) : Type 0 where

@@ -24,7 +24,8 @@ use Rattle.cx_core.specs.State.{EachLocal, Instance}
 use Rattle.core_queue.specs.NotedSets.{OwnSetsHold, SetNotesHold}
 use Rattle.cx_rule.specs.declared.rule.Known.{Known}
 use Rattle.cx_rule.specs.declared.rule.Noted.{Noted}
-use Rattle.cx_rule.specs.Fitting.{loads_of}
+use Rattle.cx_rule.specs.Fitting.{has_of, loads_of}
+use Rattle.cx_rule.specs.Having.{IsOfHistory}
 
 -- a noted word is the history's. With a ticket below the base's place, which no entry has, it says nothing.
 pub record IsOfEntry (instance : Instance) (history : List Entry) (noted : Noted) : Type 0 where
@@ -88,13 +89,14 @@ pub record IsEntryFrom (instance : Instance) (i : ℕ) (entry : Entry) : Type 0 
   pub most : entry.number ≤ slot_number entry.caller instance.base.words + i + 1
   pub op : Words 144 entry.op
 
--- what really is there, where a caller noted this: a history that has the noted words, the full image that the caller's accesses
--- lead on from, and the one that was loaded under a shared right
+-- what really is there, where a caller noted this: a history that has the noted words and what its seat has, the full image that its
+-- accesses lead on from, and the one that was loaded under a shared right
 pub record IsBehindNotes (instance : Instance) (known : Known) : Type 0 where
   pub history : List Entry
   pub small : instance.base.place + length history ≤ 2 ^ 40
   pub entries : (i : ℕ) (entry : Entry) → slice_get history i ≡ Some entry → IsEntryFrom instance i entry
   pub noted : NotesHold instance history known.noted
+  pub had : IsOfHistory instance history (has_of known)
   pub first : List ℕ
   pub now : List ℕ
   pub origin : IsOrigin instance history first

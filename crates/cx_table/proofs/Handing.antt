@@ -37,10 +37,10 @@ laws_at line_count lawful step r running keeps shape replies =
 
 -- what really is there after a step fits what was noted
 pub step_fits : {O : Type 0} (line_count : O → ℕ) (lawful : O → List ℕ → Type 0) (step : O → List ℕ → List ℕ → List ℕ × List ℕ) (reads : O → List ℕ → Bool) (r : Running O) (kind : Kind) (known : Known) (found : ℕ) (me' : Me ℕ (List Known)) →
-    IsRunning line_count lawful r → ObjectLaws r.lines (lawful r.object) (step r.object) → Teaches (instance_at r step reads) kind known found me' → Fitting r.lines (lawful r.object) r.base (known_of me'.0)
+    IsRunning line_count lawful r → ObjectLaws r.lines (lawful r.object) (step r.object) → Teaches (instance_at r step reads) kind known found me' → Fitting r.lines (lawful r.object) r.base (step r.object) (known_of me'.0)
 step_fits line_count lawful step reads r kind known found me' running laws taught =
     let after = known_after (instance_at r step reads) kind known found in
-    subst (Fitting r.lines (lawful r.object) r.base) (sym (ap (λ (m : Me ℕ (List Known)). known_of m.0) taught.knows)) (fitting r.lines (lawful r.object) (instance_at r step reads) laws running.base after taught.behind)
+    subst (Fitting r.lines (lawful r.object) r.base (step r.object)) (sym (ap (λ (m : Me ℕ (List Known)). known_of m.0) taught.knows)) (fitting r.lines (lawful r.object) (instance_at r step reads) laws running.base after taught.behind)
 
 module _ {O : Type 0} (r : Running O) (step : O → List ℕ → List ℕ → List ℕ × List ℕ) (reads : O → List ℕ → Bool) (replica caller found : ℕ) (before after : Seated) (small : replica < 2 * r.callers) (mine : caller ≡ after.known.local.number) where
   -- the token of a try is of the seat

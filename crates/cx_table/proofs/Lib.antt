@@ -3,3 +3,4 @@ mod Handing
 mod Marking
 mod Opening
 pub mod Runs
+mod SetOffers

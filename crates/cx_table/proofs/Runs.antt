@@ -11,8 +11,7 @@ use Rattle.cx_core.specs.declared.kinds.Kind.TheVariants.{LoadWord}
 use Rattle.cx_core.specs.declared.local.HeldShared.{HeldShared}
 use Rattle.cx_core.specs.declared.local.Local.{Local}
 use Rattle.cx_core.specs.declared.local.SeenSlot.{SeenSlot}
-use Rattle.cx_base.specs.Codes.{link_cell_of}
-use Rattle.cx_core.specs.Layout.{cell_at, word_count}
+use Rattle.cx_core.specs.Layout.{cell_at, set_at, word_count}
 use Rattle.cx_core.specs.QueueEvents.{ShowsTicket}
 use Rattle.cx_core.specs.RegionEvents.{CanLoad, loaded_into}
 use Rattle.cx_core.specs.Rights.{exclusive_on, is_at}
@@ -38,14 +37,21 @@ take_set_at (w ∷ ws) (suc i) v below = ap (λ xs. w ∷ xs) (take_set_at ws i 
 pub take_set : (ws : List ℕ) (i v : ℕ) → i < length ws → take (i + 1) (set ws i v) ≡ take i ws ++ v ∷ []
 take_set ws i v below = ap (λ k. take k (set ws i v)) (add-one i) ∙ take_set_at ws i v below
 
--- a cell that is shown with a ticket is one of the cells, so its words lie within the table
+-- a cell that is shown with a ticket is one of the cells
+pub shown_cell : (callers : ℕ) (seen : Option SeenSlot) (ticket cell : ℕ) → 1 ≤ callers → ShowsTicket callers seen ticket cell → cell < 16 * callers
+shown_cell callers None ticket cell some shows = absurd shows
+shown_cell callers (Some seen) ticket cell some shows = subst (λ n. n < 16 * callers) shows.3 (mod_below (seen.word - 1) (16 * callers) (omega arith))
+
+-- so its words lie within the table
 pub shown_within : (callers region i : ℕ) (seen : Option SeenSlot) (ticket cell : ℕ) → 1 ≤ callers → i < 145 → ShowsTicket callers seen ticket cell → cell_at callers cell i < word_count callers region
 shown_within callers region i None ticket cell some below shows = absurd shows
 shown_within callers region i (Some seen) ticket cell some below shows =
-    let small : link_cell_of callers seen.word < 16 * callers = mod_below (seen.word - 1) (16 * callers) (omega arith) in
-    let is = shows.3 in
-    let k : cell < 16 * callers = subst (λ n. n < 16 * callers) is small in
+    let k = shown_cell callers (Some seen) ticket cell some shows in
     omega arith
+
+-- and so do those of its set
+pub set_within : (callers region cell i : ℕ) → i < 513 → cell < 16 * callers → set_at callers cell i < word_count callers region
+set_within callers region cell i below small = omega arith
 
 -- nothing was made yet
 pub taught_nothing : (instance : Instance) (kinds : ℕ → Kind) (words : List ℕ) (me : Me ℕ (List Known)) → TeachesRun instance kinds (take 0 words) me me

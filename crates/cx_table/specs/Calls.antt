@@ -20,5 +20,5 @@ pub record MakesStep {O A E : Type 0} (r : Running O) (before after : Seated) (r
 -- the same of a step that tells besides that some pair of words fits what its caller noted
 pub record MakesFittingStep {O A E : Type 0} (o : Ghosts O) (r : Running O) (before after : Seated) (result : Result A E) (Made : A → Type 0) : Type 0 where
   pub made : IfOk result Made
-  pub fits : OnOk result (Fitting r.lines (o.lawful r.object) r.base after.known)
+  pub fits : OnOk result (Fitting r.lines (o.lawful r.object) r.base (o.step r.object) after.known)
   pub halted : OnErr result (Halts r before after)

@@ -2,7 +2,7 @@
 use Rattle.std.specs.Prelude.{false, ◌≡◌, ◌+◌, ℕ, Bool, List, [], ◌∷◌, ◌++◌, length}
 use Rattle.atomic_table.specs.Table.{Me}
 use Rattle.cx_core.specs.declared.kinds.Kind.{Kind}
-use Rattle.cx_core.specs.declared.kinds.Kind.TheVariants.{LoadWord, ReadCell}
+use Rattle.cx_core.specs.declared.kinds.Kind.TheVariants.{LoadWord, ReadCell, ReadSet}
 use Rattle.cx_core.specs.State.{Instance}
 use Rattle.cx_rule.specs.declared.rule.Known.{Known}
 use Rattle.cx_rule.specs.Fitting.{Fitting}
@@ -10,18 +10,21 @@ use Rattle.cx_rule.specs.Running.{Running}
 use Rattle.cx_rule.specs.Seats.{Seated, known_of}
 use Rattle.cx_rule.specs.Steps.{Steps, Teaches}
 
--- the kinds of the loads of a replica's words, and of a cell's
+-- the kinds of the loads of a replica's words, of a cell's, and of a set's
 abbrev pub loads_from : ℕ → ℕ → ℕ → Kind
 loads_from r from i = LoadWord r (from + i) false
 
 abbrev pub reads_of : ℕ → ℕ → ℕ → Kind
 reads_of t k i = ReadCell t k i
 
+abbrev pub set_reads_from : ℕ → ℕ → ℕ → ℕ → Kind
+set_reads_from k t from i = ReadSet k t (from + i)
+
 -- Steps of these kinds found these words, in order, and lead from one seat to another. After each of them some pair fits what is noted.
 pub data Runs {O : Type 0} (r : Running O) (step : O → List ℕ → List ℕ → List ℕ × List ℕ) (reads : O → List ℕ → Bool) (lawful : List ℕ → Type 0) (kinds : ℕ → Kind) : List ℕ → Seated → Seated → Type 0 where
   no_step : (words : List ℕ) (before after : Seated) → words ≡ [] → after ≡ before → Runs r step reads lawful kinds words before after
   one_more_step : (words : List ℕ) (before after : Seated) (first : List ℕ) (found : ℕ) (mid : Seated) → words ≡ first ++ found ∷ [] → Runs r step reads lawful kinds first before mid → Steps r step reads (kinds (length first)) found mid after →
-      Fitting r.lines lawful r.base after.known → Runs r step reads lawful kinds words before after
+      Fitting r.lines lawful r.base (step r.object) after.known → Runs r step reads lawful kinds words before after
 
 -- they teach their caller's seat this
 pub data TeachesRun (instance : Instance) (kinds : ℕ → Kind) : List ℕ → Me ℕ (List Known) → Me ℕ (List Known) → Type 0 where

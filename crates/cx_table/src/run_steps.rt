@@ -1,13 +1,13 @@
 //! Several loads by one call: each is an event of its own, and they are counted at once. Where the limit leaves fewer steps than there are
 //! words, none is made.
 
-ghost use Rattle.std.specs.Prelude.{◌≡◌, ◌+◌, ◌<◌, ℕ, IsTrue, false, length};
+ghost use Rattle.std.specs.Prelude.{◌≡◌, ◌+◌, ◌<◌, ◌≤◌, ℕ, IsTrue, false, length};
 ghost use Rattle.cx_core.specs.Events.{Guard};
-ghost use Rattle.cx_core.specs.declared.kinds.Kind.TheVariants.{ReadCell};
+ghost use Rattle.cx_core.specs.declared.kinds.Kind.TheVariants.{ReadCell, ReadSet};
 ghost use Rattle.cx_core.specs.RegionEvents.{CanLoad};
 ghost use Rattle.cx_rule.specs.Running.{IsSeatOf, instance_at};
 ghost use Rattle.cx_rule.specs.Seats.{known_of, unseen};
-ghost use Rattle.cx_table.specs.Runs.{Runs, TeachesRun, loads_from, reads_of};
+ghost use Rattle.cx_table.specs.Runs.{Runs, TeachesRun, loads_from, reads_of, set_reads_from};
 ghost use Rattle.cx_table.specs.Words.{IsOfOne, IsTaught};
 
 use crate::events::Instruction;
@@ -16,7 +16,7 @@ use crate::shared::Shared;
 use atomic_table::Seat;
 use cx_base::Object;
 use cx_core::Kind;
-use cx_core::layout::{CELL_WORDS, cell_at, vol_at};
+use cx_core::layout::{CELL_WORDS, cell_at, set_at, vol_at};
 use cx_rule::View;
 
 impl<O: Object> Shared<O> {
@@ -87,6 +87,48 @@ impl<O: Object> Shared<O> {
         for i in 0..145 {
             let kind = Kind::ReadCell { t, k, i: i as u64 };
             let word = cell_at(callers, k, i as u64);
+            into[i] = self.event(seat, &kind, word, Instruction::Load);
+        }
+    }
+
+    /// Loads words of the set of the cell that the offer word last loaded shows to be offered with a ticket, from one on, each as `read_set`
+    /// does. It answers whether the limit leaves so many steps: if not, nothing changes.
+    pub fn read_set_words(
+        &self,
+        seat: &mut CallerSeat,
+        k: u64,
+        t: u64,
+        from: u64,
+        into: &mut [u64],
+    ) -> bool
+        requires seat { IsSeatOf self.now seat.old × (from + length into.old ≤ 513) }
+        requires guard { (i : ℕ) → i < 513 → Guard (instance_at self.now O.step O.only_reads) unseen (ReadSet k t i) seat.old.known.local }
+        ensures made { IsTrue result → Runs self.now O.step O.only_reads (O.lawful self.now.object) (set_reads_from k t from) into.new seat.old seat.new }
+        ensures short { result ≡ false → (seat.new ≡ seat.old) × (seat.old.known.local.limit < seat.old.known.local.steps + length into.old) }
+        ensures length { length into.new ≡ length into.old }
+        ensures seat { IsSeatOf self.now seat.new }
+    {
+        let _ = &self.table;
+        if !seat.summary.count(into.len() as u64) {
+            return false;
+        }
+        self.read_set_each(&mut seat.seat, k, t, from, into);
+        true
+    }
+
+    /// Loads words of a set, as events of the seat's caller.
+    fn read_set_each(&self, seat: &mut Seat<u8, View>, k: u64, t: u64, from: u64, into: &mut [u64])
+        requires one { IsOfOne self.now seat.old.table_id seat.old.me }
+        requires within { from + length into.old ≤ 513 }
+        requires guard { (i : ℕ) → i < 513 → Guard (instance_at self.now O.step O.only_reads) unseen (ReadSet k t i) (known_of seat.old.me.0).local }
+        ensures taught { IsTaught seat.old.table_id seat.new.table_id (TeachesRun (instance_at self.now O.step O.only_reads) (set_reads_from k t from) into.new seat.old.me seat.new.me) }
+        ensures length { length into.new ≡ length into.old }
+    {
+        let callers = self.callers.number;
+        for i in 0..into.len() {
+            let at = from + i as u64;
+            let kind = Kind::ReadSet { k, t, i: at };
+            let word = set_at(callers, k, at);
             into[i] = self.event(seat, &kind, word, Instruction::Load);
         }
     }

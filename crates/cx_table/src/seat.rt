@@ -134,7 +134,7 @@ impl CallerSeat {
     }
 
     /// The cell that has a ticket.
-    fn ticket_cell(&self, ticket: u64) -> Option<u64>
+    pub(crate) fn ticket_cell(&self, ticket: u64) -> Option<u64>
         ensures { IfSome result (λ j. (j < 16) × ((cell_of self.now.known.local j).ticket ≡ Some ticket)) }
     {
         for j in 0..16 {

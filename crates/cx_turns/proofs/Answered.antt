@@ -18,12 +18,11 @@ use Rattle.cx_rule.specs.Raises.{TellsAnswers, TellsReply}
 use Rattle.cx_rule.specs.Running.{Running}
 use Rattle.cx_rule.specs.Seats.{IsAtLimit, Seated, unanswered_ticket}
 use Rattle.cx_rule.specs.Steps.{Halts, Steps}
-use Rattle.cx_rule.specs.Fitting.{entries_of}
+use Rattle.cx_rule.specs.Fitting.{has_of}
 use Rattle.cx_rule.proofs.Raising.{reply_still, tells_one}
-use Rattle.cx_table.specs.Right.{WonRight}
+use Rattle.cx_table.specs.Right.{Right, WonRight}
 use Rattle.cx_table.specs.Tokens.{IsWonOf}
 use Rattle.cx_turns.specs.Answering.{AnswersBy, AnswersEntry, AnswersReadBy, HaltsFor, HaltsLookup, HaltsWon, IsPublishedFor, IsReadyFor, beside_settling, beside_update, with_answer, with_read}
-use Rattle.cx_turns.specs.declared.preparing.Prepared.{Prepared}
 use Rattle.cx_turns.specs.Preparing.{Prepares}
 use Rattle.cx_turns.specs.Turns.{IsAtRest, TurnsIn, beside_turn, cur_rises}
 use Rattle.mutation_queue.specs.Leaves.{Leaves}
@@ -40,7 +39,7 @@ module _ {O : Type 0} (o : Ghosts O) (r : Running O) (ticket : ℕ) (reply : Lis
   -- what stays as it is beside a publication
   still_told : (before after : Seated) → beside_publish after ≡ beside_publish before → TellsReply r.lines (o.lawful r.object) r.base (o.step r.object) before.known ticket reply → TellsReply r.lines (o.lawful r.object) r.base (o.step r.object) after.known ticket reply
   still_told before after rest tells =
-      reply_still r.lines (o.lawful r.object) r.base (o.step r.object) before.known after.known ticket reply (ap (λ (s : Seated). entries_of s.known) rest) (ap (λ (s : Seated). s.known.accesses) rest) (ap (λ (s : Seated). s.known.local.number) rest) tells
+      reply_still r.lines (o.lawful r.object) r.base (o.step r.object) before.known after.known ticket reply (ap (λ (s : Seated). has_of s.known) rest) (ap (λ (s : Seated). s.known.accesses) rest) (ap (λ (s : Seated). s.known.local.number) rest) tells
 
   still_last : (before after : Seated) → beside_publish after ≡ beside_publish before → unanswered_ticket before.known.local ≡ Some ticket → unanswered_ticket after.known.local ≡ Some ticket
   still_last before after rest last = ap (λ (s : Seated). unanswered_ticket s.known.local) rest ∙ last
@@ -84,8 +83,8 @@ module _ {O : Type 0} (o : Ghosts O) (r : Running O) (ticket : ℕ) (reply : Lis
       (subst (λ t. TellsReply r.lines (o.lawful r.object) r.base (o.step r.object) seat.known t reply) (sym is) p.tells))
 
 -- what is ready once it is prepared
-pub prepared_ready : {O : Type 0} (o : Ghosts O) (r : Running O) (ticket : ℕ) (before after : Seated) (prepared : Prepared) → beside_turn after ≡ beside_turn before → IsAtRest before.known.local → unanswered_ticket before.known.local ≡ Some ticket → Prepares o r ticket before after prepared → IsReadyFor o r ticket prepared.reply after
-prepared_ready o r ticket before after prepared same rest last p = record {
+pub prepared_ready : {O : Type 0} (o : Ghosts O) (r : Running O) (ticket : ℕ) (reply : List ℕ) (before after : Seated) (held : Right) → beside_turn after ≡ beside_turn before → IsAtRest before.known.local → unanswered_ticket before.known.local ≡ Some ticket → Prepares o r ticket reply before after held → IsReadyFor o r ticket reply after
+prepared_ready o r ticket reply before after held same rest last p = record {
   rest = record {
     exclusive = none_of _ after.known.local.exclusive (ap (λ (a : AllRights). a.exclusive) p.rights);
     shared = none_of _ after.known.local.shared (ap (λ (a : AllRights). a.shared) p.rights);

@@ -1,5 +1,5 @@
 -- What the steps leave by which a replica is kept.
-use Rattle.std.proofs.Common.{◌≡◌, ◌<◌, ◌≤◌, true, false, ℕ, All, [], append-nil, ap, sym, subst, ◌∙◌, arith, Option, Some, None}
+use Rattle.std.proofs.Common.{◌≡◌, ◌<◌, ◌≤◌, true, false, ℕ, All, List, append-nil, ap, sym, subst, ◌∙◌, arith, Option, Some, None}
 use Rattle.std.specs.Option.{option_map}
 use Rattle.cx_base.specs.declared.object.Object.{Ghosts}
 use Rattle.cx_base.specs.Codes.{root_place_of, root_replica_of}
@@ -7,13 +7,14 @@ use Rattle.cx_core.specs.declared.kinds.Kind.TheVariants.{LoadCur}
 use Rattle.cx_core.specs.declared.local.HeldExclusive.{HeldExclusive}
 use Rattle.cx_core.specs.declared.local.HeldShared.{HeldShared}
 use Rattle.cx_core.specs.declared.local.Protection.TheVariants.{Unprotected}
-use Rattle.cx_core.specs.Region.{region_words}
+use Rattle.cx_core.specs.Region.{region_words, slot_reply}
 use Rattle.cx_core.specs.Rights.{held_dirty}
 use Rattle.cx_core.specs.State.{one_more}
-use Rattle.cx_rule.specs.Fitting.{SomeFits, entries_of}
+use Rattle.cx_rule.specs.Fitting.{has_of}
 use Rattle.cx_rule.specs.Running.{IsSeatOf, Running}
 use Rattle.cx_rule.specs.Seats.{Seated}
 use Rattle.cx_rule.specs.Steps.{Steps}
+use Rattle.cx_rule.proofs.HasMore.{fits_same, some_same}
 use Rattle.cx_table.specs.Right.{Right}
 use Rattle.cx_turns.specs.Keeping.{Guards, HoldsCurrent, HoldsSource, IsAtImage, IsBehind, IsKept, Others, SeesCurrent, no_others, others}
 use Rattle.cx_turns.specs.Reads.{beside_read}
@@ -22,8 +23,8 @@ use Rattle.mutation_queue.specs.Protections.{but_protected}
 use Rattle.publish.proofs.Options.{none_of}
 use Rattle.replica.specs.Copies.{beside_copy, but_loads, without_shared}
 use Rattle.replica.specs.Held.{IsHeld}
-use Rattle.replica.specs.Laws.{image_more}
-use Rattle.replica.specs.Replays.{IsImage, noted_place}
+use Rattle.replica.specs.Laws.{image_same}
+use Rattle.replica.specs.Replays.{IsImage, ShowsReply, noted_place}
 use Rattle.strong_trylock.specs.Held.{AllRights, all_rights}
 
 -- a turn that ended at rest by one refusal
@@ -49,25 +50,27 @@ behind_current callers before after behind at fresh = behind.outdated (not_above
 
 module _ {O : Type 0} (o : Ghosts O) (r : Running O) (before after : Seated) (held : Right) where
   -- the replica held is the same, and so is what is noted of it
-  pub held_same : IsSeatOf r after → after.known.local.exclusive ≡ before.known.local.exclusive → after.known.local.number ≡ before.known.local.number → after.known.accesses ≡ before.known.accesses → IsHeld (o.line_count r.object) r (o.lawful r.object) before held → IsHeld (o.line_count r.object) r (o.lawful r.object) after held
-  held_same seat exclusive number accesses was = record {
+  pub held_same : IsSeatOf r after → after.known.local.exclusive ≡ before.known.local.exclusive → after.known.local.number ≡ before.known.local.number → has_of after.known ≡ has_of before.known → after.known.accesses ≡ before.known.accesses → IsHeld (o.line_count r.object) r (o.lawful r.object) (o.step r.object) before held → IsHeld (o.line_count r.object) r (o.lawful r.object) (o.step r.object) after held
+  held_same seat exclusive number has accesses was = record {
     sized = was.sized;
     of = seat;
     right = record { few = was.right.few; caller = was.right.caller ∙ sym number; holds = ap (option_map (λ (h : HeldExclusive). h.replica)) exclusive ∙ was.right.holds };
-    some = subst (SomeFits (o.line_count r.object) (o.lawful r.object) r.base) (sym accesses) was.some;
+    some = some_same (o.line_count r.object) (o.lawful r.object) r.base (o.step r.object) before.known after.known has accesses was.some;
     dirty = subst (λ (h : Option HeldExclusive). All (λ i. i < region_words (o.line_count r.object)) (held_dirty h)) (sym exclusive) was.dirty;
   }
 
-  pub image_same : after.known.accesses ≡ before.known.accesses → entries_of after.known ≡ entries_of before.known → IsImage (o.line_count r.object) (o.lawful r.object) r.base (o.step r.object) before.known → IsImage (o.line_count r.object) (o.lawful r.object) r.base (o.step r.object) after.known
-  image_same accesses entries image = image_more (o.line_count r.object) (o.lawful r.object) r.base (o.step r.object) before.known after.known [] accesses (entries ∙ ap (λ ns. (ns, before.known.local.own)) (sym (append-nil before.known.noted))) image
+  pub shows_same : has_of after.known ≡ has_of before.known → after.known.accesses ≡ before.known.accesses → after.known.local.number ≡ before.known.local.number → (reply : List ℕ) →
+      ShowsReply (o.line_count r.object) (o.lawful r.object) r.base (o.step r.object) before.known before.known.local.number reply → ShowsReply (o.line_count r.object) (o.lawful r.object) r.base (o.step r.object) after.known after.known.local.number reply
+  shows_same has accesses number reply shows first now f =
+      ap (λ n. slot_reply n now) number ∙ shows first now (fits_same (o.line_count r.object) (o.lawful r.object) r.base (o.step r.object) before.known after.known has accesses first now f)
 
   -- through protecting
   pub protected_image : IsSeatOf r after → but_protected after ≡ but_protected before → IsAtImage o r before held → IsAtImage o r after held
   protected_image seat same was =
       let accesses = ap (λ (s : Seated). s.known.accesses) same in
       record {
-        is_held = held_same seat (ap (λ (s : Seated). s.known.local.exclusive) same) (ap (λ (s : Seated). s.known.local.number) same) accesses was.is_held;
-        image = image_same accesses (ap (λ (s : Seated). entries_of s.known) same) was.image;
+        is_held = held_same seat (ap (λ (s : Seated). s.known.local.exclusive) same) (ap (λ (s : Seated). s.known.local.number) same) (ap (λ (s : Seated). has_of s.known) same) accesses was.is_held;
+        image = image_same (o.line_count r.object) (o.lawful r.object) r.base (o.step r.object) before.known after.known (ap (λ (s : Seated). has_of s.known) same) accesses was.image;
         alone = ap (λ (s : Seated). others s.known.local) same ∙ was.alone;
       }
 
@@ -77,8 +80,8 @@ module _ {O : Type 0} (o : Ghosts O) (r : Running O) (before after : Seated) (he
       let with : AllRights → Seated → Others = λ a s. record { shared = a.shared; passer = a.passer; downgraded = a.downgraded; won = a.won; scan = s.known.local.scan; refused = s.known.local.refused } in
       let accesses = ap (λ (s : Seated). s.known.accesses) same in
       record {
-        is_held = held_same seat (ap (λ (s : Seated). s.known.local.exclusive) same) (ap (λ (s : Seated). s.known.local.number) same) accesses was.is_held;
-        image = image_same accesses (ap (λ (s : Seated). entries_of s.known) same) was.image;
+        is_held = held_same seat (ap (λ (s : Seated). s.known.local.exclusive) same) (ap (λ (s : Seated). s.known.local.number) same) (ap (λ (s : Seated). has_of s.known) same) accesses was.is_held;
+        image = image_same (o.line_count r.object) (o.lawful r.object) r.base (o.step r.object) before.known after.known (ap (λ (s : Seated). has_of s.known) same) accesses was.image;
         alone = ap (λ (a : AllRights). with a after) rights ∙ ap (with (all_rights before)) same ∙ was.alone;
       }
 
@@ -89,7 +92,7 @@ module _ {O : Type 0} (o : Ghosts O) (r : Running O) (before after : Seated) (he
       let shared : Others → Others = λ x. record x { shared = Some source.replica } in
       record {
         both = record {
-          exclusive = held_same seat (ap (λ (s : Seated). s.known.local.exclusive) same) (ap (λ (s : Seated). s.known.local.number) same) (ap (λ (s : Seated). s.known.accesses) same) was.is_held;
+          exclusive = held_same seat (ap (λ (s : Seated). s.known.local.exclusive) same) (ap (λ (s : Seated). s.known.local.number) same) (ap (λ (s : Seated). has_of s.known) same) (ap (λ (s : Seated). s.known.accesses) same) was.is_held;
           shared = taken.held;
         };
         alone = ap (λ (a : AllRights). with a after) taken.with ∙ ap (λ s. shared (with (all_rights before) s)) same ∙ ap shared was.alone;
@@ -103,7 +106,7 @@ module _ {O : Type 0} (o : Ghosts O) (r : Running O) (before after : Seated) (he
   kept_at ticket first guards met at = record { at_image = at; guarded = guards.0; met = guards.1.met ∙ met }
 
   -- through a copy, after which the shared right is given back
-  pub copied_image : (q : ℕ) → beside_copy after ≡ without_shared (beside_copy before) → others before.known.local ≡ record no_others { shared = Some q } → IsHeld (o.line_count r.object) r (o.lawful r.object) after held → IsImage (o.line_count r.object) (o.lawful r.object) r.base (o.step r.object) after.known → IsAtImage o r after held
+  pub copied_image : (q : ℕ) → beside_copy after ≡ without_shared (beside_copy before) → others before.known.local ≡ record no_others { shared = Some q } → IsHeld (o.line_count r.object) r (o.lawful r.object) (o.step r.object) after held → IsImage (o.line_count r.object) (o.lawful r.object) r.base (o.step r.object) after.known → IsAtImage o r after held
   copied_image q same was held image =
       let shared : after.known.local.shared ≡ None = none_of but_loads after.known.local.shared (ap (λ (s : Seated). s.known.local.shared) same) in
       let rest : Seated → Others = λ s. record (others s.known.local) { shared = None } in
@@ -120,11 +123,12 @@ module _ {O : Type 0} (o : Ghosts O) (r : Running O) (before after : Seated) (he
   pub seen_current : (found : ℕ) → Steps r o.step o.only_reads LoadCur found before after → IsAtImage o r before held → SeesCurrent o r before after held
   seen_current found s was =
       let accesses : after.known.accesses ≡ before.known.accesses = ap (λ (t : Seated). t.known.accesses) s.made in
+      let has : has_of after.known ≡ has_of before.known = ap (λ (t : Seated). has_of t.known) s.made ∙ ap (λ ns. has_of (record before.known { noted = ns })) (append-nil before.known.noted) in
       let cur : after.known.local.seen_cur ≡ found = ap (λ (t : Seated). t.known.local.seen_cur) s.made in
       record {
         at_image = record {
-          is_held = held_same o r before after held s.seat (ap (λ (t : Seated). t.known.local.exclusive) s.made) (ap (λ (t : Seated). t.known.local.number) s.made) accesses was.is_held;
-          image = image_same o r before after held accesses (ap (λ (t : Seated). entries_of t.known) s.made ∙ ap (λ ns. (ns, before.known.local.own)) (append-nil before.known.noted)) was.image;
+          is_held = held_same o r before after held s.seat (ap (λ (t : Seated). t.known.local.exclusive) s.made) (ap (λ (t : Seated). t.known.local.number) s.made) has accesses was.is_held;
+          image = image_same (o.line_count r.object) (o.lawful r.object) r.base (o.step r.object) before.known after.known has accesses was.image;
           alone = ap (λ (t : Seated). others t.known.local) s.made ∙ was.alone;
         };
         apart = λ e. s.told.apart (was.is_held.right.holds ∙ ap Some (e ∙ ap (root_replica_of r.callers) cur));

@@ -6,9 +6,10 @@ use Rattle.cx_core.specs.declared.entry.Entry.{Entry}
 use Rattle.cx_core.specs.History.{IsLawfulEntry}
 use Rattle.cx_core.specs.Region.{region_words}
 use Rattle.cx_core.specs.Rights.{held_dirty}
-use Rattle.cx_rule.specs.Fitting.{HasEntry, SomeFits, entries_of}
+use Rattle.cx_rule.specs.Fitting.{Fitting, HasEntry, SomeFits, entries_of, has_of}
 use Rattle.cx_rule.specs.Running.{IsSeatOf, Running}
 use Rattle.cx_rule.specs.Seats.{Seated}
+use Rattle.cx_rule.proofs.HasMore.{HasMore, noted_more}
 use Rattle.cx_table.specs.Right.{Right}
 use Rattle.cx_table.specs.Tokens.{IsExclusiveOf}
 use Rattle.cx_turns.specs.Replaying.{FindsNext}
@@ -18,35 +19,36 @@ use Rattle.replica.specs.Replays.{ComesNext, IsReady, noted_place}
 use Rattle.replica.specs.Laws.{image_more}
 
 -- a replica that is held still is, once an entry was read
-held_read : {O : Type 0} (lines : ℕ) (r : Running O) (lawful : List ℕ → Type 0) (caller ticket : ℕ) (words : List ℕ) (before after : Seated) (held : Right) → IsSeatOf r after → ReadsEntry caller ticket words before after → IsHeld lines r lawful before held → IsHeld lines r lawful after held
-held_read lines r lawful caller ticket words before after held of read was =
+held_read : {O : Type 0} (lines : ℕ) (r : Running O) (lawful : List ℕ → Type 0) (step : List ℕ → List ℕ → List ℕ × List ℕ) (caller ticket : ℕ) (words : List ℕ) (before after : Seated) (held : Right) → IsSeatOf r after → ReadsEntry caller ticket words before after → Fitting r.lines lawful r.base step after.known → IsHeld lines r lawful step before held → IsHeld lines r lawful step after held
+held_read lines r lawful step caller ticket words before after held of read fits was =
     let now = with_read caller ticket words (with_look after.known.local.seen_slot before) in
     record {
       sized = was.sized;
       of = of;
       right = subst (λ s. IsExclusiveOf r.callers s held) (sym read.seat) (let right : IsExclusiveOf r.callers now held = record { few = was.right.few; caller = was.right.caller; holds = was.right.holds } in right);
-      some = subst (λ (s : Seated). SomeFits lines lawful r.base s.known.accesses) (sym read.seat) was.some;
+      some = subst (λ n. SomeFits n lawful r.base step after.known) was.sized.lines_are fits.exclusive;
       dirty = subst (λ (s : Seated). All (λ i. i < region_words lines) (held_dirty s.known.local.exclusive)) (sym read.seat) was.dirty;
     }
 
 -- a replica that is the image after its place still is, once an entry was read
-pub ready_read : {O : Type 0} (o : Ghosts O) (r : Running O) (caller ticket at : ℕ) (words : List ℕ) (before after : Seated) (held : Right) → IsSeatOf r after → ReadsEntry caller ticket words before after → IsReady o r held at before → IsReady o r held at after
-ready_read o r caller ticket at words before after held of read was = record {
-  is_held = held_read (o.line_count r.object) r (o.lawful r.object) caller ticket words before after held of read was.is_held;
-  image = image_more (o.line_count r.object) (o.lawful r.object) r.base (o.step r.object) before.known after.known (notes_of caller ticket 0 words) (ap (λ (s : Seated). s.known.accesses) read.seat) (ap (λ (s : Seated). entries_of s.known) read.seat) was.image;
+pub ready_read : {O : Type 0} (o : Ghosts O) (r : Running O) (caller ticket at : ℕ) (words : List ℕ) (before after : Seated) (held : Right) → IsSeatOf r after → ReadsEntry caller ticket words before after → Fitting r.lines (o.lawful r.object) r.base (o.step r.object) after.known → IsReady o r held at before → IsReady o r held at after
+ready_read o r caller ticket at words before after held of read fits was = record {
+  is_held = held_read (o.line_count r.object) r (o.lawful r.object) (o.step r.object) caller ticket words before after held of read fits was.is_held;
+  image = image_more (o.line_count r.object) (o.lawful r.object) r.base (o.step r.object) before.known after.known
+      (subst (λ (s : Seated). HasMore (has_of before.known) (has_of s.known)) (sym read.seat) (noted_more before.known (notes_of caller ticket 0 words))) (ap (λ (s : Seated). s.known.accesses) read.seat) was.image;
   place = ap noted_place read.seat ∙ was.place;
 }
 
 -- and once it was found
-pub ready_found : {O : Type 0} (o : Ghosts O) (r : Running O) (at : ℕ) (entry : Entry) (before after : Seated) (held : Right) → IsSeatOf r after → FindsNext at entry before after → IsReady o r held at before → IsReady o r held at after
+pub ready_found : {O : Type 0} (o : Ghosts O) (r : Running O) (at : ℕ) (entry : Entry) (before after : Seated) (held : Right) → IsSeatOf r after → FindsNext o r at entry before after → IsReady o r held at before → IsReady o r held at after
 ready_found o r at entry before after held of next was = elim next.found [
   | inl same ↦ subst (IsReady o r held at) (sym same) was
-  | inr read ↦ ready_read o r entry.caller at at (entry.number ∷ entry.op) before after held of read was
+  | inr read ↦ ready_read o r entry.caller at at (entry.number ∷ entry.op) before after held of read.read read.fits was
 ]
 
 -- it comes next where it has the replica's place as its ticket
-pub found_next : (at : ℕ) (entry : Entry) (before after : Seated) → FindsNext at entry before after → noted_place after ≡ at → ComesNext entry after
-found_next at entry before after next place = record {
+pub found_next : {O : Type 0} (o : Ghosts O) (r : Running O) (at : ℕ) (entry : Entry) (before after : Seated) → FindsNext o r at entry before after → noted_place after ≡ at → ComesNext entry after
+found_next o r at entry before after next place = record {
   had = subst (λ p. HasEntry (entries_of after.known) p entry) (sym place) next.had;
   lawful = subst (λ p. IsLawfulEntry p entry) (sym place) next.lawful;
   small = subst (λ p. p < 2 ^ 40) (sym place) next.small;

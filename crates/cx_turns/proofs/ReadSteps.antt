@@ -29,7 +29,7 @@ module _ {O : Type 0} (lines : ℕ) (r : Running O) (step : O → List ℕ → L
 
   -- so it is a load of the replica held shared
   pub current_loads : (q : ℕ) → q ≡ held.replica → found ≡ root_place_of r.callers before.known.local.seen_cur → IsHeldShared lines r lawful before held → Steps r step reads (marked_load (instance_at r step reads) q 0 true before.known.local found) found before after →
-      Fitting r.lines lawful r.base after.known → LoadsShared lines r lawful held 0 found before after
+      Fitting r.lines lawful r.base (step r.object) after.known → LoadsShared lines r lawful held 0 found before after
   current_loads q at is of s fits =
       let here = subst (λ n. Steps r step reads (marked_load (instance_at r step reads) n 0 true before.known.local found) found before after) at s in
       load_shared_loads lines r step reads lawful held 0 found before after of (subst (λ b. Steps r step reads (LoadWord held.replica 0 b) found before after) (current is) here) fits

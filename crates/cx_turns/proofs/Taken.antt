@@ -25,7 +25,7 @@ sized_running line_count lawful r running = record {
 }
 
 pub took_one : {O : Type 0} (o : Ghosts O) (r : Running O) (q : ℕ) (before after : Seated) (tried : ExclusiveTried) (held : Right) →
-    IsRunning o.line_count o.lawful r → all_rights before ≡ no_rights → TriesExclusive r o.step o.only_reads q before after tried → tried ≡ Got held → Fitting r.lines (o.lawful r.object) r.base after.known → TakesOne o r before after held
+    IsRunning o.line_count o.lawful r → all_rights before ≡ no_rights → TriesExclusive r o.step o.only_reads q before after tried → tried ≡ Got held → Fitting r.lines (o.lawful r.object) r.base (o.step r.object) after.known → TakesOne o r before after held
 took_one o r q before after tried held running free tries is fits =
     let a = subst (AnswersExclusive r.callers q tries.found before after) is tries.answer in
     let l = before.known.local in

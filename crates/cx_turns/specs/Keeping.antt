@@ -40,7 +40,7 @@ no_others = record { shared = None; passer = None; downgraded = None; won = None
 -- a replica is held exclusively that is the image after its place, and beside it the caller has no right and no scan, and nothing is
 -- refused
 pub record IsAtImage {O : Type 0} (o : Ghosts O) (r : Running O) (seat : Seated) (held : Right) : Type 0 where
-  pub is_held : IsHeld (o.line_count r.object) r (o.lawful r.object) seat held
+  pub is_held : IsHeld (o.line_count r.object) r (o.lawful r.object) (o.step r.object) seat held
   pub image : IsImage (o.line_count r.object) (o.lawful r.object) r.base (o.step r.object) seat.known
   pub alone : others seat.known.local ≡ no_others
 
@@ -111,7 +111,7 @@ pub record MayKeep (ticket : ℕ) (seat : Seated) : Type 0 where
 -- A replica held exclusively was found behind the ring, and the current one is held shared beside it, at the place of the code last
 -- loaded from CUR. Beside these the caller has no right, no protection and no scan, and nothing is refused.
 pub record HoldsSource {O : Type 0} (o : Ghosts O) (r : Running O) (seat : Seated) (held source : Right) : Type 0 where
-  pub both : HoldsBoth (o.line_count r.object) r (o.lawful r.object) seat held source
+  pub both : HoldsBoth (o.line_count r.object) r (o.lawful r.object) (o.step r.object) seat held source
   pub alone : others seat.known.local ≡ record no_others { shared = Some source.replica }
   pub none : seat.known.local.protection ≡ Unprotected
   pub place : Contains (loaded_of seat.known.local.shared) (0, root_place_of r.callers seat.known.local.seen_cur)

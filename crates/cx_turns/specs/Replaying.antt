@@ -2,15 +2,12 @@
 use Rattle.std.specs.Prelude.{◌≡◌, ◌^◌, ◌<◌, ◌⊎◌, ℕ, List, [], ◌∷◌, None}
 use Rattle.std.specs.Option.{option_map}
 use Rattle.cx_base.specs.Memory.{Becomes}
-use Rattle.cx_base.specs.Noted.{Note}
 use Rattle.cx_base.specs.declared.object.Object.{Ghosts}
-use Rattle.cx_core.specs.declared.entry.Base.{Base}
 use Rattle.cx_core.specs.declared.entry.Entry.{Entry}
 use Rattle.cx_core.specs.declared.local.HeldShared.{HeldShared}
 use Rattle.cx_core.specs.declared.local.Protection.TheVariants.{Unprotected}
 use Rattle.cx_core.specs.History.{IsLawfulEntry}
-use Rattle.cx_core.specs.Region.{slot_reply}
-use Rattle.cx_rule.specs.Fitting.{Fits, HasEntry, entries_of}
+use Rattle.cx_rule.specs.Fitting.{Fitting, FitsKnown, HasEntry, entries_of}
 use Rattle.cx_rule.specs.Running.{Running}
 use Rattle.cx_rule.specs.Seats.{IsWithinLimit, Seated}
 use Rattle.cx_table.specs.Right.{Right}
@@ -19,7 +16,7 @@ use Rattle.mutation_queue.specs.Entries.{IsNotedEntry, ReadsEntry}
 use Rattle.replica.specs.Flushes.{IsFlushed}
 use Rattle.replica.specs.Held.{IsHeld, beside_held, but_words}
 use Rattle.replica.specs.Regions.{HasPlace}
-use Rattle.replica.specs.Replays.{IsImage, IsReady, noted_place}
+use Rattle.replica.specs.Replays.{IsImage, IsReady, ShowsReply, noted_place}
 
 -- a replica held shared but for what is loaded of it
 abbrev pub but_loads : HeldShared → HeldShared
@@ -41,31 +38,28 @@ beside_work s = record s {
   };
 }
 
--- the entry with a ticket was read: it is noted, and it is one that may come there
-pub record ReadsNext (ticket : ℕ) (entry : Entry) (before after : Seated) : Type 0 where
+-- the entry with a ticket was read: it is noted, it is one that may come there, and what is noted fits what is there
+pub record ReadsNext {O : Type 0} (o : Ghosts O) (r : Running O) (ticket : ℕ) (entry : Entry) (before after : Seated) : Type 0 where
   pub read : ReadsEntry entry.caller ticket (entry.number ∷ entry.op) before after
   pub noted : IsNotedEntry ticket after entry
+  pub fits : Fitting r.lines (o.lawful r.object) r.base (o.step r.object) after.known
 
 -- The caller has the entry with a ticket, and it is one that may come there. It is an own one that stands in the seat's memory, and nothing
 -- is changed, or it was read.
-pub record FindsNext (ticket : ℕ) (entry : Entry) (before after : Seated) : Type 0 where
+pub record FindsNext {O : Type 0} (o : Ghosts O) (r : Running O) (ticket : ℕ) (entry : Entry) (before after : Seated) : Type 0 where
   pub had : HasEntry (entries_of after.known) ticket entry
   pub lawful : IsLawfulEntry ticket entry
   pub small : ticket < 2 ^ 40
-  pub found : (after ≡ before) ⊎ ReadsEntry entry.caller ticket (entry.number ∷ entry.op) before after
-
--- whatever fits the accesses of a replica, the last entry of this caller there has this reply
-abbrev pub ShowsReply : ℕ → (List ℕ → Type 0) → Base → List Note → ℕ → List ℕ → Type 0
-ShowsReply lines lawful base accesses number reply = (first now : List ℕ) → Fits lines lawful base accesses first now → slot_reply number now ≡ reply
+  pub found : (after ≡ before) ⊎ ReadsNext o r ticket entry before after
 
 -- A replica held exclusively is the image after a place above a ticket, no word of it is dirty, and the caller's last entry there
 -- has this reply.
 pub record IsBroughtUp {O : Type 0} (o : Ghosts O) (r : Running O) (held : Right) (ticket : ℕ) (seat : Seated) (reply : List ℕ) : Type 0 where
-  pub is_held : IsHeld (o.line_count r.object) r (o.lawful r.object) seat held
+  pub is_held : IsHeld (o.line_count r.object) r (o.lawful r.object) (o.step r.object) seat held
   pub image : IsImage (o.line_count r.object) (o.lawful r.object) r.base (o.step r.object) seat.known
   pub clean : IsFlushed seat
   pub place : ticket < noted_place seat
-  pub reply_is : ShowsReply (o.line_count r.object) (o.lawful r.object) r.base seat.known.accesses seat.known.local.number reply
+  pub reply_is : ShowsReply (o.line_count r.object) (o.lawful r.object) r.base (o.step r.object) seat.known seat.known.local.number reply
   pub none : seat.known.local.protection ≡ Unprotected
 
 -- a replica held exclusively is the image after a place above a ticket
@@ -73,16 +67,21 @@ pub record IsReplayed {O : Type 0} (o : Ghosts O) (r : Running O) (held : Right)
   pub ready : IsReady o r held (noted_place seat) seat
   pub place : ticket < noted_place seat
 
+-- An entry of this caller was applied to a replica held exclusively, which is the image after this place and has this reply for that caller.
+pub record IsApplied {O : Type 0} (o : Ghosts O) (r : Running O) (held : Right) (at caller : ℕ) (reply : List ℕ) (seat : Seated) : Type 0 where
+  pub ready : IsReady o r held at seat
+  pub replied : ShowsReply (o.line_count r.object) (o.lawful r.object) r.base (o.step r.object) seat.known caller reply
+
 -- It is the image after the place that it had, no word of it is dirty, and the caller's last entry there has this reply.
 pub record IsSettled {O : Type 0} (o : Ghosts O) (r : Running O) (held : Right) (before after : Seated) (reply : List ℕ) : Type 0 where
   pub ready : IsReady o r held (noted_place before) after
   pub clean : IsFlushed after
-  pub reply_is : ShowsReply (o.line_count r.object) (o.lawful r.object) r.base after.known.accesses after.known.local.number reply
+  pub reply_is : ShowsReply (o.line_count r.object) (o.lawful r.object) r.base (o.step r.object) after.known after.known.local.number reply
 
 -- Words of the replica held were loaded, and nothing else is changed.
 pub record LoadsOnly {O : Type 0} (o : Ghosts O) (r : Running O) (held : Right) (before after : Seated) : Type 0 where
-  pub still : IsHeld (o.line_count r.object) r (o.lawful r.object) after held
-  pub unchanged : Becomes (Fits (o.line_count r.object) (o.lawful r.object) r.base before.known.accesses) (Fits (o.line_count r.object) (o.lawful r.object) r.base after.known.accesses) ◌≡◌
+  pub still : IsHeld (o.line_count r.object) r (o.lawful r.object) (o.step r.object) after held
+  pub unchanged : Becomes (FitsKnown (o.line_count r.object) (o.lawful r.object) r.base (o.step r.object) before.known) (FitsKnown (o.line_count r.object) (o.lawful r.object) r.base (o.step r.object) after.known) ◌≡◌
   pub begun : HasPlace after.known.accesses
   pub within : IsWithinLimit after.known.local
   pub rest : beside_held held.replica after ≡ beside_held held.replica before

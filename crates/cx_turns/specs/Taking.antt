@@ -28,7 +28,7 @@ pub record MayTake {O : Type 0} (r : Running O) (seat : Seated) : Type 0 where
 
 -- a replica was just taken, which is the caller's only right
 pub record TakesOne {O : Type 0} (o : Ghosts O) (r : Running O) (before after : Seated) (held : Right) : Type 0 where
-  pub taken : IsTaken (o.line_count r.object) r (o.lawful r.object) after held
+  pub taken : IsTaken (o.line_count r.object) r (o.lawful r.object) (o.step r.object) after held
   pub rights : all_rights after ≡ record no_rights { exclusive = Some held.replica }
   pub refused : after.known.local.refused ≡ []
   pub met : after.known.local.met ≡ before.known.local.met

@@ -4,8 +4,9 @@
 //! - A caller tries each replica once; where all are refused one refusal is met and it has no right: `take_any` (`taken`). Which it tries first
 //!   is in no contract.
 //! - A replica is brought up by the queue's entries, the caller's own from its seat and each other read under a protection, to a place above
-//!   the caller's ticket, and the reply to its last entry read there, for whatever fits what was noted: `replay_to`, `own_outcome`; where cells
-//!   from its place on are closed it is a copy of the current one first; made durable and downgraded: `prepare` (`prepared`).
+//!   the caller's ticket: `replay_to`. The reply to its last entry there, for whatever fits what was noted, is the one that the step of that
+//!   entry gave (`replied`), or is loaded where another's step was made: `own_outcome`. Where cells from the replica's place on are closed it
+//!   is a copy of the current one first. It is made durable and downgraded: `prepare` (`prepared`).
 //! - A turn for a linked entry answers it with its reply, and meets at most one refusal, or one was met and nothing is answered, and the caller
 //!   is at rest again; where it halts the entry is not answered, or it is and the win stands that is still to be retired, and no refusal was
 //!   met, a right stands, or the raise is still to be made: `update_turn` (`turned`, `halted`, `turns`).
@@ -27,7 +28,7 @@ mod updating;
 
 pub use keeping::{keep, unguard};
 pub use lookup::{Seen, read_turn};
-pub use preparing::{Prepared, prepare};
+pub use preparing::prepare;
 pub use reading::{query_held, query_part, read_current};
 pub use replaying::{own_outcome, replay_to};
 pub use taking::take_any;

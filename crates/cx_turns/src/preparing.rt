@@ -15,32 +15,24 @@ use cx_table::{CallerSeat, Downgraded, Exclusive, Shared};
 use replica::begin;
 use strong_trylock::downgrade;
 
-/// A replica that is ready to be published.
-#[derive(Debug, Drop)]
-pub struct Prepared {
-    /// The right on it.
-    pub held: Downgraded,
-    /// The reply to the caller's last entry there.
-    pub reply: [u64; 144],
-}
-
 /// Takes a replica, whichever nobody holds, applies the queue's entries on it up to a ticket, makes it durable, and turns the
-/// right into a shared one. Where the replica is behind the ring, the current one is copied over it first. It gives `None` where each
-/// replica was refused, or the current one was, or where the replica is behind the ring after the copy too. `Halt` comes only where the
-/// seat's steps equal its limit.
+/// right into a shared one. Where the replica is behind the ring, the current one is copied over it first. The reply to the caller's last
+/// entry there is put where the caller has it. It gives `None` where each replica was refused, or the current one was, or where the replica
+/// is behind the ring after the copy too. `Halt` comes only where the seat's steps equal its limit.
 pub fn prepare<O: Object>(
     shared: &Shared<O>,
     seat: &mut CallerSeat,
     ticket: u64,
-) -> Result<Option<Prepared>, Halt>
+    reply: &mut [u64; 144],
+) -> Result<Option<Downgraded>, Halt>
     requires ready { MayTurn shared.now ticket seat.old }
     ensures allowed { OnOk result (¬ IsAtLimit seat.old.known.local) }
-    ensures prepared { IfOk result (TriesPrepare O.Object shared.now ticket seat.old seat.new) }
+    ensures prepared { IfOk result (TriesPrepare O.Object shared.now ticket reply.new seat.old seat.new) }
     ensures halted { OnErr result (HaltsTurn seat.old seat.new) }
     ensures turns { Turns shared.now beside_turn seat.old seat.new }
 {
     match take_any(shared, seat)? {
-        Some(held) => renew(shared, seat, held, ticket),
+        Some(held) => renew(shared, seat, held, ticket, reply),
         None => Ok(None),
     }
 }
@@ -51,17 +43,18 @@ fn renew<O: Object>(
     seat: &mut CallerSeat,
     held: Exclusive,
     ticket: u64,
-) -> Result<Option<Prepared>, Halt>
-    requires taken { IsTaken (O.line_count shared.now.object) shared.now (O.lawful shared.now.object) seat.old held }
+    reply: &mut [u64; 144],
+) -> Result<Option<Downgraded>, Halt>
+    requires taken { IsTaken (O.line_count shared.now.object) shared.now (O.lawful shared.now.object) (O.step shared.now.object) seat.old held }
     requires alone { others seat.old.known.local ≡ no_others }
     requires ready { MayKeep ticket seat.old }
-    ensures prepared { IfOk result (TriesPrepare O.Object shared.now ticket seat.old seat.new) }
+    ensures prepared { IfOk result (TriesPrepare O.Object shared.now ticket reply.new seat.old seat.new) }
     ensures halted { OnErr result (HaltsTurn seat.old seat.new) }
     ensures turns { Turns shared.now beside_turn seat.old seat.new }
 {
     begin(shared, seat, &held)?;
     match keep(shared, seat, held, ticket)? {
-        Some(held) => Ok(Some(finish(shared, seat, held, ticket)?)),
+        Some(held) => Ok(Some(finish(shared, seat, held, ticket, reply)?)),
         None => Ok(None),
     }
 }
@@ -72,13 +65,14 @@ fn finish<O: Object>(
     seat: &mut CallerSeat,
     held: Exclusive,
     ticket: u64,
-) -> Result<Prepared, Halt>
+    reply: &mut [u64; 144],
+) -> Result<Downgraded, Halt>
     requires kept { IsKept O.Object shared.now ticket seat.old seat.old held }
     requires linked { ticket < seat.old.known.local.front }
-    ensures prepared { MatchResult result (Prepares O.Object shared.now ticket seat.old seat.new) (λ _. HaltsTurn seat.old seat.new) }
+    ensures prepared { MatchResult result (Prepares O.Object shared.now ticket reply.new seat.old seat.new) (λ _. HaltsTurn seat.old seat.new) }
     ensures turns { Turns shared.now beside_turn seat.old seat.new }
 {
-    let reply = bring_up(shared, seat, &held, ticket)?;
+    bring_up(shared, seat, &held, ticket, reply)?;
     let held = downgrade(shared, seat, held)?;
-    Ok(Prepared { held, reply })
+    Ok(held)
 }

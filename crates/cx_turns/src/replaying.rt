@@ -1,18 +1,18 @@
 //! A replica held exclusively is brought up to a ticket by the entries of the queue.
 
-ghost use Rattle.std.specs.Prelude.{◌+◌, ◌<◌, ◌∷◌, ◌≡◌, ◌≤◌, MatchResult, Some, ℕ};
+ghost use Rattle.std.specs.Prelude.{◌+◌, ◌<◌, ◌∷◌, ◌≡◌, ◌≤◌, IfOk, IsTrue, MatchResult, Some, ℕ};
 ghost use Rattle.cx_base.specs.Memory.{Reads};
 ghost use Rattle.cx_core.specs.Region.{slot_reply};
 ghost use Rattle.cx_core.specs.RingEvents.{Protects};
-ghost use Rattle.cx_rule.specs.Fitting.{Fits};
+ghost use Rattle.cx_rule.specs.Fitting.{FitsKnown};
 ghost use Rattle.cx_rule.specs.Seats.{IsAtLimit};
 ghost use Rattle.cx_turns.specs.Keeping.{IsKept};
-ghost use Rattle.cx_turns.specs.Replaying.{FindsNext, IsBroughtUp, IsReplayed, IsSettled, LoadsOnly, ReadsNext, ShowsReply, beside_bringing, beside_work};
+ghost use Rattle.cx_turns.specs.Replaying.{FindsNext, IsApplied, IsBroughtUp, IsReplayed, IsSettled, LoadsOnly, ReadsNext, beside_bringing, beside_work};
 ghost use Rattle.cx_turns.specs.Turns.{Keeps};
 ghost use Rattle.mutation_queue.specs.Entries.{MayRead};
 ghost use Rattle.replica.specs.Held.{IsHeld, beside_held, left_of};
 ghost use Rattle.replica.specs.Regions.{HasPlace};
-ghost use Rattle.replica.specs.Replays.{IsReady, noted_place};
+ghost use Rattle.replica.specs.Replays.{IsReady, ShowsReply, noted_place};
 
 use crate::keeping::unguard;
 use cx_base::{Halt, Object};
@@ -21,57 +21,89 @@ use cx_table::{CallerSeat, Exclusive, Shared};
 use mutation_queue::entry;
 use replica::{Region, apply, flush, outcome};
 
-/// Brings a replica that was kept for the entries up to a ticket up to it, removes the protection, reads the reply to the caller's last
-/// entry there, and makes it durable. `Halt` comes only where the seat's steps equal its limit.
+/// Brings a replica that was kept for the entries up to a ticket up to it, removes the protection, and makes it durable. The reply to the
+/// caller's last entry there is the one that the step of that entry gave, where it was made here, and else it is read. `Halt` comes only
+/// where the seat's steps equal its limit.
 pub(crate) fn bring_up<O: Object>(
     shared: &Shared<O>,
     seat: &mut CallerSeat,
     held: &Exclusive,
     ticket: u64,
-) -> Result<[u64; 144], Halt>
+    reply: &mut [u64; 144],
+) -> Result<(), Halt>
     requires kept { IsKept O.Object shared.now ticket seat.old seat.old held.now }
     requires linked { ticket < seat.old.known.local.front }
-    ensures brought { MatchResult result (IsBroughtUp O.Object shared.now held.now ticket seat.new) (λ _. IsAtLimit seat.new.known.local) }
+    ensures brought { MatchResult result (λ _. IsBroughtUp O.Object shared.now held.now ticket seat.new reply.new) (λ _. IsAtLimit seat.new.known.local) }
     ensures keeps { Keeps shared.now beside_bringing seat.old seat.new }
 {
-    replay_to(shared, seat, held, ticket)?;
+    let replied = replay_to(shared, seat, held, ticket, reply)?;
     unguard(shared, seat)?;
-    Ok(settle(shared, seat, held)?)
+    settle(shared, seat, held, replied, reply)?;
+    Ok(())
 }
 
-/// Reads the reply to the caller's last entry in a replica held exclusively that is the image after its place, and makes it durable.
+/// Makes a replica held exclusively durable that is the image after its place, once the caller has the reply to its last entry there.
 fn settle<O: Object>(
     shared: &Shared<O>,
     seat: &mut CallerSeat,
     held: &Exclusive,
-) -> Result<[u64; 144], Halt>
+    replied: bool,
+    reply: &mut [u64; 144],
+) -> Result<(), Halt>
     requires ready { IsReady O.Object shared.now held.now (noted_place seat.old) seat.old }
-    ensures settled { MatchResult result (IsSettled O.Object shared.now held.now seat.old seat.new) (λ _. IsAtLimit seat.new.known.local) }
+    requires given { IsTrue replied → ShowsReply (O.line_count shared.now.object) (O.lawful shared.now.object) shared.now.base (O.step shared.now.object) seat.old.known seat.old.known.local.number reply.old }
+    ensures settled { MatchResult result (λ _. IsSettled O.Object shared.now held.now seat.old seat.new reply.new) (λ _. IsAtLimit seat.new.known.local) }
     ensures keeps { Keeps shared.now beside_work seat.old seat.new }
 {
-    let reply = own_outcome(shared, seat, held)?;
+    own_reply(shared, seat, held, replied, reply)?;
     flush(shared, seat, held)?;
-    Ok(reply)
+    Ok(())
+}
+
+/// Reads the reply to the caller's own last entry in a replica held exclusively, where the caller does not have it.
+fn own_reply<O: Object>(
+    shared: &Shared<O>,
+    seat: &mut CallerSeat,
+    held: &Exclusive,
+    replied: bool,
+    reply: &mut [u64; 144],
+) -> Result<(), Halt>
+    requires ready { IsReady O.Object shared.now held.now (noted_place seat.old) seat.old }
+    requires given { IsTrue replied → ShowsReply (O.line_count shared.now.object) (O.lawful shared.now.object) shared.now.base (O.step shared.now.object) seat.old.known seat.old.known.local.number reply.old }
+    ensures reply { MatchResult result (λ _. ShowsReply (O.line_count shared.now.object) (O.lawful shared.now.object) shared.now.base (O.step shared.now.object) seat.new.known seat.new.known.local.number reply.new) (λ _. IsAtLimit seat.new.known.local) }
+    ensures ready { IsReady O.Object shared.now held.now (noted_place seat.old) seat.new }
+    ensures rest { beside_held held.now.replica seat.new ≡ beside_held held.now.replica seat.old }
+{
+    if replied {
+        return Ok(());
+    }
+    own_outcome(shared, seat, held, reply)
 }
 
 /// Applies the entries from the place of a replica held exclusively up to a ticket, in order, the caller's own from the seat's memory, and
 /// each other read from the queue while the caller's protection keeps it: where the place is above the ticket, none. The replica is the image after its place before and
-/// afterwards, and then its place is above the ticket. `Halt` comes only where the seat's steps equal its limit.
+/// afterwards, and then its place is above the ticket. It tells whether the last one that it applied is the caller's own, whose reply it
+/// then gives. `Halt` comes only where the seat's steps equal its limit.
 pub fn replay_to<O: Object>(
     shared: &Shared<O>,
     seat: &mut CallerSeat,
     held: &Exclusive,
     ticket: u64,
-) -> Result<(), Halt>
+    reply: &mut [u64; 144],
+) -> Result<bool, Halt>
     requires ready { IsReady O.Object shared.now held.now (noted_place seat.old) seat.old }
     requires linked { ticket < seat.old.known.local.front }
     requires protected { (t : ℕ) → noted_place seat.old ≤ t → t ≤ ticket → Protects t seat.old.known.local.protection }
     ensures replayed { MatchResult result (λ _. IsReplayed O.Object shared.now held.now ticket seat.new) (λ _. IsAtLimit seat.new.known.local) }
+    ensures replied { IfOk result (λ own. IsTrue own → ShowsReply (O.line_count shared.now.object) (O.lawful shared.now.object) shared.now.base (O.step shared.now.object) seat.new.known seat.new.known.local.number reply.new) }
     ensures keeps { Keeps shared.now beside_work seat.old seat.new }
 {
     // tickets are few
     let _front = seat.front();
     let place = seat.noted_place();
+    if ticket < place {
+        return Ok(false);
+    }
     let mut words = [0; 145];
     let mut next = Entry {
         caller: 0,
@@ -79,9 +111,9 @@ pub fn replay_to<O: Object>(
         op: [0; 144],
     };
     for at in place..ticket + 1 {
-        replay_next(shared, seat, held, at, &mut words, &mut next)?;
+        replay_next(shared, seat, held, at, &mut words, &mut next, reply)?;
     }
-    Ok(())
+    Ok(next.caller == seat.number())
 }
 
 /// Applies the entry of the place of a replica held exclusively, which is found in memory of the caller's.
@@ -92,15 +124,16 @@ fn replay_next<O: Object>(
     at: u64,
     words: &mut [u64; 145],
     next: &mut Entry,
+    reply: &mut [u64; 144],
 ) -> Result<(), Halt>
     requires ready { IsReady O.Object shared.now held.now at seat.old }
     requires may { MayRead shared.now at seat.old }
     requires later { shared.now.base.place ≤ at }
-    ensures ready { MatchResult result (λ _. IsReady O.Object shared.now held.now (at + 1) seat.new) (λ _. IsAtLimit seat.new.known.local) }
+    ensures applied { MatchResult result (λ _. IsApplied O.Object shared.now held.now (at + 1) next.new.caller reply.new seat.new) (λ _. IsAtLimit seat.new.known.local) }
     ensures keeps { Keeps shared.now beside_work seat.old seat.new }
 {
     find_next(shared, seat, at, words, next)?;
-    apply(shared, seat, held, next)?;
+    apply(shared, seat, held, next, reply)?;
     Ok(())
 }
 
@@ -115,7 +148,7 @@ fn find_next<O: Object>(
 ) -> Result<(), Halt>
     requires may { MayRead shared.now ticket seat.old }
     requires later { shared.now.base.place ≤ ticket }
-    ensures found { MatchResult result (λ _. FindsNext ticket next.new seat.old seat.new) (λ _. IsAtLimit seat.new.known.local) }
+    ensures found { MatchResult result (λ _. FindsNext O.Object shared.now ticket next.new seat.old seat.new) (λ _. IsAtLimit seat.new.known.local) }
     ensures keeps { Keeps shared.now beside_work seat.old seat.new }
 {
     // callers and tickets are few
@@ -138,7 +171,7 @@ fn read_next<O: Object>(
 ) -> Result<(), Halt>
     requires may { MayRead shared.now ticket seat.old }
     requires later { shared.now.base.place ≤ ticket }
-    ensures read { MatchResult result (λ _. ReadsNext ticket next.new seat.old seat.new) (λ _. IsAtLimit seat.new.known.local) }
+    ensures read { MatchResult result (λ _. ReadsNext O.Object shared.now ticket next.new seat.old seat.new) (λ _. IsAtLimit seat.new.known.local) }
     ensures keeps { Keeps shared.now beside_work seat.old seat.new }
 {
     let caller = entry(shared, seat, ticket, words)?;
@@ -156,19 +189,20 @@ fn set_entry(entry: &mut Entry, caller: u32, words: &[u64; 145])
     entry.op.copy_from_slice(&words[1..]);
 }
 
-/// The reply to the caller's own last entry in a replica held exclusively, which is the image after its place. `Halt` comes
+/// Reads the reply to the caller's own last entry in a replica held exclusively, which is the image after its place. `Halt` comes
 /// only where the seat's steps equal its limit.
 pub fn own_outcome<O: Object>(
     shared: &Shared<O>,
     seat: &mut CallerSeat,
     held: &Exclusive,
-) -> Result<[u64; 144], Halt>
+    reply: &mut [u64; 144],
+) -> Result<(), Halt>
     requires ready { IsReady O.Object shared.now held.now (noted_place seat.old) seat.old }
-    ensures reply { MatchResult result (ShowsReply (O.line_count shared.now.object) (O.lawful shared.now.object) shared.now.base seat.new.known.accesses seat.new.known.local.number) (λ _. IsAtLimit seat.new.known.local) }
+    ensures reply { MatchResult result (λ _. ShowsReply (O.line_count shared.now.object) (O.lawful shared.now.object) shared.now.base (O.step shared.now.object) seat.new.known seat.new.known.local.number reply.new) (λ _. IsAtLimit seat.new.known.local) }
     ensures ready { IsReady O.Object shared.now held.now (noted_place seat.old) seat.new }
     ensures rest { beside_held held.now.replica seat.new ≡ beside_held held.now.replica seat.old }
 {
-    load_own(shared, seat, held)
+    load_own(shared, seat, held, reply)
 }
 
 /// Loads the reply to the caller's own last entry in a replica held exclusively.
@@ -176,15 +210,16 @@ fn load_own<O: Object>(
     shared: &Shared<O>,
     seat: &mut CallerSeat,
     held: &Exclusive,
-) -> Result<[u64; 144], Halt>
-    requires held { IsHeld (O.line_count shared.now.object) shared.now (O.lawful shared.now.object) seat.old held.now }
+    reply: &mut [u64; 144],
+) -> Result<(), Halt>
+    requires held { IsHeld (O.line_count shared.now.object) shared.now (O.lawful shared.now.object) (O.step shared.now.object) seat.old held.now }
     requires begun { HasPlace seat.old.known.accesses }
-    ensures read { MatchResult result (λ reply. Reads (Fits (O.line_count shared.now.object) (O.lawful shared.now.object) shared.now.base seat.old.known.accesses) (Fits (O.line_count shared.now.object) (O.lawful shared.now.object) shared.now.base seat.new.known.accesses) (λ region. slot_reply seat.old.known.local.number region ≡ reply)) (λ _. left_of seat.new.known.local ≡ Some 0) }
+    ensures read { MatchResult result (λ _. Reads (FitsKnown (O.line_count shared.now.object) (O.lawful shared.now.object) shared.now.base (O.step shared.now.object) seat.old.known) (FitsKnown (O.line_count shared.now.object) (O.lawful shared.now.object) shared.now.base (O.step shared.now.object) seat.new.known) (λ region. slot_reply seat.old.known.local.number region ≡ reply.new)) (λ _. left_of seat.new.known.local ≡ Some 0) }
     ensures loads { LoadsOnly O.Object shared.now held.now seat.old seat.new }
 {
     // callers are few
     let _callers = shared.callers();
     let caller = seat.number();
-    let (_number, reply) = outcome(&mut Region::placed(shared, seat, held), caller)?;
-    Ok(reply)
+    outcome(&mut Region::placed(shared, seat, held), caller, reply)?;
+    Ok(())
 }

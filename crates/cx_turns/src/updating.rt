@@ -10,7 +10,7 @@ ghost use Rattle.cx_turns.specs.Turns.{MayTurn, Turns, TurnsIn, cur_rises};
 ghost use Rattle.mutation_queue.specs.Leaves.{Leaves};
 ghost use Rattle.strong_trylock.specs.Held.{Has};
 
-use crate::preparing::{Prepared, prepare};
+use crate::preparing::prepare;
 use cx_base::{Halt, Object};
 use cx_table::{CallerSeat, Downgraded, Shared, Won};
 use publish::{Published, make_durable, publish, retire};
@@ -33,10 +33,10 @@ pub fn update_turn<O: Object>(
     ensures halted { OnErr result (HaltsFor shared.now.callers ticket seat.old seat.new) }
     ensures turns { Turns shared.now beside_update seat.old seat.new }
 {
-    let Some(prepared) = prepare(shared, seat, ticket)? else {
+    let mut reply = [0; 144];
+    let Some(held) = prepare(shared, seat, ticket, &mut reply)? else {
         return Ok(None);
     };
-    let Prepared { held, reply } = prepared;
     hand_over(shared, seat, held)?;
     Ok(Some(reply))
 }

@@ -2,7 +2,6 @@
 use Rattle.std.proofs.Common.{◌≡◌, ◌+◌, ◌/◌, ◌^◌, ◌<◌, ◌≤◌, ℕ, zero, suc, Bool, List, [], ◌∷◌, ◌++◌, length, slice_get, slice_index, refl, sym, ap, subst, ◌∙◌, arith, append-nil, zero-add, inr, Some}
 use Rattle.std.proofs.lemmas.List.{append_assoc, length-append}
 use Rattle.cx_base.specs.declared.object.Object.{Ghosts}
-use Rattle.cx_core.specs.declared.entry.Base.{Base}
 use Rattle.cx_core.specs.declared.entry.Entry.{Entry}
 use Rattle.cx_core.specs.declared.kinds.Kind.TheVariants.{ReadCell}
 use Rattle.cx_core.specs.declared.local.Local.{Local}
@@ -85,7 +84,7 @@ none_ends caller ticket ws i s now is at before here =
 
 -- what a run of reads leads to
 pub run_read : {O : Type 0} (r : Running O) (step : O → List ℕ → List ℕ → List ℕ × List ℕ) (reads : O → List ℕ → Bool) (lawful : List ℕ → Type 0) (ticket cell : ℕ) (words : List ℕ) (before after : Seated) → Runs r step reads lawful (reads_of ticket cell) words before after →
-    (after ≡ with_read (cell / 16) ticket words before) × ((n : ℕ) → n < length words → EndsAfter n before.known.local → ⊥) × (0 < length words → Fitting r.lines lawful r.base after.known)
+    (after ≡ with_read (cell / 16) ticket words before) × ((n : ℕ) → n < length words → EndsAfter n before.known.local → ⊥) × (0 < length words → Fitting r.lines lawful r.base (step r.object) after.known)
 run_read r step reads lawful ticket cell words before after (no_step _ _ _ nothing same) =
     let long : length words ≡ 0 = ap length nothing in (
       same ∙ none_read (cell / 16) ticket before ∙ ap (λ (ws : List ℕ). with_read (cell / 16) ticket ws before) (sym nothing),
@@ -171,8 +170,11 @@ read_noted ticket words before after entry read is =
     }
 
 -- what really is there tells that an entry that was read may come at its ticket
-pub notes_entry : {lines : ℕ} {lawful : List ℕ → Type 0} {base : Base} (caller ticket : ℕ) (words : List ℕ) (before after : Seated) → Fitting lines lawful base after.known → base.place ≤ ticket → ticket < 2 ^ 40 → ReadsEntry caller ticket words before after →
-    NotesEntry caller ticket words after
-notes_entry caller ticket words before after fits from below read entry of is =
-    let noted = read_noted ticket words before after entry (subst (λ k. ReadsEntry k ticket words before after) (sym of) read) is in
-    record { noted = noted; lawful = fits.entries ticket entry from noted; small = below }
+pub notes_entry : {O : Type 0} (o : Ghosts O) (r : Running O) (caller ticket : ℕ) (words : List ℕ) (before after : Seated) → Fitting r.lines (o.lawful r.object) r.base (o.step r.object) after.known → r.base.place ≤ ticket → ticket < 2 ^ 40 → ReadsEntry caller ticket words before after →
+    NotesEntry o r caller ticket words after
+notes_entry o r caller ticket words before after fits from below read = record {
+  each = λ entry of is. (
+      let noted = read_noted ticket words before after entry (subst (λ k. ReadsEntry k ticket words before after) (sym of) read) is in
+      record { noted = noted; lawful = fits.entries ticket entry from noted; small = below });
+  fits = fits;
+}

@@ -59,7 +59,7 @@ pub record Looked {O : Type 0} (r : Running O) (ticket cell : ℕ) (before after
 -- the words of an entry were read, all within the limit, and what is noted fits what is there
 pub record ReadsWords {O : Type 0} (o : Ghosts O) (r : Running O) (caller ticket : ℕ) (words : List ℕ) (before after : Seated) : Type 0 where
   pub seat : after ≡ with_read caller ticket words before
-  pub fits : Fitting r.lines (o.lawful r.object) r.base after.known
+  pub fits : Fitting r.lines (o.lawful r.object) r.base (o.step r.object) after.known
   pub within : (n : ℕ) → n < 145 → EndsAfter n before.known.local → ⊥
 
 -- the limit was come to before all words were read
@@ -82,9 +82,10 @@ pub record IsNotedEntry (ticket : ℕ) (seat : Seated) (entry : Entry) : Type 0 
   pub lawful : IsLawfulEntry ticket entry
   pub small : ticket < 2 ^ 40
 
--- so is the entry of this caller with these words, its number first
-abbrev pub NotesEntry : ℕ → ℕ → List ℕ → Seated → Type 0
-NotesEntry caller ticket words seat = (entry : Entry) → entry.caller ≡ caller → entry.number ∷ entry.op ≡ words → IsNotedEntry ticket seat entry
+-- so is the entry of this caller with these words, its number first, and what is noted fits what is there
+pub record NotesEntry {O : Type 0} (o : Ghosts O) (r : Running O) (caller ticket : ℕ) (words : List ℕ) (seat : Seated) : Type 0 where
+  pub each : (entry : Entry) → entry.caller ≡ caller → entry.number ∷ entry.op ≡ words → IsNotedEntry ticket seat entry
+  pub fits : Fitting r.lines (o.lawful r.object) r.base (o.step r.object) seat.known
 
 -- The limit was come to before the entry was read: at the look, or among the words, of which those read are noted.
 pub record HaltsReading (ticket : ℕ) (before after : Seated) : Type 0 where

@@ -12,7 +12,7 @@ use cx_table::{CallerSeat, Shared};
 
 /// Reads the entry with a ticket, which is linked and which a confirmed protection of the caller keeps: its number and its
 /// operation, in 146 steps. It gives the entry's caller. Each word is noted with the ticket, and a noted word is the history's:
-/// so the entry is one that may come there. `Halt` comes exactly where a further step is to be made and the seat's steps equal
+/// so the entry is one that may come there, and what is noted fits what is there. `Halt` comes exactly where a further step is to be made and the seat's steps equal
 /// its limit.
 pub fn entry<O: Object>(
     shared: &Shared<O>,
@@ -23,7 +23,7 @@ pub fn entry<O: Object>(
     requires may { MayRead shared.now ticket seat.old }
     requires later { shared.now.base.place ≤ ticket }
     ensures read { IfOk result (λ caller. ReadsEntry caller ticket into.new seat.old seat.new) }
-    ensures entry { IfOk result (λ caller. NotesEntry caller ticket into.new seat.new) }
+    ensures entry { IfOk result (λ caller. NotesEntry O.Object shared.now caller ticket into.new seat.new) }
     ensures halted { OnErr result (HaltsReading ticket seat.old seat.new) }
     ensures seat { IsSeatOf shared.now seat.new }
 {

@@ -78,7 +78,7 @@ dirty_stored P i v (Some h) p all = by (is_in h.dirty i)
 -- ---- accesses
 
 module _ {O : Type 0} (lines : ℕ) (r : Running O) (step : O → List ℕ → List ℕ → List ℕ × List ℕ) (reads : O → List ℕ → Bool) (lawful : List ℕ → Type 0) (held : Right) where
-  pub load_accesses : (at found : ℕ) (before after : Seated) → IsHeld lines r lawful before held → Steps r step reads (LoadWord held.replica at false) found before after → Fitting r.lines lawful r.base after.known → Accesses lines r lawful held (false, at, found) before after
+  pub load_accesses : (at found : ℕ) (before after : Seated) → IsHeld lines r lawful (step r.object) before held → Steps r step reads (LoadWord held.replica at false) found before after → Fitting r.lines lawful r.base (step r.object) after.known → Accesses lines r lawful (step r.object) held (false, at, found) before after
   load_accesses at found before after of s fits =
       let rest : beside_held held.replica after ≡ beside_held held.replica before =
       ap (beside_held held.replica) s.made
@@ -96,23 +96,23 @@ module _ {O : Type 0} (lines : ℕ) (r : Running O) (step : O → List ℕ → L
           sized = of.sized;
           of = s.seat;
           right = still_exclusive r.callers held.replica before after held rest of.right;
-          some = subst (λ n. SomeFits n lawful r.base after.known.accesses) of.sized.lines_are fits.exclusive;
+          some = subst (λ n. SomeFits n lawful r.base (step r.object) after.known) of.sized.lines_are fits.exclusive;
           dirty = subst (λ (t : Seated). All (λ i. i < region_words lines) (held_dirty t.known.local.exclusive)) (sym s.made) of.dirty;
         };
       }
 
   -- loads of words from a place on
-  run_accesses : (from : ℕ) (words : List ℕ) (before after : Seated) → IsHeld lines r lawful before held → Runs r step reads lawful (loads_from held.replica from) words before after → LoadsRun (LoadsHeld lines r lawful held) from words before after × IsHeld lines r lawful after held
-  run_accesses from words before after of (no_step _ _ _ none same) = (no_load _ _ _ none same, subst (λ s. IsHeld lines r lawful s held) (sym same) of)
+  run_accesses : (from : ℕ) (words : List ℕ) (before after : Seated) → IsHeld lines r lawful (step r.object) before held → Runs r step reads lawful (loads_from held.replica from) words before after → LoadsRun (LoadsHeld lines r lawful (step r.object) held) from words before after × IsHeld lines r lawful (step r.object) after held
+  run_accesses from words before after of (no_step _ _ _ none same) = (no_load _ _ _ none same, subst (λ s. IsHeld lines r lawful (step r.object) s held) (sym same) of)
   run_accesses from words before after of (one_more_step _ _ _ first found mid longer run s fits) =
       let was = run_accesses from first before mid of run in
       let now = load_accesses (from + length first) found mid after was.1 s fits in
       (one_more_load _ _ _ first found mid longer was.0 now, now.still)
 
-  pub accesses_of : (q from : ℕ) (words : List ℕ) (before after : Seated) → q ≡ held.replica → IsHeld lines r lawful before held → Runs r step reads lawful (loads_from q from) words before after → LoadsRun (LoadsHeld lines r lawful held) from words before after
+  pub accesses_of : (q from : ℕ) (words : List ℕ) (before after : Seated) → q ≡ held.replica → IsHeld lines r lawful (step r.object) before held → Runs r step reads lawful (loads_from q from) words before after → LoadsRun (LoadsHeld lines r lawful (step r.object) held) from words before after
   accesses_of q from words before after is of run = (run_accesses from words before after of (subst (λ k. Runs r step reads lawful (loads_from k from) words before after) is run)).0
 
-  pub store_accesses : (at v : ℕ) (before after : Seated) → at < region_words lines → IsHeld lines r lawful before held → Steps r step reads (StoreWord held.replica at v) 0 before after → Fitting r.lines lawful r.base after.known → Accesses lines r lawful held (true, at, v) before after
+  pub store_accesses : (at v : ℕ) (before after : Seated) → at < region_words lines → IsHeld lines r lawful (step r.object) before held → Steps r step reads (StoreWord held.replica at v) 0 before after → Fitting r.lines lawful r.base (step r.object) after.known → Accesses lines r lawful (step r.object) held (true, at, v) before after
   store_accesses at v before after below of s fits =
       let rest : beside_held held.replica after ≡ beside_held held.replica before =
       ap (beside_held held.replica) s.made
@@ -128,7 +128,7 @@ module _ {O : Type 0} (lines : ℕ) (r : Running O) (step : O → List ℕ → L
           sized = of.sized;
           of = s.seat;
           right = still_exclusive r.callers held.replica before after held rest of.right;
-          some = subst (λ n. SomeFits n lawful r.base after.known.accesses) of.sized.lines_are fits.exclusive;
+          some = subst (λ n. SomeFits n lawful r.base (step r.object) after.known) of.sized.lines_are fits.exclusive;
           dirty = subst (λ (t : Seated). All (λ i. i < region_words lines) (held_dirty t.known.local.exclusive)) (sym s.made) (dirty_stored (λ i. i < region_words lines) at v before.known.local.exclusive below of.dirty);
         };
       }
@@ -142,7 +142,7 @@ module _ {O : Type 0} (lines : ℕ) (r : Running O) (step : O → List ℕ → L
   beside_load true accesses more = refl
   beside_load false accesses more = refl
 
-  pub load_shared_loads : (at found : ℕ) (before after : Seated) → IsHeldShared lines r lawful before held → Steps r step reads (LoadWord held.replica at false) found before after → Fitting r.lines lawful r.base after.known → LoadsShared lines r lawful held at found before after
+  pub load_shared_loads : (at found : ℕ) (before after : Seated) → IsHeldShared lines r lawful before held → Steps r step reads (LoadWord held.replica at false) found before after → Fitting r.lines lawful r.base (step r.object) after.known → LoadsShared lines r lawful held at found before after
   load_shared_loads at found before after of s fits =
       let with : List Noted → Option HeldShared → List Note → Seated =
       λ noted shared accesses. record before { known = record { local = record before.known.local { shared = shared; steps = 0 }; noted = noted; accesses = accesses; sets = before.known.sets } } in
@@ -163,7 +163,7 @@ module _ {O : Type 0} (lines : ℕ) (r : Running O) (step : O → List ℕ → L
         steps = ap (λ (t : Seated). t.known.local.steps) s.made;
         rest = rest;
         within = s.within;
-        still = record { sized = of.sized; of = s.seat; right = right; some = subst (λ n. SomeReadFits n lawful r.base (loaded_of after.known.local.shared)) of.sized.lines_are (fitting_shared r lawful after.known held.replica right.holds fits) };
+        still = record { sized = of.sized; of = s.seat; right = right; some = subst (λ n. SomeReadFits n lawful r.base (loaded_of after.known.local.shared)) of.sized.lines_are (fitting_shared r lawful step after.known held.replica right.holds fits) };
       }
 
   run_loads : (from : ℕ) (words : List ℕ) (before after : Seated) → IsHeldShared lines r lawful before held → Runs r step reads lawful (loads_from held.replica from) words before after → LoadsRun (LoadsShared lines r lawful held) from words before after × IsHeldShared lines r lawful after held
@@ -178,30 +178,31 @@ module _ {O : Type 0} (lines : ℕ) (r : Running O) (step : O → List ℕ → L
 
 -- ---- step calls
 
-module _ {O : Type 0} (lines : ℕ) (r : Running O) (lawful : List ℕ → Type 0) (held : Right) (q at : ℕ) (seat : Seated) where
-  pub store_guard : q ≡ held.replica → IsHeld lines r lawful seat held → at < region_words lines → (q < 2 * r.callers) × (at < length r.base.words) × (exclusive_on seat.known.local ≡ Some q)
+module _ {O : Type 0} (lines : ℕ) (r : Running O) (lawful : List ℕ → Type 0) (step : List ℕ → List ℕ → List ℕ × List ℕ) (held : Right) (q at : ℕ) (seat : Seated) where
+  pub store_guard : q ≡ held.replica → IsHeld lines r lawful step seat held → at < region_words lines → (q < 2 * r.callers) × (at < length r.base.words) × (exclusive_on seat.known.local ≡ Some q)
   store_guard is of below =
       (let few = of.right.few in omega (arith, is), let long = of.sized.region in omega arith, of.right.holds ∙ ap Some (sym is))
 
-  pub load_guard : q ≡ held.replica → IsHeld lines r lawful seat held → at < region_words lines → (q < 2 * r.callers) × (at < length r.base.words) × ((exclusive_on seat.known.local ≡ Some q) ⊎ (shared_on seat.known.local ≡ Some q))
+  pub load_guard : q ≡ held.replica → IsHeld lines r lawful step seat held → at < region_words lines → (q < 2 * r.callers) × (at < length r.base.words) × ((exclusive_on seat.known.local ≡ Some q) ⊎ (shared_on seat.known.local ≡ Some q))
   load_guard is of below = (let g = store_guard is of below in (g.0, g.1, inl g.2))
 
+module _ {O : Type 0} (lines : ℕ) (r : Running O) (lawful : List ℕ → Type 0) (held : Right) (q at : ℕ) (seat : Seated) where
   pub shared_guard : q ≡ held.replica → IsHeldShared lines r lawful seat held → at < region_words lines → (q < 2 * r.callers) × (at < length r.base.words) × ((exclusive_on seat.known.local ≡ Some q) ⊎ (shared_on seat.known.local ≡ Some q))
   shared_guard is of below =
       (let few = of.right.few in omega (arith, is), let long = of.sized.region in omega arith, inr (of.right.holds ∙ ap Some (sym is)))
 
 module _ {O E : Type 0} (lines : ℕ) (r : Running O) (step : O → List ℕ → List ℕ → List ℕ × List ℕ) (reads : O → List ℕ → Bool) (lawful : List ℕ → Type 0) (held : Right) (q at : ℕ) where
-  pub made_by_load : (before after : Seated) (result : Result ℕ E) → q ≡ held.replica → IsHeld lines r lawful before held → IfOk result (λ found. Steps r step reads (LoadWord q at false) found before after) → OnOk result (Fitting r.lines lawful r.base after.known) →
-      IfOk result (λ v. Accesses lines r lawful held (false, at, v) before after)
+  pub made_by_load : (before after : Seated) (result : Result ℕ E) → q ≡ held.replica → IsHeld lines r lawful (step r.object) before held → IfOk result (λ found. Steps r step reads (LoadWord q at false) found before after) → OnOk result (Fitting r.lines lawful r.base (step r.object) after.known) →
+      IfOk result (λ v. Accesses lines r lawful (step r.object) held (false, at, v) before after)
   made_by_load before after (Ok v) is of made fits = load_accesses lines r step reads lawful held at v before after of (subst (λ k. Steps r step reads (LoadWord k at false) v before after) is made) fits
   made_by_load before after (Err e) is of made fits = tt
 
-  pub made_by_shared_load : (before after : Seated) (result : Result ℕ E) → q ≡ held.replica → IsHeldShared lines r lawful before held → IfOk result (λ found. Steps r step reads (LoadWord q at false) found before after) → OnOk result (Fitting r.lines lawful r.base after.known) →
+  pub made_by_shared_load : (before after : Seated) (result : Result ℕ E) → q ≡ held.replica → IsHeldShared lines r lawful before held → IfOk result (λ found. Steps r step reads (LoadWord q at false) found before after) → OnOk result (Fitting r.lines lawful r.base (step r.object) after.known) →
       IfOk result (λ v. LoadsShared lines r lawful held at v before after)
   made_by_shared_load before after (Ok v) is of made fits = load_shared_loads lines r step reads lawful held at v before after of (subst (λ k. Steps r step reads (LoadWord k at false) v before after) is made) fits
   made_by_shared_load before after (Err e) is of made fits = tt
 
-  pub made_by_store : {A : Type 0} (v : ℕ) (before after : Seated) (result : Result A E) → q ≡ held.replica → at < region_words lines → IsHeld lines r lawful before held → IfOk result (λ _. Steps r step reads (StoreWord q at v) 0 before after) → OnOk result (Fitting r.lines lawful r.base after.known) →
-      OnOk result (Accesses lines r lawful held (true, at, v) before after)
+  pub made_by_store : {A : Type 0} (v : ℕ) (before after : Seated) (result : Result A E) → q ≡ held.replica → at < region_words lines → IsHeld lines r lawful (step r.object) before held → IfOk result (λ _. Steps r step reads (StoreWord q at v) 0 before after) → OnOk result (Fitting r.lines lawful r.base (step r.object) after.known) →
+      OnOk result (Accesses lines r lawful (step r.object) held (true, at, v) before after)
   made_by_store v before after (Ok x) is below of made fits = store_accesses lines r step reads lawful held at v before after below of (subst (λ k. Steps r step reads (StoreWord k at v) 0 before after) is made) fits
   made_by_store v before after (Err e) is below of made fits = tt

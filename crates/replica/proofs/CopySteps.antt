@@ -63,43 +63,43 @@ store_rest r step reads q at v before after s =
 
 module _ {O : Type 0} (lines : ℕ) (r : Running O) (step : O → List ℕ → List ℕ → List ℕ × List ℕ) (reads : O → List ℕ → Bool) (lawful : List ℕ → Type 0) (held source : Right) (before after : Seated) where
   -- both rights stay through a step that is the same beside a copy, after which some pair fits
-  both_still : HoldsBoth lines r lawful before held source → IsSeatOf r after → beside_copy after ≡ beside_copy before → Fitting r.lines lawful r.base after.known → All (λ i. i < region_words lines) (held_dirty after.known.local.exclusive) →
-      HoldsBoth lines r lawful after held source
+  both_still : HoldsBoth lines r lawful (step r.object) before held source → IsSeatOf r after → beside_copy after ≡ beside_copy before → Fitting r.lines lawful r.base (step r.object) after.known → All (λ i. i < region_words lines) (held_dirty after.known.local.exclusive) →
+      HoldsBoth lines r lawful (step r.object) after held source
   both_still both seat same fits dirty =
       record {
         exclusive = record {
           sized = both.exclusive.sized;
           of = seat;
           right = exclusive_still r.callers before after held same both.exclusive.right;
-          some = subst (λ n. SomeFits n lawful r.base after.known.accesses) both.exclusive.sized.lines_are fits.exclusive;
+          some = subst (λ n. SomeFits n lawful r.base (step r.object) after.known) both.exclusive.sized.lines_are fits.exclusive;
           dirty = dirty;
         };
-        shared = shared_held lines r lawful after source both.shared.sized seat (shared_still r.callers before after source same both.shared.right) fits;
+        shared = shared_held lines r lawful step after source both.shared.sized seat (shared_still r.callers before after source same both.shared.right) fits;
       }
 
-  both_load : (q at found : ℕ) → HoldsBoth lines r lawful before held source → Steps r step reads (LoadWord q at false) found before after → Fitting r.lines lawful r.base after.known → HoldsBoth lines r lawful after held source
+  both_load : (q at found : ℕ) → HoldsBoth lines r lawful (step r.object) before held source → Steps r step reads (LoadWord q at false) found before after → Fitting r.lines lawful r.base (step r.object) after.known → HoldsBoth lines r lawful (step r.object) after held source
   both_load q at found both s fits =
       both_still both s.seat (load_rest r step reads q at found before after s) fits
       (subst (λ (t : Seated). All (λ i. i < region_words lines) (held_dirty t.known.local.exclusive)) (sym s.made) both.exclusive.dirty)
 
-  pub both_store : (q at v : ℕ) → at < region_words lines → HoldsBoth lines r lawful before held source → Steps r step reads (StoreWord q at v) 0 before after → Fitting r.lines lawful r.base after.known → HoldsBoth lines r lawful after held source
+  pub both_store : (q at v : ℕ) → at < region_words lines → HoldsBoth lines r lawful (step r.object) before held source → Steps r step reads (StoreWord q at v) 0 before after → Fitting r.lines lawful r.base (step r.object) after.known → HoldsBoth lines r lawful (step r.object) after held source
   both_store q at v below both s fits =
       both_still both s.seat (store_rest r step reads q at v before after s) fits
       (subst (λ (t : Seated). All (λ i. i < region_words lines) (held_dirty t.known.local.exclusive)) (sym s.made) (dirty_stored (λ i. i < region_words lines) at v before.known.local.exclusive below both.exclusive.dirty))
 
 -- a run of loads leaves both rights, and tells of each of its words
-pub record HasRun {O : Type 0} (lines : ℕ) (r : Running O) (lawful : List ℕ → Type 0) (held source : Right) (q from : ℕ) (words : List ℕ) (before after : Seated) : Type 0 where
-  pub both : HoldsBoth lines r lawful after held source
+pub record HasRun {O : Type 0} (lines : ℕ) (r : Running O) (step : O → List ℕ → List ℕ → List ℕ × List ℕ) (lawful : List ℕ → Type 0) (held source : Right) (q from : ℕ) (words : List ℕ) (before after : Seated) : Type 0 where
+  pub both : HoldsBoth lines r lawful (step r.object) after held source
   pub rest : beside_copy after ≡ beside_copy before
   pub run : IsRunOf q from words before.known after.known
 
 module _ {O : Type 0} (lines : ℕ) (r : Running O) (step : O → List ℕ → List ℕ → List ℕ × List ℕ) (reads : O → List ℕ → Bool) (lawful : List ℕ → Type 0) (held source : Right) (q from : ℕ) where
-  none_ran : (before after : Seated) → after ≡ before → HoldsBoth lines r lawful before held source → HasRun lines r lawful held source q from [] before after
+  none_ran : (before after : Seated) → after ≡ before → HoldsBoth lines r lawful (step r.object) before held source → HasRun lines r step lawful held source q from [] before after
   none_ran before after same both =
-      subst (λ (s : Seated). HasRun lines r lawful held source q from [] before s) (sym same) (record { both = both; rest = refl; run = no_run q from before.known })
+      subst (λ (s : Seated). HasRun lines r step lawful held source q from [] before s) (sym same) (record { both = both; rest = refl; run = no_run q from before.known })
 
-  pub has_run : (words : List ℕ) (before after : Seated) → HoldsBoth lines r lawful before held source → Runs r step reads lawful (loads_from q from) words before after → HasRun lines r lawful held source q from words before after
-  has_run words before after both (no_step _ _ _ nothing same) = subst (λ ws. HasRun lines r lawful held source q from ws before after) (sym nothing) (none_ran before after same both)
+  pub has_run : (words : List ℕ) (before after : Seated) → HoldsBoth lines r lawful (step r.object) before held source → Runs r step reads lawful (loads_from q from) words before after → HasRun lines r step lawful held source q from words before after
+  has_run words before after both (no_step _ _ _ nothing same) = subst (λ ws. HasRun lines r step lawful held source q from ws before after) (sym nothing) (none_ran before after same both)
   has_run words before after both (one_more_step _ _ _ first found mid longer run made fits) =
       let was = has_run first before mid both run in
       let at = from + length first in
@@ -111,12 +111,12 @@ module _ {O : Type 0} (lines : ℕ) (r : Running O) (step : O → List ℕ → L
             (longer_run (instance_at r step reads) q from found first before.known mid.known was.run));
       }
 
-unmoved : {O : Type 0} (o : Ghosts O) (r : Running O) (held source : Right) (before after : Seated) → HoldsBoth (o.line_count r.object) r (o.lawful r.object) before held source → Halts r before after → LeavesCopied o r held source before after
-unmoved o r held source before after both halted = record { both = subst (λ (s : Seated). HoldsBoth (o.line_count r.object) r (o.lawful r.object) s held source) (sym halted.same) both; rest = ap beside_copy halted.same }
+unmoved : {O : Type 0} (o : Ghosts O) (r : Running O) (held source : Right) (before after : Seated) → HoldsBoth (o.line_count r.object) r (o.lawful r.object) (o.step r.object) before held source → Halts r before after → LeavesCopied o r held source before after
+unmoved o r held source before after both halted = record { both = subst (λ (s : Seated). HoldsBoth (o.line_count r.object) r (o.lawful r.object) (o.step r.object) s held source) (sym halted.same) both; rest = ap beside_copy halted.same }
 
-module _ {O E : Type 0} (o : Ghosts O) (r : Running O) (held source : Right) (q at : ℕ) (before after : Seated) (both : HoldsBoth (o.line_count r.object) r (o.lawful r.object) before held source) where
+module _ {O E : Type 0} (o : Ghosts O) (r : Running O) (held source : Right) (q at : ℕ) (before after : Seated) (both : HoldsBoth (o.line_count r.object) r (o.lawful r.object) (o.step r.object) before held source) where
   -- what a store leaves, whether the step was made or refused
-  pub store_leaves : {A : Type 0} (v : ℕ) (result : Result A E) → at < region_words (o.line_count r.object) → IfOk result (λ _. Steps r o.step o.only_reads (StoreWord q at v) 0 before after) → OnOk result (Fitting r.lines (o.lawful r.object) r.base after.known) → OnErr result (Halts r before after) →
+  pub store_leaves : {A : Type 0} (v : ℕ) (result : Result A E) → at < region_words (o.line_count r.object) → IfOk result (λ _. Steps r o.step o.only_reads (StoreWord q at v) 0 before after) → OnOk result (Fitting r.lines (o.lawful r.object) r.base (o.step r.object) after.known) → OnErr result (Halts r before after) →
       LeavesCopied o r held source before after
   store_leaves v (Ok x) below made fits halted = record {
     both = both_store (o.line_count r.object) r o.step o.only_reads (o.lawful r.object) held source before after q at v below both made fits;
@@ -130,7 +130,7 @@ module _ {O : Type 0} (lines : ℕ) (r : Running O) (step : O → List ℕ → L
   tried_still true l = (refl, refl)
   tried_still false l = (refl, refl)
 
-  pub both_tried : (o : Result Right Right) → IsHeld lines r lawful before held → Steps r step reads (TryShared q) found before after → TriedShared r.callers q after found o → Fitting r.lines lawful r.base after.known → IfSome (result_ok o) (HoldsBoth lines r lawful after held)
+  pub both_tried : (o : Result Right Right) → IsHeld lines r lawful (step r.object) before held → Steps r step reads (TryShared q) found before after → TriedShared r.callers q after found o → Fitting r.lines lawful r.base (step r.object) after.known → IfSome (result_ok o) (HoldsBoth lines r lawful (step r.object) after held)
   both_tried (Err mark) was s tried fits = tt
   both_tried (Ok source) was s tried fits =
       let l = before.known.local in
@@ -145,10 +145,10 @@ module _ {O : Type 0} (lines : ℕ) (r : Running O) (step : O → List ℕ → L
             caller = was.right.caller ∙ sym (ap (λ (t : Seated). t.known.local.number) s.made ∙ same.0);
             holds = ap (option_map (λ (h : HeldExclusive). h.replica)) exclusive ∙ was.right.holds;
           };
-          some = subst (λ n. SomeFits n lawful r.base after.known.accesses) was.sized.lines_are fits.exclusive;
+          some = subst (λ n. SomeFits n lawful r.base (step r.object) after.known) was.sized.lines_are fits.exclusive;
           dirty = subst (λ (x : Option HeldExclusive). All (λ i. i < region_words lines) (held_dirty x)) (sym exclusive) was.dirty;
         };
-        shared = shared_held lines r lawful after source was.sized s.seat tried.2 fits;
+        shared = shared_held lines r lawful step after source was.sized s.seat tried.2 fits;
       }
 
 -- ---- how many steps a copy makes

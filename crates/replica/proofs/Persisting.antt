@@ -10,14 +10,17 @@ use Rattle.cx_core.specs.declared.local.HeldExclusive.{HeldExclusive}
 use Rattle.cx_core.specs.Region.{region_words}
 use Rattle.cx_core.specs.RegionEvents.{persisted}
 use Rattle.cx_core.specs.Rights.{held_dirty}
-use Rattle.cx_rule.specs.Fitting.{SomeFits}
 use Rattle.cx_rule.specs.Running.{Running}
 use Rattle.cx_rule.specs.Seats.{Seated}
 use Rattle.cx_rule.specs.Steps.{Steps}
+use Rattle.cx_rule.proofs.HasMore.{some_same}
 use Rattle.cx_table.specs.Right.{Right}
 use Rattle.replica.specs.Flushes.{Persists}
 use Rattle.replica.specs.Held.{IsHeld, beside_held, but_loaded, but_words}
+use Rattle.replica.specs.Laws.{image_same}
+use Rattle.replica.specs.Replays.{IsImage}
 use Rattle.replica.proofs.Access.{beside, still_exclusive}
+use Rattle.replica.proofs.RegionLaws.{same_has}
 
 abbrev other_than : ℕ → ℕ → Bool
 other_than at x = cond (x == at) false true
@@ -58,7 +61,7 @@ module _ {O : Type 0} (o : Ghosts O) (r : Running O) (held : Right) (at : ℕ) (
   dirty_after : (P Q : List ℕ → Type 0) → Steps r o.step o.only_reads (Persist held.replica at) 0 before after → P [] → ((xs : List ℕ) → Q xs → P (filter (λ x. cond (x == at) false true) xs)) → Q (held_dirty before.known.local.exclusive) → P (held_dirty after.known.local.exclusive)
   dirty_after P Q s none on q = subst (λ (t : Seated). P (held_dirty t.known.local.exclusive)) (sym s.made) (dirty_persisted P Q at before.known.local.exclusive none on q)
 
-  pub persists : Steps r o.step o.only_reads (Persist held.replica at) 0 before after → IsHeld (o.line_count r.object) r (o.lawful r.object) before held → Persists o r held before after
+  pub persists : Steps r o.step o.only_reads (Persist held.replica at) 0 before after → IsHeld (o.line_count r.object) r (o.lawful r.object) (o.step r.object) before held → Persists o r held before after
   persists s of =
       let accesses : after.known.accesses ≡ before.known.accesses = ap (λ (t : Seated). t.known.accesses) s.made in
       let rest : beside_held held.replica after ≡ beside_held held.replica before =
@@ -71,7 +74,7 @@ module _ {O : Type 0} (o : Ghosts O) (r : Running O) (held : Right) (at : ℕ) (
           sized = of.sized;
           of = s.seat;
           right = still_exclusive r.callers held.replica before after held rest of.right;
-          some = subst (SomeFits (o.line_count r.object) (o.lawful r.object) r.base) (sym accesses) of.some;
+          some = some_same (o.line_count r.object) (o.lawful r.object) r.base (o.step r.object) before.known after.known (same_has held.replica before after rest) accesses of.some;
           dirty = dirty_after (All below) (All below) s (All-nil below) (λ xs all. All-filter (λ x. cond (x == at) false true) below xs all) of.dirty;
         };
         accesses = accesses;
@@ -85,6 +88,10 @@ module _ {O : Type 0} (o : Ghosts O) (r : Running O) (held : Right) (at : ℕ) (
       by : (o : Option HeldExclusive) → Contains (held_dirty o) at → length (held_dirty (option_map (persisted at) o)) < length (held_dirty o)
       by None none = (let below = none.1 in absurd (omega (arith, below)))
       by (Some h) there = left_off h.dirty at there
+
+-- what is the image after its place stays so
+pub persisted_image : {O : Type 0} (o : Ghosts O) (r : Running O) (held : Right) (before after : Seated) → Persists o r held before after → IsImage (o.line_count r.object) (o.lawful r.object) r.base (o.step r.object) before.known → IsImage (o.line_count r.object) (o.lawful r.object) r.base (o.step r.object) after.known
+persisted_image o r held before after p image = image_same (o.line_count r.object) (o.lawful r.object) r.base (o.step r.object) before.known after.known (same_has held.replica before after p.rest) p.accesses image
 
 -- where each dirty word is one of the region and no word of the region is dirty, none is
 pub none_left : (region words : ℕ) (dirty : List ℕ) → region ≡ words → All (λ i. i < words) dirty → ((at : ℕ) → at < region → ¬ Contains dirty at) → dirty ≡ []

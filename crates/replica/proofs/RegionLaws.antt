@@ -9,7 +9,7 @@ use Rattle.cx_core.specs.declared.entry.Base.{Base}
 use Rattle.cx_core.specs.declared.local.Local.{Local}
 use Rattle.cx_core.specs.Layout.{max_word}
 use Rattle.cx_core.specs.Region.{region_words}
-use Rattle.cx_rule.specs.Fitting.{Fits, ReadFits, loads_of, loaded_of}
+use Rattle.cx_rule.specs.Fitting.{Fits, FitsKnown, FitsOn, Has, ReadFits, has_of, loads_of, loaded_of}
 use Rattle.cx_rule.specs.Running.{Running}
 use Rattle.cx_rule.specs.Seats.{IsWithinLimit, Seated, place_noted}
 use Rattle.cx_rule.specs.Steps.{Halts}
@@ -44,6 +44,28 @@ module _ (lines : ℕ) (lawful : List ℕ → Type 0) (base : Base) where
         on = λ first now f e. record { fits = subst (λ xs. Fits lines lawful base xs first now) (sym more) (l.on first now f.fits e); same = f.same };
       }
 
+-- what was applied looks at the first words alone, so a load and a store tell of what stays lawful what they tell of what fits
+module _ (lines : ℕ) (lawful : List ℕ → Type 0) (base : Base) (step : List ℕ → List ℕ → List ℕ × List ℕ) (has : Has) (accesses : List Note) (at v : ℕ) where
+  on_load : Loaded at v (FitsOn lines lawful base step has accesses) (FitsOn lines lawful base step has (accesses ++ (false, at, v) ∷ []))
+  on_load =
+      let l = fits_load lines lawful base accesses at v in
+      record {
+        back = λ first now f. (let p = l.back first now f.fits in (record { fits = p.0; stays = f.stays }, p.1));
+        on = λ first now f e. record { fits = l.on first now f.fits e; stays = f.stays };
+      }
+
+  on_store : v < 2 ^ 64 → Stored at v (FitsOn lines lawful base step has accesses) (FitsOn lines lawful base step has (accesses ++ (true, at, v) ∷ []))
+  on_store small =
+      let s = fits_store lines lawful base accesses at v small in
+      record {
+        back = λ first now f. (let p = s.back first now f.fits in (p.0, record { fits = p.1; stays = f.stays }, p.2));
+        on = λ first before f. record { fits = s.on first before f.fits; stays = f.stays };
+      }
+
+-- no access changes what the seat has
+pub same_has : (q : ℕ) (old new : Seated) → beside_held q new ≡ beside_held q old → has_of new.known ≡ has_of old.known
+same_has q old new rest = ap (λ (s : Seated). has_of s.known) rest
+
 -- the place after accesses, and more of them
 place_append : (place : ℕ) (xs ys : List Note) → place_noted place (xs ++ ys) ≡ place_noted (place_noted place xs) ys
 place_append place [] ys = refl
@@ -62,20 +84,34 @@ still_loaded (Some place) xs ys has = list_any-append (is_same (0, place)) xs ys
 pub loaded_place : (xs : List Note) (v place : ℕ) → place_noted place (xs ++ (false, 0, v) ∷ []) ≡ v
 loaded_place xs v place = place_append place xs ((false, 0, v) ∷ [])
 
-module _ {O E : Type 0} (lines : ℕ) (r : Running O) (lawful : List ℕ → Type 0) (held : Right) (old new : Seated) where
-  pub stands_loaded : (at : ℕ) (result : Result ℕ E) → IfOk result (λ v. Accesses lines r lawful held (false, at, v) old new) → IfOk result (λ v. Loaded at v (Fits lines lawful r.base old.known.accesses) (Fits lines lawful r.base new.known.accesses))
-  stands_loaded at (Ok v) made = subst (λ xs. Loaded at v (Fits lines lawful r.base old.known.accesses) (Fits lines lawful r.base xs)) (sym made.accesses) (fits_load lines lawful r.base old.known.accesses at v)
+module _ {O E : Type 0} (lines : ℕ) (r : Running O) (lawful : List ℕ → Type 0) (step : List ℕ → List ℕ → List ℕ × List ℕ) (held : Right) (old new : Seated) where
+  pub stands_loaded : (at : ℕ) (result : Result ℕ E) → IfOk result (λ v. Accesses lines r lawful step held (false, at, v) old new) → IfOk result (λ v. Loaded at v (FitsKnown lines lawful r.base step old.known) (FitsKnown lines lawful r.base step new.known))
+  stands_loaded at (Ok v) made =
+      subst (λ h. Loaded at v (FitsKnown lines lawful r.base step old.known) (FitsOn lines lawful r.base step h new.known.accesses)) (sym (same_has held.replica old new made.rest))
+      (subst (λ xs. Loaded at v (FitsKnown lines lawful r.base step old.known) (FitsOn lines lawful r.base step (has_of old.known) xs)) (sym made.accesses) (on_load lines lawful r.base step (has_of old.known) old.known.accesses at v))
   stands_loaded at (Err e) made = tt
 
-  pub stands_stored : {A : Type 0} (at v : ℕ) (result : Result A E) → v < 2 ^ 64 → OnOk result (Accesses lines r lawful held (true, at, v) old new) → IfOk result (λ _. Stored at v (Fits lines lawful r.base old.known.accesses) (Fits lines lawful r.base new.known.accesses))
-  stands_stored at v (Ok x) small made = subst (λ xs. Stored at v (Fits lines lawful r.base old.known.accesses) (Fits lines lawful r.base xs)) (sym made.accesses) (fits_store lines lawful r.base old.known.accesses at v small)
+  pub stands_stored : {A : Type 0} (at v : ℕ) (result : Result A E) → v < 2 ^ 64 → OnOk result (Accesses lines r lawful step held (true, at, v) old new) → IfOk result (λ _. Stored at v (FitsKnown lines lawful r.base step old.known) (FitsKnown lines lawful r.base step new.known))
+  stands_stored at v (Ok x) small made =
+      subst (λ h. Stored at v (FitsKnown lines lawful r.base step old.known) (FitsOn lines lawful r.base step h new.known.accesses)) (sym (same_has held.replica old new made.rest))
+      (subst (λ xs. Stored at v (FitsKnown lines lawful r.base step old.known) (FitsOn lines lawful r.base step (has_of old.known) xs)) (sym made.accesses) (on_store lines lawful r.base step (has_of old.known) old.known.accesses at v small))
   stands_stored at v (Err e) small made = tt
 
+  -- a replica held exclusively still is, whether the access was made or not, and a place that was noted still is
+  pub held_after : {A : Type 0} (note : A → Note) (placed : Bool) (result : Result A E) → IfOk result (λ x. Accesses lines r lawful step held (note x) old new) → OnErr result (Halts r old new) →
+      IsHeld lines r lawful step old held → IsWithinLimit old.known.local → (IsTrue placed → HasPlace old.known.accesses) →
+      IsHeld lines r lawful step new held × IsWithinLimit new.known.local × (IsTrue placed → HasPlace new.known.accesses)
+  held_after note placed (Ok x) made halts of within place =
+      (made.still, made.within, λ yes. subst HasPlace (sym made.accesses) (still_placed old.known.accesses (note x ∷ []) (place yes)))
+  held_after note placed (Err e) made halts of within place =
+      subst (λ (s : Seated). IsHeld lines r lawful step s held × IsWithinLimit s.known.local × (IsTrue placed → HasPlace s.known.accesses)) (sym halts.same) (of, within, place)
+
+module _ {O E : Type 0} (lines : ℕ) (r : Running O) (lawful : List ℕ → Type 0) (held : Right) (old new : Seated) where
   pub stands_read : (at : ℕ) (result : Result ℕ E) → IfOk result (λ v. LoadsShared lines r lawful held at v old new) → IfOk result (λ v. Loaded at v (ReadFits lines lawful r.base (loaded_of old.known.local.shared)) (ReadFits lines lawful r.base (loaded_of new.known.local.shared)))
   stands_read at (Ok v) made = subst (λ xs. Loaded at v (ReadFits lines lawful r.base (loaded_of old.known.local.shared)) (ReadFits lines lawful r.base xs)) (sym made.loaded) (read_load lines lawful r.base (loaded_of old.known.local.shared) at v)
   stands_read at (Err e) made = tt
 
-  -- a replica held shared still is, whether the load was made or not, and a place that was loaded still is
+  -- so does one held shared, and a place that was loaded still is
   pub shared_after : (at : ℕ) (placed : Option ℕ) (result : Result ℕ E) → IfOk result (λ v. LoadsShared lines r lawful held at v old new) → OnErr result (Halts r old new) →
       IsHeldShared lines r lawful old held → IsWithinLimit old.known.local → IsTrue (has_loaded placed (loaded_of old.known.local.shared)) →
       IsHeldShared lines r lawful new held × IsWithinLimit new.known.local × IsTrue (has_loaded placed (loaded_of new.known.local.shared))
@@ -84,32 +120,24 @@ module _ {O E : Type 0} (lines : ℕ) (r : Running O) (lawful : List ℕ → Typ
   shared_after at placed (Err e) made halts of within place =
       subst (λ (s : Seated). IsHeldShared lines r lawful s held × IsWithinLimit s.known.local × IsTrue (has_loaded placed (loaded_of s.known.local.shared))) (sym halts.same) (of, within, place)
 
-  -- so does one held exclusively, and a place that was noted still is
-  pub held_after : {A : Type 0} (note : A → Note) (placed : Bool) (result : Result A E) → IfOk result (λ x. Accesses lines r lawful held (note x) old new) → OnErr result (Halts r old new) →
-      IsHeld lines r lawful old held → IsWithinLimit old.known.local → (IsTrue placed → HasPlace old.known.accesses) →
-      IsHeld lines r lawful new held × IsWithinLimit new.known.local × (IsTrue placed → HasPlace new.known.accesses)
-  held_after note placed (Ok x) made halts of within place =
-      (made.still, made.within, λ yes. subst HasPlace (sym made.accesses) (still_placed old.known.accesses (note x ∷ []) (place yes)))
-  held_after note placed (Err e) made halts of within place =
-      subst (λ (s : Seated). IsHeld lines r lawful s held × IsWithinLimit s.known.local × (IsTrue placed → HasPlace s.known.accesses)) (sym halts.same) (of, within, place)
-
 -- ---- words from a place on
 
-module _ {O : Type 0} (lines : ℕ) (r : Running O) (lawful : List ℕ → Type 0) (held : Right) (from : ℕ) (words : List ℕ) (old new : Seated) where
-  pub stands_run : LoadsRun (LoadsHeld lines r lawful held) from words old new → Reads (Fits lines lawful r.base old.known.accesses) (Fits lines lawful r.base new.known.accesses) (AreAt from words)
+module _ {O : Type 0} (lines : ℕ) (r : Running O) (lawful : List ℕ → Type 0) (step : List ℕ → List ℕ → List ℕ × List ℕ) (held : Right) (from : ℕ) (words : List ℕ) (old new : Seated) where
+  pub stands_run : LoadsRun (LoadsHeld lines r lawful step held) from words old new → Reads (FitsKnown lines lawful r.base step old.known) (FitsKnown lines lawful r.base step new.known) (AreAt from words)
   stands_run run =
-      run_reads (LoadsHeld lines r lawful held) from (λ s. Fits lines lawful r.base s.known.accesses) (λ at v before after made. stands_loaded {E = ℕ} lines r lawful held before after at (Ok v) made) words old new run
+      run_reads (LoadsHeld lines r lawful step held) from (λ s. FitsKnown lines lawful r.base step s.known) (λ at v before after made. stands_loaded {E = ℕ} lines r lawful step held before after at (Ok v) made) words old new run
 
-  pub held_run : (placed : Bool) → LoadsRun (LoadsHeld lines r lawful held) from words old new → IsHeld lines r lawful old held → IsWithinLimit old.known.local → (IsTrue placed → HasPlace old.known.accesses) →
-      IsHeld lines r lawful new held × IsWithinLimit new.known.local × (IsTrue placed → HasPlace new.known.accesses)
+  pub held_run : (placed : Bool) → LoadsRun (LoadsHeld lines r lawful step held) from words old new → IsHeld lines r lawful step old held → IsWithinLimit old.known.local → (IsTrue placed → HasPlace old.known.accesses) →
+      IsHeld lines r lawful step new held × IsWithinLimit new.known.local × (IsTrue placed → HasPlace new.known.accesses)
   held_run placed run of within place =
-      run_keeps (LoadsHeld lines r lawful held) from (λ s. IsHeld lines r lawful s held × IsWithinLimit s.known.local × (IsTrue placed → HasPlace s.known.accesses))
-      (λ at v before after made was. held_after {E = ℕ} lines r lawful held before after (λ (w : ℕ). (false, at, w)) placed (Ok v) made tt was.0 was.1 was.2)
+      run_keeps (LoadsHeld lines r lawful step held) from (λ s. IsHeld lines r lawful step s held × IsWithinLimit s.known.local × (IsTrue placed → HasPlace s.known.accesses))
+      (λ at v before after made was. held_after {E = ℕ} lines r lawful step held before after (λ (w : ℕ). (false, at, w)) placed (Ok v) made tt was.0 was.1 was.2)
       words old new run (of, within, place)
 
-  pub rest_run : LoadsRun (LoadsHeld lines r lawful held) from words old new → beside_held held.replica new ≡ beside_held held.replica old
-  rest_run run = run_keeps (LoadsHeld lines r lawful held) from (λ s. beside_held held.replica s ≡ beside_held held.replica old) (λ at v before after made was. made.rest ∙ was) words old new run refl
+  pub rest_run : LoadsRun (LoadsHeld lines r lawful step held) from words old new → beside_held held.replica new ≡ beside_held held.replica old
+  rest_run run = run_keeps (LoadsHeld lines r lawful step held) from (λ s. beside_held held.replica s ≡ beside_held held.replica old) (λ at v before after made was. made.rest ∙ was) words old new run refl
 
+module _ {O : Type 0} (lines : ℕ) (r : Running O) (lawful : List ℕ → Type 0) (held : Right) (from : ℕ) (words : List ℕ) (old new : Seated) where
   pub stands_shared_run : LoadsRun (LoadsShared lines r lawful held) from words old new → Reads (ReadFits lines lawful r.base (loaded_of old.known.local.shared)) (ReadFits lines lawful r.base (loaded_of new.known.local.shared)) (AreAt from words)
   stands_shared_run run =
       run_reads (LoadsShared lines r lawful held) from (λ s. ReadFits lines lawful r.base (loaded_of s.known.local.shared)) (λ at v before after made. stands_read {E = ℕ} lines r lawful held before after at (Ok v) made) words old new run

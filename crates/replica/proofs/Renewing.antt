@@ -48,7 +48,7 @@ loaded_once lines lawful base loaded v p some last has = ∥∥₁_elim some (hl
     sym (noted_tells (region_words lines) (loads_of loaded) 0 v (omega arith) last first f.1 fits.origin.size.long fits.leads) ∙ ap (λ ws. slice_index ws 0) f.2.same ∙ there))
 
 module _ {O : Type 0} (lines : ℕ) (r : Running O) (step : O → List ℕ → List ℕ → List ℕ × List ℕ) (reads : O → List ℕ → Bool) (lawful : List ℕ → Type 0) (held source : Right) (found : ℕ) (before after : Seated)
-    (both : HoldsBoth lines r lawful before held source) (copied : StepsCopied r step reads source.replica found before after) where
+    (both : HoldsBoth lines r lawful (step r.object) before held source) (copied : StepsCopied r step reads source.replica found before after) where
   abbrev old : Local
   old = before.known.local
 
@@ -56,14 +56,14 @@ module _ {O : Type 0} (lines : ℕ) (r : Running O) (step : O → List ℕ → L
   left = ap (λ (b : Bool). cond b (record old { shared = None; steps = one_more old.steps }) (cond (is_at source.replica old.passer) (record old { passer = None; steps = one_more old.steps }) (record old { downgraded = None; steps = one_more old.steps })))
       (ap (is_at source.replica) both.shared.right.holds ∙ at_itself source.replica)
 
-  pub renewed_held : IsExclusiveOf r.callers after held → Fitting r.lines lawful r.base after.known → IsHeld lines r lawful after held
+  pub renewed_held : IsExclusiveOf r.callers after held → Fitting r.lines lawful r.base (step r.object) after.known → IsHeld lines r lawful (step r.object) after held
   renewed_held right fits =
       let local : after.known.local ≡ record old { shared = None; steps = one_more old.steps } = ap (λ (s : Seated). s.known.local) copied.made ∙ left in
       record {
         sized = both.exclusive.sized;
         of = copied.seat;
         right = right;
-        some = subst (λ n. SomeFits n lawful r.base after.known.accesses) both.exclusive.sized.lines_are fits.exclusive;
+        some = subst (λ n. SomeFits n lawful r.base (step r.object) after.known) both.exclusive.sized.lines_are fits.exclusive;
         dirty = subst (λ (l : Local). All (λ i. i < region_words lines) (held_dirty l.exclusive)) (sym local) both.exclusive.dirty;
       }
 

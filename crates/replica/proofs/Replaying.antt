@@ -11,23 +11,22 @@ use Rattle.cx_base.specs.Memory.{Becomes}
 use Rattle.cx_base.specs.Noted.{Note, NotesLead}
 use Rattle.cx_core.specs.declared.entry.Base.{Base}
 use Rattle.cx_core.specs.declared.entry.Entry.{Entry}
-use Rattle.cx_core.specs.declared.local.Linked.{Linked}
 use Rattle.cx_core.specs.Base.{LawfulBase}
 use Rattle.cx_core.specs.History.{IsLawfulEntry}
 use Rattle.cx_core.specs.Region.{object_part, place_of}
-use Rattle.cx_core.specs.Step.{full_step_of}
+use Rattle.cx_core.specs.Step.{IsStepped}
+use Rattle.cx_core.specs.WriteSet.{stored}
 use Rattle.cx_core.proofs.HistoryLemmas.{ObjectLaws}
 use Rattle.cx_core.proofs.KeepLemmas as keep
 use Rattle.cx_rule.specs.declared.rule.Known.{Known}
-use Rattle.cx_rule.specs.declared.rule.Noted.{Noted}
-use Rattle.cx_rule.specs.Fitting.{Fits, HasEntry, ReplayedTo, SomeFits, base_of, entries_of, start, with_entry, with_set}
+use Rattle.cx_rule.specs.Fitting.{Fits, FitsKnown, Has, ReplayedTo, SomeFits, base_of, has_of, start, with_entry, with_set}
 use Rattle.cx_rule.specs.Running.{Running}
 use Rattle.cx_rule.specs.Seats.{Seated, place_noted}
 use Rattle.cx_table.specs.Right.{Right}
 use Rattle.replica.specs.Held.{Accesses}
 use Rattle.replica.specs.Regions.{HasPlace}
-use Rattle.replica.proofs.RegionLaws.{loaded_place}
-use Rattle.replica.specs.Replays.{Accessed, CanStep, ComesNext, IsImage, IsReady, StoresNone, noted_place}
+use Rattle.replica.proofs.RegionLaws.{loaded_place, same_has}
+use Rattle.replica.specs.Replays.{Accessed, CanStep, ComesNext, IsImage, IsReady, ShowsReply, StoresNone, noted_place}
 
 -- ---- the place that was noted
 
@@ -64,87 +63,96 @@ module _ (lines : ℕ) (lawful : List ℕ → Type 0) (base : Base) (step : List
       let some : 0 < length first = (let long = f.origin.size.long in omega arith) in
       place_told accesses first now (place_of first) refl some f.leads ∙ begun (place_of first)
 
-  pub image_at : (known : Known) → IsImage lines lawful base step known → (first now : List ℕ) → Fits lines lawful base known.accesses first now → place_of now ≡ place_noted 0 known.accesses
-  image_at known image first now f = noted_at known.accesses image.begun first now f
+  pub image_at : (known : Known) → IsImage lines lawful base step known → (first now : List ℕ) → FitsKnown lines lawful base step known first now → place_of now ≡ place_noted 0 known.accesses
+  image_at known image first now f = noted_at known.accesses image.begun first now f.fits
 
-  pub image_below : (known : Known) (bound : ℕ) → IsImage lines lawful base step known → place_noted 0 known.accesses < bound → (first now : List ℕ) → Fits lines lawful base known.accesses first now → place_of now < bound
+  pub image_below : (known : Known) (bound : ℕ) → IsImage lines lawful base step known → place_noted 0 known.accesses < bound → (first now : List ℕ) → FitsKnown lines lawful base step known first now → place_of now < bound
   image_below known bound image small first now f = subst (λ p. p < bound) (sym (image_at known image first now f)) small
 
-  pub image_object : (known : Known) → IsImage lines lawful base step known → (first now : List ℕ) → Fits lines lawful base known.accesses first now → lawful (object_part now)
-  image_object known image first now f = (image.law first now f).object
+  -- it is lawful as a base: what was applied leads to it
+  image_law : (known : Known) → IsImage lines lawful base step known → (first now : List ℕ) → FitsKnown lines lawful base step known first now → LawfulBase lines lawful (base_of now)
+  image_law known image first now f =
+      subst (λ p. LawfulBase lines lawful (let b : Base = record { place = p; words = now } in b)) (sym (image_at known image first now f)) (f.stays (place_noted 0 known.accesses) now (image.replayed first now f))
 
-  -- a full step leads to the next image
-  steps_on : ObjectLaws lines lawful step → (old new : Known) (entry : Entry) → entries_of new ≡ entries_of old → IsImage lines lawful base step old → HasEntry (entries_of old) (place_noted 0 old.accesses) entry → IsLawfulEntry (place_noted 0 old.accesses) entry → place_noted 0 old.accesses < 2 ^ 40 →
-      Becomes (Fits lines lawful base old.accesses) (Fits lines lawful base new.accesses) (λ before now. now ≡ full_step_of step entry before) →
-      (first now : List ℕ) → Fits lines lawful base new.accesses first now → ReplayedTo step (entries_of new) first (place_noted 0 old.accesses + 1) now × LawfulBase lines lawful (base_of now) × (place_of now ≡ place_noted 0 old.accesses + 1)
-  steps_on laws old new entry same image noted is small becomes first now f =
+  pub image_object : (known : Known) → IsImage lines lawful base step known → (first now : List ℕ) → FitsKnown lines lawful base step known first now → lawful (object_part now)
+  image_object known image first now f = (image_law known image first now f).object
+
+  -- where what the seat has leads on to the next place, whatever fits, it is the image after that place
+  image_on : (old new : Known) → HasPlace new.accesses → SomeFits lines lawful base step new → ((first now : List ℕ) → FitsKnown lines lawful base step new first now → ReplayedTo step (has_of new) first (place_noted 0 old.accesses + 1) now) →
+      IsImage lines lawful base step new × (place_noted 0 new.accesses ≡ place_noted 0 old.accesses + 1)
+  image_on old new begun some leads =
+      let next = place_noted 0 old.accesses + 1 in
+      let place : place_noted 0 new.accesses ≡ next = ∥∥₁_elim some (hlevel props) (λ p. (let f = p.2 in sym (noted_at new.accesses begun p.0 p.1 f.fits) ∙ (f.stays next p.1 (leads p.0 p.1 f)).at_place)) in
+      (record { begun = begun; replayed = λ first now f. subst (λ t. ReplayedTo step (has_of new) first t now) (sym place) (leads first now f) }, place)
+
+  -- what it has leads to the image that was there
+  led_to : (old new : Known) → has_of new ≡ has_of old → IsImage lines lawful base step old → (first before : List ℕ) → FitsKnown lines lawful base step old first before → ReplayedTo step (has_of new) first (place_noted 0 old.accesses) before
+  led_to old new same image first before f = subst (λ h. ReplayedTo step h first (place_noted 0 old.accesses) before) (sym same) (image.replayed first before f)
+
+  -- and on to the next, by the full step of an entry that it has
+  entry_on : (old new : Known) (entry : Entry) (reply : List ℕ) → has_of new ≡ has_of old → HasPlace new.accesses → SomeFits lines lawful base step new → IsImage lines lawful base step old → (has_of old).entry (place_noted 0 old.accesses) entry →
+      Becomes (FitsKnown lines lawful base step old) (FitsKnown lines lawful base step new) (IsStepped step entry reply) → IsImage lines lawful base step new × (place_noted 0 new.accesses ≡ place_noted 0 old.accesses + 1)
+  entry_on old new entry reply same begun some image had becomes = image_on old new begun some (λ first now f. (
       let ticket = place_noted 0 old.accesses in
       let b = becomes.from first now f in
+      with_entry (ticket + 1) now ticket b.0 entry refl b.2.words (subst (λ (h : Has). h.entry ticket entry) (sym same) had) (led_to old new same image first b.0 b.1)))
+
+  -- or by a write set that it has
+  pub set_on : (old new : Known) (pairs : List ℕ) → has_of new ≡ has_of old → HasPlace new.accesses → SomeFits lines lawful base step new → IsImage lines lawful base step old → (has_of old).set (place_noted 0 old.accesses) pairs →
+      Becomes (FitsKnown lines lawful base step old) (FitsKnown lines lawful base step new) (λ before now. now ≡ stored (slice_index pairs 0) pairs before) → IsImage lines lawful base step new × (place_noted 0 new.accesses ≡ place_noted 0 old.accesses + 1)
+  set_on old new pairs same begun some image had becomes = image_on old new begun some (λ first now f. (
+      let ticket = place_noted 0 old.accesses in
+      let b = becomes.from first now f in
+      with_set (ticket + 1) now ticket b.0 pairs refl b.2 (subst (λ (h : Has). h.set ticket pairs) (sym same) had) (led_to old new same image first b.0 b.1)))
+
+  -- after a full step the entry's caller has the reply
+  replied_on : ObjectLaws lines lawful step → (old new : Known) (entry : Entry) (reply : List ℕ) → IsImage lines lawful base step old → IsLawfulEntry (place_noted 0 old.accesses) entry → place_noted 0 old.accesses < 2 ^ 40 →
+      Becomes (FitsKnown lines lawful base step old) (FitsKnown lines lawful base step new) (IsStepped step entry reply) → ShowsReply lines lawful base step new entry.caller reply
+  replied_on laws old new entry reply image is small becomes first now f =
+      let b = becomes.from first now f in
       let before = b.0 in
-      let law = image.law first before b.1 in
+      let law = image_law old image first before b.1 in
       let at = image_at old image first before b.1 in
       let part = object_part before in
       let most = is.most in
       let part_lawful = laws.keeps part entry.op law.object is.op in
       let next : Base = record { place = place_of before + 1; words = now } in
       let kept = keep.keeps lines lawful step (base_of before) entry next law (omega (arith, at)) is.caller is.some (omega (arith, at, most))
-      part_lawful (laws.shape (step part entry.op).0 part_lawful) (laws.replies part entry.op law.object is.op) refl b.2 in
-      let place : place_of now ≡ place_of before + 1 = kept.lawful_next.at_place in (
-        subst (λ es. ReplayedTo step es first (ticket + 1) now) (sym same) (with_entry (ticket + 1) now ticket before entry refl b.2 noted (image.replayed first before b.1)),
-        subst (λ q. LawfulBase lines lawful (let x : Base = record { place = q; words = now } in x)) (sym place) kept.lawful_next,
-        place ∙ ap (λ p. p + 1) at,
-      )
-
-  -- so it is the image after the next place
-  next_image : ObjectLaws lines lawful step → (old new : Known) (entry : Entry) → entries_of new ≡ entries_of old → HasPlace new.accesses → SomeFits lines lawful base new.accesses → IsImage lines lawful base step old → HasEntry (entries_of old) (place_noted 0 old.accesses) entry → IsLawfulEntry (place_noted 0 old.accesses) entry → place_noted 0 old.accesses < 2 ^ 40 →
-      Becomes (Fits lines lawful base old.accesses) (Fits lines lawful base new.accesses) (λ before now. now ≡ full_step_of step entry before) → IsImage lines lawful base step new × (place_noted 0 new.accesses ≡ place_noted 0 old.accesses + 1)
-  next_image laws old new entry same begun some image noted is small becomes =
-      let on = steps_on laws old new entry same image noted is small becomes in
-      let place : place_noted 0 new.accesses ≡ place_noted 0 old.accesses + 1 =
-      ∥∥₁_elim some (hlevel props) (λ p. (let f = p.2 in sym (noted_at new.accesses begun p.0 p.1 f) ∙ (on p.0 p.1 f).2)) in (
-        record {
-          begun = begun;
-          replayed = λ first now f. subst (λ p. ReplayedTo step (entries_of new) first p now) (sym place) (on first now f).0;
-          law = λ first now f. (on first now f).1;
-        },
-        place,
-      )
+      part_lawful (laws.shape (step part entry.op).0 part_lawful) (laws.replies part entry.op law.object is.op) refl b.2.words in
+      kept.reply ∙ sym b.2.replied
 
   -- what was only loaded from stays the image after the same place
-  pub loaded_image : (old new : Known) → entries_of new ≡ entries_of old → HasPlace new.accesses → SomeFits lines lawful base new.accesses → IsImage lines lawful base step old →
-      Becomes (Fits lines lawful base old.accesses) (Fits lines lawful base new.accesses) ◌≡◌ → IsImage lines lawful base step new × (place_noted 0 new.accesses ≡ place_noted 0 old.accesses)
+  pub loaded_image : (old new : Known) → has_of new ≡ has_of old → HasPlace new.accesses → SomeFits lines lawful base step new → IsImage lines lawful base step old →
+      Becomes (FitsKnown lines lawful base step old) (FitsKnown lines lawful base step new) ◌≡◌ → IsImage lines lawful base step new × (place_noted 0 new.accesses ≡ place_noted 0 old.accesses)
   loaded_image old new same begun some image becomes =
       let place : place_noted 0 new.accesses ≡ place_noted 0 old.accesses =
-      ∥∥₁_elim some (hlevel props) (λ p. (let b = becomes.from p.0 p.1 p.2 in sym (noted_at new.accesses begun p.0 p.1 p.2) ∙ ap place_of (sym b.2) ∙ image_at old image p.0 b.0 b.1)) in (
+      ∥∥₁_elim some (hlevel props) (λ p. (let f = p.2 in let b = becomes.from p.0 p.1 f in sym (noted_at new.accesses begun p.0 p.1 f.fits) ∙ ap place_of (sym b.2) ∙ image_at old image p.0 b.0 b.1)) in (
         record {
           begun = begun;
           replayed = λ first now f. (
               let b = becomes.from first now f in
-              subst (λ p. ReplayedTo step (entries_of new) first p now) (sym place) (subst (λ es. ReplayedTo step es first (place_noted 0 old.accesses) now) (sym same)
-              (subst (ReplayedTo step (entries_of old) first (place_noted 0 old.accesses)) b.2 (image.replayed first b.0 b.1))));
-          law = λ first now f. (let b = becomes.from first now f in subst (λ ws. LawfulBase lines lawful (base_of ws)) b.2 (image.law first b.0 b.1));
+              subst (λ p. ReplayedTo step (has_of new) first p now) (sym place) (subst (ReplayedTo step (has_of new) first (place_noted 0 old.accesses)) b.2 (led_to old new same image first b.0 b.1)));
         },
         place,
       )
 
   -- an image is at a place from the base's on
-  chain_from : (entries : List Noted × List Linked) (first : List ℕ) (place : ℕ) (now : List ℕ) → ReplayedTo step entries first place now → place_of first ≤ place
-  chain_from entries first place now (start _ _ at is) = omega arith
-  chain_from entries first place now (with_entry _ _ t before e at is noted rest) = (let below = chain_from entries first t before rest in omega arith)
-  chain_from entries first place now (with_set _ _ t before set at is noted rest) = absurd noted
+  chain_from : (has : Has) (first : List ℕ) (place : ℕ) (now : List ℕ) → ReplayedTo step has first place now → place_of first ≤ place
+  chain_from has first place now (start _ _ at is) = omega arith
+  chain_from has first place now (with_entry _ _ t before e at is had rest) = (let below = chain_from has first t before rest in omega arith)
+  chain_from has first place now (with_set _ _ t before pairs at is had rest) = (let below = chain_from has first t before rest in omega arith)
 
-  pub image_from : (known : Known) → SomeFits lines lawful base known.accesses → IsImage lines lawful base step known → base.place ≤ place_noted 0 known.accesses
-  image_from known some image = ∥∥₁_elim some le_prop (λ p. (let f = p.2 in let from = f.from in let on = chain_from (entries_of known) p.0 (place_noted 0 known.accesses) p.1 (image.replayed p.0 p.1 f) in omega arith))
+  pub image_from : (known : Known) → SomeFits lines lawful base step known → IsImage lines lawful base step known → base.place ≤ place_noted 0 known.accesses
+  image_from known some image = ∥∥₁_elim some le_prop (λ p. (let f = p.2 in let from = f.fits.from in let on = chain_from (has_of known) p.0 (place_noted 0 known.accesses) p.1 (image.replayed p.0 p.1 f) in omega arith))
 
   -- what was not stored into since its place was loaded is the image after that place
   pub unstored_image : (known : Known) → HasPlace known.accesses → StoresNone known.accesses → IsImage lines lawful base step known
-  unstored_image known begun none =
-      let same : (first now : List ℕ) → Fits lines lawful base known.accesses first now → now ≡ first = λ first now f. unchanged known.accesses first now none f.leads in
-      record {
-        begun = begun;
-        replayed = λ first now f. start (place_noted 0 known.accesses) now (sym (noted_at known.accesses begun first now f) ∙ ap place_of (same first now f)) (same first now f);
-        law = λ first now f. subst (λ ws. LawfulBase lines lawful (base_of ws)) (sym (same first now f)) f.origin;
-      }
+  unstored_image known begun none = record {
+    begun = begun;
+    replayed = λ first now f. (
+        let same : now ≡ first = unchanged known.accesses first now none f.fits.leads in
+        start (place_noted 0 known.accesses) now (sym (noted_at known.accesses begun first now f.fits) ∙ ap place_of same) same);
+  }
 
   begins : (old new : Known) (place : ℕ) → StoresNone old.accesses → new.accesses ≡ old.accesses ++ (false, 0, place) ∷ [] → IsImage lines lawful base step new × (place_noted 0 new.accesses ≡ place)
   begins old new place none is =
@@ -155,7 +163,7 @@ module _ (lines : ℕ) (lawful : List ℕ → Type 0) (base : Base) (step : List
 
 module _ {O : Type 0} (o : Ghosts O) (r : Running O) (held : Right) where
   -- whether the load was made or not
-  pub begins_ready : {E : Type 0} (before after : Seated) (result : Result ℕ E) → StoresNone before.known.accesses → IfOk result (λ v. Accesses (o.line_count r.object) r (o.lawful r.object) held (false, 0, v) before after) → IfOk result (λ v. IsReady o r held v after)
+  pub begins_ready : {E : Type 0} (before after : Seated) (result : Result ℕ E) → StoresNone before.known.accesses → IfOk result (λ v. Accesses (o.line_count r.object) r (o.lawful r.object) (o.step r.object) held (false, 0, v) before after) → IfOk result (λ v. IsReady o r held v after)
   begins_ready before after (Ok v) none made =
       let image = begins (o.line_count r.object) (o.lawful r.object) r.base (o.step r.object) before.known after.known v none made.accesses in
       record { is_held = made.still; image = image.0; place = image.1 }
@@ -170,9 +178,13 @@ module _ {O : Type 0} (o : Ghosts O) (r : Running O) (held : Right) where
   }
 
   -- whether it was done or not
-  pub steps_ready : {X E : Type 0} (entry : Entry) (before after : Seated) → ObjectLaws (o.line_count r.object) (o.lawful r.object) (o.step r.object) → (result : Result X E) → IsImage (o.line_count r.object) (o.lawful r.object) r.base (o.step r.object) before.known → ComesNext entry before → Accessed o r held before after →
-      OnOk result (Becomes (Fits (o.line_count r.object) (o.lawful r.object) r.base before.known.accesses) (Fits (o.line_count r.object) (o.lawful r.object) r.base after.known.accesses) (λ first now. now ≡ full_step_of (o.step r.object) entry first)) → OnOk result (IsReady o r held (noted_place before + 1) after)
-  steps_ready entry before after laws (Ok x) image next leaves becomes =
-      let on = next_image (o.line_count r.object) (o.lawful r.object) r.base (o.step r.object) laws before.known after.known entry (ap (λ (s : Seated). entries_of s.known) leaves.rest) leaves.begun leaves.still.some image next.had next.lawful next.small becomes in
-      record { is_held = leaves.still; image = on.0; place = on.1 }
-  steps_ready entry before after laws (Err e) image next leaves becomes = tt
+  pub steps_ready : {X E : Type 0} (entry : Entry) (reply : List ℕ) (before after : Seated) → ObjectLaws (o.line_count r.object) (o.lawful r.object) (o.step r.object) → (result : Result X E) → IsImage (o.line_count r.object) (o.lawful r.object) r.base (o.step r.object) before.known → ComesNext entry before → Accessed o r held before after →
+      OnOk result (Becomes (FitsKnown (o.line_count r.object) (o.lawful r.object) r.base (o.step r.object) before.known) (FitsKnown (o.line_count r.object) (o.lawful r.object) r.base (o.step r.object) after.known) (IsStepped (o.step r.object) entry reply)) →
+      OnOk result (IsReady o r held (noted_place before + 1) after × ShowsReply (o.line_count r.object) (o.lawful r.object) r.base (o.step r.object) after.known entry.caller reply)
+  steps_ready entry reply before after laws (Ok x) image next leaves becomes =
+      let lines = o.line_count r.object in
+      let lawful = o.lawful r.object in
+      let step = o.step r.object in
+      let on = entry_on lines lawful r.base step before.known after.known entry reply (same_has held.replica before after leaves.rest) leaves.begun leaves.still.some image next.had becomes in
+      (record { is_held = leaves.still; image = on.0; place = on.1 }, replied_on lines lawful r.base step laws before.known after.known entry reply image next.lawful next.small becomes)
+  steps_ready entry reply before after laws (Err e) image next leaves becomes = tt

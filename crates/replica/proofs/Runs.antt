@@ -23,7 +23,7 @@ one_more_at from v words now so_far is i below =
 
 module _ {O : Type 0} (r : Running O) (step : O → List ℕ → List ℕ → List ℕ × List ℕ) (reads : O → List ℕ → Bool) (lawful : List ℕ → Type 0) (kinds : ℕ → Kind) where
   -- one step more was made
-  pub run_more : (words : List ℕ) (i v : ℕ) (before mid after : Seated) → i < length words → Runs r step reads lawful kinds (take i words) before mid → Steps r step reads (kinds i) v mid after → Fitting r.lines lawful r.base after.known → Runs r step reads lawful kinds (take (i + 1) (set words i v)) before after
+  pub run_more : (words : List ℕ) (i v : ℕ) (before mid after : Seated) → i < length words → Runs r step reads lawful kinds (take i words) before mid → Steps r step reads (kinds i) v mid after → Fitting r.lines lawful r.base (step r.object) after.known → Runs r step reads lawful kinds (take (i + 1) (set words i v)) before after
   run_more words i v before mid after below run last fits =
       one_more_step _ _ _ (take i words) v mid (take_more_set words i v below) run (subst (λ k. Steps r step reads (kinds k) v mid after) (sym (length-take-le i words (omega arith))) last) fits
 

@@ -10,10 +10,10 @@ use Rattle.cx_core.specs.Step.{full_step_of}
 use Rattle.cx_core.proofs.HistoryLemmas.{ObjectLaws}
 use Rattle.cx_core.proofs.KeepLemmas.{region_kept}
 use Rattle.cx_rule.specs.declared.rule.Known.{Known}
-use Rattle.cx_rule.specs.Fitting.{Fits, base_of}
+use Rattle.cx_rule.specs.Fitting.{FitsKnown, base_of}
 use Rattle.cx_rule.specs.Seats.{place_noted}
 use Rattle.replica.specs.Replays.{IsImage}
-use Rattle.replica.proofs.Replaying.{image_at}
+use Rattle.replica.proofs.Replaying.{image_at, image_object}
 use Rattle.replica.specs.Stepping.{IsSteppable}
 
 kept : (lines : ℕ) (lawful : List ℕ → Type 0) (step : List ℕ → List ℕ → List ℕ × List ℕ) → ObjectLaws lines lawful step → (entry : Entry) → entry.caller < 8 → Words 144 entry.op → (before : List ℕ) → length before ≡ region_words lines → lawful (object_part before) →
@@ -43,12 +43,12 @@ stepped old new lines lawful step laws entry few op left some words can same_siz
 }
 
 -- a replica held exclusively that is the image after its place, which is so many entries from the last place
-pub image_steppable : (lines : ℕ) (lawful : List ℕ → Type 0) (base : Base) (step : List ℕ → List ℕ → List ℕ × List ℕ) (known : Known) (left : ℕ) → IsImage lines lawful base step known → place_noted 0 known.accesses + left ≤ 2 ^ 40 → IsSteppable lines lawful (region_words lines) true (Fits lines lawful base known.accesses) left
+pub image_steppable : (lines : ℕ) (lawful : List ℕ → Type 0) (base : Base) (step : List ℕ → List ℕ → List ℕ × List ℕ) (known : Known) (left : ℕ) → IsImage lines lawful base step known → place_noted 0 known.accesses + left ≤ 2 ^ 40 → IsSteppable lines lawful (region_words lines) true (FitsKnown lines lawful base step known) left
 image_steppable lines lawful base step known left image most = record {
   sized = refl;
   may_store = refl;
   place = λ first now f. subst (λ p. p + left ≤ 2 ^ 40) (sym (image_at lines lawful base step known image first now f)) most;
-  image = λ first now f. (image.law first now f).object;
+  image = image_object lines lawful base step known image;
 }
 
 -- a plain memory of the words of such a base

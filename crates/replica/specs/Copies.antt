@@ -16,8 +16,8 @@ use Rattle.replica.specs.Held.{IsHeld, IsHeldShared, but_words}
 use Rattle.replica.specs.Replays.{IsReady, noted_place}
 
 -- a seat holds one replica exclusively and another shared
-pub record HoldsBoth {O : Type 0} (lines : ℕ) (r : Running O) (lawful : List ℕ → Type 0) (seat : Seated) (held source : Right) : Type 0 where
-  pub exclusive : IsHeld lines r lawful seat held
+pub record HoldsBoth {O : Type 0} (lines : ℕ) (r : Running O) (lawful : List ℕ → Type 0) (step : List ℕ → List ℕ → List ℕ × List ℕ) (seat : Seated) (held source : Right) : Type 0 where
+  pub exclusive : IsHeld lines r lawful step seat held
   pub shared : IsHeldShared lines r lawful seat source
 
 -- a replica held shared but for the words loaded
@@ -36,7 +36,7 @@ beside_copy s = record s {
 
 -- whatever was copied, both are held still, and what a copy does not change is as it was
 pub record LeavesCopied {O : Type 0} (o : Ghosts O) (r : Running O) (held source : Right) (before after : Seated) : Type 0 where
-  pub both : HoldsBoth (o.line_count r.object) r (o.lawful r.object) after held source
+  pub both : HoldsBoth (o.line_count r.object) r (o.lawful r.object) (o.step r.object) after held source
   pub rest : beside_copy after ≡ beside_copy before
 
 -- the same with no replica held shared
@@ -105,7 +105,7 @@ pub record CopiesPiece (from n m least : ℕ) (us vs : List ℕ) (before after :
 -- A replica held shared was copied over one held exclusively, which then has its words and this place.
 pub record Copies {O : Type 0} (o : Ghosts O) (r : Running O) (at : ℕ) (before after : Seated) : Type 0 where
   pub agree : AgreeTo after.known (region_words (o.line_count r.object))
-  pub equal : AreEqual (o.line_count r.object) (o.lawful r.object) r.base after.known
+  pub equal : AreEqual (o.line_count r.object) (o.lawful r.object) r.base (o.step r.object) after.known
   pub differed : DirtiesDiffering (region_words (o.line_count r.object)) before.known after.known
   pub place : noted_place after ≡ at
   pub loaded : KeepsLoaded before after

@@ -22,6 +22,6 @@ EndsFlushing seat (Err e) = HaltsFlushing seat
 
 -- words of a replica held exclusively were persisted: beside what is dirty and the steps nothing is changed
 pub record Persists {O : Type 0} (o : Ghosts O) (r : Running O) (held : Right) (before after : Seated) : Type 0 where
-  pub still : IsHeld (o.line_count r.object) r (o.lawful r.object) after held
+  pub still : IsHeld (o.line_count r.object) r (o.lawful r.object) (o.step r.object) after held
   pub accesses : after.known.accesses ≡ before.known.accesses
   pub rest : beside_held held.replica after ≡ beside_held held.replica before

@@ -30,11 +30,11 @@ pub record IsSized {O : Type 0} (lines : ℕ) (r : Running O) : Type 0 where
 
 -- The token is of this seat, which holds the replica exclusively. Some pair fits what is noted of it, and each dirty word is
 -- one of the region.
-pub record IsHeld {O : Type 0} (lines : ℕ) (r : Running O) (lawful : List ℕ → Type 0) (seat : Seated) (held : Right) : Type 0 where
+pub record IsHeld {O : Type 0} (lines : ℕ) (r : Running O) (lawful : List ℕ → Type 0) (step : List ℕ → List ℕ → List ℕ × List ℕ) (seat : Seated) (held : Right) : Type 0 where
   pub sized : IsSized lines r
   pub of : IsSeatOf r seat
   pub right : IsExclusiveOf r.callers seat held
-  pub some : SomeFits lines lawful r.base seat.known.accesses
+  pub some : SomeFits lines lawful r.base step seat.known
   pub dirty : All (λ i. i < region_words lines) (held_dirty seat.known.local.exclusive)
 
 -- the same of a replica held shared
@@ -74,17 +74,17 @@ beside_shared r s = record s {
 
 -- whatever accesses of a replica held exclusively were made, it is held still, and what no access changes is as it was
 pub record LeavesHeld {O : Type 0} (o : Ghosts O) (r : Running O) (held : Right) (before after : Seated) : Type 0 where
-  pub still : IsHeld (o.line_count r.object) r (o.lawful r.object) after held
+  pub still : IsHeld (o.line_count r.object) r (o.lawful r.object) (o.step r.object) after held
   pub rest : beside_held held.replica after ≡ beside_held held.replica before
 
 -- an access of a replica held exclusively was made: it is noted, and nothing else is changed
-pub record Accesses {O : Type 0} (lines : ℕ) (r : Running O) (lawful : List ℕ → Type 0) (held : Right) (note : Note) (before after : Seated) : Type 0 where
+pub record Accesses {O : Type 0} (lines : ℕ) (r : Running O) (lawful : List ℕ → Type 0) (step : List ℕ → List ℕ → List ℕ × List ℕ) (held : Right) (note : Note) (before after : Seated) : Type 0 where
   pub allowed : ¬ IsAtLimit before.known.local
   pub accesses : after.known.accesses ≡ before.known.accesses ++ note ∷ []
   pub steps : after.known.local.steps ≡ one_more before.known.local.steps
   pub rest : beside_held held.replica after ≡ beside_held held.replica before
   pub within : IsWithinLimit after.known.local
-  pub still : IsHeld lines r lawful after held
+  pub still : IsHeld lines r lawful step after held
 
 -- a word of a replica held shared was loaded: it is noted, and nothing else is changed
 pub record LoadsShared {O : Type 0} (lines : ℕ) (r : Running O) (lawful : List ℕ → Type 0) (held : Right) (at word : ℕ) (before after : Seated) : Type 0 where
@@ -96,8 +96,8 @@ pub record LoadsShared {O : Type 0} (lines : ℕ) (r : Running O) (lawful : List
   pub still : IsHeldShared lines r lawful after held
 
 -- a load of a replica held exclusively, by the place and the word
-abbrev pub LoadsHeld : {O : Type 0} → ℕ → Running O → (List ℕ → Type 0) → Right → ℕ → ℕ → Seated → Seated → Type 0
-LoadsHeld lines r lawful held at word = Accesses lines r lawful held (false, at, word)
+abbrev pub LoadsHeld : {O : Type 0} → ℕ → Running O → (List ℕ → Type 0) → (List ℕ → List ℕ → List ℕ × List ℕ) → Right → ℕ → ℕ → Seated → Seated → Type 0
+LoadsHeld lines r lawful step held at word = Accesses lines r lawful step held (false, at, word)
 
 -- The limit ended a run of loads: the first of these words were loaded.
 pub record EndsRun {O : Type 0} (o : Ghosts O) (r : Running O) (kinds : ℕ → Kind) (words : List ℕ) (before after : Seated) : Type 0 where

@@ -5,7 +5,8 @@ use Rattle.cx_base.specs.Memory.{Words}
 use Rattle.cx_base.specs.Noted.{Note, NotesShow, shown_words}
 use Rattle.cx_core.specs.declared.entry.Base.{Base}
 use Rattle.cx_core.specs.Region.{region_words}
-use Rattle.cx_rule.specs.Fitting.{Fits, ReadFits, loads_of}
+use Rattle.cx_rule.specs.declared.rule.Known.{Known}
+use Rattle.cx_rule.specs.Fitting.{Fits, FitsKnown, ReadFits, loads_of}
 use Rattle.cx_rule.specs.Seats.{Seated, place_noted}
 use Rattle.cx_table.specs.Right.{Right}
 use Rattle.replica.specs.Held.{beside_held}
@@ -65,6 +66,9 @@ fits_shows lines lawful base accesses first now f = record { words = f.origin.si
 -- the words now of a pair that fits are a region
 pub fits_words : (lines : ℕ) (lawful : List ℕ → Type 0) (base : Base) (accesses : List Note) (first now : List ℕ) → Fits lines lawful base accesses first now → Words (region_words lines) now
 fits_words lines lawful base accesses first now f = shown_words (region_words lines) accesses first now (fits_shows lines lawful base accesses first now f)
+
+pub known_words : (lines : ℕ) (lawful : List ℕ → Type 0) (base : Base) (step : List ℕ → List ℕ → List ℕ × List ℕ) (known : Known) (first now : List ℕ) → FitsKnown lines lawful base step known first now → Words (region_words lines) now
+known_words lines lawful base step known first now f = fits_words lines lawful base known.accesses first now f.fits
 
 pub read_words : (lines : ℕ) (lawful : List ℕ → Type 0) (base : Base) (loaded : List (ℕ × ℕ)) (first now : List ℕ) → ReadFits lines lawful base loaded first now → Words (region_words lines) now
 read_words lines lawful base loaded first now f = fits_words lines lawful base (loads_of loaded) first now f.fits

@@ -1,15 +1,14 @@
--- A replica held exclusively that is the image after its place, by entries that its caller has.
+-- A replica held exclusively that is the image after its place, by entries and write sets that its caller has.
 use Rattle.std.specs.Prelude.{false, ◌≡◌, ◌<◌, ◌^◌, ℕ, All, List}
 use Rattle.cx_base.specs.declared.object.Object.{Ghosts}
 use Rattle.cx_base.specs.Memory.{Always}
 use Rattle.cx_base.specs.Noted.{Note}
 use Rattle.cx_core.specs.declared.entry.Base.{Base}
 use Rattle.cx_core.specs.declared.entry.Entry.{Entry}
-use Rattle.cx_core.specs.Base.{LawfulBase}
 use Rattle.cx_core.specs.History.{IsLawfulEntry}
-use Rattle.cx_core.specs.Region.{object_part, place_of}
+use Rattle.cx_core.specs.Region.{object_part, place_of, slot_reply}
 use Rattle.cx_rule.specs.declared.rule.Known.{Known}
-use Rattle.cx_rule.specs.Fitting.{Fits, HasEntry, IsReplayedToPlace, base_of, entries_of}
+use Rattle.cx_rule.specs.Fitting.{FitsKnown, HasEntry, IsReplayedToPlace, entries_of}
 use Rattle.cx_rule.specs.Running.{Running}
 use Rattle.cx_rule.specs.Seats.{IsWithinLimit, Seated, place_noted}
 use Rattle.cx_table.specs.Right.{Right}
@@ -24,18 +23,21 @@ StoresNone accesses = All (λ (note : Note). note.0 ≡ false) accesses
 abbrev pub noted_place : Seated → ℕ
 noted_place seat = place_noted 0 seat.known.accesses
 
--- The place was loaded. For every pair that fits what was noted, entries that the caller has lead from the first words to the words now,
--- which are lawful as a base, up to the place that was loaded or stored last. The table asks this of a replica that is given up.
+-- The place was loaded. For every pair that fits what was noted, entries and write sets that the caller has lead from the first words to the
+-- words now, up to the place that was loaded or stored last. The table asks this of a replica that is given up.
 pub record IsImage (lines : ℕ) (lawful : List ℕ → Type 0) (base : Base) (step : List ℕ → List ℕ → List ℕ × List ℕ) (known : Known) : Type 0 where
   pub begun : HasPlace known.accesses
   pub replayed : IsReplayedToPlace lines lawful base step known
-  pub law : (first now : List ℕ) → Fits lines lawful base known.accesses first now → LawfulBase lines lawful (base_of now)
 
 -- a replica is held exclusively that is the image after this place
 pub record IsReady {O : Type 0} (o : Ghosts O) (r : Running O) (held : Right) (at : ℕ) (seat : Seated) : Type 0 where
-  pub is_held : IsHeld (o.line_count r.object) r (o.lawful r.object) seat held
+  pub is_held : IsHeld (o.line_count r.object) r (o.lawful r.object) (o.step r.object) seat held
   pub image : IsImage (o.line_count r.object) (o.lawful r.object) r.base (o.step r.object) seat.known
   pub place : noted_place seat ≡ at
+
+-- whatever fits the accesses of a replica, the last entry of this caller there has this reply
+abbrev pub ShowsReply : ℕ → (List ℕ → Type 0) → Base → (List ℕ → List ℕ → List ℕ × List ℕ) → Known → ℕ → List ℕ → Type 0
+ShowsReply lines lawful base step known number reply = (first now : List ℕ) → FitsKnown lines lawful base step known first now → slot_reply number now ≡ reply
 
 -- the caller has an entry with the place of the replica held exclusively as its ticket, and it is one that may come there
 pub record ComesNext (entry : Entry) (seat : Seated) : Type 0 where
@@ -45,13 +47,13 @@ pub record ComesNext (entry : Entry) (seat : Seated) : Type 0 where
 
 -- whatever fits the accesses of the replica held exclusively, a full step can be done on it
 pub record CanStep {O : Type 0} (o : Ghosts O) (r : Running O) (seat : Seated) : Type 0 where
-  pub place : Always (Fits (o.line_count r.object) (o.lawful r.object) r.base seat.known.accesses) (λ region. place_of region < 2 ^ 40)
-  pub object : Always (Fits (o.line_count r.object) (o.lawful r.object) r.base seat.known.accesses) (λ region. o.lawful r.object (object_part region))
+  pub place : Always (FitsKnown (o.line_count r.object) (o.lawful r.object) r.base (o.step r.object) seat.known) (λ region. place_of region < 2 ^ 40)
+  pub object : Always (FitsKnown (o.line_count r.object) (o.lawful r.object) r.base (o.step r.object) seat.known) (λ region. o.lawful r.object (object_part region))
   pub begun : HasPlace seat.known.accesses
 
 -- what a full step leaves, whether it was done or not
 pub record Accessed {O : Type 0} (o : Ghosts O) (r : Running O) (held : Right) (before after : Seated) : Type 0 where
-  pub still : IsHeld (o.line_count r.object) r (o.lawful r.object) after held
+  pub still : IsHeld (o.line_count r.object) r (o.lawful r.object) (o.step r.object) after held
   pub begun : HasPlace after.known.accesses
   pub within : IsWithinLimit after.known.local
   pub rest : beside_held held.replica after ≡ beside_held held.replica before

@@ -35,7 +35,7 @@ pub fn copy_from<O: Object>(
     held: &Exclusive,
     source: &SharedHold,
 ) -> Result<u64, Halt>
-    requires { HoldsBoth (O.line_count shared.now.object) shared.now (O.lawful shared.now.object) seat.old held.now source.now }
+    requires { HoldsBoth (O.line_count shared.now.object) shared.now (O.lawful shared.now.object) (O.step shared.now.object) seat.old held.now source.now }
     ensures copied { IfOk result (λ place. Copies O.Object shared.now place seat.old seat.new) }
     ensures steps { EndsCopy (2 * region_words (O.line_count shared.now.object)) (region_words (O.line_count shared.now.object)) seat.old.known seat.new.known result }
     ensures leaves { LeavesCopied O.Object shared.now held.now source.now seat.old seat.new }
@@ -72,7 +72,7 @@ pub fn renew_from<O: Object>(
     held: &Exclusive,
     source: SharedHold,
 ) -> Result<u64, Halt>
-    requires { HoldsBoth (O.line_count shared.now.object) shared.now (O.lawful shared.now.object) seat.old held.now source }
+    requires { HoldsBoth (O.line_count shared.now.object) shared.now (O.lawful shared.now.object) (O.step shared.now.object) seat.old held.now source }
     ensures renewed { IfOk result (λ place. Renews O.Object shared.now held.now place seat.old seat.new) }
     ensures still { OnErr result (beside_copy seat.new ≡ beside_copy seat.old) }
     ensures seat { IsSeatOf shared.now seat.new }
@@ -108,7 +108,7 @@ fn copy_piece<O: Object>(
     held_words: &mut [u64],
     source_words: &mut [u64],
 ) -> Result<(), Halt>
-    requires both { HoldsBoth (O.line_count shared.now.object) shared.now (O.lawful shared.now.object) seat.old held.now source.now }
+    requires both { HoldsBoth (O.line_count shared.now.object) shared.now (O.lawful shared.now.object) (O.step shared.now.object) seat.old held.now source.now }
     requires lines { AreLines (O.line_count shared.now.object) from held_words.old source_words.old }
     ensures copied { OnOk result (CopiesOn from (from + length held_words.old) seat.old.known seat.new.known) }
     ensures steps { EndsCopy (2 * length held_words.old) (region_words (O.line_count shared.now.object)) seat.old.known seat.new.known result }
@@ -146,7 +146,7 @@ fn load_piece<O: Object>(
     held_words: &mut [u64],
     source_words: &mut [u64],
 ) -> Result<(), Halt>
-    requires both { HoldsBoth (O.line_count shared.now.object) shared.now (O.lawful shared.now.object) seat.old held.now source.now }
+    requires both { HoldsBoth (O.line_count shared.now.object) shared.now (O.lawful shared.now.object) (O.step shared.now.object) seat.old held.now source.now }
     requires piece { ArePiece (O.line_count shared.now.object) from held_words.old source_words.old }
     ensures loaded { OnOk result (CopiesPiece from from from 0 held_words.new source_words.new seat.old.known seat.new.known) }
     ensures steps { EndsLoads (2 * length held_words.old) seat.old.known seat.new.known result }
@@ -169,7 +169,7 @@ fn store_line<O: Object>(
     source_words: &[u64],
     first: usize,
 ) -> Result<(), Halt>
-    requires both { HoldsBoth (O.line_count shared.now.object) shared.now (O.lawful shared.now.object) seat.old held.now source.now }
+    requires both { HoldsBoth (O.line_count shared.now.object) shared.now (O.lawful shared.now.object) (O.step shared.now.object) seat.old held.now source.now }
     requires line { SeesLine (O.line_count shared.now.object) from first held_words.now source_words.now seat.old.known }
     ensures stored { OnOk result (CopiesPiece from (from + first) (from + first + 8) (first + 8) held_words.now source_words.now seat.old.known seat.new.known) }
     ensures steps { EndsCopy 0 (region_words (O.line_count shared.now.object)) seat.old.known seat.new.known result }
@@ -193,7 +193,7 @@ pub(crate) fn store_copied<O: Object>(
     at: u64,
     word: u64,
 ) -> Result<(), Halt>
-    requires both { HoldsBoth (O.line_count shared.now.object) shared.now (O.lawful shared.now.object) seat.old held.now source.now }
+    requires both { HoldsBoth (O.line_count shared.now.object) shared.now (O.lawful shared.now.object) (O.step shared.now.object) seat.old held.now source.now }
     requires at { at < region_words (O.line_count shared.now.object) }
     ensures known { OnOk result (seat.new.known ≡ known_after (instance_at shared.now O.step O.only_reads) (StoreWord held.now.replica at word) seat.old.known 0) }
     ensures halted { OnErr result (Halts shared.now seat.old seat.new) }

@@ -19,7 +19,7 @@ pub fn flush<O: Object>(
     seat: &mut CallerSeat,
     held: &Exclusive,
 ) -> Result<(), Halt>
-    requires { IsHeld (O.line_count shared.now.object) shared.now (O.lawful shared.now.object) seat.old held.now }
+    requires { IsHeld (O.line_count shared.now.object) shared.now (O.lawful shared.now.object) (O.step shared.now.object) seat.old held.now }
     ensures clean { EndsFlushing seat.new result }
     ensures persists { Persists O.Object shared.now held.now seat.old seat.new }
     ensures image { IsImage (O.line_count shared.now.object) (O.lawful shared.now.object) shared.now.base (O.step shared.now.object) seat.old.known → IsImage (O.line_count shared.now.object) (O.lawful shared.now.object) shared.now.base (O.step shared.now.object) seat.new.known }
@@ -37,7 +37,7 @@ fn persist_dirty<O: Object>(
     held: &Exclusive,
     at: u64,
 ) -> Result<(), Halt>
-    requires held { IsHeld (O.line_count shared.now.object) shared.now (O.lawful shared.now.object) seat.old held.now }
+    requires held { IsHeld (O.line_count shared.now.object) shared.now (O.lawful shared.now.object) (O.step shared.now.object) seat.old held.now }
     requires at { at < region_words (O.line_count shared.now.object) }
     requires dirty { Contains (held_dirty seat.old.known.local.exclusive) at }
     ensures fewer { OnOk result (length (held_dirty seat.new.known.local.exclusive) < length (held_dirty seat.old.known.local.exclusive)) }

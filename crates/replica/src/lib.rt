@@ -7,7 +7,8 @@
 //!   steps the first of them are loaded: `load_held_words`, `load_shared_words` (`made`: `LoadsRun`; `some`, `halted`).
 //! - The place of a region, and the number and reply of a caller's last entry in it: `place`, `outcome` (`read`).
 //! - A replica into which nothing was stored is the image after its place: `begin` (`ready`: `IsReady`); the full step of the entry of
-//!   its place, which the caller has to have and which has to be a lawful one, makes it the image after the next: `apply`, and over a region `replay_one` (`ready`).
+//!   its place, which the caller has to have and which has to be a lawful one, makes it the image after the next, in which the entry's caller
+//!   has the reply that the step gave: `apply` (`replied`: `ShowsReply`), and over a region without that reply `replay_one` (`ready`).
 //! - After a flush no word is dirty, and a region that was the image after its place still is; with `Halt` a word is dirty: `flush` (`clean`,
 //!   `image`, `persists`). So the conditions of a downgrade and of a release are met.
 //! - A copy makes the replica held exclusively equal to the one held shared, whatever fits what was noted, and gives their place: `copy_from`

@@ -1,6 +1,6 @@
 //! What a region says: the place after which it is, and the number and the reply of each caller's last entry there.
 
-ghost use Rattle.std.specs.Prelude.{◌≡◌, ◌+◌, ◌<◌, ◌≤◌, Some, OnErr, IfOk};
+ghost use Rattle.std.specs.Prelude.{◌≡◌, ◌+◌, ◌<◌, ◌≤◌, Some, OnErr, OnOk, IfOk};
 ghost use Rattle.cx_base.specs.Memory.{Becomes, Framed, Reads};
 ghost use Rattle.cx_core.specs.Region.{place_of};
 ghost use Rattle.replica.specs.Outcomes.{IsOutcome, ReplyFrom};
@@ -22,32 +22,30 @@ pub fn place<M: Memory>(mem: &mut M) -> Result<u64, Halt>
     mem.load(PLACE_AT)
 }
 
-/// The number of a caller's last entry in a region, 0 for none, and the reply to it. `Halt` comes only where no access is
-/// left.
-pub fn outcome<M: Memory>(mem: &mut M, caller: u32) -> Result<(u64, [u64; 144]), Halt>
+/// The number of a caller's last entry in a region, 0 for none, and the reply to it, which is put where the caller has it. `Halt` comes
+/// only where no access is left.
+pub fn outcome<M: Memory>(mem: &mut M, caller: u32, reply: &mut [u64; 144]) -> Result<u64, Halt>
     requires region { 1168 ≤ M.size mem.old }
     requires caller { caller < 8 }
-    ensures read { IfOk result (λ x. Reads (M.stands mem.old) (M.stands mem.new) (IsOutcome caller x.0 x.1)) }
+    ensures read { IfOk result (λ number. Reads (M.stands mem.old) (M.stands mem.new) (IsOutcome caller number reply.new)) }
     ensures unchanged { Becomes (M.stands mem.old) (M.stands mem.new) ◌≡◌ }
     ensures halts { OnErr result (M.left mem.new ≡ Some 0) }
     ensures framed { Framed M.size M.fixed M.writable M.left mem.old mem.new }
 {
     let slot = slot_start(caller);
     let number = mem.load(slot)?;
-    let reply = load_reply(mem, slot + 1)?;
-    Ok((number, reply))
+    load_reply(mem, slot + 1, reply)?;
+    Ok(number)
 }
 
 /// Loads a reply from a place on.
-fn load_reply<M: Memory>(mem: &mut M, from: u64) -> Result<[u64; 144], Halt>
+fn load_reply<M: Memory>(mem: &mut M, from: u64, reply: &mut [u64; 144]) -> Result<(), Halt>
     requires region { from + 144 ≤ M.size mem.old }
     requires small { from < 1168 }
-    ensures read { IfOk result (λ reply. Reads (M.stands mem.old) (M.stands mem.new) (ReplyFrom from reply)) }
+    ensures read { OnOk result (Reads (M.stands mem.old) (M.stands mem.new) (ReplyFrom from reply.new)) }
     ensures unchanged { Becomes (M.stands mem.old) (M.stands mem.new) ◌≡◌ }
     ensures halts { OnErr result (M.left mem.new ≡ Some 0) }
     ensures framed { Framed M.size M.fixed M.writable M.left mem.old mem.new }
 {
-    let mut reply = [0; 144];
-    mem.load_words(from, &mut reply)?;
-    Ok(reply)
+    mem.load_words(from, reply)
 }

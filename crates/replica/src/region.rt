@@ -10,7 +10,8 @@ use crate::words::HeldWords;
 use cx_base::{Halt, Memory};
 use cx_table::{CallerSeat, Exclusive};
 
-/// A replica held exclusively as a memory, for loads and stores. Its pairs are those that fit what the seat noted.
+/// A replica held exclusively as a memory, for loads and stores. Its pairs are those that fit what the seat noted, and stay
+/// lawful through each entry and each write set that the seat has.
 #[derive(Drop)]
 pub struct Region<'a, T: HeldWords> {
     pub(crate) table: &'a T,
@@ -18,7 +19,7 @@ pub struct Region<'a, T: HeldWords> {
     pub(crate) held: &'a Exclusive,
     /// Whether the place was loaded or stored before the region began.
     pub(crate) placed: bool,
-    ghost of: { IsHeld (T.line_count table.now) (T.running table.now) (T.lawful table.now) seat.now held.now },
+    ghost of: { IsHeld (T.line_count table.now) (T.running table.now) (T.lawful table.now) (T.step table.now) seat.now held.now },
     ghost within: { IsWithinLimit seat.now.known.local },
     ghost place: { IsTrue placed → HasPlace seat.now.known.accesses },
 }
@@ -26,7 +27,7 @@ pub struct Region<'a, T: HeldWords> {
 impl<'a, T: HeldWords> Region<'a, T> {
     /// The region of the replica that a token is of.
     pub fn of(table: &'a T, seat: &'a mut CallerSeat, held: &'a Exclusive) -> Region<'a, T>
-        requires { IsHeld (T.line_count table.now) (T.running table.now) (T.lawful table.now) seat.old held.now }
+        requires { IsHeld (T.line_count table.now) (T.running table.now) (T.lawful table.now) (T.step table.now) seat.old held.now }
         ensures { IsRegionOf seat.entry.ghost_name result.seat.ghost_name table.now result.table.now seat.old result.seat.now held.now result.held.now false result.placed }
     {
         let _steps = seat.steps();
@@ -40,7 +41,7 @@ impl<'a, T: HeldWords> Region<'a, T> {
 
     /// The same where the place was loaded or stored before. That it was is then known of the seat once the region ends.
     pub fn placed(table: &'a T, seat: &'a mut CallerSeat, held: &'a Exclusive) -> Region<'a, T>
-        requires held { IsHeld (T.line_count table.now) (T.running table.now) (T.lawful table.now) seat.old held.now }
+        requires held { IsHeld (T.line_count table.now) (T.running table.now) (T.lawful table.now) (T.step table.now) seat.old held.now }
         requires place { HasPlace seat.old.known.accesses }
         ensures { IsRegionOf seat.entry.ghost_name result.seat.ghost_name table.now result.table.now seat.old result.seat.now held.now result.held.now true result.placed }
     {
@@ -56,9 +57,9 @@ impl<'a, T: HeldWords> Region<'a, T> {
 
 impl<T: HeldWords> Memory for Region<'_, T> {
     ghost use Rattle.std.specs.Borrow.{GName};
-    ghost use Rattle.cx_rule.specs.Fitting.{Fits};
+    ghost use Rattle.cx_rule.specs.Fitting.{FitsKnown};
     ghost use Rattle.replica.specs.Held.{left_of};
-    ghost use Rattle.replica.specs.Regions.{RegionFixed, fits_words, region_fixed};
+    ghost use Rattle.replica.specs.Regions.{RegionFixed, known_words, region_fixed};
 
     ghost size = { λ r. region_words (T.line_count r.table.now) };
 
@@ -72,11 +73,11 @@ impl<T: HeldWords> Memory for Region<'_, T> {
 
     ghost Key = { List ℕ };
 
-    ghost stands = { λ r. Fits (T.line_count r.table.now) (T.lawful r.table.now) (T.running r.table.now).base r.seat.now.known.accesses };
+    ghost stands = { λ r. FitsKnown (T.line_count r.table.now) (T.lawful r.table.now) (T.running r.table.now).base (T.step r.table.now) r.seat.now.known };
 
     ghost some_stands = { λ r. r.of.some };
 
-    ghost words = { λ r. fits_words (T.line_count r.table.now) (T.lawful r.table.now) (T.running r.table.now).base r.seat.now.known.accesses };
+    ghost words = { λ r. known_words (T.line_count r.table.now) (T.lawful r.table.now) (T.running r.table.now).base (T.step r.table.now) r.seat.now.known };
 
     fn load(&mut self, at: u64) -> Result<u64, Halt> {
         self.table.load_held(self.seat, self.held, at)

@@ -3,17 +3,17 @@
 
 ghost use Rattle.std.specs.Prelude.{◌≡◌, ◌+◌, ◌<◌, OnErr, OnOk, IfOk, Some};
 ghost use Rattle.cx_base.specs.Memory.{Becomes};
-ghost use Rattle.cx_core.specs.Step.{full_step_of};
-ghost use Rattle.cx_rule.specs.Fitting.{Fits};
+ghost use Rattle.cx_core.specs.Step.{IsStepped};
+ghost use Rattle.cx_rule.specs.Fitting.{FitsKnown};
 ghost use Rattle.cx_rule.specs.Steps.{Halts};
 ghost use Rattle.replica.specs.Held.{IsHeld, LeavesHeld, left_of};
 ghost use Rattle.replica.specs.Regions.{SameRegion, region_fixed};
-ghost use Rattle.replica.specs.Replays.{Accessed, CanStep, ComesNext, IsReady, StoresNone, noted_place};
+ghost use Rattle.replica.specs.Replays.{Accessed, CanStep, ComesNext, IsReady, ShowsReply, StoresNone, noted_place};
 
 use crate::region::Region;
 use crate::words::HeldWords;
 use cx_base::{Halt, Object};
-use cx_core::{Entry, full_step};
+use cx_core::{Entry, full_step_into};
 use cx_table::{CallerSeat, Exclusive, Shared};
 
 /// The word of a region that has the place.
@@ -26,7 +26,7 @@ pub fn begin<O: Object>(
     seat: &mut CallerSeat,
     held: &Exclusive,
 ) -> Result<u64, Halt>
-    requires held { IsHeld (O.line_count shared.now.object) shared.now (O.lawful shared.now.object) seat.old held.now }
+    requires held { IsHeld (O.line_count shared.now.object) shared.now (O.lawful shared.now.object) (O.step shared.now.object) seat.old held.now }
     requires unchanged { StoresNone seat.old.known.accesses }
     ensures ready { IfOk result (λ place. IsReady O.Object shared.now held.now place seat.new) }
     ensures leaves { LeavesHeld O.Object shared.now held.now seat.old seat.new }
@@ -36,20 +36,23 @@ pub fn begin<O: Object>(
 }
 
 /// Does the full step of the entry of the place of a replica held exclusively: it is the image after its place, and then that
-/// after the next. `Halt` comes only where the seat's steps equal its limit.
+/// after the next. The reply is put where the caller has it, and is the one that the replica then has for the entry's caller. `Halt` comes
+/// only where the seat's steps equal its limit.
 pub fn apply<O: Object>(
     shared: &Shared<O>,
     seat: &mut CallerSeat,
     held: &Exclusive,
     entry: &Entry,
+    reply: &mut [u64; 144],
 ) -> Result<(), Halt>
     requires ready { IsReady O.Object shared.now held.now (noted_place seat.old) seat.old }
     requires next { ComesNext entry.now seat.old }
     ensures ready { OnOk result (IsReady O.Object shared.now held.now (noted_place seat.old + 1) seat.new) }
+    ensures replied { OnOk result (ShowsReply (O.line_count shared.now.object) (O.lawful shared.now.object) shared.now.base (O.step shared.now.object) seat.new.known entry.now.caller reply.new) }
     ensures halts { OnErr result (left_of seat.new.known.local ≡ Some 0) }
     ensures leaves { Accessed O.Object shared.now held.now seat.old seat.new }
 {
-    step_held(shared, seat, held, entry)
+    step_held(shared, seat, held, entry, reply)
 }
 
 /// Does the full step of an entry on a replica held exclusively.
@@ -58,16 +61,22 @@ fn step_held<O: Object>(
     seat: &mut CallerSeat,
     held: &Exclusive,
     entry: &Entry,
+    reply: &mut [u64; 144],
 ) -> Result<(), Halt>
-    requires held { IsHeld (O.line_count shared.now.object) shared.now (O.lawful shared.now.object) seat.old held.now }
+    requires held { IsHeld (O.line_count shared.now.object) shared.now (O.lawful shared.now.object) (O.step shared.now.object) seat.old held.now }
     requires can { CanStep O.Object shared.now seat.old }
     requires caller { entry.now.caller < 8 }
-    ensures done { OnOk result (Becomes (Fits (O.line_count shared.now.object) (O.lawful shared.now.object) shared.now.base seat.old.known.accesses) (Fits (O.line_count shared.now.object) (O.lawful shared.now.object) shared.now.base seat.new.known.accesses) (λ before now. now ≡ full_step_of (O.step shared.now.object) entry.now before)) }
+    ensures done { OnOk result (Becomes (FitsKnown (O.line_count shared.now.object) (O.lawful shared.now.object) shared.now.base (O.step shared.now.object) seat.old.known) (FitsKnown (O.line_count shared.now.object) (O.lawful shared.now.object) shared.now.base (O.step shared.now.object) seat.new.known) (IsStepped (O.step shared.now.object) entry.now reply.new)) }
     ensures halts { OnErr result (left_of seat.new.known.local ≡ Some 0) }
     ensures leaves { Accessed O.Object shared.now held.now seat.old seat.new }
 {
     let object = shared.object();
-    full_step(object, &mut Region::placed(shared, seat, held), entry)
+    full_step_into(
+        object,
+        &mut Region::placed(shared, seat, held),
+        entry,
+        reply,
+    )
 }
 
 /// Does the full step of the entry of the region's place: the region is the image after its place, and then that after the
@@ -79,5 +88,6 @@ pub fn replay_one<O: Object>(region: &mut Region<'_, Shared<O>>, entry: &Entry) 
     ensures halts { OnErr result (left_of region.new.seat.now.known.local ≡ Some 0) }
     ensures same { SameRegion (region_fixed region.old.seat.ghost_name region.old.table.now region.old.held.now region.old.placed region.old.seat.now) (region_fixed region.new.seat.ghost_name region.new.table.now region.new.held.now region.new.placed region.new.seat.now) }
 {
-    apply(region.table, region.seat, region.held, entry)
+    let mut reply = [0; 144];
+    apply(region.table, region.seat, region.held, entry, &mut reply)
 }

@@ -26,11 +26,14 @@ pub trait HeldWords {
     /// Which images are the object's.
     ghost lawful: { Self → List ℕ → Type 0 };
 
+    /// What an operation makes of an image, and its reply.
+    ghost step: { Self → List ℕ → List ℕ → List ℕ × List ℕ };
+
     /// Loads a word of the replica held exclusively. `Halt` comes exactly where the seat's steps equal its limit.
     fn load_held(&self, seat: &mut CallerSeat, held: &Exclusive, at: u64) -> Result<u64, Halt>
-        requires held { IsHeld (line_count self.now) (running self.now) (lawful self.now) seat.old held.now }
+        requires held { IsHeld (line_count self.now) (running self.now) (lawful self.now) (step self.now) seat.old held.now }
         requires at { at < region_words (line_count self.now) }
-        ensures made { IfOk result (λ v. Accesses (line_count self.now) (running self.now) (lawful self.now) held.now (false, at, v) seat.old seat.new) }
+        ensures made { IfOk result (λ v. Accesses (line_count self.now) (running self.now) (lawful self.now) (step self.now) held.now (false, at, v) seat.old seat.new) }
         ensures halted { OnErr result (Halts (running self.now) seat.old seat.new) };
 
     /// Loads words of the replica held exclusively, from a place on, each as `load_held` does. `Halt` comes only where the seat's steps
@@ -42,10 +45,10 @@ pub trait HeldWords {
         from: u64,
         into: &mut [u64],
     ) -> Result<(), Halt>
-        requires held { IsHeld (line_count self.now) (running self.now) (lawful self.now) seat.old held.now }
+        requires held { IsHeld (line_count self.now) (running self.now) (lawful self.now) (step self.now) seat.old held.now }
         requires within { from + length into.old ≤ region_words (line_count self.now) }
-        ensures made { OnOk result (LoadsRun (LoadsHeld (line_count self.now) (running self.now) (lawful self.now) held.now) from into.new seat.old seat.new) }
-        ensures some { (n : ℕ) × LoadsRun (LoadsHeld (line_count self.now) (running self.now) (lawful self.now) held.now) from (take n into.new) seat.old seat.new }
+        ensures made { OnOk result (LoadsRun (LoadsHeld (line_count self.now) (running self.now) (lawful self.now) (step self.now) held.now) from into.new seat.old seat.new) }
+        ensures some { (n : ℕ) × LoadsRun (LoadsHeld (line_count self.now) (running self.now) (lawful self.now) (step self.now) held.now) from (take n into.new) seat.old seat.new }
         ensures halted { OnErr result (IsAtLimit seat.new.known.local) }
         ensures length { length into.new ≡ length into.old };
 
@@ -57,9 +60,9 @@ pub trait HeldWords {
         at: u64,
         v: u64,
     ) -> Result<(), Halt>
-        requires held { IsHeld (line_count self.now) (running self.now) (lawful self.now) seat.old held.now }
+        requires held { IsHeld (line_count self.now) (running self.now) (lawful self.now) (step self.now) seat.old held.now }
         requires at { at < region_words (line_count self.now) }
-        ensures made { OnOk result (Accesses (line_count self.now) (running self.now) (lawful self.now) held.now (true, at, v) seat.old seat.new) }
+        ensures made { OnOk result (Accesses (line_count self.now) (running self.now) (lawful self.now) (step self.now) held.now (true, at, v) seat.old seat.new) }
         ensures halted { OnErr result (Halts (running self.now) seat.old seat.new) };
 
     /// Loads a word of the replica held shared. `Halt` comes exactly where the seat's steps equal its limit.
@@ -94,6 +97,8 @@ impl<O: Object> HeldWords for Shared<O> {
     ghost line_count = { λ s. O.line_count s.object };
 
     ghost lawful = { λ s. O.lawful s.object };
+
+    ghost step = { λ s. O.step s.object };
 
     fn load_held(&self, seat: &mut CallerSeat, held: &Exclusive, at: u64) -> Result<u64, Halt> {
         self.load_word(seat, held.replica() as u64, at, false)

@@ -12,9 +12,10 @@ use Rattle.cx_core.specs.declared.kinds.Kind.TheVariants.{WriteCell, Link, TryEx
 use Rattle.cx_core.specs.declared.local.Cell.{Cell}
 use Rattle.cx_core.specs.declared.local.HeldExclusive.{HeldExclusive}
 use Rattle.cx_core.specs.declared.local.Local.{Local}
+use Rattle.cx_core.specs.Lawful.{CellShape}
 use Rattle.cx_core.specs.LockEvents.{exclusive_mark, is_in, passing, refused_by, shared_by, taken, with_number}
 use Rattle.cx_core.specs.RootEvents.{outrun, published}
-use Rattle.cx_core.specs.QueueEvents.{cell_of, linked, lost, seen_word, written}
+use Rattle.cx_core.specs.QueueEvents.{cell_of, linked, lost, seen_word}
 use Rattle.cx_core.specs.RegionEvents.{persisted, stored_into}
 use Rattle.cx_core.specs.Rights.{exclusive_on, held_dirty, is_at, shared_on}
 use Rattle.cx_core.specs.SetEvents.{offer_of}
@@ -25,8 +26,8 @@ use Rattle.cx_rule.specs.declared.rule.Known.{Known}
 use Rattle.cx_rule.specs.Fitting.{TellsWord}
 use Rattle.cx_rule.specs.Seats.{HasCells, SeenGuard, known_after, known_local, place_noted, unseen}
 use Rattle.cx_rule.proofs.Copying.{leads_length}
-use Rattle.seat_memory.specs.Copies.{Copied, HasCellWords, IsCopied, copied_after}
-use Rattle.seat_memory.proofs.Rows.{same_row}
+use Rattle.seat_memory.specs.Copies.{Copied, HasCellWords, HasRows, HasSetWords, IsCopied, copied_after}
+use Rattle.seat_memory.proofs.Rows.{row_before, same_row}
 
 -- the place after one access more
 place_more : (place : ℕ) (accesses : List Note) (stores : Bool) (at word : ℕ) → place_noted place (accesses ++ (stores, at, word) ∷ []) ≡ cond (at == 0) word (place_noted place accesses)
@@ -88,74 +89,86 @@ none_in xs x none there = (let here = subst (λ (ys : List ℕ). Contains ys x) 
 abbrev dirty_of : Local → List ℕ
 dirty_of l = held_dirty l.exclusive
 
--- the words of the cells are as they were
+abbrev words_in : Cell → List ℕ
+words_in c = c.words
+
+abbrev set_in : Cell → List ℕ
+set_in c = c.set
+
+-- the words of the cells and of their sets are as they were
+abbrev SameRows : (Cell → List ℕ) → Local → Local → Type 0
+SameRows row l l' = (j : ℕ) → row (cell_of l' j) ≡ row (cell_of l j)
+
 abbrev SameCells : Local → Local → Type 0
-SameCells l l' = (j : ℕ) → (cell_of l' j).words ≡ (cell_of l j).words
+SameCells l l' = (j : ℕ) → (words_in (cell_of l' j) ≡ words_in (cell_of l j)) × (set_in (cell_of l' j) ≡ set_in (cell_of l j))
+
+same_rows : (n : ℕ) (row : Cell → List ℕ) (l l' : Local) (rows : List ℕ) → SameRows row l l' → HasRows n row l rows → HasRows n row l' rows
+same_rows n row l l' rows same has = record { long = has.long; each = λ j i small below. has.each j i small below ∙ ap (λ ws. slice_index ws i) (sym (same j)) }
 
 same_cells : (l l' : Local) (cells : List ℕ) → SameCells l l' → HasCellWords l cells → HasCellWords l' cells
-same_cells l l' cells same has = record { long = has.long; each = λ j i small below. has.each j i small below ∙ ap (λ ws. slice_index ws i) (sym (same j)) }
+same_cells l l' cells same has = same_rows 145 words_in l l' cells (λ j. (same j).0) has
+
+same_sets : (l l' : Local) (sets : List ℕ) → SameCells l l' → HasSetWords l sets → HasSetWords l' sets
+same_sets l l' sets same has = same_rows 513 set_in l l' sets (λ j. (same j).1) has
 
 abbrev no_cell : Cell
 no_cell = record { words = []; ticket = None; set = []; offer = 0 }
 
--- a cell that got a ticket has the words that it had
-ticketed : (cells : List Cell) (j i : ℕ) (ticket : Option ℕ) → (get_or (set cells j (record (get_or cells j no_cell) { ticket = ticket })) i no_cell).words ≡ (get_or cells i no_cell).words
-ticketed [] j i ticket = refl
-ticketed (c ∷ cells) zero zero ticket = refl
-ticketed (c ∷ cells) zero (suc i) ticket = refl
-ticketed (c ∷ cells) (suc j) zero ticket = refl
-ticketed (c ∷ cells) (suc j) (suc i) ticket = ticketed cells j i ticket
+-- a cell that keeps its row was put
+row_kept : (row : Cell → List ℕ) (cells : List Cell) (j i : ℕ) (f : Cell → Cell) → ((c : Cell) → row (f c) ≡ row c) → row (get_or (set cells j (f (get_or cells j no_cell))) i no_cell) ≡ row (get_or cells i no_cell)
+row_kept row [] j i f same = refl
+row_kept row (c ∷ cells) zero zero f same = same c
+row_kept row (c ∷ cells) zero (suc i) f same = refl
+row_kept row (c ∷ cells) (suc j) zero f same = refl
+row_kept row (c ∷ cells) (suc j) (suc i) f same = row_kept row cells j i f same
 
--- a cell that keeps its words was put
-words_kept : (cells : List Cell) (j i : ℕ) (f : Cell → Cell) → ((c : Cell) → (f c).words ≡ c.words) → (get_or (set cells j (f (get_or cells j no_cell))) i no_cell).words ≡ (get_or cells i no_cell).words
-words_kept [] j i f same = refl
-words_kept (c ∷ cells) zero zero f same = same c
-words_kept (c ∷ cells) zero (suc i) f same = refl
-words_kept (c ∷ cells) (suc j) zero f same = refl
-words_kept (c ∷ cells) (suc j) (suc i) f same = words_kept cells j i f same
-
--- a word was written into a cell
-written_cells : (l l' : Local) (cells : List ℕ) (j i v : ℕ) → HasCells l → j < 16 → i < 145 → l'.cells ≡ written l j i v → HasCellWords l cells → HasCellWords l' (set cells (145 * j + i) v)
-written_cells l l' cells j i v shape small below is has =
-    let place = 145 * j + i in
-    let there : j < length l.cells = omega (arith, shape.count) in
-    let old = cell_of l j in
-    let long : length old.words ≡ 145 = (shape.each j old (slice_get-get_or l.cells j no_cell there)).words in
-    let new : Cell = record old { words = set old.words i v; ticket = None } in
-    let here : cell_of l' j ≡ new = ap (λ (cs : List Cell). get_or cs j no_cell) is ∙ get_or-set_same l.cells j new no_cell there in
+-- a word was put into the row of a cell
+row_put : (n : ℕ) (row : Cell → List ℕ) (l l' : Local) (rows : List ℕ) (j i v : ℕ) (new : Cell) → length l.cells ≡ 16 → j < 16 → i < n → length (row (cell_of l j)) ≡ n → l'.cells ≡ set l.cells j new → row new ≡ set (row (cell_of l j)) i v →
+    HasRows n row l rows → HasRows n row l' (set rows (n * j + i) v)
+row_put n row l l' rows j i v new count small below long is put has =
+    let place = n * j + i in
+    let there : j < length l.cells = omega (arith, count) in
+    let old = row (cell_of l j) in
+    let here : row (cell_of l' j) ≡ set old i v = ap (λ (cs : List Cell). row (get_or cs j no_cell)) is ∙ ap row (get_or-set_same l.cells j new no_cell there) ∙ put in
+    let within : place < length rows = (let gap = row_before n j 16 small in let size = has.long in omega (arith, gap, size, below)) in
     record {
-      long = length-set cells place v ∙ has.long;
-      each = λ k n k_small n_below. (
-          let at = 145 * k + n in
+      long = length-set rows place v ∙ has.long;
+      each = λ k m k_small m_below. (
+          let at = n * k + m in
           elim (cases_eq k j) [
             | inl same ↦ (
-                let words : (cell_of l' k).words ≡ set old.words i v = ap (λ q. (cell_of l' q).words) same ∙ ap (λ (c : Cell). c.words) here in
-                elim (cases_eq n i) [
+                let words : row (cell_of l' k) ≡ set old i v = ap (λ q. row (cell_of l' q)) same ∙ here in
+                elim (cases_eq m i) [
                   | inl e ↦
-                      ap (λ q. get_or (set cells place v) (145 * q + n) 0) same
-                      ∙ ap (λ m. get_or (set cells place v) (145 * j + m) 0) e
-                      ∙ get_or-set_same cells place v 0 (let size = has.long in omega arith)
-                      ∙ sym (get_or-set_same old.words i v 0 (omega (arith, long)))
-                      ∙ ap (λ m. get_or (set old.words i v) m 0) (sym e)
-                      ∙ ap (λ ws. get_or ws n 0) (sym words)
+                      ap (λ q. get_or (set rows place v) (n * q + m) 0) same
+                      ∙ ap (λ x. get_or (set rows place v) (n * j + x) 0) e
+                      ∙ get_or-set_same rows place v 0 within
+                      ∙ sym (get_or-set_same old i v 0 (omega (arith, long)))
+                      ∙ ap (λ x. get_or (set old i v) x 0) (sym e)
+                      ∙ ap (λ ws. get_or ws m 0) (sym words)
                   | inr ne ↦
-                      get_or-set_other cells place at v 0 (λ e. ne (omega (arith, e, same)))
-                      ∙ has.each k n k_small n_below
-                      ∙ ap (λ q. get_or (cell_of l q).words n 0) same
-                      ∙ sym (get_or-set_other old.words i n v 0 ne)
-                      ∙ ap (λ ws. get_or ws n 0) (sym words)
+                      get_or-set_other rows place at v 0 (λ e. ne (same_row n k j m i m_below below e).1)
+                      ∙ has.each k m k_small m_below
+                      ∙ ap (λ q. get_or (row (cell_of l q)) m 0) same
+                      ∙ sym (get_or-set_other old i m v 0 ne)
+                      ∙ ap (λ ws. get_or ws m 0) (sym words)
                 ])
             | inr ne ↦
-                get_or-set_other cells place at v 0 (λ e. ne (same_row 145 k j n i n_below below e).0)
-                ∙ has.each k n k_small n_below
-                ∙ ap (λ (c : Cell). get_or c.words n 0) (sym (ap (λ (cs : List Cell). get_or cs k no_cell) is ∙ get_or-set_other l.cells j k new no_cell ne))
+                get_or-set_other rows place at v 0 (λ e. ne (same_row n k j m i m_below below e).0)
+                ∙ has.each k m k_small m_below
+                ∙ ap (λ (c : Cell). get_or (row c) m 0) (sym (ap (λ (cs : List Cell). get_or cs k no_cell) is ∙ get_or-set_other l.cells j k new no_cell ne))
           ]);
     }
+
+-- what the cells of a caller have
+shape_of : (l : Local) (j : ℕ) → HasCells l → j < 16 → CellShape (cell_of l j)
+shape_of l j shape small = shape.each j (cell_of l j) (slice_get-get_or l.cells j no_cell (omega (arith, small, shape.count)))
 
 -- the same dirty words, and the same accesses
 still : (k k' : Known) (c : Copied) → k'.accesses ≡ k.accesses → dirty_of k'.local ≡ dirty_of k.local → SameCells k.local k'.local → IsCopied k c → IsCopied k' c
 still k k' c accesses dirty cells is = record {
   cells = same_cells k.local k'.local c.cells cells is.cells;
+  sets = same_sets k.local k'.local c.sets cells is.sets;
   long = is.long;
   place = is.place ∙ ap (place_noted 0) (sym accesses);
   marks = λ i below. subst (λ ds. (slice_get c.dirty i ≡ Some true) ↔ Contains ds i) (sym dirty) (is.marks i below);
@@ -166,6 +179,7 @@ still k k' c accesses dirty cells is = record {
 begun : (k k' : Known) (c : Copied) → k'.accesses ≡ [] → dirty_of k'.local ≡ [] → dirty_of k.local ≡ [] → SameCells k.local k'.local → IsCopied k c → IsCopied k' (record c { place = 0 })
 begun k k' c accesses none clean cells is = record {
   cells = same_cells k.local k'.local c.cells cells is.cells;
+  sets = same_sets k.local k'.local c.sets cells is.sets;
   long = is.long;
   place = ap (place_noted 0) (sym accesses);
   marks = λ i below. subst (λ ds. (slice_get c.dirty i ≡ Some true) ↔ Contains ds i) (clean ∙ sym none) (is.marks i below);
@@ -176,6 +190,7 @@ begun k k' c accesses none clean cells is = record {
 loaded : (k k' : Known) (c : Copied) (i found : ℕ) → k'.accesses ≡ k.accesses ++ (false, i, found) ∷ [] → dirty_of k'.local ≡ dirty_of k.local → SameCells k.local k'.local → IsCopied k c → IsCopied k' (record c { place = cond (i == 0) found c.place })
 loaded k k' c i found accesses dirty cells is = record {
   cells = same_cells k.local k'.local c.cells cells is.cells;
+  sets = same_sets k.local k'.local c.sets cells is.sets;
   long = is.long;
   place = ap (λ p. cond (i == 0) found p) is.place ∙ sym (place_more 0 k.accesses false i found) ∙ ap (place_noted 0) (sym accesses);
   marks = λ j below. subst (λ ds. (slice_get c.dirty j ≡ Some true) ↔ Contains ds j) (sym dirty) (is.marks j below);
@@ -185,7 +200,7 @@ loaded k k' c i found accesses dirty cells is = record {
 
 -- a word stored
 stored : (k k' : Known) (c : Copied) (i v : ℕ) → i < length c.words → k'.accesses ≡ k.accesses ++ (true, i, v) ∷ [] → dirty_of k'.local ≡ with_number (dirty_of k.local) i → SameCells k.local k'.local → IsCopied k c →
-    IsCopied k' (record { words = set c.words i v; dirty = set c.dirty i true; place = cond (i == 0) v c.place; cells = c.cells })
+    IsCopied k' (record { words = set c.words i v; dirty = set c.dirty i true; place = cond (i == 0) v c.place; cells = c.cells; sets = c.sets })
 stored k k' c i v small accesses dirty cells is =
     let n = length c.words in
     let n' = length-set c.words i v in
@@ -195,6 +210,7 @@ stored k k' c i v small accesses dirty cells is =
     subst (λ (ns : List Note). TellsWord (length (set c.words i v)) ns j word) (sym accesses) (subst (λ m. TellsWord m (k.accesses ++ (true, i, v) ∷ []) j word) (sym n') t) in
     record {
       cells = same_cells k.local k'.local c.cells cells is.cells;
+      sets = same_sets k.local k'.local c.sets cells is.sets;
       long = length-set c.dirty i true ∙ is.long ∙ sym n';
       place = ap (λ p. cond (i == 0) v p) is.place ∙ sym (place_more 0 k.accesses true i v) ∙ ap (place_noted 0) (sym accesses);
       marks = λ j below. subst (λ xs. (slice_get (set c.dirty i true) j ≡ Some true) ↔ Contains xs j) (sym dirty) (elim (cases_eq j i) [
@@ -225,6 +241,7 @@ cleaned k k' c i small accesses dirty cells is =
     let within : i < length c.dirty = omega (arith, is.long) in
     record {
       cells = same_cells k.local k'.local c.cells cells is.cells;
+      sets = same_sets k.local k'.local c.sets cells is.sets;
       long = length-set c.dirty i false ∙ is.long;
       place = is.place ∙ ap (place_noted 0) (sym accesses);
       marks = λ j below. subst (λ xs. (slice_get (set c.dirty i false) j ≡ Some true) ↔ Contains xs j) (sym dirty) (elim (cases_eq j i) [
@@ -265,53 +282,73 @@ pub copy_kept : (instance : Instance) (kind : Kind) (k : Known) (found : ℕ) (c
     (length (copied_after kind k found c).words ≡ length c.words) × IsCopied (known_after instance kind k found) (copied_after kind k found c)
 copy_kept instance (WriteCell j i v) k found c guard shape long is = (
   refl,
-  record { long = is.long; place = is.place; marks = is.marks; words = is.words; cells = written_cells k.local _ c.cells j i v shape guard.0 guard.1 refl is.cells },
+  record {
+    long = is.long;
+    place = is.place;
+    marks = is.marks;
+    words = is.words;
+    cells = row_put 145 words_in k.local _ c.cells j i v (record (cell_of k.local j) { words = set (cell_of k.local j).words i v; ticket = None }) shape.count guard.0 guard.1 (shape_of k.local j shape guard.0).words refl refl is.cells;
+    sets = same_rows 513 set_in k.local _ c.sets (λ n. row_kept set_in k.local.cells j n (λ x. record x { words = set x.words i v; ticket = None }) (λ x. refl)) is.sets;
+  },
 )
 copy_kept instance (Link j) k found c guard shape long is = (
   refl,
   still k _ c refl (elim (found == seen_word k.local.seen_slot) as (λ b. dirty_of (cond b (linked k.local j) (lost instance.callers k.local found)) ≡ dirty_of k.local) [ true ↦ refl | false ↦ refl ])
       (elim (found == seen_word k.local.seen_slot) as (λ b. SameCells k.local (cond b (linked k.local j) (lost instance.callers k.local found))) [
-        | true ↦ (λ i. ticketed k.local.cells j i (Some k.local.front))
-        | false ↦ (λ i. refl)
+        | true ↦ (λ i. (row_kept words_in k.local.cells j i (λ x. record x { ticket = Some k.local.front }) (λ x. refl), row_kept set_in k.local.cells j i (λ x. record x { ticket = Some k.local.front }) (λ x. refl)))
+        | false ↦ (λ i. (refl, refl))
       ]) is,
 )
 copy_kept instance (TryExclusive r) k found c guard shape long is =
     let none : dirty_of k.local ≡ [] = ap held_dirty (is_none k.local.exclusive guard.1) in (
       refl,
       begun k _ c refl (elim (found == 0) as (λ b. dirty_of (cond b (taken instance unseen r k.local) (refused_by instance.callers r k.local found)) ≡ []) [ true ↦ refl | false ↦ none ]) none
-          (elim (found == 0) as (λ b. SameCells k.local (cond b (taken instance unseen r k.local) (refused_by instance.callers r k.local found))) [ true ↦ (λ j. refl) | false ↦ (λ j. refl) ]) is,
+          (elim (found == 0) as (λ b. SameCells k.local (cond b (taken instance unseen r k.local) (refused_by instance.callers r k.local found))) [ true ↦ (λ j. (refl, refl)) | false ↦ (λ j. (refl, refl)) ]) is,
     )
 copy_kept instance (TryShared r) k found c guard shape long is = (
   refl,
   still k _ c refl (elim (nat_lt found exclusive_mark) as (λ b. dirty_of (cond b (shared_by r k.local found) (passing instance.callers r k.local found)) ≡ dirty_of k.local) [ true ↦ refl | false ↦ refl ])
-      (elim (nat_lt found exclusive_mark) as (λ b. SameCells k.local (cond b (shared_by r k.local found) (passing instance.callers r k.local found))) [ true ↦ (λ j. refl) | false ↦ (λ j. refl) ]) is,
+      (elim (nat_lt found exclusive_mark) as (λ b. SameCells k.local (cond b (shared_by r k.local found) (passing instance.callers r k.local found))) [ true ↦ (λ j. (refl, refl)) | false ↦ (λ j. (refl, refl)) ]) is,
 )
 copy_kept instance (BackOff r) k found c guard shape long is = (let b = backed (is_at r (shared_on k.local)) (is_at r k.local.passer) in (refl, still k _ c refl b.0 b.1 is))
   where
     backed : (a b : Bool) → (dirty_of (backed_off_by a b k.local) ≡ dirty_of k.local) × SameCells k.local (backed_off_by a b k.local)
-    backed true b = (refl, λ j. refl)
-    backed false true = (refl, λ j. refl)
-    backed false false = (refl, λ j. refl)
-copy_kept instance (Downgrade r) k found c guard shape long is = (refl, still k _ c refl (sym guard.3) (λ j. refl) is)
-copy_kept instance (ReleaseExclusive r) k found c guard shape long is = (refl, still k _ c refl (sym guard.3) (λ j. refl) is)
+    backed true b = (refl, λ j. (refl, refl))
+    backed false true = (refl, λ j. (refl, refl))
+    backed false false = (refl, λ j. (refl, refl))
+copy_kept instance (Downgrade r) k found c guard shape long is = (refl, still k _ c refl (sym guard.3) (λ j. (refl, refl)) is)
+copy_kept instance (ReleaseExclusive r) k found c guard shape long is = (refl, still k _ c refl (sym guard.3) (λ j. (refl, refl)) is)
 copy_kept instance (LoadWord r i refused) k found c guard shape long is =
     let known' : Bool → Known = λ b. record { local = known_local instance (LoadWord r i refused) k found; noted = k.noted ++ []; accesses = cond b (k.accesses ++ (false, i, found) ∷ []) k.accesses; sets = k.sets } in
     let after : Bool → Copied = λ b. cond b (record c { place = cond (i == 0) found c.place }) c in
     elim (is_at r (exclusive_on k.local)) as (λ b. (length (after b).words ≡ length c.words) × IsCopied (known' b) (after b)) [
-      | true ↦ (refl, loaded k (known' true) c i found refl refl (λ j. refl) is)
-      | false ↦ (refl, still k (known' false) c refl refl (λ j. refl) is)
+      | true ↦ (refl, loaded k (known' true) c i found refl refl (λ j. (refl, refl)) is)
+      | false ↦ (refl, still k (known' false) c refl refl (λ j. (refl, refl)) is)
     ]
 copy_kept instance (StoreWord r i v) k found c guard shape long is =
     let below = guard.1 in
-    (length-set c.words i v, stored k _ c i v (omega arith) refl (dirty_stored k.local.exclusive r i v guard.2) (λ j. refl) is)
+    (length-set c.words i v, stored k _ c i v (omega arith) refl (dirty_stored k.local.exclusive r i v guard.2) (λ j. (refl, refl)) is)
 copy_kept instance (Persist r i) k found c guard shape long is =
     let below = guard.0.1 in
-    (refl, cleaned k _ c i (omega arith) refl (dirty_persisted k.local.exclusive i) (λ j. refl) is)
+    (refl, cleaned k _ c i (omega arith) refl (dirty_persisted k.local.exclusive i) (λ j. (refl, refl)) is)
 copy_kept instance Publish k found c guard shape long is = (
   refl,
   still k _ c refl (elim (found == k.local.seen_cur) as (λ b. dirty_of (cond b (published instance.callers k.local) (outrun instance.callers k.local found)) ≡ dirty_of k.local) [ true ↦ refl | false ↦ refl ])
-      (elim (found == k.local.seen_cur) as (λ b. SameCells k.local (cond b (published instance.callers k.local) (outrun instance.callers k.local found))) [ true ↦ (λ j. refl) | false ↦ (λ j. refl) ]) is,
+      (elim (found == k.local.seen_cur) as (λ b. SameCells k.local (cond b (published instance.callers k.local) (outrun instance.callers k.local found))) [ true ↦ (λ j. (refl, refl)) | false ↦ (λ j. (refl, refl)) ]) is,
 )
-copy_kept instance (WriteSet j i v) k found c guard shape long is = (refl, still k _ c refl refl (λ n. words_kept k.local.cells j n (λ x. record x { set = set x.set i v }) (λ x. refl)) is)
-copy_kept instance (Offer j) k found c guard shape long is = (refl, still k _ c refl refl (λ n. words_kept k.local.cells j n (λ x. record x { offer = offer_of x.ticket x.offer }) (λ x. refl)) is)
-copy_kept instance kind k found c guard shape long is = (refl, still k _ c refl refl (λ j. refl) is)
+copy_kept instance (WriteSet j i v) k found c guard shape long is = (
+  refl,
+  record {
+    long = is.long;
+    place = is.place;
+    marks = is.marks;
+    words = is.words;
+    cells = same_rows 145 words_in k.local _ c.cells (λ n. row_kept words_in k.local.cells j n (λ x. record x { set = set x.set i v }) (λ x. refl)) is.cells;
+    sets = row_put 513 set_in k.local _ c.sets j i v (record (cell_of k.local j) { set = set (cell_of k.local j).set i v }) shape.count guard.0.0 guard.1 (shape_of k.local j shape guard.0.0).set refl refl is.sets;
+  },
+)
+copy_kept instance (Offer j) k found c guard shape long is = (
+  refl,
+  still k _ c refl refl (λ n. (row_kept words_in k.local.cells j n (λ x. record x { offer = offer_of x.ticket x.offer }) (λ x. refl), row_kept set_in k.local.cells j n (λ x. record x { offer = offer_of x.ticket x.offer }) (λ x. refl))) is,
+)
+copy_kept instance kind k found c guard shape long is = (refl, still k _ c refl refl (λ j. (refl, refl)) is)

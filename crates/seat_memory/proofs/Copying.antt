@@ -33,6 +33,7 @@ copy_moved instance r found k c long some agree behind is =
       place = is.place ∙ noted_place k.accesses 0 first.0 None none first.1 ∙ sym (noted_place (loads_of (loaded_of k.local.shared)) 0 first.0 None none first.2);
       marks = is.marks;
       cells = is.cells;
+      sets = is.sets;
       words = λ i below there. (
           let a = agree i below in
           let n = length c.words in
@@ -77,7 +78,7 @@ region_some running = (let long = running.base.size.long in omega arith)
 
 -- what really is there fits what was noted
 pub copied_fits : {O : Type 0} (line_count : O → ℕ) (lawful : O → List ℕ → Type 0) (step : O → List ℕ → List ℕ → List ℕ × List ℕ) (reads : O → List ℕ → Bool) (r : Running O) (kind : Kind) (known : Known) (found : ℕ) (me' : Me ℕ (List Known)) →
-    IsRunning line_count lawful r → ObjectLaws r.lines (lawful r.object) (step r.object) → TeachesCopied (instance_at r step reads) kind known found me' → Fitting r.lines (lawful r.object) r.base (known_of me'.0)
+    IsRunning line_count lawful r → ObjectLaws r.lines (lawful r.object) (step r.object) → TeachesCopied (instance_at r step reads) kind known found me' → Fitting r.lines (lawful r.object) r.base (step r.object) (known_of me'.0)
 copied_fits line_count lawful step reads r kind known found me' running laws taught =
-    subst (Fitting r.lines (lawful r.object) r.base) (sym (ap (λ (m : Me ℕ (List Known)). known_of m.0) taught.knows))
+    subst (Fitting r.lines (lawful r.object) r.base (step r.object)) (sym (ap (λ (m : Me ℕ (List Known)). known_of m.0) taught.knows))
     (fitting r.lines (lawful r.object) (instance_at r step reads) laws running.base (known_copied (instance_at r step reads) kind known found) taught.behind)

@@ -1,4 +1,5 @@
 pub mod Rows
+pub mod SetNumbers
 mod CopyLaws
 pub mod OwnEntries
 pub mod SummaryLaws

@@ -11,10 +11,11 @@ use Rattle.cx_core.specs.Lawful.{CellShape}
 use Rattle.cx_core.specs.State.{blank_cell, opening_local}
 use Rattle.cx_rule.specs.declared.rule.Known.{Known}
 use Rattle.seat_memory.specs.declared.summary.Summary.{Summary}
-use Rattle.seat_memory.specs.Copies.{Copied, HasCellWords, IsCopied, blank_copy}
+use Rattle.seat_memory.specs.Copies.{Copied, HasRows, IsCopied, blank_copy}
 use Rattle.seat_memory.specs.Summaries.{HasSummary, OwnCells, summary_of}
 use Rattle.cx_rule.specs.Seats.{HasCells, IsWithinLimit, known_of, opening_known}
 use Rattle.cx_rule.proofs.Moves.{one_caller}
+use Rattle.seat_memory.proofs.Rows.{row_before}
 
 -- a caller that made no step has its cells
 blank_cells : (callers place number limit : ℕ) → HasCells (record (opening_local callers place number) { limit = limit })
@@ -54,13 +55,14 @@ opening_summarised me summary before callers place number limits is m most small
     }
 
 -- no word was written
-blank_words : (l : Local) → l.cells ≡ replicate 16 blank_cell → HasCellWords l (replicate 2320 0)
-blank_words l is = record {
-  long = length-replicate {A = ℕ} 2320 0;
+blank_rows : (n : ℕ) (row : Cell → List ℕ) (l : Local) → l.cells ≡ replicate 16 blank_cell → row blank_cell ≡ replicate n 0 → HasRows n row l (replicate (n * 16) 0)
+blank_rows n row l is blank = record {
+  long = length-replicate {A = ℕ} (n * 16) 0;
   each = λ j i small below.
-      get_or-replicate 2320 (145 * j + i) 0 0 (omega arith)
-      ∙ sym (get_or-replicate 145 i 0 0 below)
-      ∙ ap (λ (c : Cell). get_or c.words i 0) (sym (ap (λ (cs : List Cell). get_or cs j no_cell) is ∙ get_or-replicate 16 j blank_cell no_cell small));
+      get_or-replicate (n * 16) (n * j + i) 0 0 (let gap = row_before n j 16 small in omega (arith, gap, below))
+      ∙ sym (get_or-replicate n i 0 0 below)
+      ∙ ap (λ ws. get_or ws i 0) (sym blank)
+      ∙ ap (λ (c : Cell). get_or (row c) i 0) (sym (ap (λ (cs : List Cell). get_or cs j no_cell) is ∙ get_or-replicate 16 j blank_cell no_cell small));
 }
 
 -- and what it keeps in plain memory
@@ -72,7 +74,8 @@ opening_copied me copy callers place number region limits is blank =
       place = refl;
       marks = λ i below. (λ marked. absurd (unmarked region i marked), λ there. (let none : there.0 < 0 = there.1 in absurd (omega arith)));
       words = λ i below there. (let none : there.0 < 0 = there.1 in absurd (omega arith));
-      cells = blank_words (opening_known callers place limits number).local refl;
+      cells = blank_rows 145 (λ (c : Cell). c.words) (opening_known callers place limits number).local refl refl;
+      sets = blank_rows 513 (λ (c : Cell). c.set) (opening_known callers place limits number).local refl refl;
     }))
   where
     unmarked : (n i : ℕ) → slice_get (replicate n false) i ≡ Some true → ⊥

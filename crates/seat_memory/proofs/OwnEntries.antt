@@ -1,5 +1,5 @@
 -- The cells of a caller that have a ticket have its own entry with it, after each step, and so the seat has it in plain memory.
-use Rattle.std.proofs.Common.{◌≡◌, ◌≢◌, ◌+◌, ◌^◌, ◌==◌, ◌<◌, ◌≤◌, inl, inr, ℕ, nat_lt, Bool, true, false, cond, List, [], ◌∷◌, ◌++◌, ◌*◌, ◌-◌, drop, length, get_or, set, slice_index, slice_range, take, refl, ap, sym, subst, ◌∙◌, arith, Option, Some, None}
+use Rattle.std.proofs.Common.{◌≡◌, ◌+◌, ◌==◌, ◌<◌, ◌≤◌, inl, inr, ℕ, nat_lt, Bool, true, false, cond, List, [], ◌∷◌, ◌++◌, ◌*◌, ◌-◌, drop, length, get_or, set, slice_index, slice_range, take, refl, ap, sym, subst, ◌∙◌, arith, Some, None}
 use Rattle.std.proofs.lemmas.Bool.{cases_eq}
 use Rattle.std.proofs.lemmas.List.{ext_get_or, get_or-drop, get_or-set_other, get_or-set_same, get_or-take, length-drop, length-take-le}
 use Rattle.std.proofs.lemmas.Option.{none-some, same_Some, slice_get-get_or}
@@ -47,7 +47,7 @@ own_put l entries j new below count grows here was = λ k t small ticket. (
       | inr ne ↦ (
           let at : get_or (set l.cells j new) k no_cell ≡ get_or l.cells k no_cell = get_or-set_other l.cells j k new no_cell ne in
           let old = was k t small (sym (ap (λ (c : Cell). c.ticket) at) ∙ ticket) in
-          subst P (sym at) (record { own = grows t (entry_in l k) old.own; caller_is = refl; lawful = old.lawful }))
+          subst P (sym at) (record { own = grows t (entry_in l k) old.own; caller_is = refl; small = old.small; lawful = old.lawful }))
     ])
 
 -- the operations of the own entries are words
@@ -68,6 +68,7 @@ own_kept before instance (Link j) k found guard based few count ops was =
     subst (λ n. IsOwnEntry (l.own ++ new ∷ []) l.number n (entry_in l j)) same (record {
       own = record { i = length l.own; at = slice_get-last l.own new };
       caller_is = refl;
+      small = guard.3;
       lawful = λ small. record { caller = small; some = omega (arith, number); most = omega (arith, number, based, few); op = now (length l.own) new (slice_get-last l.own new) };
     })) in
     elim (found == seen_word l.seen_slot) as (λ b. HaveOps (cond b (linked l j) (lost instance.callers l found)) → OwnCells (cond b (linked l j) (lost instance.callers l found))) [

@@ -104,7 +104,7 @@ module _ {O : Type 0} (r : Running O) (step : O → List ℕ → List ℕ → Li
         own = old.0.own;
         within = λ few. one_step l old.0.within allowed few;
       } in
-      let copied : IsCopied k' copy = record { long = old.1.long; place = old.1.place; marks = old.1.marks; words = old.1.words; cells = record { long = old.1.cells.long; each = old.1.cells.each } } in
+      let copied : IsCopied k' copy = record { long = old.1.long; place = old.1.place; marks = old.1.marks; words = old.1.words; cells = record { long = old.1.cells.long; each = old.1.cells.each }; sets = record { long = old.1.sets.long; each = old.1.sets.each } } in
       let stands : IsSeatOf r (seated table' now before copy) = record { table = same_table ∙ of.table; caller = of.caller; before = of.before; region = of.region } in
       let whole : seated table' now before copy ≡ record (seated table me before copy) { known = k' } = (λ i. record { table = same_table i; before = before; region = length copy.words; known = k' }) in
       subst (λ (x : Me ℕ (List Known)). IsSeat x summary' before copy × Raises r step reads code answers read (seated table me before copy) (seated table' x before copy)) (sym taught.knows) (
@@ -141,7 +141,7 @@ some_map f (Some x) = refl
 
 -- what really is there fits what was noted
 pub raised_fits : {O : Type 0} (line_count : O → ℕ) (lawful : O → List ℕ → Type 0) (step : O → List ℕ → List ℕ → List ℕ × List ℕ) (reads : O → List ℕ → Bool) (r : Running O) (code : ℕ) (answers : List Answer) (read : Option (List ℕ × List ℕ)) (known : Known) (me' : Me ℕ (List Known)) →
-    IsRunning line_count lawful r → ObjectLaws r.lines (lawful r.object) (step r.object) → TeachesRaised (instance_at r step reads) code answers read known me' → Fitting r.lines (lawful r.object) r.base (known_of me'.0)
+    IsRunning line_count lawful r → ObjectLaws r.lines (lawful r.object) (step r.object) → TeachesRaised (instance_at r step reads) code answers read known me' → Fitting r.lines (lawful r.object) r.base (step r.object) (known_of me'.0)
 raised_fits line_count lawful step reads r code answers read known me' running laws taught =
-    subst (Fitting r.lines (lawful r.object) r.base) (sym (ap (λ (m : Me ℕ (List Known)). known_of m.0) taught.knows))
+    subst (Fitting r.lines (lawful r.object) r.base (step r.object)) (sym (ap (λ (m : Me ℕ (List Known)). known_of m.0) taught.knows))
     (fitting r.lines (lawful r.object) (instance_at r step reads) laws running.base (known_answered (instance_at r step reads) code answers read known) taught.behind)

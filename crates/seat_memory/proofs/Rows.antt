@@ -4,7 +4,7 @@ use Rattle.std.proofs.Math.Nat.{mul-le-mul_left, mul-suc}
 use Rattle.std.proofs.lemmas.Bool.{cases_lt}
 
 -- rows of words do not meet
-row_before : (n q r : ℕ) → q < r → n * q + n ≤ n * r
+pub row_before : (n q r : ℕ) → q < r → n * q + n ≤ n * r
 row_before n q r below = let m = mul-le-mul_left {m = suc q} {n = r} n (omega (arith, below)) in let e = mul-suc n q in omega (arith, m, e)
 
 pub same_row : (n q r i j : ℕ) → i < n → j < n → n * q + i ≡ n * r + j → (q ≡ r) × (i ≡ j)

@@ -27,6 +27,7 @@ use Rattle.seat_memory.specs.Copies.{Copied, IsCopied, copied_after}
 use Rattle.seat_memory.specs.Summaries.{Follows, HasSummary, summary_of}
 use Rattle.seat_memory.proofs.CopyLaws.{copy_kept}
 use Rattle.seat_memory.proofs.OwnEntries.{own_kept}
+use Rattle.seat_memory.proofs.SetNumbers.{part_kept}
 use Rattle.cx_rule.specs.Rule.{IsLawfulLocal}
 use Rattle.cx_rule.specs.Running.{IsSeatOf, Running, instance_at}
 use Rattle.cx_rule.specs.Seats.{IsAtLimit, IsWithinLimit, SeenGuard, Seated, known_after, known_local, known_of, shown_next, unanswered_ticket, unseen}
@@ -35,14 +36,18 @@ use Rattle.cx_rule.specs.Steps.{Steps, Teaches}
 abbrev ticket_in : Cell → Option ℕ
 ticket_in c = c.ticket
 
+abbrev offer_in : Cell → ℕ
+offer_in c = c.offer
+
 -- the numbers after a word was written into cell j
 abbrev pub after_write : ℕ → Summary → Summary
 after_write j m = record m { tickets = set m.tickets j None; fresh = false; steps = one_more m.steps }
 
 pub summary_written : (instance : Instance) (l : Local) (m : Summary) (j i v found : ℕ) → m ≡ summary_of l → after_write j m ≡ summary_of (shown_next instance (WriteCell j i v) l found)
 summary_written instance l m j i v found is =
+    let offers = part_kept offer_in l.cells j (λ x. record x { words = set x.words i v; ticket = None }) (λ x. refl) in
     ap (after_write j) is
-    ∙ (λ k. record (summary_of (shown_next instance (WriteCell j i v) l found)) { tickets = sym (map-set ticket_in l.cells j (record (cell_of l j) { words = set (cell_of l j).words i v; ticket = None })) k })
+    ∙ (λ k. record (summary_of (shown_next instance (WriteCell j i v) l found)) { tickets = sym (map-set ticket_in l.cells j (record (cell_of l j) { words = set (cell_of l j).words i v; ticket = None })) k; offers = sym offers k })
 
 -- the numbers after the entry in cell j was linked
 abbrev pub after_win : ℕ → Summary → Summary
@@ -54,9 +59,10 @@ summary_won l m j is same =
     let last : slice_get (l.own ++ new ∷ []) (length l.answered) ≡ Some new = ap (slice_get (l.own ++ new ∷ [])) same ∙ slice_get-last l.own new in
     let ticket : unanswered_ticket (linked l j) ≡ Some l.front = ap (option_map (λ (x : Linked). x.ticket)) last in
     let cells = map-set ticket_in l.cells j (record (cell_of l j) { ticket = Some l.front }) in
+    let offers = part_kept offer_in l.cells j (λ x. record x { ticket = Some l.front }) (λ x. refl) in
     let longer : length l.own + 1 ≡ length (l.own ++ new ∷ []) = sym (length-append l.own (new ∷ [])) in
     ap (after_win j) is
-    ∙ (λ k. record (summary_of (linked l j)) { linked = longer k; unanswered = sym ticket k; tickets = sym cells k })
+    ∙ (λ k. record (summary_of (linked l j)) { linked = longer k; unanswered = sym ticket k; tickets = sym cells k; offers = sym offers k })
 
 -- own entries are at most 2^40, and with those before this service at most as many as the front
 abbrev pub IsSmall : ℕ → Local → Type 0

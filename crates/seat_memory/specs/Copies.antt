@@ -1,8 +1,9 @@
--- What a seat keeps in plain memory of the replica that its caller holds exclusively, and of its caller's cells.
+-- What a seat keeps in plain memory of the replica that its caller holds exclusively, and of its caller's cells and their write sets.
 use Rattle.std.specs.Prelude.{◌≡◌, ◌+◌, ◌*◌, ◌<◌, ◌==◌, ◌↔◌, if◌then◌else◌, true, false, ℕ, Bool, List, length, replicate, slice_get, slice_index, slice_set, Some}
 use Rattle.std.specs.List.{Contains}
 use Rattle.cx_core.specs.declared.kinds.Kind.{Kind}
-use Rattle.cx_core.specs.declared.kinds.Kind.TheVariants.{WriteCell, TryExclusive, LoadWord, StoreWord, Persist}
+use Rattle.cx_core.specs.declared.kinds.Kind.TheVariants.{WriteCell, TryExclusive, LoadWord, StoreWord, Persist, WriteSet}
+use Rattle.cx_core.specs.declared.local.Cell.{Cell}
 use Rattle.cx_core.specs.declared.local.Local.{Local}
 use Rattle.cx_core.specs.QueueEvents.{cell_of}
 use Rattle.cx_core.specs.Rights.{exclusive_on, held_dirty, is_at}
@@ -11,36 +12,46 @@ use Rattle.cx_rule.specs.Fitting.{TellsWord}
 use Rattle.cx_rule.specs.Seats.{place_noted}
 
 -- the words stored, by address, which of them are dirty, the place last loaded or stored, and the words of the cells, one
--- cell after another
+-- cell after another, and so those of the cells' sets
 pub record Copied : Type 0 where
   pub words : List ℕ
   pub dirty : List Bool
   pub place : ℕ
   pub cells : List ℕ
+  pub sets : List ℕ
 
--- of so many words none is dirty, and no cell was written
+-- of so many words none is dirty, and no cell and no set was written
 abbrev pub blank_copy : ℕ → Copied
-blank_copy region = record { words = replicate region 0; dirty = replicate region false; place = 0; cells = replicate 2320 0 }
+blank_copy region = record { words = replicate region 0; dirty = replicate region false; place = 0; cells = replicate 2320 0; sets = replicate 8208 0 }
 
 -- after a step of this kind that found this word
 abbrev pub copied_after : Kind → Known → ℕ → Copied → Copied
 copied_after (WriteCell j i v) k found c = record c { cells = slice_set c.cells (145 * j + i) v }
 copied_after (TryExclusive r) k found c = record c { place = 0 }
 copied_after (LoadWord r i refused) k found c = if is_at r (exclusive_on k.local) then record c { place = if i == 0 then found else c.place } else c
-copied_after (StoreWord r i v) k found c = record { words = slice_set c.words i v; dirty = slice_set c.dirty i true; place = if i == 0 then v else c.place; cells = c.cells }
+copied_after (StoreWord r i v) k found c = record { words = slice_set c.words i v; dirty = slice_set c.dirty i true; place = if i == 0 then v else c.place; cells = c.cells; sets = c.sets }
 copied_after (Persist r i) k found c = record c { dirty = slice_set c.dirty i false }
+copied_after (WriteSet j i v) k found c = record c { sets = slice_set c.sets (513 * j + i) v }
 copied_after _ k found c = c
 
--- a list has the words of a caller's 16 cells, one cell after another
-pub record HasCellWords (l : Local) (cells : List ℕ) : Type 0 where
-  pub long : length cells ≡ 2320
-  pub each : (j i : ℕ) → j < 16 → i < 145 → slice_index cells (145 * j + i) ≡ slice_index (cell_of l j).words i
+-- a list has a row of n words of each of a caller's 16 cells, one cell's after another's
+pub record HasRows (n : ℕ) (row : Cell → List ℕ) (l : Local) (rows : List ℕ) : Type 0 where
+  pub long : length rows ≡ n * 16
+  pub each : (j i : ℕ) → j < 16 → i < n → slice_index rows (n * j + i) ≡ slice_index (row (cell_of l j)) i
+
+-- the words of the cells, and of their sets
+abbrev pub HasCellWords : Local → List ℕ → Type 0
+HasCellWords = HasRows 145 (λ c. c.words)
+
+abbrev pub HasSetWords : Local → List ℕ → Type 0
+HasSetWords = HasRows 513 (λ c. c.set)
 
 -- The marks say which words are dirty, and of those the words are what the accesses tell. The place is the one noted.
--- The words of the cells are those that the caller wrote.
+-- The words of the cells and of their sets are those that the caller wrote.
 pub record IsCopied (known : Known) (c : Copied) : Type 0 where
   pub long : length c.dirty ≡ length c.words
   pub place : c.place ≡ place_noted 0 known.accesses
   pub marks : (i : ℕ) → i < length c.words → (slice_get c.dirty i ≡ Some true) ↔ Contains (held_dirty known.local.exclusive) i
   pub words : (i : ℕ) → i < length c.words → Contains (held_dirty known.local.exclusive) i → TellsWord (length c.words) known.accesses i (slice_index c.words i)
   pub cells : HasCellWords known.local c.cells
+  pub sets : HasSetWords known.local c.sets

@@ -25,7 +25,9 @@ summary_of l = record {
   linked = length l.own;
   unanswered = unanswered_ticket l;
   tickets = map (λ (x : Cell). x.ticket) l.cells;
+  offers = map (λ (x : Cell). x.offer) l.cells;
   seen_slot = l.seen_slot;
+  seen_offer = l.seen_offer;
   seen_free = l.seen_free;
   seen_low = l.seen_low;
   seen_cur = l.seen_cur;
@@ -57,6 +59,7 @@ Follows callers kind found before after =
 pub record IsOwnEntry (entries : List Linked) (caller ticket : ℕ) (entry : Entry) : Type 0 where
   pub own : IsOwn entries ticket entry
   pub caller_is : entry.caller ≡ caller
+  pub small : ticket < 2 ^ 40
   pub lawful : caller < 8 → IsLawfulEntry ticket entry
 
 -- where a cell has a ticket, the entry in it is the own one with that ticket

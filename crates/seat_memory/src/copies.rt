@@ -1,6 +1,6 @@
 //! What a seat keeps in plain memory of words that its caller alone writes: one event stores one word, so the words of the
 //! replica held exclusively that are to be persisted have to be known without a load, and so have those of the caller's
-//! cells, of which only the words that differ are written.
+//! cells and of their write sets, of which only the words that differ are written.
 
 ghost use Rattle.std.specs.Prelude.{◌≡◌, ◌≢◌, ◌+◌, ◌*◌, ◌<◌, ◌≤◌, ◌==◌, ℕ, IfOk, IfSome, IfNone, false, true, if◌then◌else◌, length, slice_get, slice_index, slice_range, slice_set, Some};
 ghost use Rattle.seat_memory.specs.Copies.{blank_copy};
@@ -13,14 +13,18 @@ use std::marker::Model;
 /// The words of a caller's 16 cells, each of 145.
 const CELL_WORDS: usize = 16 * 145;
 
+/// The words of their write sets, each of 513.
+const SET_WORDS: usize = 16 * 513;
+
 /// The words stored, by address, which of them are dirty, the place last loaded or stored, and the words of the cells, one
-/// cell after another.
+/// cell after another, and so those of the cells' sets.
 #[derive(Debug, Drop)]
 pub struct Copies {
     words: Vec<u64>,
     dirty: Marks,
     place: u64,
     cells: Vec<u64>,
+    sets: Vec<u64>,
 }
 
 impl Model for Copies {
@@ -28,11 +32,11 @@ impl Model for Copies {
 
     ghost Value = { Copied };
 
-    ghost view = { λ c. record { words = c.words.items; dirty = c.dirty; place = c.place; cells = c.cells.items } };
+    ghost view = { λ c. record { words = c.words.items; dirty = c.dirty; place = c.place; cells = c.cells.items; sets = c.sets.items } };
 }
 
 impl Copies {
-    /// Room for so many words, none of which is dirty, and for cells that were never written.
+    /// Room for so many words, none of which is dirty, and for cells and sets that were never written.
     pub fn of(alloc: Global, region: usize) -> Result<Copies, AllocError>
         ensures { IfOk result (λ c. c ≡ blank_copy region) }
     {
@@ -41,6 +45,7 @@ impl Copies {
             dirty: Marks::none(alloc, region)?,
             place: 0,
             cells: Vec::from_elem(alloc, 0, CELL_WORDS)?,
+            sets: Vec::from_elem(alloc, 0, SET_WORDS)?,
         })
     }
 
@@ -64,7 +69,7 @@ impl Copies {
     pub fn store(&mut self, i: u64, v: u64)
         requires word { i < length self.old.words }
         requires mark { i < length self.old.dirty }
-        ensures { self.new ≡ record { words = slice_set self.old.words i v; dirty = slice_set self.old.dirty i true; place = if i == 0 then v else self.old.place; cells = self.old.cells } }
+        ensures { self.new ≡ record { words = slice_set self.old.words i v; dirty = slice_set self.old.dirty i true; place = if i == 0 then v else self.old.place; cells = self.old.cells; sets = self.old.sets } }
     {
         self.words[i as usize] = v;
         self.dirty.mark(i);
@@ -87,6 +92,22 @@ impl Copies {
         ensures { self.new ≡ record self.old { cells = slice_set self.old.cells (145 * j + i) v } }
     {
         self.cells[(145 * j + i) as usize] = v;
+    }
+
+    /// A word was written into the set of a cell.
+    pub fn write_set(&mut self, j: u64, i: u64, v: u64)
+        requires { 513 * j + i < length self.old.sets }
+        ensures { self.new ≡ record self.old { sets = slice_set self.old.sets (513 * j + i) v } }
+    {
+        self.sets[(513 * j + i) as usize] = v;
+    }
+
+    /// A word of the set of a cell.
+    pub fn set_word(&self, j: u64, i: u64) -> u64
+        requires { 513 * j + i < length self.now.sets }
+        ensures { result ≡ slice_index self.now.sets (513 * j + i) }
+    {
+        self.sets[(513 * j + i) as usize]
     }
 
     /// A word of a cell.

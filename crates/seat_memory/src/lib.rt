@@ -10,6 +10,7 @@ mod closing;
 mod copies;
 mod marks;
 mod ring;
+mod sets;
 mod summary;
 
 pub use closing::{copy_words, lead_on, mark_replica};

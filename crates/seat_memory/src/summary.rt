@@ -20,7 +20,7 @@ use core_guards::locks::is_at;
 use core_guards::queue::{front_after, word_seen};
 use cx_base::{Halt, root_code, root_place, root_replica};
 use cx_core::layout::EXCLUSIVE_MARK;
-use cx_core::{HeldDowngraded, Protection, Scan, SeenNeed, SeenSlot, WonCode};
+use cx_core::{HeldDowngraded, Protection, Scan, SeenNeed, SeenOffer, SeenSlot, WonCode};
 
 /// Whether a ticket is below a place, where there is one.
 fn is_below(place: u64, ticket: Option<u64>) -> bool
@@ -32,7 +32,7 @@ fn is_below(place: u64, ticket: Option<u64>) -> bool
     }
 }
 
-/// The numbers of a caller's local state that code reads: all but its lists and the words of its cells.
+/// The numbers of a caller's local state that code reads: all but its lists and the words of its cells and their sets.
 #[derive(Clone, Copy, Debug, Drop)]
 pub struct Summary {
     pub number: u32,
@@ -41,9 +41,11 @@ pub struct Summary {
     pub linked: u64,
     /// The ticket of its entry that is not answered yet.
     pub unanswered: Option<u64>,
-    /// The tickets of its cells.
+    /// The tickets of its cells, and their offer words.
     pub tickets: [Option<u64>; 16],
+    pub offers: [u64; 16],
     pub seen_slot: Option<SeenSlot>,
+    pub seen_offer: Option<SeenOffer>,
     pub seen_free: u64,
     pub seen_low: u64,
     pub seen_cur: u64,
@@ -84,7 +86,9 @@ pub fn opening_summary(callers: Callers, place: u64, number: u32, limit: u64) ->
         linked: 0,
         unanswered: None,
         tickets: [None; 16],
+        offers: [0; 16],
         seen_slot: None,
+        seen_offer: None,
         seen_free: place,
         seen_low: place,
         seen_cur: code,

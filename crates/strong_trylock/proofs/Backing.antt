@@ -10,10 +10,11 @@ use Rattle.cx_core.specs.Rights.{downgraded_on, is_at, is_on, shared_on}
 use Rattle.cx_core.specs.State.{Instance, one_more}
 use Rattle.cx_core.proofs.Sums.{on_same}
 use Rattle.cx_rule.specs.declared.rule.Known.{Known}
-use Rattle.cx_table.specs.Fitting.{Fitting, IsNoted}
+use Rattle.cx_table.specs.Fitting.{Fitting, Has, IsNoted, has_of}
 use Rattle.cx_table.specs.Running.{Running, instance_at}
 use Rattle.cx_table.specs.Seats.{Seated, known_after}
 use Rattle.cx_table.specs.Steps.{Steps}
+use Rattle.cx_rule.proofs.HasMore.{some_same}
 use Rattle.strong_trylock.specs.Ends.{but_downgraded}
 use Rattle.strong_trylock.specs.Held.{all_rights, rights_in}
 
@@ -24,17 +25,27 @@ held_before l true is_passer h e = absurd (none-some h e)
 held_before l false true h e = e
 held_before l false false h e = e
 
-known_fits : (lines : ℕ) (lawful : List ℕ → Type 0) (base : Base) (instance : Instance) (r found : ℕ) (k : Known) → Fitting lines lawful base k → Fitting lines lawful base (known_after instance (BackOff r) k found)
-known_fits lines lawful base instance r found k fits = record {
-  exclusive = fits.exclusive;
-  shared = λ h e. fits.shared h (held_before k.local (is_at r (shared_on k.local)) (is_at r k.local.passer) h e);
-  entries = λ ticket entry from noted. fits.entries ticket entry from (subst (λ ns. IsNoted ns ticket entry) (append-nil k.noted) noted);
-}
+-- what is had then was had before
+off_has : (is_shared is_passer : Bool) (k : Known) →
+    has_of (record k { local = cond is_shared (record k.local { shared = None; steps = one_more k.local.steps }) (cond is_passer (record k.local { passer = None; steps = one_more k.local.steps }) (record k.local { downgraded = None; steps = one_more k.local.steps })); noted = k.noted ++ [] }) ≡ has_of k
+off_has true is_passer k = ap (λ ns. has_of (record k { noted = ns })) (append-nil k.noted)
+off_has false true k = ap (λ ns. has_of (record k { noted = ns })) (append-nil k.noted)
+off_has false false k = ap (λ ns. has_of (record k { noted = ns })) (append-nil k.noted)
+
+known_fits : (lines : ℕ) (lawful : List ℕ → Type 0) (base : Base) (step : List ℕ → List ℕ → List ℕ × List ℕ) (instance : Instance) (r found : ℕ) (k : Known) → Fitting lines lawful base step k → Fitting lines lawful base step (known_after instance (BackOff r) k found)
+known_fits lines lawful base step instance r found k fits =
+    let has = off_has (is_at r (shared_on k.local)) (is_at r k.local.passer) k in
+    record {
+      exclusive = some_same lines lawful base step k (known_after instance (BackOff r) k found) has refl fits.exclusive;
+      shared = λ h e. fits.shared h (held_before k.local (is_at r (shared_on k.local)) (is_at r k.local.passer) h e);
+      entries = λ ticket entry from noted. fits.entries ticket entry from (subst (λ ns. IsNoted ns ticket entry) (append-nil k.noted) noted);
+      sets = λ ticket pairs from had. fits.sets ticket pairs from (subst (λ (h : Has). h.set ticket pairs) has had);
+    }
 
 pub still_fits : {O : Type 0} (lawful : List ℕ → Type 0) (r : Running O) (step : O → List ℕ → List ℕ → List ℕ × List ℕ) (reads : O → List ℕ → Bool) (replica found : ℕ) (before after : Seated) →
-    Steps r step reads (BackOff replica) found before after → Fitting r.lines lawful r.base before.known → Fitting r.lines lawful r.base after.known
+    Steps r step reads (BackOff replica) found before after → Fitting r.lines lawful r.base (step r.object) before.known → Fitting r.lines lawful r.base (step r.object) after.known
 still_fits lawful r step reads replica found before after steps fits =
-    subst (λ (s : Seated). Fitting r.lines lawful r.base s.known) (sym steps.made) (known_fits r.lines lawful r.base (instance_at r step reads) replica found before.known fits)
+    subst (λ (s : Seated). Fitting r.lines lawful r.base (step r.object) s.known) (sym steps.made) (known_fits r.lines lawful r.base (step r.object) (instance_at r step reads) replica found before.known fits)
 
 -- a caller has no other right on the replica that it has downgraded
 off : (r : ℕ) (o : Option ℕ) → is_on r o ≡ 0 → is_at r o ≡ false

@@ -55,7 +55,7 @@ pub fn try_shared<O: Object>(
 ) -> Result<SharedTried, Halt>
     requires { MayStep O.Object shared.now (TryShared r) seat.old }
     ensures tried { IfOk result (λ tried. TriesShared shared.now O.step O.only_reads r seat.old seat.new tried) }
-    ensures fits { OnOk result (Fitting shared.now.lines (O.lawful shared.now.object) shared.now.base seat.new.known) }
+    ensures fits { OnOk result (Fitting shared.now.lines (O.lawful shared.now.object) shared.now.base (O.step shared.now.object) seat.new.known) }
     ensures halted { OnErr result (HaltsShared shared.now O.step O.only_reads r seat.old seat.new) }
 {
     let (found, token) = shared.try_shared(seat, r as u64)?;

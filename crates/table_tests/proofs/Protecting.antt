@@ -13,7 +13,7 @@ use Rattle.replica.specs.Held.{IsHeld}
 use Rattle.replica.specs.Replays.{IsImage, IsReady, noted_place}
 
 -- a replica that is held still is
-pub held_protected : {O : Type 0} (lines : ℕ) (r : Running O) (lawful : List ℕ → Type 0) (before after : Seated) (held : Right) → IsSeatOf r after → but_protected after ≡ but_protected before → IsHeld lines r lawful before held → IsHeld lines r lawful after held
+pub held_protected : {O : Type 0} (lines : ℕ) (r : Running O) (lawful : List ℕ → Type 0) (before after : Seated) (held : Right) → IsSeatOf r after → but_protected after ≡ but_protected before → IsHeld lines r lawful step before held → IsHeld lines r lawful step after held
 held_protected lines r lawful before after held of same was =
     let right = was.right in
     let there : IsExclusiveOf r.callers (but_protected before) held = record { few = right.few; caller = right.caller; holds = right.holds } in
@@ -22,7 +22,7 @@ held_protected lines r lawful before after held of same was =
       sized = was.sized;
       of = of;
       right = record { few = here.few; caller = here.caller; holds = here.holds };
-      some = subst (λ (s : Seated). SomeFits lines lawful r.base s.known.accesses) (sym same) was.some;
+      some = subst (λ (s : Seated). SomeFits lines lawful r.base step s.known) (sym same) was.some;
       dirty = subst (λ (s : Seated). All (λ i. i < region_words lines) (held_dirty s.known.local.exclusive)) (sym same) was.dirty;
     }
 

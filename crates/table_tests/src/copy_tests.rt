@@ -35,9 +35,9 @@ pub(crate) fn share_beside<O: Object>(
     held: &Exclusive,
     r: u64,
 ) -> Result<Option<SharedHold>, Halt>
-    requires held { IsHeld (O.line_count shared.now.object) shared.now (O.lawful shared.now.object) seat.old held.now }
+    requires held { IsHeld (O.line_count shared.now.object) shared.now (O.lawful shared.now.object) (O.step shared.now.object) seat.old held.now }
     requires free { CanTryShared shared.now.callers r seat.old.known.local }
-    ensures both { IfOk result (λ o. IfSome o (HoldsBoth (O.line_count shared.now.object) shared.now (O.lawful shared.now.object) seat.new held.now)) }
+    ensures both { IfOk result (λ o. IfSome o (HoldsBoth (O.line_count shared.now.object) shared.now (O.lawful shared.now.object) (O.step shared.now.object) seat.new held.now)) }
     ensures seat { IsSeatOf shared.now seat.new }
 {
     let _ = held;

@@ -39,7 +39,7 @@ fn hold_both(
     requires callers { shared.now.callers ≡ 2 }
     requires sized { IsSized 64 shared.now }
     requires free { IsFree shared.now seat.old }
-    ensures { IfOk result (λ o. IfSome o (λ x. HoldsBoth 64 shared.now IsTally seat.new x.0 x.1)) }
+    ensures { IfOk result (λ o. IfSome o (λ x. HoldsBoth 64 shared.now IsTally ?STEP? seat.new x.0 x.1)) }
 {
     let (_, Some(held)) = shared.try_exclusive(seat, 1)? else {
         return Ok(None);
@@ -56,9 +56,9 @@ fn share_beside(
     seat: &mut CallerSeat,
     held: &Exclusive,
 ) -> Result<Option<SharedHold>, Halt>
-    requires held { IsHeld 64 shared.now IsTally seat.old held.now }
+    requires held { IsHeld 64 shared.now IsTally ?STEP? seat.old held.now }
     requires free { CanTryShared shared.now.callers 0 seat.old.known.local }
-    ensures { IfOk result (λ o. IfSome o (HoldsBoth 64 shared.now IsTally seat.new held.now)) }
+    ensures { IfOk result (λ o. IfSome o (HoldsBoth 64 shared.now IsTally ?STEP? seat.new held.now)) }
 {
     let _ = held;
     let (_, right) = shared.try_shared(seat, 0)?;
@@ -101,9 +101,9 @@ fn store_beside(
     source: &SharedHold,
     at: u64,
 ) -> Result<(), Halt>
-    requires both { HoldsBoth 64 shared.now IsTally seat.old held.now source.now }
+    requires both { HoldsBoth 64 shared.now IsTally ?STEP? seat.old held.now source.now }
     requires at { at < 1680 }
-    ensures { HoldsBoth 64 shared.now IsTally seat.new held.now source.now }
+    ensures { HoldsBoth 64 shared.now IsTally ?STEP? seat.new held.now source.now }
 {
     let _ = source;
     shared.store_word(seat, held.replica() as u64, at, OTHER)
@@ -119,7 +119,7 @@ fn copy_over(
     from: u64,
     to: u64,
 ) -> Result<[u64; 3], Halt>
-    requires both { HoldsBoth 64 shared.now IsTally seat.old held.now source.now }
+    requires both { HoldsBoth 64 shared.now IsTally ?STEP? seat.old held.now source.now }
     requires to { to ≤ 1680 }
 {
     for at in from..to {

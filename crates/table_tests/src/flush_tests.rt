@@ -32,9 +32,9 @@ fn store_at(
     held: &Exclusive,
     at: u64,
 ) -> Result<(), Halt>
-    requires held { IsHeld 64 shared.now IsTally seat.old held.now }
+    requires held { IsHeld 64 shared.now IsTally ?STEP? seat.old held.now }
     requires at { at < 1680 }
-    ensures { IsHeld 64 shared.now IsTally seat.new held.now }
+    ensures { IsHeld 64 shared.now IsTally ?STEP? seat.new held.now }
 {
     shared.store_held(seat, held, at, WORD)
 }
@@ -46,8 +46,8 @@ fn store_and_flush(
     held: &Exclusive,
     count: u64,
 ) -> Result<(), Halt>
-    requires { IsHeld 64 shared.now IsTally seat.old held.now }
-    ensures { IsHeld 64 shared.now IsTally seat.new held.now }
+    requires { IsHeld 64 shared.now IsTally ?STEP? seat.old held.now }
+    ensures { IsHeld 64 shared.now IsTally ?STEP? seat.new held.now }
 {
     for at in REGION.saturating_sub(count)..REGION {
         store_at(shared, seat, held, at)?;

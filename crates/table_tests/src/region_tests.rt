@@ -114,7 +114,7 @@ fn agree_held<O: Object, N: Memory>(
     plain: &mut N,
     count: u64,
 ) -> Result<u64, Halt>
-    requires held { IsHeld (O.line_count shared.now.object) shared.now (O.lawful shared.now.object) seat.old held.now }
+    requires held { IsHeld (O.line_count shared.now.object) shared.now (O.lawful shared.now.object) (O.step shared.now.object) seat.old held.now }
     requires image { IsImage (O.line_count shared.now.object) (O.lawful shared.now.object) shared.now.base (O.step shared.now.object) seat.old.known }
     requires place { noted_place seat.old + count ≤ 2 ^ 40 }
     requires plain { IsSteppable (O.line_count shared.now.object) (O.lawful shared.now.object) (N.size plain.old) (N.writable plain.old) (N.stands plain.old) count }

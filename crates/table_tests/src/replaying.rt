@@ -32,7 +32,7 @@ fn take<O: Object>(
     requires free { IsFree shared.now seat.old }
     requires sized { IsSized (O.line_count shared.now.object) shared.now }
     requires few { r < 2 * shared.now.callers }
-    ensures taken { IfOk result (λ o. IfSome o (λ held. IsTaken (O.line_count shared.now.object) shared.now (O.lawful shared.now.object) seat.new held)) }
+    ensures taken { IfOk result (λ o. IfSome o (λ held. IsTaken (O.line_count shared.now.object) shared.now (O.lawful shared.now.object) (O.step shared.now.object) seat.new held)) }
     ensures keeps { IfOk result (λ o. IfSome o (λ _. Keeps seat.old seat.new)) }
 {
     let (_, right) = shared.try_exclusive(seat, r)?;
@@ -229,7 +229,8 @@ fn sees_held<O: Object>(
 {
     let mut region = ReadRegion::of(shared, seat, held);
     let place = place(&mut region)?;
-    let (number, reply) = outcome(&mut region, 0)?;
+    let mut reply = [0; 144];
+    let number = outcome(&mut region, 0, &mut reply)?;
     let words = [region.load(0)?, region.load(1)?];
     Ok(place == want.place && number == want.number && reply == want.reply && words == want.words)
 }

@@ -57,10 +57,10 @@ fn replay_protected<O: Object>(
     held: &Exclusive,
     ticket: u64,
 ) -> Result<(), Halt>
-    requires held { IsHeld (O.line_count shared.now.object) shared.now (O.lawful shared.now.object) seat.old held.now }
+    requires held { IsHeld (O.line_count shared.now.object) shared.now (O.lawful shared.now.object) (O.step shared.now.object) seat.old held.now }
     requires image { IsImage (O.line_count shared.now.object) (O.lawful shared.now.object) shared.now.base (O.step shared.now.object) seat.old.known }
     requires linked { ticket < seat.old.known.local.front }
-    ensures held { OnOk result (IsHeld (O.line_count shared.now.object) shared.now (O.lawful shared.now.object) seat.new held.now) }
+    ensures held { OnOk result (IsHeld (O.line_count shared.now.object) shared.now (O.lawful shared.now.object) (O.step shared.now.object) seat.new held.now) }
     ensures image { OnOk result (IsImage (O.line_count shared.now.object) (O.lawful shared.now.object) shared.now.base (O.step shared.now.object) seat.new.known) }
     ensures rights { OnOk result (all_rights seat.new ≡ all_rights seat.old) }
     ensures seat { IsSeatOf shared.now seat.new }
@@ -77,7 +77,7 @@ fn replay_protected<O: Object>(
     let Protected::Kept = protect(shared, seat, place)? else {
         return Err(Halt);
     };
-    replay_to(shared, seat, held, ticket)?;
+    replay_to(shared, seat, held, ticket, &mut [0; 144])?;
     unprotect(shared, seat)?;
     Ok(())
 }
@@ -93,7 +93,7 @@ fn bring_up<O: Object>(
     held: &Exclusive,
     ticket: u64,
 ) -> Result<Places, Halt>
-    requires taken { IsTaken (O.line_count shared.now.object) shared.now (O.lawful shared.now.object) seat.old held.now }
+    requires taken { IsTaken (O.line_count shared.now.object) shared.now (O.lawful shared.now.object) (O.step shared.now.object) seat.old held.now }
     ensures up { OnOk result (IsFlushedImage (O.line_count shared.now.object) shared.now (O.lawful shared.now.object) (O.step shared.now.object) seat.new held.now) }
     ensures rights { OnOk result (all_rights seat.new ≡ all_rights seat.old) }
     ensures seat { IsSeatOf shared.now seat.new }
@@ -115,7 +115,7 @@ fn renew<O: Object>(
     held: Exclusive,
     ticket: u64,
 ) -> Result<Places, Halt>
-    requires taken { IsTaken (O.line_count shared.now.object) shared.now (O.lawful shared.now.object) seat.old held }
+    requires taken { IsTaken (O.line_count shared.now.object) shared.now (O.lawful shared.now.object) (O.step shared.now.object) seat.old held }
     requires free { all_rights seat.old ≡ record no_rights { exclusive = Some held.replica } }
     ensures free { OnOk result (all_rights seat.new ≡ no_rights) }
     ensures seat { IsSeatOf shared.now seat.new }

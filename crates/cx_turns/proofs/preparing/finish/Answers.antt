@@ -4,7 +4,7 @@ use Rattle.cx_turns.proofs.preparing.finish.Goals as goal
 pub returns-clause-prepared : goal.returns-clause-prepared
 returns-clause-prepared g c =
     let t = c.args.shared.now in
-    let e = c.in_ok-reply.ensures in
+    let e = c.in_ok-bring_up.ensures in
     let at = c.requires.kept.at_image in
-    finished g.O.Object t c.args.ticket c.args.seat.now c.bring_up.new.seat c.downgrade.new.seat c.args.held c.in_ok-held.held c.in_ok-reply.reply
+    finished g.O.Object t c.args.ticket c.args.seat.now c.bring_up.new.seat c.downgrade.new.seat c.args.held c.in_ok-held.held c.bring_up.new.reply
     at.alone at.is_held.right.holds e.brought e.keeps.rest c.in_ok-held.ensures.made

@@ -17,4 +17,4 @@ returns-then-own_entry g c =
 pub returns-clause-found : goal.returns-clause-found
 returns-clause-found g c =
     let e = c.in_ok-read_next.ensures.read in
-    record { had = inl e.noted.noted; lawful = e.noted.lawful; small = e.noted.small; found = inr e.read }
+    record { had = inl e.noted.noted; lawful = e.noted.lawful; small = e.noted.small; found = inr e }

@@ -10,5 +10,6 @@ returns-clause-read g c =
     let now = c.entry.new.seat in
     record {
       read = subst (λ ws. ReadsEntry next.caller c.args.ticket ws c.args.seat.now now) (sym o.words) (subst (λ k. ReadsEntry k c.args.ticket c.entry.new.into c.args.seat.now now) (sym o.caller) e.read);
-      noted = e.entry next o.caller o.words;
+      noted = e.entry.each next o.caller o.words;
+      fits = e.entry.fits;
     }

@@ -11,7 +11,7 @@ apply-requires g c =
     let ready = ready_found g.O.Object c.args.shared.now c.args.at next c.args.seat.now now c.args.held.now e.keeps.seat e.found c.requires.ready in
     record {
       ready = record { is_held = ready.is_held; image = ready.image; place = refl };
-      next = found_next c.args.at next c.args.seat.now now e.found ready.place;
+      next = found_next g.O.Object c.args.shared.now c.args.at next c.args.seat.now now e.found ready.place;
     }
 
 pub returns-in_err-apply-clause-keeps : goal.returns-in_err-apply-clause-keeps
@@ -26,6 +26,9 @@ returns g c =
     let now = c.find_next.new.seat in
     let ready = ready_found g.O.Object c.args.shared.now c.args.at c.find_next.new.next c.args.seat.now now c.args.held.now f.keeps.seat f.found c.requires.ready in
     record {
-      ready = record { is_held = e.ready.is_held; image = e.ready.image; place = e.ready.place ∙ ap (λ n. n + 1) ready.place };
+      applied = record {
+        ready = record { is_held = e.ready.is_held; image = e.ready.image; place = e.ready.place ∙ ap (λ n. n + 1) ready.place };
+        replied = e.replied;
+      };
       keeps = record { seat = e.leaves.still.of; rest = work_held c.args.held.now.replica now c.apply.new.seat e.leaves.rest ∙ f.keeps.rest };
     }

@@ -7,23 +7,23 @@ pub hand_over-requires-clause-ready : goal.hand_over-requires-clause-ready
 hand_over-requires-clause-ready g c =
     let r = c.args.shared.now in
     let mid = c.prepare.new.seat in
-    let p : Prepares g.O.Object r c.args.ticket c.args.seat.now mid c.in-Some.prepared = subst (TriesPrepare g.O.Object r c.args.ticket c.args.seat.now mid) c.in-Some.is c.in_ok-prepared.ensures.prepared in
-    (c.args.ticket, c.in-Some.prepared.reply, prepared_ready g.O.Object r c.args.ticket c.args.seat.now mid c.in-Some.prepared c.in_ok-prepared.ensures.turns.rest c.requires.ready.rest c.requires.last p)
+    let p : Prepares g.O.Object r c.args.ticket c.prepare.new.reply c.args.seat.now mid c.in-Some.held = subst (TriesPrepare g.O.Object r c.args.ticket c.prepare.new.reply c.args.seat.now mid) c.in-Some.is c.in_ok-held.ensures.prepared in
+    (c.args.ticket, c.prepare.new.reply, prepared_ready g.O.Object r c.args.ticket c.prepare.new.reply c.args.seat.now mid c.in-Some.held c.in_ok-held.ensures.turns.rest c.requires.ready.rest c.requires.last p)
 
 pub returns-in_err-hand_over-clause-halted : goal.returns-in_err-hand_over-clause-halted
 returns-in_err-hand_over-clause-halted g c =
     let r = c.args.shared.now in
     let mid = c.prepare.new.seat in
-    let e = c.in_ok-prepared.ensures in
-    let p : Prepares g.O.Object r c.args.ticket c.args.seat.now mid c.in-Some.prepared = subst (TriesPrepare g.O.Object r c.args.ticket c.args.seat.now mid) c.in-Some.is e.prepared in
-    let ready = prepared_ready g.O.Object r c.args.ticket c.args.seat.now mid c.in-Some.prepared e.turns.rest c.requires.ready.rest c.requires.last p in
-    if_any_err c.from_residual-in_err-hand_over.result (halted_turn c.args.ticket c.args.seat.now mid c.hand_over.new.seat e.turns.rest p.met r.callers (c.in_err-hand_over.ensures.halted c.args.ticket c.in-Some.prepared.reply ready))
+    let e = c.in_ok-held.ensures in
+    let p : Prepares g.O.Object r c.args.ticket c.prepare.new.reply c.args.seat.now mid c.in-Some.held = subst (TriesPrepare g.O.Object r c.args.ticket c.prepare.new.reply c.args.seat.now mid) c.in-Some.is e.prepared in
+    let ready = prepared_ready g.O.Object r c.args.ticket c.prepare.new.reply c.args.seat.now mid c.in-Some.held e.turns.rest c.requires.ready.rest c.requires.last p in
+    if_any_err c.from_residual-in_err-hand_over.result (halted_turn c.args.ticket c.args.seat.now mid c.hand_over.new.seat e.turns.rest p.met r.callers (c.in_err-hand_over.ensures.halted c.args.ticket c.prepare.new.reply ready))
 
 pub returns-clause-turned : goal.returns-clause-turned
 returns-clause-turned g c =
     let r = c.args.shared.now in
     let mid = c.prepare.new.seat in
-    let e = c.in_ok-prepared.ensures in
-    let p : Prepares g.O.Object r c.args.ticket c.args.seat.now mid c.in-Some.prepared = subst (TriesPrepare g.O.Object r c.args.ticket c.args.seat.now mid) c.in-Some.is e.prepared in
-    let ready = prepared_ready g.O.Object r c.args.ticket c.args.seat.now mid c.in-Some.prepared e.turns.rest c.requires.ready.rest c.requires.last p in
-    answered_turn c.args.ticket c.args.seat.now mid c.hand_over.new.seat e.turns.rest p.met c.in-Some.prepared.reply (c.in_ok-hand_over.ensures.answered c.args.ticket c.in-Some.prepared.reply ready)
+    let e = c.in_ok-held.ensures in
+    let p : Prepares g.O.Object r c.args.ticket c.prepare.new.reply c.args.seat.now mid c.in-Some.held = subst (TriesPrepare g.O.Object r c.args.ticket c.prepare.new.reply c.args.seat.now mid) c.in-Some.is e.prepared in
+    let ready = prepared_ready g.O.Object r c.args.ticket c.prepare.new.reply c.args.seat.now mid c.in-Some.held e.turns.rest c.requires.ready.rest c.requires.last p in
+    answered_turn c.args.ticket c.args.seat.now mid c.hand_over.new.seat e.turns.rest p.met c.prepare.new.reply (c.in_ok-hand_over.ensures.answered c.args.ticket c.prepare.new.reply ready)

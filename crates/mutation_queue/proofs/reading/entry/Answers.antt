@@ -15,4 +15,4 @@ returns-clause-read g c =
 
 pub returns-clause-entry : goal.returns-clause-entry
 returns-clause-entry g c =
-    notes_entry (c.in_ok-cell.cell / 16) c.args.ticket c.read_words.new.into c.args.seat.now c.read_words.new.seat c.in_ok-read_words.ensures.read.fits c.requires.later c.in_ok-cell.ensures.made.small (returns-clause-read g c)
+    notes_entry g.O.Object c.args.shared.now (c.in_ok-cell.cell / 16) c.args.ticket c.read_words.new.into c.args.seat.now c.read_words.new.seat c.in_ok-read_words.ensures.read.fits c.requires.later c.in_ok-cell.ensures.made.small (returns-clause-read g c)

@@ -11,5 +11,5 @@ invariant-loop-i g l = record {
   long : length l.into ≡ 145;
   within : (n : ℕ) → n < l.i → EndsAfter n l.fn.seat.known.local → ⊥;
   of : IsSeatOf l.shared l.seat;
-  fits : 0 < l.i → Fitting l.shared.lines (g.O.Object.lawful l.shared.object) l.shared.base l.seat.known;
+  fits : 0 < l.i → Fitting l.shared.lines (g.O.Object.lawful l.shared.object) l.shared.base (g.O.Object.step l.shared.object) l.seat.known;
 }

@@ -30,7 +30,7 @@ returns-clause-copied g c =
     let agree = subst (AgreeTo known) all was.copied.agree in
     record {
       agree = agree;
-      equal = agree_equal lines (g.O.Object.lawful t.object) t.base known (region_words lines) refl agree;
+      equal = agree_equal lines (g.O.Object.lawful t.object) t.base (g.O.Object.step t.object) known (region_words lines) refl agree;
       differed = was.copied.dirty;
       place = sym c.noted_place.ensures;
       loaded = was.copied.loaded;

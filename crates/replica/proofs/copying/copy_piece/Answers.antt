@@ -42,7 +42,7 @@ loop-line-preserved g c =
           let now = w.seat-is in
           let knows = ap (λ (s : Seated). s.known) now in
           record {
-            both = subst (λ (s : Seated). HoldsBoth (g.O.Object.line_count t.object) t (g.O.Object.lawful t.object) s c.args.held.now c.args.source.now) (sym now) after.leaves.both;
+            both = subst (λ (s : Seated). HoldsBoth (g.O.Object.line_count t.object) t (g.O.Object.lawful t.object) (g.O.Object.step t.object) s c.args.held.now c.args.source.now) (sym now) after.leaves.both;
             seen = subst (λ (k : Known). AreSeen from (8 * (line + 1)) n us vs k) (sym knows) (λ i least below. after.stored.seen i (omega (arith, least)) below);
             copied = subst (λ (k : Known). CopiesOn from (from + 8 * (line + 1)) before k) (sym knows) (on_stored_line from line before known w.store_line.new.seat.known was.copied after.stored.copied);
             counts = subst (λ (k : Known). LoadsAtMost most before k) (sym knows) (loads_on most 0 most before known w.store_line.new.seat.known (omega arith) was.counts after.steps);
@@ -55,7 +55,7 @@ loop-line-preserved g c =
           let marked : line < length c.differing.new.out = subst (λ m. line < m) (sym (c.differing.auto.out ∙ length-take-le _ _ lines)) c.loop-line-test.true in
           let none : ¬ DiffersInLine us vs line = λ d. false≢true (sym w.if-differs-line.false ∙ get_or_append_left c.differing.new.out _ false line marked ∙ (c.differing.ensures line marked).1 d) in
           record {
-            both = subst (λ (s : Seated). HoldsBoth (g.O.Object.line_count t.object) t (g.O.Object.lawful t.object) s c.args.held.now c.args.source.now) (sym now) was.both;
+            both = subst (λ (s : Seated). HoldsBoth (g.O.Object.line_count t.object) t (g.O.Object.lawful t.object) (g.O.Object.step t.object) s c.args.held.now c.args.source.now) (sym now) was.both;
             seen = subst (λ (k : Known). AreSeen from (8 * (line + 1)) n us vs k) (sym knows) (λ i least below. was.seen i (omega (arith, least)) below);
             copied = subst (λ (k : Known). CopiesOn from (from + 8 * (line + 1)) before k) (sym knows) (on_same_line us vs from line n before known in_line none was.seen was.copied);
             counts = subst (λ (k : Known). LoadsAtMost most before k) (sym knows) was.counts;

@@ -10,7 +10,7 @@ use Rattle.replica.proofs.copying.load_piece.Goals as goal
 
 pub load_run-requires-clause-guard : goal.load_run-requires-clause-guard
 load_run-requires-clause-guard g c =
-    λ i below. load_guard _ c.args.shared.now _ c.args.held.now c.replica.result (c.args.from + i) c.args.seat.now c.replica.ensures c.requires.both.exclusive (omega (arith, below, c.requires.piece.within))
+    λ i below. load_guard _ c.args.shared.now _ (g.O.Object.step c.args.shared.now.object) c.args.held.now c.replica.result (c.args.from + i) c.args.seat.now c.replica.ensures c.requires.both.exclusive (omega (arith, below, c.requires.piece.within))
 
 pub load_run-requires-2-clause-seat : goal.load_run-requires-2-clause-seat
 load_run-requires-2-clause-seat g c =

@@ -29,7 +29,7 @@ loop-i-preserved g c =
           let now = w.seat-is in
           let knows = ap (λ (s : Seated). s.known) now ∙ after.known in
           record {
-            both = subst (λ (s : Seated). HoldsBoth (g.O.Object.line_count t.object) t (g.O.Object.lawful t.object) s c.args.held.now c.args.source.now) (sym now) after.leaves.both;
+            both = subst (λ (s : Seated). HoldsBoth (g.O.Object.line_count t.object) t (g.O.Object.lawful t.object) (g.O.Object.step t.object) s c.args.held.now c.args.source.now) (sym now) after.leaves.both;
             seen = subst (λ (k : Known). AreSeen c.args.from (i + 1) n us vs k) (sym knows) (seen_behind instance c.args.held.now.replica us vs c.args.from n i (slice_index vs i) known was.seen);
             copied = subst (λ (k : Known). CopiesOn start (c.args.from + (i + 1)) before k) (sym knows)
                 (on_over instance c.args.held.now.replica us vs start c.args.from i n before known below w.if-held_words-i.true was.seen was.copied);
@@ -40,7 +40,7 @@ loop-i-preserved g c =
           let now = w.seat-is in
           let knows = ap (λ (s : Seated). s.known) now in
           record {
-            both = subst (λ (s : Seated). HoldsBoth (g.O.Object.line_count t.object) t (g.O.Object.lawful t.object) s c.args.held.now c.args.source.now) (sym now) was.both;
+            both = subst (λ (s : Seated). HoldsBoth (g.O.Object.line_count t.object) t (g.O.Object.lawful t.object) (g.O.Object.step t.object) s c.args.held.now c.args.source.now) (sym now) was.both;
             seen = subst (λ (k : Known). AreSeen c.args.from (i + 1) n us vs k) (sym knows) (λ k least within. was.seen k (omega (arith, least)) within);
             copied = subst (λ (k : Known). CopiesOn start (c.args.from + (i + 1)) before k) (sym knows) (on_same us vs start c.args.from i n before known below w.if-held_words-i.false was.seen was.copied);
             counts = subst (λ (k : Known). LoadsAtMost 0 before k) (sym knows) was.counts;

@@ -9,5 +9,5 @@ returns-clause-both g c =
     let lines = g.O.Object.line_count shared.object in
     let lawful = g.O.Object.lawful shared.object in
     let e = c.in_ok-right.ensures in
-    subst (λ o. IfSome o (HoldsBoth lines shared lawful c.try_shared.new.seat c.args.held.now)) (sym c.ok.ensures.value)
+    subst (λ o. IfSome o (HoldsBoth lines shared lawful step c.try_shared.new.seat c.args.held.now)) (sym c.ok.ensures.value)
     (both_tried lines shared g.O.Object.step g.O.Object.only_reads lawful c.args.r c.in_ok-right.field-0-0 c.args.seat.now c.try_shared.new.seat c.args.held.now c.in_ok-right.right c.requires.held e.step.made e.token e.step.fits)

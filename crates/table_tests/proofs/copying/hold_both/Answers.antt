@@ -13,4 +13,4 @@ share_beside-requires-clause-held c =
     let e = c.in_ok-held.ensures in
     let held = c.in_default-Some.held in
     let tried = subst (TriedExclusive shared.callers 1 seat found) c.in_default-Some.is-1 e.token in
-    subst (λ h. IsHeld 64 shared IsTally seat h) (sym c.in_default-Some.held-is) (taken_held 64 shared _ _ IsTally 1 found c.args.seat.now seat held c.requires.sized e.step.made tried e.step.fits).is_held
+    subst (λ h. IsHeld 64 shared IsTally ?STEP? seat h) (sym c.in_default-Some.held-is) (taken_held 64 shared _ _ IsTally 1 found c.args.seat.now seat held c.requires.sized e.step.made tried e.step.fits).is_held

@@ -8,5 +8,5 @@ pub returns : goal.returns
 returns c =
     let shared = c.args.shared.now in
     let e = c.in_ok-right.ensures in
-    subst (λ o. IfSome o (HoldsBoth 64 shared IsTally c.try_shared.new.seat c.args.held.now)) (sym c.ok.ensures.value)
+    subst (λ o. IfSome o (HoldsBoth 64 shared IsTally ?STEP? c.try_shared.new.seat c.args.held.now)) (sym c.ok.ensures.value)
     (both_tried 64 shared _ _ IsTally 0 c.in_ok-right.field-0-0 c.args.seat.now c.try_shared.new.seat c.args.held.now c.in_ok-right.right c.requires.held e.step.made e.token e.step.fits)

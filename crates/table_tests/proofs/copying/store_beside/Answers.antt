@@ -12,10 +12,10 @@ use Rattle.replica.proofs.CopySteps.{both_store}
 use Rattle.table_tests.proofs.copying.store_beside.Goals as goal
 
 -- both rights stay, whether the store was made or refused
-stored : {O A E : Type 0} (lines : ℕ) (r : Running O) (step : O → List ℕ → List ℕ → List ℕ × List ℕ) (reads : O → List ℕ → Bool) (lawful : List ℕ → Type 0) (held source : Right) (q at v : ℕ) (before after : Seated) (result : Result A E) → at < region_words lines → HoldsBoth lines r lawful before held source →
-    IfOk result (λ _. Steps r step reads (StoreWord q at v) 0 before after) → OnOk result (Fitting r.lines lawful r.base after.known) → OnErr result (Halts r before after) → HoldsBoth lines r lawful after held source
+stored : {O A E : Type 0} (lines : ℕ) (r : Running O) (step : O → List ℕ → List ℕ → List ℕ × List ℕ) (reads : O → List ℕ → Bool) (lawful : List ℕ → Type 0) (held source : Right) (q at v : ℕ) (before after : Seated) (result : Result A E) → at < region_words lines → HoldsBoth lines r lawful (step r.object) before held source →
+    IfOk result (λ _. Steps r step reads (StoreWord q at v) 0 before after) → OnOk result (Fitting r.lines lawful r.base (step r.object) after.known) → OnErr result (Halts r before after) → HoldsBoth lines r lawful (step r.object) after held source
 stored lines r step reads lawful held source q at v before after (Ok x) below both made fits halted = both_store lines r step reads lawful held source before after q at v below both made fits
-stored lines r step reads lawful held source q at v before after (Err e) below both made fits halted = subst (λ (s : Seated). HoldsBoth lines r lawful s held source) (sym halted.same) both
+stored lines r step reads lawful held source q at v before after (Err e) below both made fits halted = subst (λ (s : Seated). HoldsBoth lines r lawful (step r.object) s held source) (sym halted.same) both
 
 pub returns : goal.returns
 returns c =

@@ -9,21 +9,21 @@ invariant_of-self g c =
     let region = c.args.self.now in
     let table = region.table.now in
     let some = c.load_held_words.ensures.some in
-    let after = held_run (g.T.HeldWords.line_count table) (g.T.HeldWords.running table) (g.T.HeldWords.lawful table) region.held.now c.args.at (take some.0 c.load_held_words.new.into) region.seat.now c.load_held_words.new.seat region.placed some.1 region.of region.within region.place in
+    let after = held_run (g.T.HeldWords.line_count table) (g.T.HeldWords.running table) (g.T.HeldWords.lawful table) (g.T.HeldWords.step table) region.held.now c.args.at (take some.0 c.load_held_words.new.into) region.seat.now c.load_held_words.new.seat region.placed some.1 region.of region.within region.place in
     record { of = after.0; within = after.1; place = after.2 }
 
 pub returns-clause-read : goal.returns-clause-read
 returns-clause-read g c =
     let region = c.args.self.now in
     let table = region.table.now in
-    on_ok_weaker c.load_held_words.result (stands_run (g.T.HeldWords.line_count table) (g.T.HeldWords.running table) (g.T.HeldWords.lawful table) region.held.now c.args.at c.load_held_words.new.into region.seat.now c.load_held_words.new.seat) c.load_held_words.ensures.made
+    on_ok_weaker c.load_held_words.result (stands_run (g.T.HeldWords.line_count table) (g.T.HeldWords.running table) (g.T.HeldWords.lawful table) (g.T.HeldWords.step table) region.held.now c.args.at c.load_held_words.new.into region.seat.now c.load_held_words.new.seat) c.load_held_words.ensures.made
 
 pub returns-clause-unchanged : goal.returns-clause-unchanged
 returns-clause-unchanged g c =
     let region = c.args.self.now in
     let table = region.table.now in
     let some = c.load_held_words.ensures.some in
-    let read = stands_run (g.T.HeldWords.line_count table) (g.T.HeldWords.running table) (g.T.HeldWords.lawful table) region.held.now c.args.at (take some.0 c.load_held_words.new.into) region.seat.now c.load_held_words.new.seat some.1 in
+    let read = stands_run (g.T.HeldWords.line_count table) (g.T.HeldWords.running table) (g.T.HeldWords.lawful table) (g.T.HeldWords.step table) region.held.now c.args.at (take some.0 c.load_held_words.new.into) region.seat.now c.load_held_words.new.seat some.1 in
     record { from = λ first now s. (now, (read.from first now s).0, refl) }
 
 pub returns-clause-framed : goal.returns-clause-framed
@@ -31,7 +31,7 @@ returns-clause-framed g c =
     let region = c.args.self.now in
     let table = region.table.now in
     let some = c.load_held_words.ensures.some in
-    let rest = rest_run (g.T.HeldWords.line_count table) (g.T.HeldWords.running table) (g.T.HeldWords.lawful table) region.held.now c.args.at (take some.0 c.load_held_words.new.into) region.seat.now c.load_held_words.new.seat some.1 in
+    let rest = rest_run (g.T.HeldWords.line_count table) (g.T.HeldWords.running table) (g.T.HeldWords.lawful table) (g.T.HeldWords.step table) region.held.now c.args.at (take some.0 c.load_held_words.new.into) region.seat.now c.load_held_words.new.seat some.1 in
     record {
       size_kept = refl;
       fixed_kept = ap (λ (s : Seated). record { name = region.seat.ghost_name; table = table; held = region.held.now; placed = region.placed; rest = s }) rest;

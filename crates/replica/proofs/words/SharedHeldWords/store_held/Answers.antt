@@ -2,7 +2,7 @@ use Rattle.replica.proofs.Access.{store_guard, made_by_store}
 use Rattle.replica.proofs.words.SharedHeldWords.store_held.Goals as goal
 
 pub store_word-requires : goal.store_word-requires
-store_word-requires g c = record { seat = c.requires.held.of; guard = store_guard _ c.args.self.now _ c.args.held.now c.replica.result c.args.at c.args.seat.now c.replica.ensures c.requires.held c.requires.at }
+store_word-requires g c = record { seat = c.requires.held.of; guard = store_guard _ c.args.self.now _ (g.O.Object.step c.args.self.now.object) c.args.held.now c.replica.result c.args.at c.args.seat.now c.replica.ensures c.requires.held c.requires.at }
 
 pub returns-clause-made : goal.returns-clause-made
 returns-clause-made g c =
