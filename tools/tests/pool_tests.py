@@ -169,9 +169,9 @@ class ProgramOnPools(unittest.TestCase):
         self.assertIsNone(random_pools.compare(80, Seen()))
 
     def test_one_caller(self):
-        """64 clients over one caller: each adds, and reads what it wrote; then 100,000 commands of all, of one client after another."""
+        """64 clients over one caller: each adds, and reads what it wrote; then 10,000 commands of all, of one client after another."""
         each = "".join(f"{client} {asked}\n" for client in range(64) for asked in ("add n 1", f"put k{client} {client}", f"get k{client}", "count"))
-        for lines in (each, "".join(f"{at % 64} add n 1\n" for at in range(100_000))):
+        for lines in (each, "".join(f"{at % 64} add n 1\n" for at in range(10_000))):
             script = f"lines 1024\nlife 64 power 7\n{lines}".encode()
             with self.subTest(lines[:40]):
                 self.assertIsNone(why_refused(script, self.answer(script, 1)))
