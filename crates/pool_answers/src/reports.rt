@@ -45,13 +45,22 @@ pub fn report_of_pool<R: Threads + Wait + Sync, G: Gate + Sync>(
     requires { MayPool seats script.now }
     ensures { IfOk result (λ made. IsPoolReport seats script.now made.1 made.0.items) }
 {
-    let mut records = Items::new(alloc);
-    let mut trails = Items::new(alloc);
-    if !script.lives.is_empty() {
-        let (told, remains) = run_pool(rt, alloc, script, seats, gate)?;
-        records.push(told)?;
-        trails.push(remains.trail)?;
+    if script.lives.is_empty() {
+        let text = report(alloc, script, &[])?;
+        return Ok((text, Items::new(alloc)));
     }
+    let (told, remains) = run_pool(rt, alloc, script, seats, gate)?;
+    let trails = one(alloc, remains.trail)?;
+    let records = one(alloc, told)?;
     let text = report(alloc, script, records.as_slice())?;
     Ok((text, trails))
+}
+
+// A list of one item.
+fn one<T: Drop>(alloc: Global, item: T) -> Result<Items<T>, AllocError>
+    ensures { IfOk result (λ items. items ≡ item ∷ []) }
+{
+    let mut items = Items::new(alloc);
+    items.push(item)?;
+    Ok(items)
 }

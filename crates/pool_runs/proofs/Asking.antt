@@ -24,18 +24,18 @@ module _ {O : Type 0} (r : Running O) (table : TableId) where
   pub begun : (client : Client) → MayAsk r table client → HasNoMore r table client client
   begun client may = record { client = may.is; same = record { number = refl; limits = refl; closing = refl }; answers = refl; floor = refl; calls = λ calls has. has }
 
-  module _ (a b c : Client) (no : HasNoMore r table a b) where
+  module _ (a b c : Client) (less : HasNoMore r table a b) where
     pub again : HasNoMore r table b c → HasNoMore r table a c
     again more = record {
       client = more.client;
-      same = same_on a b c no.same more.same;
-      answers = more.answers ∙ no.answers;
-      floor = more.floor ∙ no.floor;
-      calls = λ calls has. more.calls calls (no.calls calls has);
+      same = same_on a b c less.same more.same;
+      answers = more.answers ∙ less.answers;
+      floor = more.floor ∙ less.floor;
+      calls = λ calls has. more.calls calls (less.calls calls has);
     }
 
     made_since : (call : Call) → HasMade r table b c call → HasMade r table a c call
-    made_since call made = record { client = made.client; back = made.back; same = same_on a b c no.same made.same; calls = λ calls has. made.calls calls (no.calls calls has) }
+    made_since call made = record { client = made.client; back = made.back; same = same_on a b c less.same made.same; calls = λ calls has. made.calls calls (less.calls calls has) }
 
     pub updated_since : (op : List ℕ) (answer : Answer) → HasUpdated r table op b c answer → HasUpdated r table op a c answer
     updated_since op answer u = record { told = u.told; is = u.is; made = made_since _ u.made }
@@ -45,7 +45,7 @@ module _ {O : Type 0} (r : Running O) (table : TableId) where
 
   module _ (a b : Client) (may : MayAsk r table a) where
     pub may_still : (kept : is_live b.lent.kept ≡ true) → HasNoMore r table a b → MayAsk r table b
-    may_still live no = record { is = no.client; live = live; unlimited = subst AreUnlimited (sym no.same.limits) may.unlimited }
+    may_still live more = record { is = more.client; live = live; unlimited = subst AreUnlimited (sym more.same.limits) may.unlimited }
 
     pub may_again : (call : Call) → HasMade r table a b call → MayAsk r table b
     may_again call made = record { is = made.client; live = ap is_live made.back; unlimited = subst AreUnlimited (sym made.same.limits) may.unlimited }
@@ -61,10 +61,10 @@ module _ {O : Type 0} (r : Running O) (table : TableId) where
 
     -- no caller is stopped that has no limit
     pub not_stopped : (linked : Option ℕ) → HasNoMore r table a b → KeepsStopped r table a.lent b.lent linked → ⊥
-    not_stopped linked no stopped =
+    not_stopped linked more stopped =
         let s = stopped.stopped in
         let holds : HoldsKept r (view b.lent.pass) (Some (Stopped s)) = subst (HoldsKept r (view b.lent.pass)) stopped.keeps stopped.lent.kept in
         let is = All-head (IsHandedOf r) (Stopped s) [] holds.0.of in
-        let limit = subst AreUnlimited (sym no.same.limits) may.unlimited s.seat.known.local.number s.seat.known.local.limit holds.1 in
+        let limit = subst AreUnlimited (sym more.same.limits) may.unlimited s.seat.known.local.number s.seat.known.local.limit holds.1 in
         let less = is.limit.1 in
         omega (arith, limit, less)

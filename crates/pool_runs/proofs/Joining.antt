@@ -162,12 +162,20 @@ numbered m life r table k _ _ long numbers each = absurd (omega (arith, long))
 -- with no clients there is nothing
 pub gathered_none : {O Op Reply Store : Type 0} (m : Meaning Op Reply Store) (life : Life Op) (r : Running O) (table : TableId) (g : Gathered Reply) → AreWorks m.encoding life [] [] [] [] [] → g.clients.items ≡ [] → g.lines.entries.items ≡ [] → g.lines.reads.items ≡ [] → g.never ≡ false
     → AreGathered m life r table g
-gathered_none m life r table g works clients entries reads never = record {
+gathered_none {Reply = Reply} m life r table g works clients entries reads never = record {
   each = rw clients (All-nil (MayAsk r table));
   numbers = rw clients refl;
   closing = rw clients (All-nil (HasClosing r table life.clients));
   calls = [];
   has = rw clients tt;
   few = λ k own at. absurd (none-some own at);
-  works = rw (never, clients, entries, reads) (record { works = works; entries_at = All-nil _; reads_at = All-nil _ });
+  works =
+      subst (λ b. MatchBool b (HasNever m life g.clients.items []) (HaveLines m life [] g.lines.entries.items g.lines.reads.items)) (sym never)
+      (subst (λ es. HaveLines m life [] es g.lines.reads.items) (sym entries)
+      (subst (λ rs. HaveLines m life [] [] rs) (sym reads)
+      (record {
+        works = works;
+        entries_at = All-nil (λ (line : JournalLine Reply). IsLineAt [] line.client line.command line.ticket (line.ticket + 1));
+        reads_at = All-nil (λ (line : ReadLine Reply). IsLineAt [] line.client line.command line.place line.place);
+      })));
 }

@@ -31,7 +31,7 @@ pub stays_at : (calls more : List Call) (command at next : ℕ) → IsCallAt cal
 stays_at calls more command at next is = record { some = is.some; call = is.call; there = slice_get-append_left calls more (command - 1) is.call is.there; place = is.place; behind = is.behind }
 
 -- the client goes on
-pub calling_on : {O : Type 0} (r : Running O) (table : TableId) (clients number : ℕ) (before after : Client) → IsCalling r table clients number before → MayAsk r table after → IsSameClient before after → (calls : List Call) → HasCalls r after calls → IsCalling r table clients number after
+abbrev pub calling_on : {O : Type 0} (r : Running O) (table : TableId) (clients number : ℕ) (before after : Client) → IsCalling r table clients number before → MayAsk r table after → IsSameClient before after → (calls : List Call) → HasCalls r after calls → IsCalling r table clients number after
 calling_on r table clients number before after who may same calls has = record {
   may = may;
   by = same.number ∙ who.by;
@@ -148,8 +148,8 @@ module _ {O Op Reply Store : Type 0} (m : Meaning Op Reply Store) (life : Life O
   }
 
   pub worn_over : HasNoMore r table before after → KeepsLast after → IsOver m life r table clients client after
-  worn_over no last = record {
-    who = calling_on r table clients client before after w.who (may_still r table before after w.who.may (ap is_live last.keeps) no) no.same w.who.calls (no.calls w.who.calls w.who.has);
+  worn_over more last = record {
+    who = calling_on r table clients client before after w.who (may_still r table before after w.who.may (ap is_live last.keeps) more) more.same w.who.calls (more.calls w.who.calls w.who.has);
     few = omega (arith, fewer_before);
     cannot = inl (record { last = last; fewer = fewer_before });
   }

@@ -29,6 +29,10 @@ use Rattle.pool_runs.specs.Running.{IsReady, IsServiceOf, IsStarted}
 use Rattle.pool_runs.specs.Working.{HasClosing, IsNewIn}
 use Rattle.pool_runs.specs.declared.gather.Gathered.{Gathered}
 
+some_of : (o : Option Seated) (limit : ℕ) → option_map (λ (s : Seated). s.known.local.limit) o ≡ Some limit → (s : Seated) × (o ≡ Some s) × (s.known.local.limit ≡ limit)
+some_of None limit same = absurd (none-some limit same)
+some_of (Some s) limit same = (s, refl, same_Some s.known.local.limit limit same)
+
 -- the callers of a service that was started
 module _ {O : Type 0} where
   each_new : (r : Running O) (limits numbers : List ℕ) → All (IsCallerOf r) (map (opening_seat r limits) numbers) → All (IsNewCaller r) (map (opening_seat r limits) numbers)
@@ -37,10 +41,6 @@ module _ {O : Type 0} where
       let seat = opening_seat r limits n in
       let rest = map (opening_seat r limits) numbers in
       All-cons (IsNewCaller r) seat rest (record { caller = All-head (IsCallerOf r) seat rest all; none = refl }) (each_new r limits numbers (All-tail (IsCallerOf r) seat rest all))
-
-  some_of : (o : Option Seated) (limit : ℕ) → option_map (λ (s : Seated). s.known.local.limit) o ≡ Some limit → (s : Seated) × (o ≡ Some s) × (s.known.local.limit ≡ limit)
-  some_of None limit same = absurd (none-some limit same)
-  some_of (Some s) limit same = (s, refl, same_Some s.known.local.limit limit same)
 
   pub started : (object copy : O) (lines callers : ℕ) (limits : List ℕ) (base : Base) (r : Running O) (seats : List Seated) → copy ≡ object → limits ≡ replicate callers (2 ^ 64 - 1) → Starts copy lines callers limits base r seats → IsStarted object lines callers base r seats
   started object copy lines callers limits base r seats same all starts =
@@ -76,7 +76,8 @@ range_at a (suc n) (suc i) k at = (let rest = range_at (a + 1) n i k at in omega
 
 numbered_at : (clients : List Client) (n i : ℕ) (x : Client) → map (λ (c : Client). c.number) clients ≡ range_with_len 0 n → slice_get clients i ≡ Some x → x.number ≡ i
 numbered_at clients n i x numbers at =
-    range_at 0 n i x.number (ap (λ (ks : List ℕ). slice_get ks i) (sym numbers) ∙ slice_get-map (λ (c : Client). c.number) clients i ∙ ap (option_map (λ (c : Client). c.number)) at)
+    let is = range_at 0 n i x.number (ap (λ (ks : List ℕ). slice_get ks i) (sym numbers) ∙ slice_get-map (λ (c : Client). c.number) clients i ∙ ap (option_map (λ (c : Client). c.number)) at) in
+    omega (arith, is)
 
 last_split : (clients : List Client) → 0 < length clients → (front : List Client) × (last : Client) × (clients ≡ front ++ last ∷ [])
 last_split [] some = absurd (omega (arith, some))

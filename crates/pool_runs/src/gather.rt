@@ -64,7 +64,9 @@ pub(crate) fn gather<O: TypedObject>(
     ensures gathered { IfOk result (AreGathered (O.meaning object.now) life.now pool.now.service pool.now.line.table.shared.table_id) }
     ensures all { IfOk result (λ g. length g.clients.items ≡ vec_len works) }
 {
-    let _ = (object, pool, life);
+    let _ = object;
+    let _ = pool;
+    let _ = life;
     works_begin::<O::Op, O::Reply>();
     works_go_on::<O::Op, O::Reply>();
     let mut all = Gathered {

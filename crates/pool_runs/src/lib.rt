@@ -12,6 +12,7 @@ mod gather;
 mod life;
 mod progress;
 mod run;
+mod scratch;
 mod start;
 mod work;
 mod workers;

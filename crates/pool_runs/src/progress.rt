@@ -55,7 +55,8 @@ pub(crate) fn make<O: TypedObject, R: Wait>(
     requires op { (O.meaning object.now).is_op command.now.op }
     ensures { IfOk result (Makes (O.meaning object.now) life.now pool.now.service pool.now.line.table.shared.table_id clients command.now.client number client.new lines.new) }
 {
-    let _ = (life, clients);
+    let _ = life;
+    let _ = clients;
     op_is_a_value(object, &command.op);
     let op = object.words_of(&command.op);
     let reads = is_reading(object, &command.op, &op);
