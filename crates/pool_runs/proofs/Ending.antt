@@ -65,7 +65,7 @@ module _ {O Op Reply Store : Type 0} (lines_in : O → ℕ) (images : O → List
   at_base : service.base.place ≡ base.place
   at_base = ap (λ (b : Base). b.place) is.from
 
-  pub recorded : IsPoolRecorded m inst closed.s closed.law.history m.opening life flagged
+  abbrev pub recorded : IsPoolRecorded m inst closed.s closed.law.history m.opening life flagged
   recorded = record {
     locals = remains.trail.locals;
     seats = closed.shows;

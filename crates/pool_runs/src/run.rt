@@ -19,7 +19,8 @@ use life_laws::{operations_are_values, replies_are_values};
 use life_records::{BorrowedLife, LifeRecord};
 use pool_lives::told_pools_have_lived;
 use recovery::{
-    ImageFault, closed_tables_recover, crash_image, crash_images_are_left, recover,
+    ImageFault, closed_tables_are_whole, closed_tables_recover, crash_image, crash_images_are_left,
+    recover,
 };
 use std::alloc::{AllocError, Global};
 use std::sync::Wait;
@@ -72,6 +73,7 @@ fn lose_power<O: TypedObject>(
     ensures { IfOk result (λ kept. HasPooled (O.meaning object.now) life.now seats kept remains.now) }
 {
     let _ = seats;
+    closed_tables_are_whole::<O>();
     closed_tables_recover::<O>();
     crash_images_are_left::<O>();
     crash_images_recover();

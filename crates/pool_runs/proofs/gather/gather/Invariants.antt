@@ -5,12 +5,12 @@ use Rattle.pool_runs.specs.Working.{AreNumbered}
 use Rattle.pool_runs.proofs.gather.gather.Given as goal
 
 -- the first clients are put together, and the others are left
-abbrev pub invariant-loop-alloc : goal.invariant-loop-alloc
-invariant-loop-alloc g l = record {
+abbrev pub invariant-loop-works : goal.invariant-loop-works
+invariant-loop-works g l = record {
   gathered : AreGathered (g.O.TypedObject.meaning l.object) l.life l.pool.service l.pool.line.table.shared.table_id l.all;
   rest : AreNumbered (g.O.TypedObject.meaning l.object) l.life l.pool.service l.pool.line.table.shared.table_id (length l.all.clients.items) l.works.items;
   count : length l.all.clients.items + length l.works.items ≡ vec_len l.fn.works;
 }
 
-abbrev pub decreases-loop-alloc : goal.decreases-loop-alloc
-decreases-loop-alloc g l = length l.works.items
+abbrev pub decreases-loop-works : goal.decreases-loop-works
+decreases-loop-works g l = length l.works.items
