@@ -26,12 +26,12 @@ in_turn_more : (floor : ℕ) (calls : List Call) (call : Call) → AreInTurn flo
 in_turn_more floor [] call turn from = (from, tt)
 in_turn_more floor (c ∷ calls) call turn from = (turn.0, in_turn_more (next_of c) calls call turn.1 from)
 
-entries_more : (calls : List Call) (told : Told) → entries_of (calls ++ Entry told ∷ []) ≡ entries_of calls ++ told ∷ []
+pub entries_more : (calls : List Call) (told : Told) → entries_of (calls ++ Entry told ∷ []) ≡ entries_of calls ++ told ∷ []
 entries_more [] told = refl
 entries_more (Entry t ∷ calls) told = ap (λ (l : List Told). t ∷ l) (entries_more calls told)
 entries_more (Look x ∷ calls) told = entries_more calls told
 
-entries_same : (calls : List Call) (read : SeenRead) → entries_of (calls ++ Look read ∷ []) ≡ entries_of calls
+pub entries_same : (calls : List Call) (read : SeenRead) → entries_of (calls ++ Look read ∷ []) ≡ entries_of calls
 entries_same [] read = refl
 entries_same (Entry t ∷ calls) read = ap (λ (l : List Told). t ∷ l) (entries_same calls read)
 entries_same (Look x ∷ calls) read = entries_same calls read
@@ -59,6 +59,7 @@ module _ {O : Type 0} (r : Running O) (table : TableId) (before after : Client) 
         is = (tells.is.1, tells.is.2, tells.is.3);
         made = record {
           client = tells.lent;
+          back = tells.back;
           same = same;
           calls = λ calls has. record {
             answers = answers ∙ ap (λ (l : List Answered). l ++ Updated caller answer ∷ []) has.answers ∙ ap (λ (a : Answered). map answered_by calls ++ a ∷ []) (sym mine) ∙ sym (map-append answered_by calls (Entry t ∷ []));
@@ -97,6 +98,7 @@ module _ {O : Type 0} (r : Running O) (table : TableId) (before after : Client) 
         is = shows.is;
         made = record {
           client = shows.lent;
+          back = shows.back;
           same = same;
           calls = λ calls has. record {
             answers = answers ∙ ap (λ (l : List Answered). l ++ Read seen ∷ []) has.answers ∙ ap (λ (a : Answered). map answered_by calls ++ a ∷ []) (sym mine) ∙ sym (map-append answered_by calls (Look x ∷ []));

@@ -23,7 +23,7 @@ module _ {O : Type 0} (r : Running O) (table : TableId) where
   gathers_kept v None holds = gathers_none r table v.held [] holds refl
   gathers_kept v (Some (Idle now)) holds = subst (λ l. Gathers r l (Idle now ∷ [])) (sym holds.held) (idle_kept r holds.taken now holds.idle)
   gathers_kept v (Some (Linked seat)) holds = absurd holds
-  gathers_kept v (Some (Stopped s)) holds = holds
+  gathers_kept v (Some (Stopped s)) holds = holds.0
 
   lent_of : (lent : Lent) → IsLentTo r table lent → IsLentOf r table lent
   lent_of lent is = record { pass = is.part.pass; parts = is.part.parts; placed = is.part.placed; kept = gathers_kept (view lent.pass) lent.kept is.kept }

@@ -1,11 +1,11 @@
 -- The calls of clients over the history of a closed service.
 use Rattle.std.proofs.Common.{◌≡◌, ◌≤◌, ◌+◌, ⊎_elim, ℕ, zero, suc, List, [], ◌∷◌, map, sym, refl, ap, ◌∙◌, subst, arith, Option, Some, None, slice_get}
-use Rattle.std.specs.Prelude.{All}
+use Rattle.std.specs.Prelude.{All, Contains}
 use Rattle.std.specs.List.{AllZip}
 use Rattle.std.specs.Option.{option_map}
 use Rattle.std.proofs.lemmas.Bool.{cases_eq}
-use Rattle.std.proofs.lemmas.List.Elements.{All-cons, All-nil}
-use Rattle.std.proofs.lemmas.Option.{none-some, same_Some, slice_get-map}
+use Rattle.std.proofs.lemmas.List.Elements.{All-cons, All-nil, All-weaker, Contains-get_or}
+use Rattle.std.proofs.lemmas.Option.{get_or_from_slice_get, none-some, same_Some, slice_get-map, slice_get_within}
 use Rattle.core_answers.proofs.Places.{durable_within}
 use Rattle.core_answers.proofs.ReplyLaws.{reply_own}
 use Rattle.core_runs.proofs.Keeps.{bounds_of}
@@ -29,7 +29,7 @@ use Rattle.cx_table.specs.declared.remains.Remains.{Remains}
 use Rattle.seat_pool.specs.Gathering.{AreTold, handed_calls, handed_reads, lent_shown, lent_told, one_at}
 use Rattle.seat_pool.specs.Pooling.{calls_from, calls_of, total}
 use Rattle.seat_pool.specs.declared.hand.Told.{Told}
-use Rattle.client_pool.specs.Answers.{AreAnswered, IsCallOf, IsEntryOf, IsReadOf}
+use Rattle.client_pool.specs.Answers.{AreAnswered, IsCallOf, IsCallersCall, IsCallersEntry, IsCallersRead, IsEntryOf, IsReadOf}
 use Rattle.client_pool.specs.Clients.{AreInTurn, HasCalls, entries_of, reads_of}
 use Rattle.client_pool.specs.Pools.{lents_of}
 use Rattle.client_pool.specs.declared.call.Call.{Call}
@@ -37,6 +37,9 @@ use Rattle.client_pool.specs.declared.call.Call.TheVariants.{Entry, Look}
 use Rattle.client_pool.specs.declared.client.Client.{Client}
 use Rattle.client_pool.proofs.Tickets.{once}
 use Rattle.client_pool.proofs.Weights.{found, read_is, read_self, same_read, same_told, told_is, told_self}
+
+contains_at : {X : Type 0} (xs : List X) (i : ℕ) (x : X) → slice_get xs i ≡ Some x → Contains xs x
+contains_at xs i x at = subst (Contains xs) (get_or_from_slice_get xs i x x at) (Contains-get_or xs i x (slice_get_within xs i x at))
 
 -- a call of a caller has the entry and the answer at its place in the caller's lists
 call_item : (n : ℕ) (own : List Linked) (answers : List Answer) (i : ℕ) (t : Told) → slice_get (calls_from n own answers) i ≡ Some t
@@ -71,20 +74,21 @@ module _ {O : Type 0} (r : Running O) (instance : Instance) (handed : List Hande
   history = leaves.state.history
 
   -- what the state says of the caller that was handed in at a place
-  record Behind (i : ℕ) (g : Handed) : Type 0 where
-    local : Local
-    there : slice_get leaves.whole i ≡ Some local
-    is : shown local ≡ (seat_of g).known.local
+  pub record Behind (i : ℕ) (g : Handed) : Type 0 where
+    pub local : Local
+    pub there : slice_get leaves.whole i ≡ Some local
+    pub ends : slice_get remains.trail.locals i ≡ Some (seat_of g).known.local
+    pub is : shown local ≡ (seat_of g).known.local
 
-  behind : (i : ℕ) (g : Handed) → slice_get handed i ≡ Some g → Behind i g
+  pub behind : (i : ℕ) (g : Handed) → slice_get handed i ≡ Some g → Behind i g
   behind i g at =
       let seats : slice_get (seats_of handed) i ≡ Some (seat_of g) = slice_get-map seat_of handed i ∙ ap (option_map seat_of) at in
       let known : slice_get (map (λ (s : Seated). s.known) (seats_of handed)) i ≡ Some (seat_of g).known = slice_get-map (λ (s : Seated). s.known) (seats_of handed) i ∙ ap (option_map (λ (s : Seated). s.known)) seats in
       let locals : slice_get (locals_of (seats_of handed)) i ≡ Some (seat_of g).known.local = slice_get-map (λ (k : Known). k.local) (map (λ (s : Seated). s.known) (seats_of handed)) i ∙ ap (option_map (λ (k : Known). k.local)) known in
       let l = some_of (slice_get leaves.whole i) (seat_of g).known.local (sym (slice_get-map shown leaves.whole i) ∙ ap (λ (ls : List Local). slice_get ls i) leaves.shows ∙ locals) in
-      record { local = l.0; there = l.1; is = l.2 }
+      record { local = l.0; there = l.1; ends = ap (λ (ls : List Local). slice_get ls i) leaves.locals ∙ locals; is = l.2 }
 
-  entry_here : (i : ℕ) (g : Handed) (j : ℕ) (t : Told) → slice_get handed i ≡ Some g → slice_get (calls_of (seat_of g)) j ≡ Some t → IsEntryOf instance history t
+  entry_here : (i : ℕ) (g : Handed) (j : ℕ) (t : Told) → slice_get handed i ≡ Some g → slice_get (calls_of (seat_of g)) j ≡ Some t → IsEntryOf instance history t × IsCallersEntry remains.trail.locals t
   entry_here i g j t at there =
       let b = behind i g at in
       let l = b.local in
@@ -97,51 +101,66 @@ module _ {O : Type 0} (r : Running O) (instance : Instance) (handed : List Hande
       let entry : is.entry ≡ t.entry.entry = sym (ap (λ (x : Linked). x.entry) same) in
       let mine = own_caller i instance.base.place history j t.entry (ap (λ (xs : List Linked). slice_get xs j) (sym (leaves.state.tickets.merged.own i l b.there)) ∙ own) in
       let number : s.number ≡ i = sym (ap (λ (x : Local). x.number) b.is) ∙ (leaves.state.shape.each i l b.there).number in
-      record {
-        ticket = ap (λ (x : Linked). x.ticket) same;
-        caller = mine ∙ sym number ∙ sym item.0;
-        linked = subst (λ (e : HistoryEntry). IsLinked instance.base.place history t.answer.ticket e) entry is.linked;
-        reply = is.reply ∙ ap (λ (e : HistoryEntry). reply_after instance history t.answer.ticket e.op) entry;
-      }
+      (
+        record {
+          ticket = ap (λ (x : Linked). x.ticket) same;
+          caller = mine ∙ sym number ∙ sym item.0;
+          linked = subst (λ (e : HistoryEntry). IsLinked instance.base.place history t.answer.ticket e) entry is.linked;
+          reply = is.reply ∙ ap (λ (e : HistoryEntry). reply_after instance history t.answer.ticket e.op) entry;
+        },
+        record {
+          local = s;
+          of_caller = ap (slice_get remains.trail.locals) (item.0 ∙ number) ∙ b.ends;
+          own = contains_at s.own j t.entry item.1;
+          answered = contains_at s.answered j t.answer item.2;
+        },
+      )
 
-  read_here : (i : ℕ) (g : Handed) (j : ℕ) (x : SeenRead) → slice_get handed i ≡ Some g → slice_get (seat_of g).known.local.seen_reads j ≡ Some x → IsReadOf instance history x
+  read_here : (i : ℕ) (g : Handed) (j : ℕ) (x : SeenRead) → slice_get handed i ≡ Some g → slice_get (seat_of g).known.local.seen_reads j ≡ Some x → IsReadOf instance history x × IsCallersRead remains.trail.locals x
   read_here i g j x at there =
       let b = behind i g at in
       let l = b.local in
       let is = (leaves.state.answers.each i l b.there).reads j x (ap (λ (y : Local). slice_get y.seen_reads j) b.is ∙ there) in
       let within = durable_within instance history leaves.words leaves.whole leaves.state.shape.some (bounds_of instance (record { words = leaves.words; locals = leaves.whole }) leaves.state) in
-      record { from = is.from; to = omega (arith, within, is.durable); reply = is.reply }
+      (
+        record { from = is.from; to = omega (arith, within, is.durable); reply = is.reply },
+        record { caller = i; local = (seat_of g).known.local; of_caller = b.ends; seen = contains_at (seat_of g).known.local.seen_reads j x there },
+      )
 
-  entry_is : (t : Told) → same_told t t ≤ total (handed_calls (same_told t)) handed → IsEntryOf instance history t
+  -- a call is the history's, and a caller's
+  abbrev Stands : Call → Type 0
+  Stands call = IsCallOf instance history call × IsCallersCall remains.trail.locals call
+
+  entry_is : (t : Told) → same_told t t ≤ total (handed_calls (same_told t)) handed → Stands (Entry t)
   entry_is t most =
       let g = found (handed_calls (same_told t)) handed (let self = told_self t in omega (arith, self, most)) in
       let u = found (same_told t) (calls_of (seat_of g.1)) g.3 in
-      subst (IsEntryOf instance history) (sym (told_is t u.1 u.3)) (entry_here g.0 g.1 u.0 u.1 g.2 u.2)
+      subst (λ (x : Told). Stands (Entry x)) (sym (told_is t u.1 u.3)) (entry_here g.0 g.1 u.0 u.1 g.2 u.2)
 
-  read_is_one : (x : SeenRead) → same_read x x ≤ total (handed_reads (same_read x)) handed → IsReadOf instance history x
+  read_is_one : (x : SeenRead) → same_read x x ≤ total (handed_reads (same_read x)) handed → Stands (Look x)
   read_is_one x most =
       let g = found (handed_reads (same_read x)) handed (let self = read_self x in omega (arith, self, most)) in
       let u = found (same_read x) (seat_of g.1).known.local.seen_reads g.3 in
-      subst (IsReadOf instance history) (sym (read_is x u.1 u.3)) (read_here g.0 g.1 u.0 u.1 g.2 u.2)
+      subst (λ (y : SeenRead). Stands (Look y)) (sym (read_is x u.1 u.3)) (read_here g.0 g.1 u.0 u.1 g.2 u.2)
 
-  one_client : (cs : List Call) → ((h : Told → ℕ) → total h (entries_of cs) ≤ total (handed_calls h) handed) → ((h : SeenRead → ℕ) → total h (reads_of cs) ≤ total (handed_reads h) handed) → All (IsCallOf instance history) cs
-  one_client [] entries reads = All-nil (IsCallOf instance history)
+  one_client : (cs : List Call) → ((h : Told → ℕ) → total h (entries_of cs) ≤ total (handed_calls h) handed) → ((h : SeenRead → ℕ) → total h (reads_of cs) ≤ total (handed_reads h) handed) → All Stands cs
+  one_client [] entries reads = All-nil Stands
   one_client (Entry t ∷ cs) entries reads =
-      All-cons (IsCallOf instance history) (Entry t) cs (entry_is t (let most = entries (same_told t) in omega (arith, most))) (one_client cs (λ h. (let most = entries h in omega (arith, most))) reads)
+      All-cons Stands (Entry t) cs (entry_is t (let most = entries (same_told t) in omega (arith, most))) (one_client cs (λ h. (let most = entries h in omega (arith, most))) reads)
   one_client (Look x ∷ cs) entries reads =
-      All-cons (IsCallOf instance history) (Look x) cs (read_is_one x (let most = reads (same_read x) in omega (arith, most))) (one_client cs entries (λ h. (let most = reads h in omega (arith, most))))
+      All-cons Stands (Look x) cs (read_is_one x (let most = reads (same_read x) in omega (arith, most))) (one_client cs entries (λ h. (let most = reads h in omega (arith, most))))
 
   all_clients : (calls : List (List Call)) → ((h : Told → ℕ) → total (λ (cs : List Call). total h (entries_of cs)) calls ≤ total (handed_calls h) handed)
-      → ((h : SeenRead → ℕ) → total (λ (cs : List Call). total h (reads_of cs)) calls ≤ total (handed_reads h) handed) → All (All (IsCallOf instance history)) calls
-  all_clients [] entries reads = All-nil (All (IsCallOf instance history))
+      → ((h : SeenRead → ℕ) → total (λ (cs : List Call). total h (reads_of cs)) calls ≤ total (handed_reads h) handed) → All (All Stands) calls
+  all_clients [] entries reads = All-nil (All Stands)
   all_clients (cs ∷ calls) entries reads =
-      All-cons (All (IsCallOf instance history)) cs calls
+      All-cons (All Stands) cs calls
       (one_client cs (λ h. (let most = entries h in omega (arith, most))) (λ h. (let most = reads h in omega (arith, most))))
       (all_clients calls (λ h. (let most = entries h in omega (arith, most))) (λ h. (let most = reads h in omega (arith, most))))
 
 -- what clients were told are the entries of their calls, and what they were shown has their reads
 module _ {O : Type 0} (r : Running O) where
-  weighs : (h : Told → ℕ) (clients : List Client) (calls : List (List Call)) → AllZip (HasCalls r) clients calls → total (λ (cs : List Call). total h (entries_of cs)) calls ≡ total (lent_told h) (lents_of clients)
+  pub weighs : (h : Told → ℕ) (clients : List Client) (calls : List (List Call)) → AllZip (HasCalls r) clients calls → total (λ (cs : List Call). total h (entries_of cs)) calls ≡ total (lent_told h) (lents_of clients)
   weighs h [] [] are = refl
   weighs h [] (cs ∷ calls) are = absurd are
   weighs h (c ∷ clients) [] are = absurd are
@@ -161,12 +180,15 @@ module _ {O : Type 0} (r : Running O) where
 
   -- all that closing tells of the calls of clients
   pub are_answered : (instance : Instance) (handed : List Handed) (remains : Remains) (clients : List Client) → instance.base.place ≡ r.base.place → Leaves r instance (seats_of handed) remains → AreTold r (lents_of clients) handed
-      → (calls : List (List Call)) → AllZip (HasCalls r) clients calls → AreAnswered instance remains.trail.history calls
+      → (calls : List (List Call)) → AllZip (HasCalls r) clients calls → AreAnswered instance remains.trail.history remains.trail.locals calls
   are_answered instance handed remains clients place leaves told calls are =
       let entries = λ (h : Told → ℕ). (let all = told.calls h in let here = weighs h clients calls are in let most : total (λ (cs : List Call). total h (entries_of cs)) calls ≤ total (handed_calls h) handed = omega (arith, all, here) in most) in
       let reads = λ (h : SeenRead → ℕ). (let all = told.reads h in let here = reads_weigh_ h clients calls are in let most : total (λ (cs : List Call). total h (reads_of cs)) calls ≤ total (handed_reads h) handed = omega (arith, all, here) in most) in
+      let stands : Call → Type 0 = λ call. IsCallOf instance leaves.state.history call × IsCallersCall remains.trail.locals call in
+      let all = all_clients r instance handed remains leaves calls entries reads in
       record {
-        each = subst (λ (history : List HistoryEntry). All (All (IsCallOf instance history)) calls) leaves.history (all_clients r instance handed remains leaves calls entries reads);
+        each = subst (λ (history : List HistoryEntry). All (All (IsCallOf instance history)) calls) leaves.history (All-weaker (All stands) (All (IsCallOf instance leaves.state.history)) (λ cs all. All-weaker stands (IsCallOf instance leaves.state.history) (λ call both. both.0) cs all) calls all);
+        callers = All-weaker (All stands) (All (IsCallersCall remains.trail.locals)) (λ cs all. All-weaker stands (IsCallersCall remains.trail.locals) (λ call both. both.1) cs all) calls all;
         once = λ ticket. (let most = entries (λ (t : Told). one_at ticket t.entry.ticket) in let one = once ticket r.base.place remains.trail.history handed leaves.merged in omega (arith, most, one));
         in_turn = subst (λ (p : ℕ). All (AreInTurn p) calls) (sym place) (in_turn clients calls are);
       }

@@ -85,6 +85,11 @@ module _ {O : Type 0} (r : Running O) where
   limit_of v x y holds number limit =
       ap (slice_get (limits_at v.home)) (number ∙ holds.idle.number) ∙ holds.limit ∙ ap Some (sym (limit ∙ holds.idle.limit))
 
+  -- so has one that is stopped
+  halted_same : (op : List ℕ) (x : Seated) (s : StoppedSeat) → UpdateHalted r op x s ⊎ ReadHalted r op x s → (s.seat.known.local.number ≡ x.known.local.number) × (s.seat.known.local.limit ≡ x.known.local.limit)
+  halted_same op x s (inl update) = (update.number, ⊎_elim (λ h. h.keeps.limit) (λ h. h.links.limit) update.lists)
+  halted_same op x s (inr read) = (read.keeps.number, read.keeps.limit)
+
   module _ (table : TableId) where
     -- a pass that knows the same service, with the same part
     pub part_like : (before after : Lent) (w : Hand) → IsPart r table before → (after.pass.table_id ≡ table) × (after.pass.me.1 ≡ []) → view after.pass ≡ w
@@ -110,7 +115,7 @@ module _ {O : Type 0} (r : Running O) where
               idle = stays x caller;
             };
           },
-          record { told = ap (λ (u : Hand). u.told) is; shown = ap (λ (u : Hand). u.shown) is },
+          record { limits = ap (λ (u : Hand). limits_at u.home) is; told = ap (λ (u : Hand). u.told) is; shown = ap (λ (u : Hand). u.shown) is },
         )
 
     pub kept_out : (before after : Lent) (x : Seated) → IsLentTo r table before → before.kept ≡ Some (Idle x) → after.kept ≡ None → after.pass ≡ before.pass → IsOut r table after x × TellsSame before after
@@ -121,7 +126,7 @@ module _ {O : Type 0} (r : Running O) where
             none = none;
             holds = subst (λ (u : Hand). HoldsIdle r u x) (sym w) (subst (HoldsKept r (view before.pass)) keeps lent.kept);
           },
-          record { told = ap (λ (u : Hand). u.told) w; shown = ap (λ (u : Hand). u.shown) w },
+          record { limits = ap (λ (u : Hand). limits_at u.home) w; told = ap (λ (u : Hand). u.told) w; shown = ap (λ (u : Hand). u.shown) w },
         )
 
     pub out_on : (lent : Lent) (x y : Seated) → IsOut r table lent x → StaysIdle r x y → IsOut r table lent y
@@ -143,6 +148,7 @@ module _ {O : Type 0} (r : Running O) where
             kept = subst (HoldsKept r (view after.pass)) (sym none) (ap (λ (u : Hand). u.held) given);
           };
           back = none;
+          limits = ap (λ (u : Hand). limits_at u.home) given;
           read = x_;
           is = (refl, refl, refl);
           from = from;
@@ -151,7 +157,7 @@ module _ {O : Type 0} (r : Running O) where
         }
 
     pub tells_on : (a b c : Lent) → TellsSame a b → TellsSame b c → TellsSame a c
-    tells_on a b c s t = record { told = t.told ∙ s.told; shown = t.shown ∙ s.shown }
+    tells_on a b c s t = record { limits = t.limits ∙ s.limits; told = t.told ∙ s.told; shown = t.shown ∙ s.shown }
 
     -- a caller is kept with whatever it holds
     module _ (before after : Lent) (same : after.pass ≡ before.pass) where
@@ -162,7 +168,7 @@ module _ {O : Type 0} (r : Running O) where
       part_kept part = part_like before after (view before.pass) part (ap (λ p. p.table_id) same ∙ part.pass.0, ap (λ p. p.me.1) same ∙ part.pass.1) w refl refl refl
 
       tells_kept : TellsSame before after
-      tells_kept = record { told = ap (λ (u : Hand). u.told) w; shown = ap (λ (u : Hand). u.shown) w }
+      tells_kept = record { limits = ap (λ (u : Hand). limits_at u.home) w; told = ap (λ (u : Hand). u.told) w; shown = ap (λ (u : Hand). u.shown) w }
 
       idle_again : (x y : Seated) → IsOut r table before x → StaysIdle r x y → after.kept ≡ Some (Idle y) → IsLentTo r table after
       idle_again x y out idle keeps = record {
@@ -176,11 +182,11 @@ module _ {O : Type 0} (r : Running O) where
       pub worn_kept : (x y : Seated) → IsOut r table before x → UpdateWorn r x y → after.kept ≡ Some (Idle y) → KeepsWorn r table before after
       worn_kept x y out worn keeps = record { lent = idle_again x y out (asked x y worn.caller worn.keeps) keeps; tells = tells_kept; asked = x; held = subst (λ (u : Hand). HoldsIdle r u x) (sym w) out.holds; now = y; keeps = keeps; worn = worn }
 
-      pub stopped_kept : (s : StoppedSeat) (x : Seated) (out : IsOut r table before x) → Gathers r (out.holds.taken ∷ []) (Stopped s ∷ []) → after.kept ≡ Some (Stopped s) → KeepsStopped r table before after s.linked
-      stopped_kept s x out g keeps = record {
+      pub stopped_kept : (s : StoppedSeat) (x : Seated) (out : IsOut r table before x) → Gathers r (out.holds.taken ∷ []) (Stopped s ∷ []) → HasLimit (limits_at (view before.pass).home) s.seat → after.kept ≡ Some (Stopped s) → KeepsStopped r table before after s.linked
+      stopped_kept s x out g limit keeps = record {
         lent = record {
           part = part_kept out.part;
-          kept = subst (HoldsKept r (view after.pass)) (sym keeps) (subst (λ l. Gathers r l (Stopped s ∷ [])) (sym (ap (λ (u : Hand). u.held) w ∙ out.holds.held)) g);
+          kept = subst (HoldsKept r (view after.pass)) (sym keeps) (subst (λ l. Gathers r l (Stopped s ∷ [])) (sym (ap (λ (u : Hand). u.held) w ∙ out.holds.held)) g, subst (λ (u : Hand). HasLimit (limits_at u.home) s.seat) (sym w) limit);
         };
         tells = tells_kept;
         stopped = s;
@@ -190,10 +196,13 @@ module _ {O : Type 0} (r : Running O) where
 
       pub read_stopped : (op : List ℕ) (s : StoppedSeat) (x : Seated) → IsOut r table before x → HaltsReading r op x s → after.kept ≡ Some (Stopped s) → KeepsStopped r table before after s.linked
       read_stopped op s x out halts keeps =
-          stopped_kept s x out (are_kept r op out.holds.taken halts.between s (stays_on out.holds.taken x halts.between out.holds.idle halts.idle) (inr halts.halted)) keeps
+          stopped_kept s x out (are_kept r op out.holds.taken halts.between s (stays_on out.holds.taken x halts.between out.holds.idle halts.idle) (inr halts.halted))
+          (limit_of (view before.pass) x s.seat out.holds (halts.halted.keeps.number ∙ halts.idle.number) (halts.halted.keeps.limit ∙ halts.idle.limit)) keeps
 
       pub settled_stopped : (op : List ℕ) (s : StoppedSeat) (x : Seated) → IsOut r table before x → UpdateHalted r op x s ⊎ ReadHalted r op x s → after.kept ≡ Some (Stopped s) → KeepsStopped r table before after s.linked
-      settled_stopped op s x out halted keeps = stopped_kept s x out (are_kept r op out.holds.taken x s out.holds.idle halted) keeps
+      settled_stopped op s x out halted keeps =
+          let same : (s.seat.known.local.number ≡ x.known.local.number) × (s.seat.known.local.limit ≡ x.known.local.limit) = halted_same op x s halted in
+          stopped_kept s x out (are_kept r op out.holds.taken x s out.holds.idle halted) (limit_of (view before.pass) x s.seat out.holds same.0 same.1) keeps
 
     -- it may be given back
     pub done_back : (op : List ℕ) (lent : Lent) (x y : Seated) (answer : Answer) → IsOut r table lent x → UpdateDone r op x y answer → IsCallerOf r y × HasLimit (limits_at (view lent.pass).home) y × IsFirstOf (view lent.pass).held y
@@ -245,6 +254,7 @@ module _ {O : Type 0} (r : Running O) where
             kept = subst (HoldsKept r (view after.pass)) (sym none) (ap (λ (u : Hand). u.held) given);
           };
           back = none;
+          limits = ap (λ (u : Hand). limits_at u.home) given;
           told = t;
           is = (sym done.links.number, refl, refl, refl);
           from = omega (arith, floor_, done.from);
@@ -259,6 +269,7 @@ module _ {O : Type 0} (r : Running O) where
       entry_since op floor caller answer t = record {
         lent = t.lent;
         back = t.back;
+        limits = t.limits ∙ same.limits;
         told = t.told;
         is = t.is;
         from = t.from;
@@ -271,6 +282,7 @@ module _ {O : Type 0} (r : Running O) where
       read_since op floor seen t = record {
         lent = t.lent;
         back = t.back;
+        limits = t.limits ∙ same.limits;
         read = t.read;
         is = t.is;
         from = t.from;

@@ -1,7 +1,8 @@
-mod Calling
+pub mod Calling
 mod Closing
 mod History
 mod Lends
 mod Opening
 mod Tickets
-mod Weights
+pub mod Weights
+mod Whole

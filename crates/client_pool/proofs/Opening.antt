@@ -17,7 +17,7 @@ use Rattle.seat_pool.specs.declared.hand.Home.{Home}
 use Rattle.seat_pool.specs.declared.lent.Lent.{Lent}
 use Rattle.seat_pool.proofs.Orderings.{range_push}
 use Rattle.client_pool.specs.Clients.{HasCalls, IsClientOf}
-use Rattle.client_pool.specs.Lending.{IsLentTo}
+use Rattle.client_pool.specs.Lending.{IsLentTo, limits_of}
 use Rattle.client_pool.specs.Pools.{AreNewCallers, AreNewClients, IsClosing, IsNewCaller, IsNewClient, IsPlaced}
 use Rattle.client_pool.specs.declared.client.Client.{Client}
 use Rattle.client_pool.specs.declared.client.Closing.{Closing}
@@ -107,19 +107,21 @@ module _ {O : Type 0} (r : Running O) where
     }
 
     -- the first clients of a pool
-    pub record AreMade (n : ℕ) (clients : List Client) : Type 0 where
+    pub record AreMade (limits : List ℕ) (n : ℕ) (clients : List Client) : Type 0 where
       pub long : length clients ≡ n
       pub each : All (IsClientOf r table) clients
       pub numbers : map (λ (c : Client). c.number) clients ≡ range_with_len 0 n
       pub live : All (λ (c : Client). c.lent.kept ≡ None) clients
+      pub limits_are : All (λ (c : Client). limits_of c.lent ≡ limits) clients
       pub calls : All (λ (c : Client). HasCalls r c []) clients
 
-    pub made_more : (n : ℕ) (xs ys : List Client) (x m : Client) → AreMade n xs → ys ≡ xs ++ x ∷ [] → IsNewClient r table n m → x.number ≡ m.number → x.floor ≡ m.floor → x.answers ≡ m.answers → x.lent ≡ m.lent → AreMade (n + 1) ys
-    made_more n xs ys x m made are new number floor answers lent = record {
+    pub made_more : (limits now : List ℕ) (n : ℕ) (xs ys : List Client) (x m : Client) → AreMade limits n xs → ys ≡ xs ++ x ∷ [] → IsNewClient r table now n m → now ≡ limits → x.number ≡ m.number → x.floor ≡ m.floor → x.answers ≡ m.answers → x.lent ≡ m.lent → AreMade limits (n + 1) ys
+    made_more limits now n xs ys x m made are new same_limits number floor answers lent = record {
       long = (let long = made.long in let all : length ys ≡ length (xs ++ x ∷ []) = ap length are in omega (arith, long, all, length-append xs (x ∷ [])));
       each = subst (All (IsClientOf r table)) (sym are) (All-push (IsClientOf r table) xs x made.each (subst (λ l. IsLentTo r table l) (sym lent) new.client_is));
       numbers = numbers_more xs ys x n are made.numbers (number ∙ new.is);
       live = subst (All (λ (c : Client). c.lent.kept ≡ None)) (sym are) (All-push (λ (c : Client). c.lent.kept ≡ None) xs x made.live (ap (λ (l : Lent). l.kept) lent ∙ new.keeps));
+      limits_are = subst (All (λ (c : Client). limits_of c.lent ≡ limits)) (sym are) (All-push (λ (c : Client). limits_of c.lent ≡ limits) xs x made.limits_are (ap limits_of lent ∙ new.limits_are ∙ same_limits));
       calls = subst (All (λ (c : Client). HasCalls r c [])) (sym are) (All-push (λ (c : Client). HasCalls r c []) xs x made.calls (record {
         answers = ap (λ v. v.items) answers ∙ new.calls.answers;
         floor = floor ∙ new.calls.floor;
@@ -129,8 +131,8 @@ module _ {O : Type 0} (r : Running O) where
       }));
     }
 
-    pub all_made : (count : ℕ) (front clients : List Client) (last : Client) (closing : Closing) → clients ≡ front ++ last ∷ [] → last.closing ≡ Some closing → AreMade count clients → IsClosing r table count closing → AreNewClients r table count clients
-    all_made count front clients last closing are has made is = record {
+    pub all_made : (limits : List ℕ) (count : ℕ) (front clients : List Client) (last : Client) (closing : Closing) → clients ≡ front ++ last ∷ [] → last.closing ≡ Some closing → AreMade limits count clients → IsClosing r table count closing → AreNewClients r table limits count clients
+    all_made limits count front clients last closing are has made is = record {
       clients_are = record {
         each = made.each;
         numbers = made.numbers ∙ ap (range_with_len 0) (sym made.long);
@@ -138,5 +140,6 @@ module _ {O : Type 0} (r : Running O) where
       };
       count_is = made.long;
       live = made.live;
+      limits_are = made.limits_are;
       calls = made.calls;
     }

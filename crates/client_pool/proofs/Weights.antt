@@ -23,7 +23,7 @@ pub one_self : (m : ℕ) → one_at m m ≡ 1
 one_self zero = refl
 one_self (suc m) = one_self m
 
-one_is : (m n : ℕ) → 0 < one_at m n → m ≡ n
+pub one_is : (m n : ℕ) → 0 < one_at m n → m ≡ n
 one_is zero zero lt = refl
 one_is zero (suc n) lt = absurd (omega (arith, lt))
 one_is (suc m) zero lt = absurd (omega (arith, lt))

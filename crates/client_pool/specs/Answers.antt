@@ -1,9 +1,10 @@
 -- What the calls of clients are over the history of their service.
-use Rattle.std.specs.Prelude.{◌≡◌, ◌+◌, ◌≤◌, ℕ, List, All, length}
+use Rattle.std.specs.Prelude.{◌≡◌, ◌+◌, ◌<◌, ◌≤◌, ℕ, List, All, Contains, Some, length, slice_get}
 use Rattle.cx_core.specs.Merge.{IsLinked}
 use Rattle.cx_core.specs.RootEvents.{reply_after}
 use Rattle.cx_core.specs.State.{Instance}
 use Rattle.cx_core.specs.declared.entry.Entry.{Entry as HistoryEntry}
+use Rattle.cx_core.specs.declared.local.Local.{Local}
 use Rattle.cx_core.specs.declared.local.SeenRead.{SeenRead}
 use Rattle.seat_pool.specs.Gathering.{one_at}
 use Rattle.seat_pool.specs.Pooling.{total}
@@ -29,12 +30,36 @@ abbrev pub IsCallOf : Instance → List HistoryEntry → Call → Type 0
 IsCallOf instance history (Entry told) = IsEntryOf instance history told
 IsCallOf instance history (Look read) = IsReadOf instance history read
 
+-- the entry and its answer stand in the lists of the caller that is named, and the read in those of some caller
+pub record IsCallersEntry (locals : List Local) (told : Told) : Type 0 where
+  pub local : Local
+  pub of_caller : slice_get locals told.caller ≡ Some local
+  pub own : Contains local.own told.entry
+  pub answered : Contains local.answered told.answer
+
+pub record IsCallersRead (locals : List Local) (read : SeenRead) : Type 0 where
+  pub caller : ℕ
+  pub local : Local
+  pub of_caller : slice_get locals caller ≡ Some local
+  pub seen : Contains local.seen_reads read
+
+abbrev pub IsCallersCall : List Local → Call → Type 0
+IsCallersCall locals (Entry told) = IsCallersEntry locals told
+IsCallersCall locals (Look read) = IsCallersRead locals read
+
 -- how many of a client's calls are answered as the entry at a ticket
 abbrev pub answers_at : ℕ → List Call → ℕ
 answers_at ticket calls = total (λ (t : Told). one_at ticket t.entry.ticket) (entries_of calls)
 
--- The calls of clients are the history's, no ticket answers two of them, and no answer to a client holds below one before it.
-pub record AreAnswered (instance : Instance) (history : List HistoryEntry) (calls : List (List Call)) : Type 0 where
+-- The calls of clients are the history's, and those of the callers that ended with these local states. No ticket answers two of them, and no answer to a
+-- client holds below one before it.
+pub record AreAnswered (instance : Instance) (history : List HistoryEntry) (locals : List Local) (calls : List (List Call)) : Type 0 where
   pub each : All (All (IsCallOf instance history)) calls
+  pub callers : All (All (IsCallersCall locals)) calls
   pub once : (ticket : ℕ) → total (answers_at ticket) calls ≤ 1
   pub in_turn : All (AreInTurn instance.base.place) calls
+
+-- Each ticket of the history answers one of the calls: there are as many entries among these as the history has.
+pub record AreWhole (place : ℕ) (history : List HistoryEntry) (calls : List (List Call)) : Type 0 where
+  pub all : (ticket : ℕ) → place ≤ ticket → ticket < place + length history → total (answers_at ticket) calls ≡ 1
+  pub count : total (λ (cs : List Call). length (entries_of cs)) calls ≡ length history

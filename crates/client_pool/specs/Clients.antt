@@ -1,5 +1,5 @@
 -- What a client of a pool is, and what a call of its comes to.
-use Rattle.std.specs.Prelude.{◌≡◌, ◌+◌, ◌<◌, ◌≤◌, ℕ, List, [], ◌∷◌, ◌++◌, map, vec_capacity, vec_len}
+use Rattle.std.specs.Prelude.{◌≡◌, ◌+◌, ◌<◌, ◌≤◌, ℕ, List, [], ◌∷◌, ◌++◌, None, map, vec_capacity, vec_len}
 use Rattle.atomic_table.specs.Seated.{TableId}
 use Rattle.crossbeam_queue.specs.Passes.{view}
 use Rattle.cx_core.specs.declared.local.Answer.{Answer}
@@ -17,7 +17,7 @@ use Rattle.client_pool.specs.declared.pool.Pooled.{Pooled}
 use Rattle.client_pool.specs.declared.pool.Pooled.TheVariants.{Done, Full, Worn, Stopped, Memory}
 use Rattle.client_pool.specs.declared.pool.PooledRead.{PooledRead}
 use Rattle.client_pool.specs.declared.pool.PooledRead.TheVariants.{Read as ReadSeen, Queued, Full as FullRead, Worn as WornRead, Stopped as StoppedRead, Memory as MemoryRead}
-use Rattle.client_pool.specs.Lending.{IsLentTo, KeepsFull, KeepsStopped, KeepsWorn}
+use Rattle.client_pool.specs.Lending.{IsLentTo, KeepsFull, KeepsStopped, KeepsWorn, limits_of}
 
 -- what its client sees of a call
 abbrev pub answered_by : Call → Answered
@@ -67,14 +67,16 @@ pub record HasCalls {O : Type 0} (r : Running O) (client : Client) (calls : List
 abbrev pub IsClientOf : {O : Type 0} → Running O → TableId → Client → Type 0
 IsClientOf r table client = IsLentTo r table client.lent
 
--- its number, and what it has for the closing
+-- its number, the limits of its service's callers, and what it has for the closing
 pub record IsSameClient (before after : Client) : Type 0 where
   pub number : after.number ≡ before.number
+  pub limits : limits_of after.lent ≡ limits_of before.lent
   pub closing : after.closing ≡ before.closing
 
--- the client made this call more
+-- the client made this call more, and keeps no caller
 pub record HasMade {O : Type 0} (r : Running O) (table : TableId) (before after : Client) (call : Call) : Type 0 where
   pub client : IsClientOf r table after
+  pub back : after.lent.kept ≡ None
   pub same : IsSameClient before after
   pub calls : (calls : List Call) → HasCalls r before calls → HasCalls r after (calls ++ call ∷ [])
 

@@ -47,7 +47,7 @@ abbrev pub HoldsKept : {O : Type 0} → Running O → Hand → Option Handed →
 HoldsKept r v None = v.held ≡ []
 HoldsKept r v (Some (Idle now)) = HoldsIdle r v now
 HoldsKept r v (Some (Linked seat)) = ⊥
-HoldsKept r v (Some (Stopped stopped)) = Gathers r v.held (Stopped stopped ∷ [])
+HoldsKept r v (Some (Stopped stopped)) = Gathers r v.held (Stopped stopped ∷ []) × HasLimit (limits_at v.home) stopped.seat
 
 -- what was lent to a client between its calls
 pub record IsLentTo {O : Type 0} (r : Running O) (table : TableId) (lent : Lent) : Type 0 where
@@ -67,8 +67,13 @@ pub record IsOut {O : Type 0} (r : Running O) (table : TableId) (lent : Lent) (n
   pub none : lent.kept ≡ None
   pub holds : HoldsIdle r (view lent.pass) now
 
+-- the limits of the service's callers, as the pass knows them
+abbrev pub limits_of : Lent → List ℕ
+limits_of lent = limits_at (view lent.pass).home
+
 -- the client was told nothing more, and shown nothing more
 pub record TellsSame (before after : Lent) : Type 0 where
+  pub limits : limits_of after ≡ limits_of before
   pub told : (view after.pass).told ≡ (view before.pass).told
   pub shown : (view after.pass).shown ≡ (view before.pass).shown
 
@@ -87,6 +92,7 @@ Catches r probe floor before (Ended stopped) = HaltsReading r probe before stopp
 pub record TellsEntry {O : Type 0} (r : Running O) (table : TableId) (op : List ℕ) (floor : ℕ) (before after : Lent) (caller : ℕ) (answer : Answer) : Type 0 where
   pub lent : IsLentTo r table after
   pub back : after.kept ≡ None
+  pub limits : limits_of after ≡ limits_of before
   pub told : Told
   pub is : (told.caller ≡ caller) × (told.answer ≡ answer) × (told.entry.ticket ≡ answer.ticket) × (told.entry.entry.op ≡ op)
   pub from : floor ≤ answer.ticket
@@ -98,6 +104,7 @@ pub record TellsEntry {O : Type 0} (r : Running O) (table : TableId) (op : List 
 pub record ShowsRead {O : Type 0} (r : Running O) (table : TableId) (op : List ℕ) (floor : ℕ) (before after : Lent) (seen : Seen) : Type 0 where
   pub lent : IsLentTo r table after
   pub back : after.kept ≡ None
+  pub limits : limits_of after ≡ limits_of before
   pub read : SeenRead
   pub is : (read.place ≡ seen.place) × (read.op ≡ op) × (read.reply ≡ seen.reply)
   pub from : floor ≤ seen.place

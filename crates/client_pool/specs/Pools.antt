@@ -1,5 +1,5 @@
 -- What opening a pool comes to, and closing it.
-use Rattle.std.specs.Prelude.{◌≡◌, ◌+◌, ◌≤◌, ℕ, List, [], ◌∷◌, ◌++◌, All, Some, None, length, map, vec_capacity}
+use Rattle.std.specs.Prelude.{◌≡◌, ◌+◌, ◌≤◌, ℕ, true, List, [], ◌∷◌, ◌++◌, All, Some, None, length, map, slice_get, vec_capacity}
 use Rattle.std.specs.List.{AllZip, range_with_len}
 use Rattle.atomic_table.specs.Seated.{TableId}
 use Rattle.crossbeam_queue.specs.Passes.{view}
@@ -9,14 +9,16 @@ use Rattle.cx_rule.specs.Seats.{Seated}
 use Rattle.cx_service.specs.Callers.{IsCallerOf}
 use Rattle.cx_service.specs.Closes.{seats_of}
 use Rattle.cx_service.specs.declared.close.Handed.{Handed}
+use Rattle.cx_service.specs.declared.close.Handed.TheVariants.{Idle}
 use Rattle.cx_table.specs.Remains.{AreSeats, Leaves}
 use Rattle.cx_table.specs.declared.remains.Remains.{Remains}
 use Rattle.seat_pool.specs.Gathering.{AreTold, IsRestOf}
 use Rattle.seat_pool.specs.Pooling.{IsHomeOf, all_parts}
 use Rattle.seat_pool.specs.declared.hand.Hand.{Hand}
 use Rattle.seat_pool.specs.declared.lent.Lent.{Lent}
-use Rattle.client_pool.specs.Answers.{AreAnswered}
+use Rattle.client_pool.specs.Answers.{AreAnswered, AreWhole}
 use Rattle.client_pool.specs.Clients.{HasCalls, IsClientOf}
+use Rattle.client_pool.specs.Lending.{is_live, limits_of}
 use Rattle.client_pool.specs.declared.call.Call.{Call}
 use Rattle.client_pool.specs.declared.client.Client.{Client}
 use Rattle.client_pool.specs.declared.client.Closing.{Closing}
@@ -51,10 +53,11 @@ pub record HaveRoom (callers clients : ℕ) (rooms : Rooms) : Type 0 where
   pub gathered : (rooms.gathered.items ≡ []) × (callers ≤ vec_capacity rooms.gathered)
   pub out : (rooms.out.items ≡ []) × (callers ≤ vec_capacity rooms.out)
 
--- a client that has made no call
-pub record IsNewClient {O : Type 0} (r : Running O) (table : TableId) (number : ℕ) (client : Client) : Type 0 where
+-- a client that has made no call, of a service whose callers have these limits
+pub record IsNewClient {O : Type 0} (r : Running O) (table : TableId) (limits : List ℕ) (number : ℕ) (client : Client) : Type 0 where
   pub client_is : IsClientOf r table client
   pub is : client.number ≡ number
+  pub limits_are : limits_of client.lent ≡ limits
   pub keeps : client.lent.kept ≡ None
   pub calls : HasCalls r client []
 
@@ -82,11 +85,12 @@ pub record AreClients {O : Type 0} (r : Running O) (table : TableId) (clients : 
   pub numbers : map (λ (c : Client). c.number) clients ≡ range_with_len 0 (length clients)
   pub ends : HasLast r table clients
 
--- so many clients, none of which has made a call
-pub record AreNewClients {O : Type 0} (r : Running O) (table : TableId) (count : ℕ) (clients : List Client) : Type 0 where
+-- so many clients, none of which has made a call, of a service whose callers have these limits
+pub record AreNewClients {O : Type 0} (r : Running O) (table : TableId) (limits : List ℕ) (count : ℕ) (clients : List Client) : Type 0 where
   pub clients_are : AreClients r table clients
   pub count_is : length clients ≡ count
   pub live : All (λ (c : Client). c.lent.kept ≡ None) clients
+  pub limits_are : All (λ (c : Client). limits_of c.lent ≡ limits) clients
   pub calls : All (λ (c : Client). HasCalls r c []) clients
 
 -- what was lent to clients, and what they are beside it
@@ -97,12 +101,15 @@ abbrev pub former_of : Client → FormerClient
 former_of c = record { number = c.number; floor = c.floor; answers = c.answers }
 
 -- What a closed pool leaves of its service: all callers were handed to its closing, each once, with the account of the clients' calls. Whatever calls the
--- clients made, one list each, are the history's.
+-- clients made, one list each, are the history's; and where no client keeps a stopped caller, they are all that it has. No caller that a client keeps
+-- has its front past the history.
 pub record IsClosed {O : Type 0} (r : Running O) (instance : Instance) (clients : List Client) (remains : Remains) : Type 0 where
   pub handed : List Handed
   pub leaves : Leaves r instance (seats_of handed) remains
   pub told : AreTold r (lents_of clients) handed
-  pub answered : (calls : List (List Call)) → AllZip (HasCalls r) clients calls → AreAnswered instance remains.trail.history calls
+  pub answered : (calls : List (List Call)) → AllZip (HasCalls r) clients calls → AreAnswered instance remains.trail.history remains.trail.locals calls
+  pub whole : All (λ (c : Client). is_live c.lent.kept ≡ true) clients → (calls : List (List Call)) → AllZip (HasCalls r) clients calls → AreWhole r.base.place remains.trail.history calls
+  pub fronts : (i : ℕ) (client : Client) (now : Seated) → slice_get clients i ≡ Some client → client.lent.kept ≡ Some (Idle now) → now.known.local.front ≤ r.base.place + length remains.trail.history
 
 -- a pool that was not closed: the service, all callers and what the clients were
 pub record IsLeftOpen {O : Type 0} (r : Running O) (clients : List Client) (kept : PoolKept O) : Type 0 where

@@ -2,7 +2,7 @@
 
 ghost use Rattle.std.specs.Prelude.{◌≡◌, ◌<◌, ◌≤◌, [], IfErr, IfOk, IsTrue, map};
 ghost use Rattle.crossbeam_queue.specs.Passes.{view, IsPassOf, ruled_capacity};
-ghost use Rattle.seat_pool.specs.Pooling.{IsHomeOf, IsOpened, cut_left};
+ghost use Rattle.seat_pool.specs.Pooling.{IsHomeOf, IsOpened, cut_left, limits_at};
 ghost use Rattle.client_pool.specs.Lending.{IsPool};
 ghost use Rattle.client_pool.specs.Pools.{AreNewCallers, AreNewClients, HaveRoom, IsNewClient, IsPlaced};
 
@@ -56,7 +56,8 @@ fn place_all<O: Object, R: Wait>(
     requires pass { IsPassOf line.now pass × IsOpened service.now (map (λ c. c.known.local.limit) callers.items) (view pass) }
     requires room { ruled_capacity line.now ≡ service.now.callers }
     requires callers { AreNewCallers service.now callers.items }
-    ensures { IsPassOf line.now result × IsPlaced service.now 0 (view result) }
+    ensures placed { IsPassOf line.now result × IsPlaced service.now 0 (view result) }
+    ensures limits { limits_at (view result).home ≡ map (λ c. c.known.local.limit) callers.items }
 {
     let mut pass = pass;
     for caller in callers {
@@ -75,7 +76,7 @@ fn new_client<O: Object>(
 ) -> Client
     requires { IsPassOf line.now pass.old × IsHomeOf service.now (view pass.old).home × (1 < (view pass.old).parts) }
     ensures pass { IsPassOf line.now pass.new × (view pass.new ≡ cut_left (view pass.old)) }
-    ensures client { IsNewClient service.now line.now.table.shared.table_id number result }
+    ensures client { IsNewClient service.now line.now.table.shared.table_id (limits_at (view pass.old).home) number result }
 {
     Client {
         number,
@@ -101,7 +102,7 @@ fn new_clients<O: Object>(
     requires pass { IsPassOf line.now pass × IsPlaced service.now 0 (view pass) }
     requires rooms { HaveRoom service.now.callers count rooms }
     requires count { (1 ≤ count) × (count ≤ 64) }
-    ensures { AreNewClients service.now line.now.table.shared.table_id count result.items }
+    ensures { AreNewClients service.now line.now.table.shared.table_id (limits_at (view pass).home) count result.items }
 {
     let mut pass = pass;
     let Rooms {
@@ -141,7 +142,7 @@ impl<O: Object> Pool<O> {
         requires callers { AreNewCallers service callers.items }
         requires clients { (1 ≤ clients) × (clients ≤ 64) }
         requires probe { IsTrue (O.only_reads service.object probe) }
-        ensures opened { IfOk result (λ r. (r.0.service ≡ service) × IsPool O.only_reads r.0 × AreNewClients service r.0.line.table.shared.table_id clients r.1.items) }
+        ensures opened { IfOk result (λ r. (r.0.service ≡ service) × IsPool O.only_reads r.0 × AreNewClients service r.0.line.table.shared.table_id (map (λ c. c.known.local.limit) callers.items) clients r.1.items) }
         ensures kept { IfErr result (λ k. (k.service ≡ service) × (k.callers ≡ callers)) }
     {
         // a running service has a caller

@@ -16,10 +16,10 @@ use Rattle.pool_tests.specs.Tests.{AreAll, IsBack, IsOf}
 
 module _ (pool : Pool Counters) where
   pub begun : (client : Client) → IsOf pool client → IsBack pool client client
-  begun client of = record { client = of; same = record { number = refl; closing = refl } }
+  begun client of = record { client = of; same = record { number = refl; limits = refl; closing = refl } }
 
   pub again : (a b c : Client) → IsBack pool a b → IsBack pool b c → IsBack pool a c
-  again a b c first second = record { client = second.client; same = record { number = second.same.number ∙ first.same.number; closing = second.same.closing ∙ first.same.closing } }
+  again a b c first second = record { client = second.client; same = record { number = second.same.number ∙ first.same.number; limits = second.same.limits ∙ first.same.limits; closing = second.same.closing ∙ first.same.closing } }
 
   pub updated : (op : List ℕ) (before after : Client) (pooled : Pooled) → Updates pool.service pool.line.table.shared.table_id op before after pooled → IsBack pool before after
   updated op before after (Done answer) u = record { client = u.made.client; same = u.made.same }

@@ -32,5 +32,5 @@ module _ {O : Type 0} where
       }
 
 -- and so are its clients
-pub clients_of : (pool : Pool Counters) (r : Running Counters) (count : ℕ) (clients : List Client) → pool.service ≡ r → AreNewClients r pool.line.table.shared.table_id count clients → AreAll pool clients
-clients_of pool r count clients same new = subst (λ (x : Running Counters). AreClients x pool.line.table.shared.table_id clients) (sym same) new.clients_are
+pub clients_of : (pool : Pool Counters) (r : Running Counters) (limits : List ℕ) (count : ℕ) (clients : List Client) → pool.service ≡ r → AreNewClients r pool.line.table.shared.table_id limits count clients → AreAll pool clients
+clients_of pool r limits count clients same new = subst (λ (x : Running Counters). AreClients x pool.line.table.shared.table_id clients) (sym same) new.clients_are

@@ -1,5 +1,7 @@
-use Rattle.std.proofs.Common.{◌≡◌, ◌+◌, ◌-◌, ◌<◌, arith, refl, subst, Some}
+use Rattle.std.proofs.Common.{◌≡◌, ◌∙◌, ◌+◌, ◌-◌, ◌<◌, ap, arith, refl, subst, Some}
 use Rattle.crossbeam_queue.specs.Passes.{view}
+use Rattle.seat_pool.specs.Pooling.{limits_at}
+use Rattle.seat_pool.specs.declared.hand.Hand.{Hand}
 use Rattle.client_pool.specs.Pools.{IsPlaced}
 use Rattle.client_pool.specs.declared.client.Client.{Client}
 use Rattle.client_pool.specs.declared.client.Closing.{Closing}
@@ -18,7 +20,8 @@ loop-number-preserved g c =
       pass = made.pass.0;
       placed = placed_more r table n (view c.loop-number.pass) (view c.new_client-client.new.pass) i.placed (let few = c.loop-number-test.true in let most = c.requires.count.1 in omega (arith, few, most)) made.pass.1;
       room = (let room = i.room in let same = c.push_reserved.ensures.capacity in omega (arith, room, same));
-      made = made_more r table n c.loop-number.clients.items c.push_reserved.new.self.items x x i.made c.push_reserved.ensures.items made.client refl refl refl refl;
+      limits = ap (λ (v : Hand). limits_at v.home) made.pass.1 ∙ i.limits;
+      made = made_more r table (limits_at (view c.args.pass).home) (limits_at (view c.loop-number.pass).home) n c.loop-number.clients.items c.push_reserved.new.self.items x x i.made c.push_reserved.ensures.items made.client i.limits refl refl refl refl;
     }
 
 pub returns : goal.returns
@@ -40,6 +43,7 @@ returns g c =
     let short : count - 1 < 1024 = (let most = c.requires.count.1 in omega (arith, most)) in
     let placed = placed_more r table (count - 1) (view c.loop-number.pass) (view c.new_client-last.new.pass) (subst (λ k. IsPlaced r k (view c.loop-number.pass)) n i.placed) short made.pass.1 in
     let rest = (let most = c.requires.count.1 in rest_of r table count (view c.new_client-last.new.pass) (subst (λ k. IsPlaced r k (view c.new_client-last.new.pass)) more placed) (omega (arith, most))) in
-    all_made r table count c.loop-number.clients.items items last closing c.push_reserved-2.ensures.items refl
-    (subst (λ k. AreMade r table k items) more (made_more r table (count - 1) c.loop-number.clients.items items last m (subst (λ k. AreMade r table k c.loop-number.clients.items) n i.made) c.push_reserved-2.ensures.items made.client refl refl refl refl))
+    let limits = limits_at (view c.args.pass).home in
+    all_made r table limits count c.loop-number.clients.items items last closing c.push_reserved-2.ensures.items refl
+    (subst (λ k. AreMade r table limits k items) more (made_more r table limits (limits_at (view c.loop-number.pass).home) (count - 1) c.loop-number.clients.items items last m (subst (λ k. AreMade r table limits k c.loop-number.clients.items) n i.made) c.push_reserved-2.ensures.items made.client i.limits refl refl refl refl))
     (record { pass = made.pass.0; rest = rest; lents = c.requires.rooms.lents; former = c.requires.rooms.former; gathered = c.requires.rooms.gathered; out = c.requires.rooms.out })

@@ -1,5 +1,6 @@
-use Rattle.std.proofs.Common.{◌≤◌, vec_capacity}
+use Rattle.std.proofs.Common.{◌≡◌, ◌≤◌, vec_capacity}
 use Rattle.crossbeam_queue.specs.Passes.{view, IsPassOf}
+use Rattle.seat_pool.specs.Pooling.{limits_at}
 use Rattle.client_pool.specs.Pools.{IsPlaced}
 use Rattle.client_pool.proofs.Opening.{AreMade}
 use Rattle.client_pool.proofs.open.new_clients.Given as goal
@@ -10,5 +11,6 @@ invariant-loop-number g l = record {
   pass : IsPassOf l.line l.pass;
   placed : IsPlaced l.service l.number (view l.pass);
   room : l.count ≤ vec_capacity l.clients;
-  made : AreMade l.service l.line.table.shared.table_id l.number l.clients.items;
+  limits : limits_at (view l.pass).home ≡ limits_at (view l.fn.pass).home;
+  made : AreMade l.service l.line.table.shared.table_id (limits_at (view l.fn.pass).home) l.number l.clients.items;
 }

@@ -4,6 +4,7 @@ use Rattle.client_pool.specs.declared.client.Client.{Client}
 use Rattle.cx_rule.specs.Running.{instance_at}
 use Rattle.client_pool.proofs.History.{are_answered}
 use Rattle.client_pool.proofs.Closing.{all_of, lents_are}
+use Rattle.client_pool.proofs.Whole.{are_whole, front_within}
 use Rattle.client_pool.proofs.pool.Pool.close.Goals as goal
 
 pub close-requires-clause-lents : goal.close-requires-clause-lents
@@ -17,4 +18,14 @@ returns-in-Ok-clause-remains g c =
     let closed = c.in-Ok.ensures.remains in
     let told = subst (λ l. AreTold c.args.self.service l closed.0) are closed.2 in
     let r = c.args.self.service in
-    record { handed = closed.0; leaves = closed.1; told = told; answered = are_answered r (instance_at r g.O.Object.step g.O.Object.only_reads) closed.0 c.in-Ok.remains c.args.clients.items refl closed.1 told }
+    let clients = c.args.clients.items in
+    let instance = instance_at r g.O.Object.step g.O.Object.only_reads in
+    let answered = are_answered r instance closed.0 c.in-Ok.remains clients refl closed.1 told in
+    record {
+      handed = closed.0;
+      leaves = closed.1;
+      told = told;
+      answered = answered;
+      whole = λ live calls are. are_whole r c.in-Ok.remains.trail.history closed.0 clients closed.1.merged told live calls are (answered calls are).once;
+      fronts = front_within r instance closed.0 c.in-Ok.remains clients refl closed.1 told;
+    }

@@ -1,6 +1,6 @@
-use Rattle.std.proofs.Common.{◌≡◌, ap, arith, length, refl, subst, ◌∙◌}
+use Rattle.std.proofs.Common.{◌≡◌, ℕ, List, ap, arith, length, refl, subst, ◌∙◌}
 use Rattle.cx_rule.specs.Seats.{Seated}
-use Rattle.client_pool.specs.Pools.{HaveRoom}
+use Rattle.client_pool.specs.Pools.{AreNewClients, HaveRoom}
 use Rattle.client_pool.proofs.Opening.{as_long}
 use Rattle.client_pool.proofs.pool.Pool.open.Goals as goal
 
@@ -22,4 +22,4 @@ new_clients-clients-requires-clause-rooms g c =
     subst (λ n. HaveRoom n c.args.clients c.in-Ok.rooms) same c.in-Ok.ensures
 
 pub returns-clause-opened : goal.returns-clause-opened
-returns-clause-opened g c = (refl, record { room = c.in-Ok-open.ensures.1 ∙ ap length c.as_slice.ensures.value ∙ as_long (λ (s : Seated). s.known.local.number) c.args.callers.items 0 c.args.service.callers c.requires.callers.numbers; probe = c.requires.probe }, c.new_clients-clients.ensures)
+returns-clause-opened g c = (refl, record { room = c.in-Ok-open.ensures.1 ∙ ap length c.as_slice.ensures.value ∙ as_long (λ (s : Seated). s.known.local.number) c.args.callers.items 0 c.args.service.callers c.requires.callers.numbers; probe = c.requires.probe }, subst (λ (limits : List ℕ). AreNewClients c.args.service c.in-Ok-open.line.table.shared.table_id limits c.args.clients c.new_clients-clients.result.items) c.place_all-pass.ensures.limits c.new_clients-clients.ensures)

@@ -14,9 +14,8 @@ returns-in-Found g c =
     let before = c.args.client.now in
     let seen = c.in-Found.seen in
     let after : Client = record { number = before.number; floor = seen.place; answers = c.push_reserved.new.self; lent = c.look.new.lent; closing = before.closing } in
-    read_more r table before after c.args.op.now seen
-    (read_since r table before.lent c.begin.new.lent after.lent c.in-Ok.ensures.1 c.args.op.now before.floor seen c.in-Found.ensures)
-    (record { number = refl; closing = refl })
+    let shows = read_since r table before.lent c.begin.new.lent after.lent c.in-Ok.ensures.1 c.args.op.now before.floor seen c.in-Found.ensures in
+    read_more r table before after c.args.op.now seen shows (record { number = refl; limits = shows.limits; closing = refl })
     (c.push_reserved.ensures.items ∙ ap (λ (l : List Answered). l ++ Read seen ∷ []) c.reserve.ensures.items) refl
 
 pub returns-in-Entered-Done : goal.returns-in-Entered-Done
@@ -27,8 +26,8 @@ returns-in-Entered-Done g c =
     let caller = c.in-Entered-Done.caller in
     let answer = c.in-Entered-Done.answer in
     let after : Client = record { number = before.number; floor = answer.ticket + 1; answers = c.push_reserved-in-Entered-Done.new.self; lent = c.look.new.lent; closing = before.closing } in
-    updated r table before after c.args.op.now caller answer
-    (entry_since r table before.lent c.begin.new.lent after.lent c.in-Ok.ensures.1 c.args.op.now before.floor caller answer
-    (subst (Serves r table c.args.op.now before.floor c.begin.new.lent after.lent) c.in-Entered-Done.field-0-is c.in-Entered-Done.ensures))
-    (record { number = refl; closing = refl })
+    let tells =
+    entry_since r table before.lent c.begin.new.lent after.lent c.in-Ok.ensures.1 c.args.op.now before.floor caller answer
+    (subst (Serves r table c.args.op.now before.floor c.begin.new.lent after.lent) c.in-Entered-Done.field-0-is c.in-Entered-Done.ensures) in
+    updated r table before after c.args.op.now caller answer tells (record { number = refl; limits = tells.limits; closing = refl })
     (c.push_reserved-in-Entered-Done.ensures.items ∙ ap (λ (l : List Answered). l ++ Updated caller answer ∷ []) c.reserve.ensures.items) refl

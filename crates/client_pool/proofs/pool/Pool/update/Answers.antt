@@ -13,7 +13,6 @@ returns-in-Done g c =
     let before = c.args.client.now in
     let answer = c.in-Done.answer in
     let after : Client = record { number = before.number; floor = answer.ticket + 1; answers = c.push_reserved.new.self; lent = c.enter.new.lent; closing = before.closing } in
-    updated r table before after c.args.op.now c.in-Done.caller answer
-    (entry_since r table before.lent c.begin.new.lent after.lent c.in-Ok.ensures.1 c.args.op.now before.floor c.in-Done.caller answer c.in-Done.ensures)
-    (record { number = refl; closing = refl })
+    let tells = entry_since r table before.lent c.begin.new.lent after.lent c.in-Ok.ensures.1 c.args.op.now before.floor c.in-Done.caller answer c.in-Done.ensures in
+    updated r table before after c.args.op.now c.in-Done.caller answer tells (record { number = refl; limits = tells.limits; closing = refl })
     (c.push_reserved.ensures.items ∙ ap (λ (l : List Answered). l ++ Updated c.in-Done.caller answer ∷ []) c.reserve.ensures.items) refl

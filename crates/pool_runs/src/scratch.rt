@@ -1,0 +1,5 @@
+//! Scratch.
+pub(crate) fn scratch()
+    ensures { Unit {0} }
+{
+}
