@@ -1,14 +1,13 @@
 //! The report of a pool's life.
 
-ghost use Rattle.std.specs.Prelude.{◌≡◌, ◌<◌, ◌∷◌, [], IfOk, length};
-ghost use Rattle.doc_store.specs.DocumentMeaning.{document_meaning};
+ghost use Rattle.std.specs.Prelude.{◌≡◌, ◌<◌, ◌∷◌, [], IfOk, Some, length, slice_get};
 ghost use Rattle.pool_answers.specs.Texts.{IsPoolReport, MayPool, RunsPool};
 
 use cx_base::{Gate, Items};
 use cx_table::{Remains, Trail};
 use doc_model::Op;
 use doc_store::DocStore;
-use doc_text::{LifeRecord, Script, report};
+use doc_text::{Life, LifeRecord, Script, report};
 use std::alloc::{AllocError, Global};
 use std::sync::Wait;
 use std::thread::Threads;
@@ -26,11 +25,17 @@ pub fn run_pool<R: Threads + Wait + Sync, G: Gate + Sync>(
     requires some { 0 < length script.now.lives }
     ensures { IfOk result (λ r. RunsPool seats script.now r.0 r.1) }
 {
-    let [life] = script.lives.as_slice() else {
-        unreachable!()
-    };
+    let life = first(script.lives.as_slice());
     let store = DocStore::of(script.lines);
     pool_runs::run_pool(rt, alloc, &store, &life.lent(), &Op::Count, seats, gate)
+}
+
+// The first of some lives.
+fn first(lives: &[Life]) -> &Life
+    requires { 0 < length lives.now }
+    ensures { slice_get lives.now 0 ≡ Some result.now }
+{
+    &lives[0]
 }
 
 /// The report of a script's one life, whose clients share so many callers of one service, and its trail. There is no text, and no trail, where there is

@@ -5,4 +5,5 @@ mod Joining
 mod Opening
 mod Never
 mod Recording
+mod Living
 mod Ending

@@ -1,5 +1,5 @@
 -- One call more of a client, and its line.
-use Rattle.std.proofs.Common.{◌≡◌, ◌∙◌, ◌+◌, ◌-◌, ◌<◌, ◌≤◌, ℕ, List, [], ◌∷◌, ◌++◌, Some, ap, arith, length, length-append, refl, slice_get, subst, sym, inl, inr}
+use Rattle.std.proofs.Common.{◌≡◌, ◌∙◌, ◌+◌, ◌-◌, ◌<◌, ◌≤◌, Bool, true, false, ℕ, List, [], ◌∷◌, ◌++◌, Some, ap, arith, length, length-append, refl, slice_get, subst, sym, inl, inr}
 use Rattle.std.specs.Prelude.{All}
 use Rattle.std.proofs.lemmas.List.Elements.{All-nil, All-push, All-weaker}
 use Rattle.atomic_table.specs.Seated.{TableId}
@@ -21,9 +21,9 @@ use Rattle.life_records.specs.Records.{AreOfNoReply, JournalLine, Life, Meaning,
 use Rattle.life_records.specs.Scripts.{named_op, own_ops}
 use Rattle.pool_runs.proofs.Asking.{may_again, may_still}
 use Rattle.pool_runs.proofs.Ghosts.{answers, answers_still, even, links, own_long, own_still, sees}
-use Rattle.pool_runs.specs.Asking.{KeepsLast, MayAsk, NotesEntry, NotesRead}
+use Rattle.pool_runs.specs.Asking.{AddsEntry, AddsRead, KeepsLast, MayAsk, NotesEntry, NotesRead}
 use Rattle.pool_runs.specs.Ghosts.{IsCallAt, local_of}
-use Rattle.pool_runs.specs.Working.{HasClosing, HasMadeCalls, IsAtWork, IsBadCall, IsCalling, IsNewIn, IsOver}
+use Rattle.pool_runs.specs.Working.{HasClosing, HasMadeCalls, IsAtWork, IsBadCall, IsCalling, IsNewIn, IsOver, Makes}
 use Rattle.pool_runs.specs.declared.progress.Lines.{Lines}
 
 -- a call stays behind its command
@@ -153,3 +153,12 @@ module _ {O Op Reply Store : Type 0} (m : Meaning Op Reply Store) (life : Life O
     few = omega (arith, fewer_before);
     cannot = inl (record { last = last; fewer = fewer_before });
   }
+
+  -- by whether the words are a reply's
+  pub entry_makes : (answer : Answer) → HasUpdated r table ws before after answer → (is_reply : Bool) → AddsEntry m client number answer old new is_reply → Makes m life r table clients client number after new is_reply
+  entry_makes answer u true notes = entry_made answer u notes
+  entry_makes answer u false bad = entry_bad answer u bad
+
+  pub read_makes : (seen : Seen) → HasRead r table ws before after seen → (is_reply : Bool) → AddsRead m client number seen old new is_reply → Makes m life r table clients client number after new is_reply
+  read_makes seen u true notes = read_made seen u notes
+  read_makes seen u false bad = read_bad seen u bad

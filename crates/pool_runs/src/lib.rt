@@ -12,7 +12,6 @@ mod gather;
 mod life;
 mod progress;
 mod run;
-mod scratch;
 mod start;
 mod work;
 mod workers;

@@ -39,7 +39,8 @@ pub(crate) fn live<O: TypedObject + Sync, R: Threads + Wait + Sync, G: Gate + Sy
 {
     let _lines = service.lines();
     let probe = probe_words(object, probe);
-    let Ok((pool, clients)) = Pool::open(rt, alloc, service, callers, life.clients(), probe) else {
+    let count = life.clients();
+    let Ok((pool, clients)) = Pool::open(rt, alloc, service, callers, count, probe) else {
         return Err(AllocError);
     };
     let works = run_workers(rt, alloc, object, &pool, clients, life, gate)?;
@@ -57,14 +58,19 @@ pub(crate) fn live<O: TypedObject + Sync, R: Threads + Wait + Sync, G: Gate + Sy
     if never {
         unreachable!()
     }
+    let journal = Items::of(entries);
+    let reads = Items::of(reads);
+    let stops = Items::new(alloc);
+    let fulls = Items::new(alloc);
+    let choice = life.choice();
     let told = LifeRecord {
-        clients: life.clients(),
+        clients: count,
         from: remains.first,
-        journal: Items::of(entries),
-        reads: Items::of(reads),
-        stops: Items::new(alloc),
-        fulls: Items::new(alloc),
-        choice: life.choice(),
+        journal,
+        reads,
+        stops,
+        fulls,
+        choice,
         kept: 0,
         documents: 0,
     };

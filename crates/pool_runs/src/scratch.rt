@@ -1,5 +1,0 @@
-//! Scratch.
-pub(crate) fn scratch()
-    ensures { Unit {0} }
-{
-}
