@@ -121,7 +121,11 @@ fn queue_closed(closing: Closing<Fifo>) -> (Content, i32)
 
 const fn goes_to_a_thread<T: Send>() {}
 
-/// What C holds may go to another thread.
+/// What C holds may go to another thread, in each of its cases.
 pub const fn contents_cross_threads() {
-    goes_to_a_thread::<Content>();
+    goes_to_a_thread::<Session<DocStore>>();
+    goes_to_a_thread::<Session<Fifo>>();
+    goes_to_a_thread::<Kept<DocStore>>();
+    goes_to_a_thread::<Kept<Fifo>>();
+    goes_to_a_thread::<Remains>();
 }
