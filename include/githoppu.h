@@ -1,16 +1,20 @@
-/* Githoppu for C11 and C++: a document store and a bounded queue that 1 to 8 sessions share, without a lock.
+/* Githoppu for C99, C11 and C++: a document store and a bounded queue that 1 to 8 sessions share, without a lock; what a loss of power leaves
+ * of them, as words; and recovery from words.
  *
  * Link the program with libgithoppu_c.a and with liblibc_c.a of the toolchain, in that order (docs/FROM_C.md).
  *
  * THE THREE RULES, which a caller keeps and no code checks:
- *   1. A session is a pointer that an open gave. It goes to no other library, and once it is closed, to none of these functions.
+ *   1. A session is a pointer that an open, a recovery or a call of a session gave, and so is a closed store. It goes to no other library; and
+ *      once a call took it, only the pointer that this call put out goes to a further one.
  *   2. One call at a time has a session. It goes from one thread to another by a lock, the start or the end of a thread, or an atomic with
  *      sequential consistency, and to no signal handler, nor to a forked child of a program with threads.
- *   3. Words lie where the caller says: an operation and a reply each in 144 words of the caller's own that do not overlap, for the whole call.
+ *   3. Words lie where the caller says, for the whole call: an operation and a reply each in 144 words of the caller's own, an image in as many
+ *      as are told, sessions in as many slots. No two of the places that one call is told overlap, and none is null, also where it has no words.
  *
- * WHO OWNS WHAT. A session is the library's, until it is closed. Keys, documents, operations and replies are the caller's, and nothing of
- * them is kept. Memory is taken in the two opens alone, of the program's malloc, and given back by closing, by its free; malloc has to
- * align a block of n bytes to each power of two up to 16 that divides n.
+ * WHO OWNS WHAT. A session is the library's, and so is a closed store, until they are given up. Keys, documents, operations, replies and the
+ * words of images are the caller's, and nothing of them is kept. Memory is taken of the program's malloc, in the opens, the recoveries and
+ * the closing of the last session alone, and is given back by giving up, by its free; malloc has to align a block of n bytes to each power
+ * of two up to 16 that divides n.
  *
  * THREADS. Different sessions may be used by different threads at once, and any thread may make any call under rule 2. The library starts
  * no thread, takes no lock and waits for nobody: a call makes at most so many tries, and says where others were in the way.
@@ -43,11 +47,23 @@ enum githoppu_status {
     GITHOPPU_FULL = 3,        /* nothing is linked: another session still needs the last 16 operations of this one; yield, and call again */
     GITHOPPU_WORN = 4,        /* nothing is linked: the store has had 2^40 operations, and takes no more; it can still be read */
     GITHOPPU_STOPPED = 5,     /* the session has come to its limit of steps; sessions here have none, so it does not come */
-    GITHOPPU_OUT_OF_TURN = 6, /* a call while an operation is pending, or a finish while none is: nothing is changed */
-    GITHOPPU_BAD_SIZE = 7,    /* an open: the lines are not 64 to 16,384, or the sessions not 1 to 8 */
-    GITHOPPU_NO_MEMORY = 8,   /* an open: malloc gave no memory; what was taken is given back */
+    GITHOPPU_OUT_OF_TURN = 6, /* a call while an operation is pending, a finish while none is, either of a closed store, an image of a session, or
+                                 a closing of what is closed: nothing is changed */
+    GITHOPPU_BAD_SIZE = 7,    /* the lines are not 64 to 16,384, the sessions not 1 to 8, or an image has not as many words as are given */
+    GITHOPPU_NO_MEMORY = 8,   /* malloc gave no memory; what was taken is given back, and nothing else is changed */
     GITHOPPU_NO_SESSION = 9,  /* the functions below: the pointer is null */
-    GITHOPPU_TOO_LONG = 10    /* the functions below: a key above 64 bytes, a document above 1,024, or a text above 56 */
+    GITHOPPU_TOO_LONG = 10,   /* the functions below: a key above 64 bytes, a document above 1,024, or a text above 56 */
+    GITHOPPU_OTHERS = 11,     /* a closing: the session is closed, and other sessions of the store are not */
+    GITHOPPU_LOST = 12,       /* a closing: the last session did not find all that were closed before. No run of the library comes to it */
+    /* a recovery: why words are refused, the first check that they do not pass */
+    GITHOPPU_NO_IMAGE = 13,      /* they are no image: fewer than 8 words, another name or format, or numbers that no store has */
+    GITHOPPU_OTHER_KIND = 14,    /* the image is of a queue where a store is asked for, or of a store where a queue is */
+    GITHOPPU_IMAGE_SIZE = 15,    /* it has not as many words as its sessions and lines make */
+    GITHOPPU_IMAGE_ROOT = 16,    /* the root's place is above 2^40 */
+    GITHOPPU_IMAGE_VERSION = 17, /* the object's version is not known */
+    GITHOPPU_IMAGE_PLACE = 18,   /* the place in the replica that the root names is not the root's */
+    GITHOPPU_IMAGE_BODY = 19,    /* the results in that replica, or its documents or texts, are none that the library writes */
+    GITHOPPU_IMAGE_NUMBERS = 20  /* a result there has a number above the place */
 };
 
 /* ---- The library's own functions. The functions further below are made of these, and easier to use. ---- */
@@ -70,7 +86,29 @@ int32_t githoppu_call(githoppu_handle session, const uint64_t op[144], uint64_t 
 /* Drives the pending operation on, in so many turns. DONE, PENDING, STOPPED or OUT_OF_TURN. The reply is written where it is DONE. */
 int32_t githoppu_finish(githoppu_handle session, uint64_t reply[144], uint64_t tries, void **out);
 
-/* Gives a session up, in whatever state it is. The last one gives up the store or the queue. */
+/* Closes a session, in whatever state it is: its last operation may be pending. In any order, and by any thread: nobody waits for the others.
+ * DONE: it was the last, and *out is the closed store, of which an image can be had. OTHERS: other sessions are not closed, and *out is null. AGAIN:
+ * others were in the way, and *out is the session. NO_MEMORY: it was the last, and *out is the store with all its sessions; close that again, or
+ * drop it. LOST: *out is null, and the store is given up. OUT_OF_TURN: it is a closed store, and *out is that. Where a session was dropped, every other
+ * closing answers OTHERS, and the last one gives the store up. */
+int32_t githoppu_close(githoppu_handle session, void **out);
+
+/* Writes what a loss of power leaves of a closed store or queue into so many words, and tells in *needed how many it takes: DONE where these are as
+ * many, and else BAD_SIZE, and no word is written (so ask once with count 0). Choice 0 leaves of each word what was durable, choice 1 what was
+ * stored last, and every other choice a mixture of these and of numbers that nobody stored, where a word was neither; the root is one of those that
+ * may be left. The same choice gives the same words. OUT_OF_TURN where it is not closed: *needed is 0. The closed store is at *out again.
+ *
+ * An image is 8 words (the name "githoppu" in bytes, the format 1, the kind 1 of a store or 2 of a queue, the sessions, the lines, the root, 0 and 0)
+ * and those of all replicas: 128 * (146 + lines) bytes for each session, and 64. Words in a file have the machine's byte order. No sum over them is kept: a
+ * byte that was turned in a document, or in a replica that the root does not name, is not seen. */
+int32_t githoppu_image(githoppu_handle closed, uint64_t choice, uint64_t *words, size_t count, uint64_t *needed, void **out);
+
+/* Takes up a store, or a queue, from the words of an image, with so many sessions, which need not be as many as the image is of: DONE, BAD_SIZE,
+ * NO_MEMORY, or one of NO_IMAGE to IMAGE_NUMBERS. Where it is not DONE no slot is written. All that was answered before the loss of power is there. */
+int32_t githoppu_recover(const uint64_t *words, size_t words_count, void **sessions, size_t count);
+int32_t githoppu_recover_queue(const uint64_t *words, size_t words_count, void **sessions, size_t count);
+
+/* Gives up a session, in whatever state it is, or a closed store. The last session gives up the store or the queue. */
 void githoppu_drop(githoppu_handle session);
 
 #ifdef __cplusplus
@@ -168,8 +206,61 @@ static inline int githoppu_do(void **session, const githoppu_words *op, githoppu
     return status == GITHOPPU_PENDING ? githoppu_end(session, reply) : status;
 }
 
-/* Gives all sessions of a store or a queue up, and the store with them. Each slot is null afterwards; one that is null is passed over. */
-static inline void githoppu_close(void **sessions, size_t count) {
+/* Closes a session, and tries again while others are in the way. What githoppu_close answers, or NO_SESSION; AGAIN only after so many rounds. At
+ * DONE the closed store is at *closed, else nothing is written there. *session is null where the session is closed, and else what is to be closed again. */
+static inline int githoppu_close_one(void **session, void **closed) {
+    int status = GITHOPPU_AGAIN;
+    long round;
+    if (*session == NULL)
+        return GITHOPPU_NO_SESSION;
+    for (round = 0; round < GITHOPPU_ROUNDS && status == GITHOPPU_AGAIN; round++) {
+        githoppu_handle handle;
+        handle.at = *session;
+        status = githoppu_close(handle, session);
+        if (status == GITHOPPU_AGAIN)
+            GITHOPPU_YIELD();
+    }
+    if (status == GITHOPPU_DONE) {
+        *closed = *session;
+        *session = NULL;
+    }
+    return status;
+}
+
+/* Closes sessions in turn; a slot that is null is passed over. What the last closing answered, or NO_SESSION where all are null: DONE where that closed
+ * the store, OTHERS where other sessions of it are open. It ends at the first answer that is not OTHERS; what is left in the slots is open. After
+ * NO_MEMORY call it again. */
+static inline int githoppu_close_all(void **sessions, size_t count, void **closed) {
+    int status = GITHOPPU_NO_SESSION;
+    size_t i;
+    for (i = 0; i < count && (status == GITHOPPU_NO_SESSION || status == GITHOPPU_OTHERS); i++)
+        if (sessions[i] != NULL)
+            status = githoppu_close_one(&sessions[i], closed);
+    return status;
+}
+
+/* How many words an image of a closed store has: DONE, OUT_OF_TURN where it is not closed, or NO_SESSION. */
+static inline int githoppu_image_size(void **closed, uint64_t *count) {
+    githoppu_handle handle;
+    uint64_t none = 0;
+    int status;
+    handle.at = *closed;
+    if (handle.at == NULL)
+        return GITHOPPU_NO_SESSION;
+    status = githoppu_image(handle, 0, &none, 0, count, closed);
+    return status == GITHOPPU_BAD_SIZE ? GITHOPPU_DONE : status;
+}
+
+/* Writes an image of a closed store: what githoppu_image answers, or NO_SESSION. */
+static inline int githoppu_image_into(void **closed, uint64_t choice, uint64_t *words, size_t count) {
+    githoppu_handle handle;
+    uint64_t needed;
+    handle.at = *closed;
+    return handle.at == NULL ? GITHOPPU_NO_SESSION : githoppu_image(handle, choice, words, count, &needed, closed);
+}
+
+/* Gives up sessions of a store or a queue, or closed stores. Each slot is null afterwards; one that is null is passed over. */
+static inline void githoppu_give_up(void **sessions, size_t count) {
     size_t i;
     for (i = 0; i < count; i++) {
         githoppu_handle handle;

@@ -49,7 +49,7 @@ from help_tests import Helps
 from image_tests import ImageExplanations, ProgramOnImages, ReadImages, usage
 from picture_tests import Pictures
 from plain_core import Core
-from pool_tests import PoolTexts
+from pool_tests import PoolTexts, ProgramOnPools, pool_rows
 from pool_text import read_pool_script
 from program import is_proved
 from queue_tests import ProgramOnQueues, QueueTexts
@@ -186,8 +186,8 @@ def reader_of(script):
 
 
 def asked_with(script):
-    """The word of the program that takes a script: `fifo`, where it is one of a queue and none of documents."""
-    return random_queues.FIFO if reader_of(script) is read_queue_script else random_lives.RUN
+    """The words of the program that take a script: `fifo` or `pool`, where it is one of a queue, or of clients that share callers, and none of documents."""
+    return {read_queue_script: random_queues.FIFO, read_pool_script: random_pools.asked_of(3)}.get(reader_of(script), random_lives.RUN)
 
 
 def why_refused(script, report):
@@ -587,6 +587,15 @@ class Program(unittest.TestCase):
         for script, status, text in queues:
             with self.subTest(script):
                 self.assertEqual((status, text.encode(), len(script.encode())), self.ran(["fifo"], script.encode()))
+
+    def test_scripts_of_clients_that_share_callers(self):
+        rows = pool_rows()
+        self.assertGreaterEqual(len(rows), 20)
+        for seats, script, status, texts in rows:
+            with self.subTest(script):
+                ended, written, read = self.ran(["pool", str(seats)], script.encode())
+                self.assertEqual((status, len(script.encode())), (ended, read))
+                self.assertIn(written.decode(), texts)
 
     def test_random_scripts(self):
         self.assertIsNone(random_lives.compare(100, random_lives.Seen()))

@@ -39,6 +39,6 @@ int main(void) {
         return 1;
     githoppu_document(&reply, text);
     printf("of %s\n", text);
-    githoppu_close(sessions, SELLERS);
+    githoppu_give_up(sessions, SELLERS);
     return 0;
 }

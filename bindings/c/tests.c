@@ -1,5 +1,5 @@
-/* Tests of the library, in C11 and in C++: what each operation answers, wrong use, threads, and memory that is refused. The program is
- * linked with malloc, realloc and free wrapped, so that the library's blocks are counted and one of them can be refused. */
+/* Tests of the library, in C11 and in C++: what each operation answers, wrong use, threads, closing, images and recovery, and memory that is
+ * refused. The program is linked with malloc, realloc and free wrapped, so that the library's blocks are counted and one of them can be refused. */
 #include "githoppu.h"
 #include <pthread.h>
 #include <stdio.h>
@@ -121,7 +121,7 @@ static void test_documents(void) {
     long_key[65] = 0;
     CHECK(githoppu_get(s, long_key, &reply) == GITHOPPU_TOO_LONG);
     CHECK(githoppu_put(s, "key", text, 1025, &reply) == GITHOPPU_TOO_LONG);
-    githoppu_close(s, 1);
+    githoppu_give_up(s, 1);
 }
 
 static void test_revisions(void) {
@@ -139,7 +139,7 @@ static void test_revisions(void) {
     DO(githoppu_putif(s, "fruit", "\"plum\"", 6, 2, &reply), GITHOPPU_SET);
     DO(githoppu_rev(s, "fruit", &reply), GITHOPPU_REVISION);
     CHECK(githoppu_number(&reply) == 3);
-    githoppu_close(s, 1);
+    githoppu_give_up(s, 1);
 }
 
 static void test_queue(void) {
@@ -167,7 +167,7 @@ static void test_queue(void) {
     CHECK(githoppu_push(&s[0], text, &reply) == GITHOPPU_TOO_LONG);
     text[56] = 0;
     DO(githoppu_push(&s[0], text, &reply), GITHOPPU_PUSHED);
-    githoppu_close(s, 2);
+    githoppu_give_up(s, 2);
 }
 
 static void test_wrong_turns(void) {
@@ -190,9 +190,9 @@ static void test_wrong_turns(void) {
     handle.at = s[0];
     CHECK(githoppu_call(handle, op.word, reply.word, 0, s) == GITHOPPU_DONE);
     CHECK(githoppu_sum(&reply) == 2);
-    githoppu_close(s, 1);
+    githoppu_give_up(s, 1);
     CHECK(s[0] == NULL);
-    githoppu_close(s, 1);
+    githoppu_give_up(s, 1);
 }
 
 /* ---- threads ---- */
@@ -272,7 +272,7 @@ static void test_adding_threads(void) {
     DO(githoppu_get(&sessions[0], "sold", &reply), GITHOPPU_DOC);
     githoppu_document(&reply, text);
     CHECK(strtol(text, NULL, 10) == (long)THREADS * adds);
-    githoppu_close(sessions, THREADS);
+    githoppu_give_up(sessions, THREADS);
 }
 
 static unsigned char arrived[THREADS / 2][TEXTS];
@@ -319,7 +319,212 @@ static void test_queue_threads(void) {
             CHECK(arrived[i][k] == 1);
     DO(githoppu_len(&sessions[0], &reply), GITHOPPU_LENGTH);
     CHECK(githoppu_length(&reply) == 0);
-    githoppu_close(sessions, THREADS);
+    githoppu_give_up(sessions, THREADS);
+}
+
+/* ---- closing, images and recovery ---- */
+
+enum { LINES = 64, REGION = 8 * (146 + LINES), HEAD = 8 };
+
+/* The image of a closed store of so many sessions, in words that the caller frees. */
+static uint64_t *image_of(void **closed, uint64_t choice, uint64_t *count) {
+    uint64_t *words;
+    CHECK(githoppu_image_size(closed, count) == GITHOPPU_DONE);
+    words = (uint64_t *)__real_malloc(*count * sizeof *words);
+    CHECK(words != NULL);
+    CHECK(githoppu_image_into(closed, choice, words, *count) == GITHOPPU_DONE);
+    return words;
+}
+
+static int recover_one(const uint64_t *words, uint64_t count, void **session) { return githoppu_recover(words, count, session, 1); }
+
+/* A store with some documents, closed; its sessions are closed in the order given. */
+static void *closed_store(const int *order, int count) {
+    void *s[8], *closed = NULL;
+    githoppu_words reply;
+    int i;
+    CHECK(githoppu_open(LINES, s, (size_t)count) == GITHOPPU_DONE);
+    DO(githoppu_put(&s[0], "fruit", "\"apple\"", 7, &reply), GITHOPPU_NEW);
+    DO(githoppu_put(&s[count - 1], "fruit", "\"pear\"", 6, &reply), GITHOPPU_REPLACED);
+    DO(githoppu_add(&s[0], "sold", 5, &reply), GITHOPPU_SUM);
+    for (i = 0; i < count; i++) {
+        CHECK(githoppu_close_one(&s[order[i]], &closed) == (i < count - 1 ? GITHOPPU_OTHERS : GITHOPPU_DONE));
+        CHECK(s[order[i]] == NULL && (closed == NULL) == (i < count - 1));
+    }
+    return closed;
+}
+
+static void test_closing_orders(void) {
+    static const int orders[][3] = {{0, 1, 2}, {2, 1, 0}, {1, 2, 0}, {1, 0, 2}, {2, 0, 1}, {0, 2, 1}};
+    size_t i;
+    for (i = 0; i < sizeof orders / sizeof *orders; i++) {
+        void *closed = closed_store(orders[i], 3), *one[1];
+        githoppu_words reply;
+        uint64_t count, *words, choice;
+        char text[1025];
+        for (choice = 0; choice < 5; choice++) {
+            words = image_of(&closed, choice, &count);
+            CHECK(count == HEAD + 3 * 2 * REGION);
+            CHECK(recover_one(words, count, one) == GITHOPPU_DONE);
+            DO(githoppu_get(one, "fruit", &reply), GITHOPPU_DOC);
+            CHECK(githoppu_document(&reply, text) == 6 && strcmp(text, "\"pear\"") == 0);
+            DO(githoppu_rev(one, "fruit", &reply), GITHOPPU_REVISION);
+            CHECK(githoppu_number(&reply) == 2);
+            DO(githoppu_add(one, "sold", 1, &reply), GITHOPPU_SUM);
+            CHECK(githoppu_sum(&reply) == 6);
+            githoppu_give_up(one, 1);
+            __real_free(words);
+        }
+        githoppu_give_up(&closed, 1);
+    }
+}
+
+static void test_closing_turns(void) {
+    static const int order[] = {0};
+    void *s[2], *t[1], *closed, *none = NULL;
+    githoppu_handle handle;
+    githoppu_words reply;
+    uint64_t needed = 1, word = 7;
+    closed = closed_store(order, 1);
+    /* what is closed takes no call, and is closed once */
+    CHECK(githoppu_get(&closed, "fruit", &reply) == GITHOPPU_OUT_OF_TURN);
+    CHECK(githoppu_end(&closed, &reply) == GITHOPPU_OUT_OF_TURN);
+    handle.at = closed;
+    CHECK(githoppu_close(handle, &closed) == GITHOPPU_OUT_OF_TURN && closed != NULL);
+    /* an image has as many words as it has */
+    handle.at = closed;
+    CHECK(githoppu_image(handle, 0, &word, 1, &needed, &closed) == GITHOPPU_BAD_SIZE);
+    CHECK(needed == HEAD + 2 * REGION && word == 7);
+    githoppu_give_up(&closed, 1);
+    /* a session has no image, and null is neither */
+    CHECK(githoppu_open(LINES, s, 2) == GITHOPPU_DONE && githoppu_open(LINES, t, 1) == GITHOPPU_DONE);
+    CHECK(githoppu_image_size(&s[0], &needed) == GITHOPPU_OUT_OF_TURN && needed == 0);
+    CHECK(githoppu_close_one(&none, &closed) == GITHOPPU_NO_SESSION && githoppu_close_all(&none, 1, &closed) == GITHOPPU_NO_SESSION);
+    CHECK(githoppu_image_size(&none, &needed) == GITHOPPU_NO_SESSION && githoppu_image_into(&none, 0, &word, 1) == GITHOPPU_NO_SESSION);
+    /* sessions of another store are of another store */
+    closed = NULL;
+    CHECK(githoppu_close_all(s, 1, &closed) == GITHOPPU_OTHERS && closed == NULL);
+    CHECK(githoppu_close_all(t, 1, &closed) == GITHOPPU_DONE && closed != NULL);
+    githoppu_give_up(&closed, 1);
+    CHECK(githoppu_close_all(s, 2, &closed) == GITHOPPU_DONE && closed != NULL);
+    githoppu_give_up(&closed, 1);
+    /* a store of which a session was dropped is not closed */
+    CHECK(githoppu_open(LINES, s, 2) == GITHOPPU_DONE);
+    githoppu_give_up(s, 1);
+    CHECK(githoppu_close_all(s, 2, &closed) == GITHOPPU_OTHERS && closed == NULL);
+}
+
+/* Each refusal of recovery by its number, of one word that was turned. */
+static void test_refusals(void) {
+    static const int order[] = {1, 0};
+    void *closed = closed_store(order, 2), *one[1], *nine[9];
+    uint64_t count, *words = image_of(&closed, 0, &count), root = words[5];
+    uint64_t *region = words + HEAD + REGION * (root % 4);
+    struct {
+        uint64_t *word, mask;
+        int status;
+    } turned[] = {
+        {words, 1, GITHOPPU_NO_IMAGE},                            /* the name */
+        {words + 1, 2, GITHOPPU_NO_IMAGE},                        /* the format */
+        {words + 2, 3, GITHOPPU_OTHER_KIND},                      /* the kind */
+        {words + 3, 2, GITHOPPU_NO_IMAGE},                        /* no sessions */
+        {words + 3, 8, GITHOPPU_NO_IMAGE},                        /* ten sessions */
+        {words + 3, 1, GITHOPPU_IMAGE_SIZE},                      /* three sessions */
+        {words + 4, 1, GITHOPPU_IMAGE_SIZE},                      /* one line more */
+        {words + 4, 64, GITHOPPU_NO_IMAGE},                       /* no lines */
+        {words + 5, (uint64_t)1 << 63, GITHOPPU_IMAGE_ROOT},      /* the root */
+        {region + 1168, 128, GITHOPPU_IMAGE_VERSION},             /* the object's version */
+        {region, 64, GITHOPPU_IMAGE_PLACE},                       /* the place */
+        {region + 3, 1, GITHOPPU_IMAGE_BODY},                     /* a word of the results that is 0 */
+        {region + 1169, (uint64_t)1 << 40, GITHOPPU_IMAGE_BODY},  /* the index */
+        {region + 8, (uint64_t)1 << 41, GITHOPPU_IMAGE_NUMBERS},  /* a result's number */
+        {words + 6, 1, GITHOPPU_DONE},                            /* a word that is not read */
+    };
+    size_t i;
+    for (i = 0; i < sizeof turned / sizeof *turned; i++) {
+        one[0] = one;
+        *turned[i].word ^= turned[i].mask;
+        CHECK(recover_one(words, count, one) == turned[i].status);
+        *turned[i].word ^= turned[i].mask;
+        CHECK((one[0] == (void *)one) == (turned[i].status != GITHOPPU_DONE));
+        if (turned[i].status == GITHOPPU_DONE)
+            githoppu_give_up(one, 1);
+    }
+    CHECK(recover_one(words, count - 1, one) == GITHOPPU_IMAGE_SIZE);
+    CHECK(recover_one(words, 7, one) == GITHOPPU_NO_IMAGE && recover_one(words, 0, one) == GITHOPPU_NO_IMAGE);
+    CHECK(githoppu_recover_queue(words, count, one, 1) == GITHOPPU_OTHER_KIND);
+    CHECK(githoppu_recover(words, count, nine, 0) == GITHOPPU_BAD_SIZE && githoppu_recover(words, count, nine, 9) == GITHOPPU_BAD_SIZE);
+    CHECK(githoppu_recover(words, count, nine, 8) == GITHOPPU_DONE);
+    githoppu_give_up(nine, 8);
+    githoppu_give_up(&closed, 1);
+    __real_free(words);
+}
+
+static void test_queue_image(void) {
+    void *s[2], *closed;
+    githoppu_words reply;
+    uint64_t count, *words;
+    char text[57];
+    int i;
+    CHECK(githoppu_open_queue(LINES, s, 2) == GITHOPPU_DONE);
+    for (i = 0; i < 20; i++) {
+        snprintf(text, sizeof text, "text-%d", i);
+        DO(githoppu_push(&s[i % 2], text, &reply), GITHOPPU_PUSHED);
+    }
+    DO(githoppu_pop(&s[1], &reply), GITHOPPU_TEXT);
+    CHECK(githoppu_close_all(s, 2, &closed) == GITHOPPU_DONE);
+    words = image_of(&closed, 2, &count);
+    githoppu_give_up(&closed, 1);
+    CHECK(recover_one(words, count, s) == GITHOPPU_OTHER_KIND);
+    CHECK(githoppu_recover_queue(words, count, s, 2) == GITHOPPU_DONE);
+    __real_free(words);
+    for (i = 1; i < 20; i++) {
+        char wanted[57];
+        DO(githoppu_pop(&s[i % 2], &reply), GITHOPPU_TEXT);
+        githoppu_text(&reply, text);
+        snprintf(wanted, sizeof wanted, "text-%d", i);
+        CHECK(strcmp(text, wanted) == 0);
+    }
+    DO(githoppu_pop(&s[0], &reply), GITHOPPU_EMPTY);
+    githoppu_give_up(s, 2);
+}
+
+static void *add_and_close(void *at) {
+    struct worker *w = (struct worker *)at;
+    void *closed = NULL;
+    int status;
+    add_once(w);
+    status = githoppu_close_one(&w->session, &closed);
+    if (status != GITHOPPU_OTHERS && status != GITHOPPU_DONE)
+        w->wrong = 5;
+    w->session = closed;
+    return NULL;
+}
+
+/* Threads close their sessions at once: one of them closes the store, and what each was answered is in it. */
+static void test_closing_threads(void) {
+    int round, i;
+    for (round = 0; round < (adds < ADDS ? 5 : 200); round++) {
+        void *sessions[THREADS], *one[1], *closed = NULL;
+        struct worker workers[THREADS];
+        githoppu_words reply;
+        uint64_t count, *words;
+        CHECK(githoppu_open(LINES, sessions, THREADS) == GITHOPPU_DONE);
+        on_threads(workers, sessions, add_and_close);
+        for (i = 0; i < THREADS; i++)
+            if (sessions[i] != NULL) {
+                CHECK(closed == NULL);
+                closed = sessions[i];
+            }
+        CHECK(closed != NULL);
+        words = image_of(&closed, (uint64_t)round % 3, &count);
+        CHECK(recover_one(words, count, one) == GITHOPPU_DONE);
+        DO(githoppu_add(one, "sold", 0, &reply), GITHOPPU_SUM);
+        CHECK(githoppu_sum(&reply) == THREADS);
+        githoppu_give_up(one, 1);
+        githoppu_give_up(&closed, 1);
+        __real_free(words);
+    }
 }
 
 /* ---- memory ---- */
@@ -346,7 +551,7 @@ static void test_refused(int32_t (*open)(uint64_t, void **, size_t), size_t coun
         refused_at = 0;
     }
     CHECK(status == GITHOPPU_DONE && which > 4);
-    githoppu_close(slots, count);
+    githoppu_give_up(slots, count);
     CHECK(taken - given == before);
 }
 
@@ -363,7 +568,58 @@ static void test_calls_take_none(void) {
         DO(githoppu_get(&s[i % 2], "sold", &reply), GITHOPPU_DOC);
     }
     CHECK(taken == before);
-    githoppu_close(s, 2);
+    githoppu_give_up(s, 2);
+}
+
+/* Refuses each block of the closing and of the recovery in turn. The closing is tried again with what is left. */
+static void test_closing_refused(void) {
+    void *s[2], *closed = NULL;
+    githoppu_words reply;
+    uint64_t count, *words;
+    long which, before = taken - given;
+    int status = GITHOPPU_NO_MEMORY;
+    CHECK(githoppu_open(LINES, s, 2) == GITHOPPU_DONE);
+    DO(githoppu_add(&s[0], "sold", 5, &reply), GITHOPPU_SUM);
+    CHECK(githoppu_close_one(&s[1], &closed) == GITHOPPU_OTHERS);
+    for (which = 1; status == GITHOPPU_NO_MEMORY; which++) {
+        refused_at = taken + which;
+        status = githoppu_close_one(&s[0], &closed);
+        if (status == GITHOPPU_NO_MEMORY) {
+            given++;
+            CHECK(s[0] != NULL && closed == NULL);
+            refused_at = 0;
+            CHECK(githoppu_add(&s[0], "sold", 5, &reply) == GITHOPPU_OUT_OF_TURN);
+        }
+    }
+    refused_at = 0;
+    CHECK(status == GITHOPPU_DONE && which > 4 && s[0] == NULL);
+    words = image_of(&closed, 0, &count);
+    githoppu_give_up(&closed, 1);
+    CHECK(taken - given == before);
+    status = GITHOPPU_NO_MEMORY;
+    for (which = 1; status == GITHOPPU_NO_MEMORY; which++) {
+        s[0] = s;
+        refused_at = taken + which;
+        status = recover_one(words, count, s);
+        if (status == GITHOPPU_NO_MEMORY) {
+            CHECK(taken >= refused_at && taken - given == before + 1 && s[0] == (void *)s);
+            given++;
+        }
+    }
+    refused_at = 0;
+    CHECK(status == GITHOPPU_DONE && which > 4);
+    DO(githoppu_get(s, "sold", &reply), GITHOPPU_DOC);
+    githoppu_give_up(s, 1);
+    CHECK(taken - given == before);
+    __real_free(words);
+    /* a store that is not closed for want of memory is given up */
+    CHECK(githoppu_open_queue(LINES, s, 1) == GITHOPPU_DONE);
+    refused_at = taken + 1;
+    CHECK(githoppu_close_one(s, &closed) == GITHOPPU_NO_MEMORY);
+    given++;
+    refused_at = 0;
+    githoppu_give_up(s, 1);
+    CHECK(taken - given == before);
 }
 
 int main(int count, char **words) {
@@ -378,6 +634,12 @@ int main(int count, char **words) {
     test_refused(githoppu_open, 8);
     test_refused(githoppu_open_queue, 3);
     test_calls_take_none();
+    test_closing_orders();
+    test_closing_turns();
+    test_refusals();
+    test_queue_image();
+    test_closing_refused();
+    test_closing_threads();
     test_adding_threads();
     test_queue_threads();
     puts("the C tests passed");

@@ -1,7 +1,9 @@
-"""Tests of what the tools know of clients that share callers: their scripts, their reports, and how those are drawn."""
+"""Tests of what the tools know of clients that share callers: their scripts, their reports, and how those are drawn; and of the program on their scripts."""
+import json
 import random
 import re
 import unittest
+from pathlib import Path
 
 import check_report
 import draw_life
@@ -9,9 +11,12 @@ import plain_judge
 import random_faults
 import random_pools
 from pool_text import read_pool_script
+from program import is_proved
+from random_lives import PROGRAM, Refused, Seen, answer_of_program
 from report_text import Fault, read_report
 from script_text import Refusal, read_script
 
+ROWS = Path(__file__).resolve().parent / "rows"
 # scripts, the lines in which they are refused, and the reasons
 SCRIPTS = {
     "": None,
@@ -68,6 +73,11 @@ WRONG = [
 ]
 
 
+def pool_rows():
+    """Scripts, each with the number of callers, the status with which `pool` ends, and what it may write."""
+    return json.loads((ROWS / "pools.json").read_text("utf-8"))
+
+
 def why_refused(script, report):
     """The line of a report at fault and why, or None where it is legal."""
     try:
@@ -88,6 +98,15 @@ def refusal(script):
 
 
 class PoolTexts(unittest.TestCase):
+    def test_rows(self):
+        for _, script, status, texts in pool_rows():
+            with self.subTest(script[:80]):
+                if status == 3:
+                    line, reason, _ = refusal(script.encode())
+                    self.assertEqual([f"refused line {line}: {reason}\n"], texts)
+                else:
+                    self.assertEqual([None] * len(texts), [why_refused(script.encode(), text.encode()) for text in texts])
+
     def test_scripts(self):
         for script, fault in SCRIPTS.items():
             with self.subTest(script):
@@ -137,3 +156,51 @@ class PoolTexts(unittest.TestCase):
     def test_pictures_have_each_client(self):
         picture = draw_life.drawn(REPORT.encode())
         self.assertIn("2 of 2 entries kept, 1 document (choice 4)", picture)
+
+
+@unittest.skipUnless(is_proved(PROGRAM), "the program is not built and proved")
+class ProgramOnPools(unittest.TestCase):
+    """The built program on scripts of clients that share callers."""
+
+    def answer(self, script, seats):
+        return answer_of_program(PROGRAM, script, f"pool {seats}")
+
+    def test_random_scripts(self):
+        self.assertIsNone(random_pools.compare(80, Seen()))
+
+    def test_one_caller(self):
+        """64 clients over one caller: each adds, and reads what it wrote; then 10,000 commands of all, of one client after another."""
+        each = "".join(f"{client} {asked}\n" for client in range(64) for asked in ("add n 1", f"put k{client} {client}", f"get k{client}", "count"))
+        for lines in (each, "".join(f"{at % 64} add n 1\n" for at in range(10_000))):
+            script = f"lines 1024\nlife 64 power 7\n{lines}".encode()
+            with self.subTest(lines[:40]):
+                self.assertIsNone(why_refused(script, self.answer(script, 1)))
+
+    def test_all_numbers_of_callers(self):
+        """20 clients, each of which reads and writes what all do."""
+        script = b"lines 64\nlife 20 power 3\n" + b"".join(b"%d add n 1\n%d get n\n" % (client, client) for client in [*range(20)] * 20)
+        for seats in range(1, 9):
+            with self.subTest(seats):
+                report = self.answer(script, seats)
+                self.assertIsNone(why_refused(script, report))
+                entries = read_report(report).lives[0].entries
+                self.assertEqual("add n 1 = sum 400", [entry.rest for entry in entries if entry.rest.startswith("add")][-1])
+
+    def test_each_script(self):
+        for script, fault in SCRIPTS.items():
+            script = script.encode()
+            with self.subTest(script):
+                answer = self.answer(script, 2)
+                self.assertTrue(answer == Refused(*fault) if fault else why_refused(script, answer) is None)
+
+    def test_each_line_of_a_life(self):
+        for line, (reason, _) in IN_A_LIFE.items():
+            script = HEAD + line.encode() + b"\n"
+            with self.subTest(line):
+                answer = self.answer(script, 3)
+                self.assertTrue(answer == Refused(3, reason) if reason else why_refused(script, answer) is None)
+
+    def test_each_word_has_its_own_clients(self):
+        script = b"lines 64\nlife 9 power 0\n8 add n 1\n"
+        self.assertEqual(Refused(2, "life"), answer_of_program(PROGRAM, script))
+        self.assertIsNone(why_refused(script, self.answer(script, 1)))

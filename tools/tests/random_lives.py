@@ -213,7 +213,7 @@ class Refused:
 
 @dataclass(frozen=True)
 class Asked:
-    """A word of the program, and how the tools read the scripts that it takes."""
+    """A command of the program, by its words, and how the tools read the scripts that it takes."""
 
     word: str
     read: Callable
@@ -224,7 +224,7 @@ RUN = Asked("run", read_script)
 
 def answer_of_program(program, script, word="run"):
     """What the program says of a script: its report, or its refusal, or how else it ended."""
-    ended = subprocess.run([program, word], input=script, capture_output=True, check=False, timeout=MOST_SECONDS)
+    ended = subprocess.run([program, *word.split()], input=script, capture_output=True, check=False, timeout=MOST_SECONDS)
     if ended.returncode == 3:
         _, _, line, reason = ended.stdout.decode().split()
         return Refused(int(line.rstrip(":")), reason)

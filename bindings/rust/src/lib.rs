@@ -1,7 +1,8 @@
 //! A document store and a bounded queue that 1 to 8 sessions share, from Rust: safe types over the library's functions.
 //!
 //! A session is `Send` and not `Sync`: it goes to a thread, and one call at a time has it. Calls try again while others are in the way; they
-//! take no lock. Dropping the last session drops the store.
+//! take no lock. Dropping the last session drops the store. Closing the last one hands out what a loss of power leaves of it, from which it is
+//! recovered.
 //!
 //! ```
 //! let mut sessions = githoppu::Store::open(64, 2)?;
@@ -10,6 +11,13 @@
 //! sessions[0].add("sold", 1)?;
 //! seller.join().unwrap()?;
 //! assert_eq!(sessions[0].get("sold")?, Some("3".to_string()));
+//!
+//! let mut last = githoppu::Store::open(64, 1)?.pop().unwrap();
+//! last.add("sold", 4)?;
+//! let githoppu::Closing::Closed(mut closed) = last.close() else { panic!() };
+//! let words = closed.image(0)?;
+//! let mut again = githoppu::Store::recover(&words, 2)?;
+//! assert_eq!(again[1].get("sold")?, Some("4".to_string()));
 //! # Ok::<(), githoppu::Error>(())
 //! ```
 
@@ -17,7 +25,7 @@ mod raw;
 mod session;
 mod words;
 
-use session::Pointer;
+use session::{Ended, Pointer};
 use std::fmt;
 use words::{document_in, document_op, key_in, queue_op, text_in};
 
@@ -41,6 +49,24 @@ pub enum Error {
     Stopped,
     /// The document is no UTF-8; `get_bytes` gives it.
     NoText,
+    /// The session is to be closed again, and takes no other call.
+    OutOfTurn,
+    /// A recovery: the words are no image.
+    NoImage,
+    /// The image is of a queue where a store is asked for, or of a store where a queue is.
+    OtherKind,
+    /// The image has not as many words as its sessions and lines make.
+    ImageSize,
+    /// The root's place is above 2^40.
+    ImageRoot,
+    /// The object's version is not known.
+    ImageVersion,
+    /// The place in the replica that the root names is not the root's.
+    ImagePlace,
+    /// The results in that replica, or its documents or texts, are none that the library writes.
+    ImageBody,
+    /// A result there has a number above the place.
+    ImageNumbers,
     /// An answer that this version does not know.
     Unknown(i32),
 }
@@ -51,8 +77,17 @@ impl Error {
             raw::AGAIN | raw::FULL => Error::Busy,
             raw::WORN => Error::Worn,
             raw::STOPPED => Error::Stopped,
+            raw::OUT_OF_TURN => Error::OutOfTurn,
             raw::BAD_SIZE => Error::BadSize,
             raw::NO_MEMORY => Error::NoMemory,
+            raw::NO_IMAGE => Error::NoImage,
+            raw::OTHER_KIND => Error::OtherKind,
+            raw::IMAGE_SIZE => Error::ImageSize,
+            raw::IMAGE_ROOT => Error::ImageRoot,
+            raw::IMAGE_VERSION => Error::ImageVersion,
+            raw::IMAGE_PLACE => Error::ImagePlace,
+            raw::IMAGE_BODY => Error::ImageBody,
+            raw::IMAGE_NUMBERS => Error::ImageNumbers,
             other => Error::Unknown(other),
         }
     }
@@ -69,6 +104,15 @@ impl fmt::Display for Error {
             Error::Worn => f.write_str("the store takes no further operation"),
             Error::Stopped => f.write_str("the session makes no further step"),
             Error::NoText => f.write_str("the document is no text"),
+            Error::OutOfTurn => f.write_str("the session is to be closed again"),
+            Error::NoImage => f.write_str("the words are no image"),
+            Error::OtherKind => f.write_str("the image is of another kind of object"),
+            Error::ImageSize => f.write_str("the image has another number of words"),
+            Error::ImageRoot => f.write_str("the root's place is above 2^40"),
+            Error::ImageVersion => f.write_str("the object's version is not known"),
+            Error::ImagePlace => f.write_str("the replica's place is not the root's"),
+            Error::ImageBody => f.write_str("the replica is none that the library writes"),
+            Error::ImageNumbers => f.write_str("a result has a number above the place"),
             Error::Unknown(status) => write!(f, "the library answered {status}"),
         }
     }
@@ -98,6 +142,40 @@ pub enum Add {
     NoRoom,
 }
 
+/// What closing a session comes to.
+pub enum Closing<S> {
+    /// The session is closed, and other sessions of the store are not. Where one was dropped this is every other session's answer.
+    Others,
+    /// It was the last, and this is what it left.
+    Closed(Closed),
+    /// It is not closed. After `NoMemory` it takes no other call than a further closing.
+    Not(S, Error),
+    /// The last session did not find all that were closed before; the store is given up. No run of the library comes to it.
+    Lost,
+}
+
+impl<S> Closing<S> {
+    fn of(ended: Ended, session: fn(Pointer) -> S) -> Closing<S> {
+        match ended {
+            Ended::Others => Closing::Others,
+            Ended::Closed(pointer) => Closing::Closed(Closed(pointer)),
+            Ended::Not(pointer, error) => Closing::Not(session(pointer), error),
+            Ended::Lost => Closing::Lost,
+        }
+    }
+}
+
+/// A closed store or queue.
+pub struct Closed(Pointer);
+
+impl Closed {
+    /// What a loss of power leaves of it, as words: by choice 0 what was durable of each word, by choice 1 what was stored last, and by every other
+    /// choice a mixture. The same choice gives the same words.
+    pub fn image(&mut self, choice: u64) -> Result<Vec<u64>, Error> {
+        self.0.image(choice)
+    }
+}
+
 /// A document store, which lives as long as one of its sessions.
 pub struct Store;
 
@@ -106,6 +184,12 @@ impl Store {
     /// text; the first line is the store's own.
     pub fn open(lines: u64, sessions: usize) -> Result<Vec<Session>, Error> {
         let pointers = Pointer::open(raw::githoppu_open, lines, sessions)?;
+        Ok(pointers.into_iter().map(Session).collect())
+    }
+
+    /// So many sessions of the store that the words of an image say.
+    pub fn recover(words: &[u64], sessions: usize) -> Result<Vec<Session>, Error> {
+        let pointers = Pointer::recover(raw::githoppu_recover, words, sessions)?;
         Ok(pointers.into_iter().map(Session).collect())
     }
 }
@@ -167,6 +251,11 @@ impl Session {
     pub fn count(&mut self) -> Result<u64, Error> {
         Ok(self.0.ask(&document_op(6, "", &[], 0)?)?[3])
     }
+
+    /// Closes the session. The one of a store that is closed last closes the store.
+    pub fn close(self) -> Closing<Session> {
+        Closing::of(self.0.close(), Session)
+    }
 }
 
 /// What a put at a revision comes to.
@@ -212,6 +301,12 @@ impl Queue {
         let pointers = Pointer::open(raw::githoppu_open_queue, lines, sessions)?;
         Ok(pointers.into_iter().map(QueueSession).collect())
     }
+
+    /// So many sessions of the queue that the words of an image say.
+    pub fn recover(words: &[u64], sessions: usize) -> Result<Vec<QueueSession>, Error> {
+        let pointers = Pointer::recover(raw::githoppu_recover_queue, words, sessions)?;
+        Ok(pointers.into_iter().map(QueueSession).collect())
+    }
 }
 
 /// A session of a queue.
@@ -241,6 +336,11 @@ impl QueueSession {
     /// Whether there is none.
     pub fn is_empty(&mut self) -> Result<bool, Error> {
         Ok(self.len()? == 0)
+    }
+
+    /// Closes the session. The one of a queue that is closed last closes the queue.
+    pub fn close(self) -> Closing<QueueSession> {
+        Closing::of(self.0.close(), QueueSession)
     }
 
     fn front(&mut self, kind: u64) -> Result<Option<String>, Error> {

@@ -2,7 +2,7 @@
 
 use std::ffi::c_void;
 
-/// A session as an argument.
+/// A session, or a closed store, as an argument.
 #[repr(C)]
 #[derive(Clone, Copy)]
 pub struct Handle(pub *mut c_void);
@@ -15,13 +15,28 @@ pub const AGAIN: i32 = 2;
 pub const FULL: i32 = 3;
 pub const WORN: i32 = 4;
 pub const STOPPED: i32 = 5;
+pub const OUT_OF_TURN: i32 = 6;
 pub const BAD_SIZE: i32 = 7;
 pub const NO_MEMORY: i32 = 8;
+pub const OTHERS: i32 = 11;
+pub const LOST: i32 = 12;
+pub const NO_IMAGE: i32 = 13;
+pub const OTHER_KIND: i32 = 14;
+pub const IMAGE_SIZE: i32 = 15;
+pub const IMAGE_ROOT: i32 = 16;
+pub const IMAGE_VERSION: i32 = 17;
+pub const IMAGE_PLACE: i32 = 18;
+pub const IMAGE_BODY: i32 = 19;
+pub const IMAGE_NUMBERS: i32 = 20;
 
 extern "C" {
     pub fn githoppu_open(lines: u64, sessions: *mut *mut c_void, count: usize) -> i32;
     pub fn githoppu_open_queue(lines: u64, sessions: *mut *mut c_void, count: usize) -> i32;
     pub fn githoppu_call(session: Handle, op: *const Words, reply: *mut Words, tries: u64, out: *mut *mut c_void) -> i32;
     pub fn githoppu_finish(session: Handle, reply: *mut Words, tries: u64, out: *mut *mut c_void) -> i32;
+    pub fn githoppu_close(session: Handle, out: *mut *mut c_void) -> i32;
+    pub fn githoppu_image(closed: Handle, choice: u64, words: *mut u64, count: usize, needed: *mut u64, out: *mut *mut c_void) -> i32;
+    pub fn githoppu_recover(words: *const u64, words_count: usize, sessions: *mut *mut c_void, count: usize) -> i32;
+    pub fn githoppu_recover_queue(words: *const u64, words_count: usize, sessions: *mut *mut c_void, count: usize) -> i32;
     pub fn githoppu_drop(session: Handle);
 }

@@ -15,7 +15,18 @@ const ROUNDS: u32 = 1 << 20;
 /// How sessions of a store or of a queue are opened.
 pub type Open = unsafe extern "C" fn(u64, *mut *mut c_void, usize) -> i32;
 
-/// A pointer to a session, which no other value has.
+/// How they are recovered.
+pub type Recover = unsafe extern "C" fn(*const u64, usize, *mut *mut c_void, usize) -> i32;
+
+/// What closing a session comes to.
+pub enum Ended {
+    Others,
+    Closed(Pointer),
+    Not(Pointer, Error),
+    Lost,
+}
+
+/// A pointer to a session, or to a closed store, which no other value has.
 pub struct Pointer(*mut c_void);
 
 // The library proves that what the pointer leads to may go to another thread; one call at a time has it, since a call takes it by `&mut`.
@@ -24,14 +35,57 @@ unsafe impl Send for Pointer {}
 impl Pointer {
     /// So many sessions of a store or a queue in so many lines.
     pub fn open(open: Open, lines: u64, count: usize) -> Result<Vec<Pointer>, Error> {
+        Pointer::made(count, |slots| unsafe { open(lines, slots, count) })
+    }
+
+    /// So many sessions of the store or the queue that words say.
+    pub fn recover(recover: Recover, words: &[u64], count: usize) -> Result<Vec<Pointer>, Error> {
+        Pointer::made(count, |slots| unsafe { recover(words.as_ptr(), words.len(), slots, count) })
+    }
+
+    fn made(count: usize, make: impl FnOnce(*mut *mut c_void) -> i32) -> Result<Vec<Pointer>, Error> {
         if count > 8 {
             return Err(Error::BadSize);
         }
         let mut slots = [ptr::null_mut(); 8];
-        match unsafe { open(lines, slots.as_mut_ptr(), count) } {
+        match make(slots.as_mut_ptr()) {
             raw::DONE => Ok(slots[..count].iter().map(|at| Pointer(*at)).collect()),
             status => Err(Error::of(status)),
         }
+    }
+
+    /// Closes a session, and tries again while others are in the way.
+    pub fn close(mut self) -> Ended {
+        let mut status = raw::AGAIN;
+        for _ in 0..ROUNDS {
+            status = unsafe { raw::githoppu_close(Handle(self.0), &mut self.0) };
+            if status != raw::AGAIN {
+                break;
+            }
+            thread::yield_now();
+        }
+        match status {
+            raw::DONE => Ended::Closed(self),
+            raw::OTHERS => Ended::Others,
+            raw::LOST => Ended::Lost,
+            status => Ended::Not(self, Error::of(status)),
+        }
+    }
+
+    /// What a loss of power leaves of a closed store, by choice.
+    pub fn image(&mut self, choice: u64) -> Result<Vec<u64>, Error> {
+        let mut words = Vec::new();
+        let mut needed = 0;
+        for _ in 0..2 {
+            words.resize(needed as usize, 0);
+            let status = unsafe { raw::githoppu_image(Handle(self.0), choice, words.as_mut_ptr(), words.len(), &mut needed, &mut self.0) };
+            match status {
+                raw::DONE => return Ok(words),
+                raw::BAD_SIZE => (),
+                status => return Err(Error::of(status)),
+            }
+        }
+        Err(Error::BadSize)
     }
 
     /// Does an operation, and tries again until it is answered. A reply of kind 0 says that the words were no operation.
@@ -59,6 +113,9 @@ impl Pointer {
 
 impl Drop for Pointer {
     fn drop(&mut self) {
-        unsafe { raw::githoppu_drop(Handle(self.0)) }
+        // where it was closed, there is nothing left of it here
+        if !self.0.is_null() {
+            unsafe { raw::githoppu_drop(Handle(self.0)) }
+        }
     }
 }

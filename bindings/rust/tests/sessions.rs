@@ -1,6 +1,6 @@
 //! What each operation answers, wrong use, and threads.
 
-use githoppu::{Add, Error, Put, Queue, QueueSession, Session, Store};
+use githoppu::{Add, Closed, Closing, Error, Put, Queue, QueueSession, Session, Store};
 use std::thread;
 
 const THREADS: usize = 4;
@@ -11,6 +11,7 @@ const fn goes_to_a_thread<T: Send>() {}
 
 const _: () = goes_to_a_thread::<Session>();
 const _: () = goes_to_a_thread::<QueueSession>();
+const _: () = goes_to_a_thread::<Closed>();
 
 #[test]
 fn sizes_are_refused() {
@@ -132,4 +133,97 @@ fn four_threads_queue() {
     let mut sent: Vec<String> = (0..THREADS / 2).flat_map(|i| (0..TEXTS).map(move |k| format!("{i}:{k}"))).collect();
     sent.sort();
     assert_eq!(arrived, sent);
+}
+
+/// The closed store of sessions that are closed by threads of their own.
+fn closed_by_threads(sessions: Vec<Session>) -> Closed {
+    let closings: Vec<_> = thread::scope(|scope| {
+        let threads: Vec<_> = sessions
+            .into_iter()
+            .map(|mut session| {
+                scope.spawn(move || {
+                    assert!(matches!(session.add("sold", 1), Ok(Add::Sum(_))));
+                    session.close()
+                })
+            })
+            .collect();
+        threads.into_iter().map(|thread| thread.join().unwrap()).collect()
+    });
+    let mut closed = closings.into_iter().filter_map(|closing| match closing {
+        Closing::Closed(closed) => Some(closed),
+        Closing::Others => None,
+        _ => panic!("a session is not closed"),
+    });
+    let last = closed.next().expect("one is the last");
+    assert!(closed.next().is_none());
+    last
+}
+
+#[test]
+fn what_is_closed_is_recovered() {
+    for choice in 0..20 {
+        let mut sessions = Store::open(64, THREADS).unwrap();
+        assert_eq!(sessions[1].put("fruit", "\"apple\""), Ok(Put::New));
+        assert_eq!(sessions[2].put("fruit", "\"pear\""), Ok(Put::Replaced));
+        let words = closed_by_threads(sessions).image(choice).unwrap();
+        let mut again = Store::recover(&words, 2).unwrap();
+        assert_eq!(again[0].get("fruit"), Ok(Some("\"pear\"".to_string())));
+        assert_eq!(again[0].revision("fruit"), Ok(Some(2)));
+        assert_eq!(again[1].get("sold"), Ok(Some(THREADS.to_string())));
+    }
+}
+
+#[test]
+fn each_refusal_has_its_error() {
+    let words = closed_by_threads(Store::open(64, 2).unwrap()).image(0).unwrap();
+    let region = 8 + 8 * (146 + 64) * (words[5] % 4) as usize;
+    let turned = [
+        (0, 1, Error::NoImage),
+        (2, 3, Error::OtherKind),
+        (3, 1, Error::ImageSize),
+        (5, 1 << 63, Error::ImageRoot),
+        (region + 1168, 128, Error::ImageVersion),
+        (region, 64, Error::ImagePlace),
+        (region + 3, 1, Error::ImageBody),
+        (region + 8, 1 << 41, Error::ImageNumbers),
+    ];
+    for (at, bits, error) in turned {
+        let mut words = words.clone();
+        words[at] ^= bits;
+        assert_eq!(Store::recover(&words, 1).err(), Some(error));
+    }
+    assert_eq!(Store::recover(&words[1..], 1).err(), Some(Error::NoImage));
+    assert_eq!(Store::recover(&words[..words.len() - 1], 1).err(), Some(Error::ImageSize));
+    assert_eq!(Store::recover(&[], 1).err(), Some(Error::NoImage));
+    assert_eq!(Store::recover(&words, 0).err(), Some(Error::BadSize));
+    assert_eq!(Store::recover(&words, 9).err(), Some(Error::BadSize));
+    assert_eq!(Queue::recover(&words, 1).err(), Some(Error::OtherKind));
+}
+
+#[test]
+fn a_queue_keeps_its_order() {
+    let mut sessions = Queue::open(64, 2).unwrap();
+    for i in 0..20 {
+        assert_eq!(sessions[i % 2].push(&format!("text-{i}")), Ok(true));
+    }
+    assert_eq!(sessions[1].pop(), Ok(Some("text-0".to_string())));
+    let first = sessions.pop().unwrap();
+    assert!(matches!(first.close(), Closing::Others));
+    let Closing::Closed(mut closed) = sessions.pop().unwrap().close() else {
+        panic!("the last session closes the queue");
+    };
+    let mut again = Queue::recover(&closed.image(5).unwrap(), 3).unwrap();
+    for i in 1..20 {
+        assert_eq!(again[i % 3].pop(), Ok(Some(format!("text-{i}"))));
+    }
+    assert_eq!(again[0].pop(), Ok(None));
+}
+
+#[test]
+fn a_store_with_a_dropped_session_is_not_closed() {
+    let mut sessions = Store::open(64, 3).unwrap();
+    drop(sessions.pop());
+    for session in sessions {
+        assert!(matches!(session.close(), Closing::Others));
+    }
 }

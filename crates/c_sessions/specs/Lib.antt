@@ -1,2 +1,5 @@
 pub mod Calls
+pub mod Closings
+pub mod Handing
+pub mod Rule
 pub mod Sessions

@@ -3,6 +3,8 @@ use Rattle.std.specs.Prelude.{◌≡◌, ℕ, Bool, All, List, length, map, IfSo
 use Rattle.std.specs.List.{range_with_len}
 use Rattle.std.specs.Option.{option_map_or}
 use Rattle.std.specs.Arc.{arc_value}
+use Rattle.cx_core.specs.Base.{fresh_region}
+use Rattle.cx_core.specs.declared.entry.Base.{Base}
 use Rattle.cx_rule.specs.Running.{Running}
 use Rattle.cx_rule.specs.Seats.{Seated}
 use Rattle.cx_service.specs.Closes.{seat_of}
@@ -13,12 +15,14 @@ use Rattle.cx_service.specs.declared.start.StartFault.TheVariants.{Memory}
 use Rattle.c_sessions.specs.declared.session.Session.{Session}
 use Rattle.c_sessions.specs.declared.steps.Called.{Called}
 use Rattle.c_sessions.specs.Calls.{CallsFrom, FinishesFrom, IsHanded}
+use Rattle.c_sessions.specs.Handing.{IsExitOf}
 
--- something stands of the session's caller
+-- something stands of the session's caller, and the session can be closed
 pub record IsReady {O : Type 0} (s : Session O) : Type 0 where
   pub handed : Handed
   pub is : s.handed ≡ Some handed
   pub of : IsHanded (arc_value s.service) handed
+  pub exit : IsExitOf (arc_value s.service) s.exit
 
 -- a session of this service, ready
 pub record IsReadyOf {O : Type 0} (r : Running O) (s : Session O) : Type 0 where
@@ -29,18 +33,24 @@ pub record IsReadyOf {O : Type 0} (r : Running O) (s : Session O) : Type 0 where
 abbrev pub number_in : {O : Type 0} → Session O → ℕ
 number_in s = option_map_or (λ h. (seat_of h).known.local.number) s.handed 0
 
--- ready sessions of one service, for each of these callers one, in order
-pub record AreReadyOf {O : Type 0} (callers : List Seated) (sessions : List (Session O)) : Type 0 where
-  pub service : Running O
-  pub each : All (IsReadyOf service) sessions
+-- ready sessions of this service, for each of these callers one, in order
+pub record AreReadyOf {O : Type 0} (r : Running O) (callers : List Seated) (sessions : List (Session O)) : Type 0 where
+  pub each : All (IsReadyOf r) sessions
   pub numbers : map number_in sessions ≡ map (λ (x : Seated). x.known.local.number) callers
 
--- so many ready sessions of one service, of caller 0 first
-pub record AreReady {O : Type 0} (count : ℕ) (sessions : List (Session O)) : Type 0 where
+-- so many ready sessions of one service of an object in so many lines, which opens from this base, of caller 0 first
+pub record AreReady {O : Type 0} (object : O) (lines count : ℕ) (base : Base) (sessions : List (Session O)) : Type 0 where
   pub all : length sessions ≡ count
   pub service : Running O
+  pub is : service ≡ record { table = service.table; callers = count; lines = lines; base = base; object = object }
   pub each : All (IsReadyOf service) sessions
   pub numbers : map number_in sessions ≡ range_with_len 0 count
+
+-- the same of a service that opens from the object as it opens
+pub record AreFirst {O : Type 0} (object : O) (lines count : ℕ) (opening : List ℕ) (sessions : List (Session O)) : Type 0 where
+  pub base : Base
+  pub fresh : base ≡ record { place = 0; words = fresh_region opening }
+  pub ready : AreReady object lines count base sessions
 
 -- Why a service of so many callers of an object of so many lines is not opened: the first number that is wrong, or want of memory, which may come
 -- before the numbers are looked at.

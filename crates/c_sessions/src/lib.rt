@@ -1,15 +1,24 @@
 //! Sessions of a service for a caller that is no part of these proofs, as a C program: each is a share of the service with what stands of
-//! one of its callers. A call makes so many tries and answers what the service answered; it waits for nobody and takes no memory.
+//! one of its callers. A call makes so many tries and answers what the service answered; it waits for nobody and takes no memory. Sessions
+//! are closed one by one, and the last one closes the service.
 //!
 //! - `open`, `open_from`: a session for each caller of a new service, over the object's first base or over another.
 //! - `Session::call`, `Session::finish`: what a call answers is the service's answer, and the session is ready again.
+//! - `Session::close`, `close_kept`: the callers of one service lie in a queue under the rule that it is one service, each with its share of it
+//!   (`Gathers`). Who comes last takes all out and closes the service: what it hands out is what the service leaves (`IsClosedOf`). Nobody waits.
 #![tactic(auto)]
 
+mod closing;
+mod exit;
+mod gathering;
+mod handover;
 mod opening;
+mod rule;
 mod session;
 mod steps;
 mod tries;
 
+pub use closing::{Closing, close_kept};
 pub use opening::{open, open_from};
 pub use session::{Session, sessions_cross_threads};
 pub use steps::Called;

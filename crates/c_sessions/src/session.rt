@@ -3,8 +3,10 @@
 ghost use Rattle.std.specs.Prelude.{◌≡◌, Some};
 ghost use Rattle.std.specs.Arc.{arc_value};
 ghost use Rattle.c_sessions.specs.Calls.{IsHanded};
+ghost use Rattle.c_sessions.specs.Handing.{IsExitOf};
 ghost use Rattle.c_sessions.specs.Sessions.{CallsIn, FinishesIn, IsReady};
 
+use crate::exit::Exit;
 use crate::steps::{Called, end, go_on};
 use crate::tries::Tries;
 use cx_base::Object;
@@ -15,19 +17,22 @@ use std::sync::Arc;
 /// A share of a service, and what stands of one of its callers. Between calls something always does.
 #[derive(Drop)]
 pub struct Session<O: Object> {
-    service: Arc<Service<O>, Global>,
-    handed: Option<Handed>,
+    pub(crate) service: Arc<Service<O>, Global>,
+    pub(crate) exit: Exit<O>,
+    pub(crate) handed: Option<Handed>,
 }
 
 impl<O: Object> Session<O> {
     /// A session of what stands of a caller.
-    pub fn of(service: Arc<Service<O>, Global>, handed: Handed) -> Session<O>
-        requires { IsHanded (arc_value service) handed }
+    pub(crate) fn of(service: Arc<Service<O>, Global>, exit: Exit<O>, handed: Handed) -> Session<O>
+        requires handed { IsHanded (arc_value service) handed }
+        requires exit { IsExitOf (arc_value service) exit }
         ensures ready { IsReady result }
         ensures of { (arc_value result.service ≡ arc_value service) × (result.handed ≡ Some handed) }
     {
         Session {
             service,
+            exit,
             handed: Some(handed),
         }
     }

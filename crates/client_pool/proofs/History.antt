@@ -100,8 +100,7 @@ module _ {O : Type 0} (r : Running O) (instance : Instance) (handed : List Hande
       let same : t.entry ≡ record { ticket = t.answer.ticket; entry = is.entry } = same_Some t.entry _ (sym own ∙ is.own) in
       let entry : is.entry ≡ t.entry.entry = sym (ap (λ (x : Linked). x.entry) same) in
       let mine = own_caller i instance.base.place history j t.entry (ap (λ (xs : List Linked). slice_get xs j) (sym (leaves.state.tickets.merged.own i l b.there)) ∙ own) in
-      let number : s.number ≡ i = sym (ap (λ (x : Local). x.number) b.is) ∙ (leaves.state.shape.each i l b.there).number in
-      (
+      let number : s.number ≡ i = sym (ap (λ (x : Local). x.number) b.is) ∙ (leaves.state.shape.each i l b.there).number in (
         record {
           ticket = ap (λ (x : Linked). x.ticket) same;
           caller = mine ∙ sym number ∙ sym item.0;
@@ -121,8 +120,7 @@ module _ {O : Type 0} (r : Running O) (instance : Instance) (handed : List Hande
       let b = behind i g at in
       let l = b.local in
       let is = (leaves.state.answers.each i l b.there).reads j x (ap (λ (y : Local). slice_get y.seen_reads j) b.is ∙ there) in
-      let within = durable_within instance history leaves.words leaves.whole leaves.state.shape.some (bounds_of instance (record { words = leaves.words; locals = leaves.whole }) leaves.state) in
-      (
+      let within = durable_within instance history leaves.words leaves.whole leaves.state.shape.some (bounds_of instance (record { words = leaves.words; locals = leaves.whole }) leaves.state) in (
         record { from = is.from; to = omega (arith, within, is.durable); reply = is.reply },
         record { caller = i; local = (seat_of g).known.local; of_caller = b.ends; seen = contains_at (seat_of g).known.local.seen_reads j x there },
       )

@@ -7,9 +7,9 @@ ghost use Rattle.cx_lives.specs.Serving.{IsServed};
 ghost use Rattle.cx_lives.specs.Turns.{EntryTurn, ReadTurn, StopsIn, ended};
 ghost use Rattle.typed_object.specs.Meaning.{IsReadAs};
 
-use crate::calls::{Asked, ask};
+use crate::calls::ask;
 use cx_core::FullNote;
-use cx_service::{Answer, Caller, Handed, Seen, Service, Stopped};
+use cx_service::{Answer, Caller, Handed, ReadDone, Seen, Service, Stopped};
 use life_records::{BorrowedLife, Command, FullLine, JournalLine, ReadLine, StopLine};
 use std::alloc::{AllocError, Global};
 use std::sync::Wait;
@@ -97,17 +97,17 @@ pub(crate) fn make<O: TypedObject, R: Wait>(
     let op = words_of(service, &command.op);
     let reads_only = is_reading(service, &command.op, &op);
     match ask(rt, service, caller, &op, reads_only, most) {
-        Asked::Done(caller, answer) => {
+        ReadDone::Queued(caller, answer) => {
             let progress = Progress { caller, lines };
             with_entry(alloc, service, progress, client, number, &answer)
         }
-        Asked::Read(caller, seen) => {
+        ReadDone::Read(caller, seen) => {
             let progress = Progress { caller, lines };
             with_read(alloc, service, progress, client, number, &seen)
         }
-        Asked::Full(caller, note) => Ok(Turn::Full(Progress { caller, lines }, note)),
-        Asked::Worn(caller) => Ok(Turn::Over(over(Progress { caller, lines }, End::Never))),
-        Asked::Halted(stopped) => {
+        ReadDone::Full(caller, note) => Ok(Turn::Full(Progress { caller, lines }, note)),
+        ReadDone::Worn(caller) => Ok(Turn::Over(over(Progress { caller, lines }, End::Never))),
+        ReadDone::Halted(stopped) => {
             let work = stopped_in(client, number, stopped, lines)?;
             Ok(Turn::Over(work))
         }

@@ -4,7 +4,7 @@ use Rattle.std.proofs.lemmas.Bool.{cases_Bool}
 use Rattle.image_answers.specs.declared.answering.ImageEnd.{ImageEnd}
 use Rattle.image_answers.specs.declared.answering.ImageEnd.TheVariants as ends
 use Rattle.image_answers.proofs.Ends.{one_end}
-use Rattle.doc_text.specs.Grammar.{IsScript}
+use Rattle.doc_text.specs.Grammar.{IsPoolScript, IsScript}
 use Rattle.fifo_text.specs.Grammar.{IsFifoScript}
 use Rattle.trace_text.specs.Traces.{IsTrace}
 use Rattle.cx_program.specs.Answer.{Calls, Owed, Read}
@@ -13,7 +13,7 @@ use Rattle.cx_program.specs.Input.{IsInput}
 use Rattle.cx_program.specs.Status.{status_of}
 use Rattle.cx_program.specs.Texts.{too_long_text}
 use Rattle.cx_program.specs.declared.asked.Asked.{Asked}
-use Rattle.cx_program.specs.declared.asked.Asked.TheVariants.{Run, Image, Recover, Fifo, Trace, Load}
+use Rattle.cx_program.specs.declared.asked.Asked.TheVariants.{Run, Image, Recover, Fifo, Trace, Load, Pool}
 use Rattle.cx_program.specs.declared.status.Status.{Status}
 use Rattle.cx_program.specs.declared.status.Status.TheVariants.{Fine, Usage, Refused, ReadFault, WriteFault, Memory, TooLong}
 use Rattle.cx_rule.specs.Ending.{Ending}
@@ -69,6 +69,7 @@ sound (Some Recover) = recover_sound
 sound (Some Fifo) = record { one = script_one IsFifoScript; plain = script_plain IsFifoScript }
 sound (Some Trace) = record { one = script_one IsTrace; plain = script_plain IsTrace }
 sound (Some (Load load)) = always (load_command load.from load.clients load.ops) Fine (λ gives. gives) (λ input status calls. calls)
+sound (Some (Pool seats)) = record { one = script_one IsPoolScript; plain = script_plain IsPoolScript }
 sound None = always usage_command Usage (λ gives. gives) (λ input status calls. calls)
 
 calls_one : (command : Command) (input : List ℕ) (a b : Status) → IsSound command → Calls command input a → Calls command input b → a ≡ b

@@ -10,9 +10,9 @@ use Rattle.std.proofs.lemmas.Fmt.{decimal_is_IsNumeral}
 use Rattle.std.proofs.lemmas.List.Elements.{All-cons, All-nil}
 use Rattle.cx_program.specs.CommandLine.{HasForm, IsLone, begins_with_hyphen}
 use Rattle.cx_program.specs.Commands.{command}
-use Rattle.cx_program.specs.Words.{IsAlone, IsLoadOf}
+use Rattle.cx_program.specs.Words.{IsAlone, IsLoadOf, IsPoolOf}
 use Rattle.cx_program.specs.declared.asked.Asked.{Asked}
-use Rattle.cx_program.specs.declared.asked.Asked.TheVariants.{Run, Image, Recover, Fifo, Trace, Load}
+use Rattle.cx_program.specs.declared.asked.Asked.TheVariants.{Run, Image, Recover, Fifo, Trace, Load, Pool}
 
 abbrev IsPlain : List ℕ → Type 0
 IsPlain word = begins_with_hyphen word ≡ false
@@ -35,8 +35,13 @@ load_has_form from clients ops words is =
     subst HasForm (sym is.are)
     (record {
       plain = All-cons IsPlain (codes "load") (decimal from ∷ decimal clients ∷ decimal ops ∷ []) refl first;
-      form = inr (decimal from, decimal clients, decimal ops, refl);
+      form = inr (inr (decimal from, decimal clients, decimal ops, refl));
     })
+
+pool_has_form : (seats : ℕ) (words : List (List ℕ)) → IsPoolOf seats words → HasForm words
+pool_has_form seats words is =
+    let last = All-cons IsPlain (decimal seats) [] (decimal_plain seats (omega (arith, is.few))) (All-nil IsPlain) in
+    subst HasForm (sym is.are) (record { plain = All-cons IsPlain (codes "pool") (decimal seats ∷ []) refl last; form = inr (inl (decimal seats, refl)) })
 
 same_word : (word other : List ℕ) → word ∷ [] ≡ other ∷ [] → word ≡ other
 same_word word other is = cc
@@ -49,6 +54,7 @@ has_form words Recover is = lone_has_form (codes "recover") words (inr (inr (inl
 has_form words Fifo is = lone_has_form (codes "fifo") words (inr (inr (inr (inl refl)))) refl is
 has_form words Trace is = lone_has_form (codes "trace") words (inr (inr (inr (inr refl)))) refl is
 has_form words (Load load) is = load_has_form load.from load.clients load.ops words is
+has_form words (Pool seats) is = pool_has_form seats.count words is
 
 -- four words that are those of no load ask for nothing
 pub none_of_load : (words : List (List ℕ)) (first second third : List ℕ) → words ≡ codes "load" ∷ first ∷ second ∷ third ∷ []
@@ -64,6 +70,19 @@ none_of_load words first second third are no_load Fifo is =
 none_of_load words first second third are no_load Trace is =
     let bad : codes "load" ∷ first ∷ second ∷ third ∷ [] ≡ codes "trace" ∷ [] = sym are ∙ is in cc
 none_of_load words first second third are no_load (Load load) is = no_load load.from load.clients load.ops is
+none_of_load words first second third are no_load (Pool seats) is =
+    let bad : codes "load" ∷ first ∷ second ∷ third ∷ [] ≡ codes "pool" ∷ decimal seats.count ∷ [] = sym are ∙ is.are in cc
+
+-- nor do two words that are those of no pool
+pub none_of_pool : (words : List (List ℕ)) (seats : List ℕ) → words ≡ codes "pool" ∷ seats ∷ [] → ((n : ℕ) → IsPoolOf n words → ⊥) → (asked : Asked) → (command asked).asked words → ⊥
+none_of_pool words seats are no_pool Run is = let bad : codes "pool" ∷ seats ∷ [] ≡ codes "run" ∷ [] = sym are ∙ is in cc
+none_of_pool words seats are no_pool Image is = let bad : codes "pool" ∷ seats ∷ [] ≡ codes "image" ∷ [] = sym are ∙ is in cc
+none_of_pool words seats are no_pool Recover is = let bad : codes "pool" ∷ seats ∷ [] ≡ codes "recover" ∷ [] = sym are ∙ is in cc
+none_of_pool words seats are no_pool Fifo is = let bad : codes "pool" ∷ seats ∷ [] ≡ codes "fifo" ∷ [] = sym are ∙ is in cc
+none_of_pool words seats are no_pool Trace is = let bad : codes "pool" ∷ seats ∷ [] ≡ codes "trace" ∷ [] = sym are ∙ is in cc
+none_of_pool words seats are no_pool (Load load) is =
+    let bad : codes "pool" ∷ seats ∷ [] ≡ codes "load" ∷ decimal load.from ∷ decimal load.clients ∷ decimal load.ops ∷ [] = sym are ∙ is.are in cc
+none_of_pool words seats are no_pool (Pool pool) is = no_pool pool.count is
 
 -- a word that is none of these asks for nothing alone
 pub none_alone : (word : List ℕ) → (word ≡ codes "run" → ⊥) → (word ≡ codes "image" → ⊥) → (word ≡ codes "recover" → ⊥) → (word ≡ codes "fifo" → ⊥) → (word ≡ codes "trace" → ⊥)
@@ -75,12 +94,14 @@ none_alone word no_run no_image no_recover no_fifo no_trace Fifo is = no_fifo (s
 none_alone word no_run no_image no_recover no_fifo no_trace Trace is = no_trace (same_word word (codes "trace") is)
 none_alone word no_run no_image no_recover no_fifo no_trace (Load load) is =
     let bad : word ∷ [] ≡ codes "load" ∷ decimal load.from ∷ decimal load.clients ∷ decimal load.ops ∷ [] = is.are in cc
+none_alone word no_run no_image no_recover no_fifo no_trace (Pool seats) is = let bad : word ∷ [] ≡ codes "pool" ∷ decimal seats.count ∷ [] = is.are in cc
 
--- words of the form are one or four
-pub one_or_four : (words : List (String Global)) → HasForm (map string_bytes words) → (length words ≡ 1 → ⊥) → (length words ≡ 4 → ⊥) → ⊥
-one_or_four words has not_one not_four = elim has.form [
+-- words of the form are one, two or four
+pub one_two_or_four : (words : List (String Global)) → HasForm (map string_bytes words) → (length words ≡ 1 → ⊥) → (length words ≡ 2 → ⊥) → (length words ≡ 4 → ⊥) → ⊥
+one_two_or_four words has not_one not_two not_four = elim has.form [
   | inl lone ↦ not_one (sym (length-map words string_bytes) ∙ ap length lone.2)
-  | inr load ↦ not_four (sym (length-map words string_bytes) ∙ ap length load.3)
+  | inr (inl pool) ↦ not_two (sym (length-map words string_bytes) ∙ ap length pool.1)
+  | inr (inr load) ↦ not_four (sym (length-map words string_bytes) ∙ ap length load.3)
 ]
 
 -- the bytes of one word
@@ -94,7 +115,8 @@ load_words : (words : List (List ℕ)) (first second third : List ℕ) → HasFo
     → words ≡ codes "load" ∷ get_or words 1 first ∷ get_or words 2 second ∷ get_or words 3 third ∷ []
 load_words words first second third has four = elim has.form [
   | inl lone ↦ absurd (omega (arith, four, ap length lone.2))
-  | inr load ↦ subst (λ (ws : List (List ℕ)). ws ≡ codes "load" ∷ get_or ws 1 first ∷ get_or ws 2 second ∷ get_or ws 3 third ∷ []) (sym load.3) refl
+  | inr (inl pool) ↦ absurd (omega (arith, four, ap length pool.1))
+  | inr (inr load) ↦ subst (λ (ws : List (List ℕ)). ws ≡ codes "load" ∷ get_or ws 1 first ∷ get_or ws 2 second ∷ get_or ws 3 third ∷ []) (sym load.3) refl
 ]
 
 pub are_of_load : (words : List (String Global)) (first second third : String Global) → HasForm (map string_bytes words) → 4 ≤ length words
@@ -106,3 +128,18 @@ are_of_load words first second third has four one two three =
     let e2 : get_or (map string_bytes words) 2 (string_bytes second) ≡ string_bytes second = get_or-map string_bytes words 2 second ∙ ap string_bytes (sym two) in
     let e3 : get_or (map string_bytes words) 3 (string_bytes third) ≡ string_bytes third = get_or-map string_bytes words 3 third ∙ ap string_bytes (sym three) in
     cc (are, e1, e2, e3)
+
+-- and two are those of a pool
+pool_words : (words : List (List ℕ)) (seats : List ℕ) → HasForm words → length words ≡ 2 → words ≡ codes "pool" ∷ get_or words 1 seats ∷ []
+pool_words words seats has two = elim has.form [
+  | inl lone ↦ absurd (omega (arith, two, ap length lone.2))
+  | inr (inl pool) ↦ subst (λ (ws : List (List ℕ)). ws ≡ codes "pool" ∷ get_or ws 1 seats ∷ []) (sym pool.1) refl
+  | inr (inr load) ↦ absurd (omega (arith, two, ap length load.3))
+]
+
+pub are_of_pool : (words : List (String Global)) (seats : String Global) → HasForm (map string_bytes words) → length words ≡ 2 → seats ≡ get_or words 1 seats
+    → map string_bytes words ≡ codes "pool" ∷ string_bytes seats ∷ []
+are_of_pool words seats has two one =
+    let are = pool_words (map string_bytes words) (string_bytes seats) has (omega (arith, two, length-map words string_bytes)) in
+    let e1 : get_or (map string_bytes words) 1 (string_bytes seats) ≡ string_bytes seats = get_or-map string_bytes words 1 seats ∙ ap string_bytes (sym one) in
+    cc (are, e1)

@@ -12,7 +12,7 @@ use Rattle.clap.specs.Walk.{Names, Rule, Text, Walk, walk, walked, walk_from, no
 use Rattle.clap.specs.declared.error.kind.ErrorKind.{ErrorKind}
 use Rattle.clap.specs.declared.error.kind.ErrorKind.TheVariants.{InvalidSubcommand, MissingRequiredArgument, OutOfMemory, UnknownArgument}
 use Rattle.clap.proofs.OnLiterals.{clap_on_literals}
-use Rattle.cx_program.specs.CommandLine.{HasForm, IsForm, IsLone, begins_with_hyphen, load_app, program}
+use Rattle.cx_program.specs.CommandLine.{HasForm, IsForm, IsLone, begins_with_hyphen, load_app, pool_app, program}
 
 -- without a command the words are refused
 pub none_missing : fault_of program [] ≡ [] → ⊥
@@ -61,6 +61,11 @@ load_taken : (a b c : List ℕ) → IsPlainWord a → IsPlainWord b → IsPlainW
 unfolding clap_on_literals
 load_taken a b c p q r = rw (p.dashes, p.long, p.short, q.dashes, q.long, q.short, r.dashes, r.long, r.short) refl
 
+-- and `pool` with one
+pool_taken : (a : List ℕ) → IsPlainWord a → fault_of program (codes "pool" ∷ a ∷ []) ≡ []
+unfolding clap_on_literals
+pool_taken a p = rw (p.dashes, p.long, p.short) refl
+
 -- behind a command the walk goes on with the words that follow it
 fold_stopped : (c : List Rule) (names : Names) (w : Walk) (name : Text) (past rest : List Text)
     → fold (walked c names) (record w { stopped = Some (name, past) }) rest ≡ record w { stopped = Some (name, past ++ rest) }
@@ -89,6 +94,9 @@ lone_level name = built_leaf (inherited top (new_shape name))
 
 abbrev load_level : Shape
 load_level = built_leaf (inherited top load_app.top)
+
+abbrev pool_level : Shape
+pool_level = built_leaf (inherited top pool_app.top)
 
 -- no argument follows a command that is one word
 lone_strays : (name v : List ℕ) (more : List (List ℕ)) → IsPlainWord v → level_fault (lone_level name) [] nothing_held (v ∷ more) false [] ≡ UnknownArgument ∷ []
@@ -130,6 +138,22 @@ load_three (a ∷ b ∷ c ∷ d ∷ more) plain e =
     let strays : UnknownArgument ∷ [] ≡ [] =
     sym (load_strays a b c d more (nth_plain ws plain 0 (omega arith)) (nth_plain ws plain 1 (omega arith)) (nth_plain ws plain 2 (omega arith)) (nth_plain ws plain 3 (omega arith))) ∙ e in cc
 
+-- one number follows `pool`
+pool_needs_seats : level_fault pool_level [] nothing_held [] false [] ≡ MissingRequiredArgument ∷ []
+unfolding clap_on_literals
+pool_needs_seats = refl
+
+pool_strays : (a b : List ℕ) (more : List (List ℕ)) → IsPlainWord a → IsPlainWord b → level_fault pool_level [] nothing_held (a ∷ b ∷ more) false [] ≡ UnknownArgument ∷ []
+unfolding clap_on_literals
+pool_strays a b more p q = rw (p.dashes, p.long, p.short, q.dashes, q.long, q.short) refl
+
+pool_one : (rest : List (List ℕ)) → All IsPlain rest → level_fault pool_level [] nothing_held rest false [] ≡ [] → (a : List ℕ) × (rest ≡ a ∷ [])
+pool_one [] plain e = let needs : MissingRequiredArgument ∷ [] ≡ [] = sym pool_needs_seats ∙ e in cc
+pool_one (a ∷ []) plain e = (a, refl)
+pool_one (a ∷ b ∷ more) plain e =
+    let ws : List (List ℕ) = a ∷ b ∷ more in
+    let strays : UnknownArgument ∷ [] ≡ [] = sym (pool_strays a b more (nth_plain ws plain 0 (omega arith)) (nth_plain ws plain 1 (omega arith))) ∙ e in cc
+
 -- behind the word of a command its own arguments decide
 after : (name : Text) (level : Shape) (rest : List Text)
     → walked top.rules labels (walk_from nothing_held) name ≡ record (walk_from nothing_held) { stopped = Some (name, []) }
@@ -167,6 +191,10 @@ after_load : (rest : List (List ℕ)) → fault_of program (codes "load" ∷ res
 unfolding walked
 after_load rest e = after (codes "load") load_level rest refl (λ past. refl) e
 
+after_pool : (rest : List (List ℕ)) → fault_of program (codes "pool" ∷ rest) ≡ [] → level_fault pool_level [] nothing_held rest false [] ≡ []
+unfolding walked
+after_pool rest e = after (codes "pool") pool_level rest refl (λ past. refl) e
+
 -- a first word that names no command is refused
 record IsOther (w : List ℕ) : Type 0 where
   run : bytes_eq (codes "run") w ≡ false
@@ -175,10 +203,11 @@ record IsOther (w : List ℕ) : Type 0 where
   fifo : bytes_eq (codes "fifo") w ≡ false
   trace : bytes_eq (codes "trace") w ≡ false
   load : bytes_eq (codes "load") w ≡ false
+  pool : bytes_eq (codes "pool") w ≡ false
 
 strays : (w : List ℕ) (rest : List (List ℕ)) → IsPlainWord w → IsOther w → fault_of program (w ∷ rest) ≡ UnknownArgument ∷ InvalidSubcommand ∷ []
 unfolding clap_on_literals
-strays w rest p other = rw (other.run, other.image, other.recover, other.fifo, other.trace, other.load, p.dashes, p.long, p.short) refl
+strays w rest p other = rw (other.run, other.image, other.recover, other.fifo, other.trace, other.load, other.pool, p.dashes, p.long, p.short) refl
 
 other_refused : (w : List ℕ) (rest : List (List ℕ)) → IsPlainWord w → IsOther w → fault_of program (w ∷ rest) ≡ [] → ⊥
 other_refused w rest p other e =
@@ -193,6 +222,11 @@ named_load : (w : List ℕ) (rest : List (List ℕ)) → All IsPlain rest → co
 named_load w rest plain is e =
     let three = load_three rest plain (after_load rest (subst (λ (v : List ℕ). fault_of program (v ∷ rest) ≡ []) (sym is) e)) in
     (three.0, three.1, three.2, cc)
+
+named_pool : (w : List ℕ) (rest : List (List ℕ)) → All IsPlain rest → codes "pool" ≡ w → fault_of program (w ∷ rest) ≡ [] → (a : List ℕ) × (w ∷ rest ≡ codes "pool" ∷ a ∷ [])
+named_pool w rest plain is e =
+    let one = pool_one rest plain (after_pool rest (subst (λ (v : List ℕ). fault_of program (v ∷ rest) ≡ []) (sym is) e)) in
+    (one.0, cc)
 
 -- words that pass are those of a command
 pub passes_only_forms : (words : List (List ℕ)) → All IsPlain words → fault_of program words ≡ [] → IsForm words
@@ -211,10 +245,13 @@ passes_only_forms (w ∷ rest) no_hyphen e =
             | inr no_fifo ↦ elim (cases_Bool (bytes_eq (codes "trace") w)) [
               | inl trace ↦ inl (codes "trace", inr (inr (inr (inr refl))), named_lone (codes "trace") w rest others (is (codes "trace") trace) (after_trace rest) e)
               | inr no_trace ↦ elim (cases_Bool (bytes_eq (codes "load") w)) [
-                | inl load ↦ inr (named_load w rest others (is (codes "load") load) e)
-                | inr no_load ↦
-                    let other : IsOther w = record { run = no_run; image = no_image; recover = no_recover; fifo = no_fifo; trace = no_trace; load = no_load } in
-                    absurd (other_refused w rest (plain w (All-head IsPlain w rest no_hyphen)) other e)
+                | inl load ↦ inr (inr (named_load w rest others (is (codes "load") load) e))
+                | inr no_load ↦ elim (cases_Bool (bytes_eq (codes "pool") w)) [
+                  | inl pool ↦ inr (inl (named_pool w rest others (is (codes "pool") pool) e))
+                  | inr no_pool ↦
+                      let other : IsOther w = record { run = no_run; image = no_image; recover = no_recover; fifo = no_fifo; trace = no_trace; load = no_load; pool = no_pool } in
+                      absurd (other_refused w rest (plain w (All-head IsPlain w rest no_hyphen)) other e)
+                ]
               ]
             ]
           ]
@@ -232,7 +269,11 @@ lone_taken word (inr (inr (inr (inr trace)))) = subst (λ (w : List ℕ). fault_
 
 pub forms_pass : (words : List (List ℕ)) → All IsPlain words → IsForm words → fault_of program words ≡ []
 forms_pass words no_hyphen (inl lone) = subst (λ (ws : List (List ℕ)). fault_of program ws ≡ []) (sym lone.2) (lone_taken lone.0 lone.1)
-forms_pass words no_hyphen (inr load) =
+forms_pass words no_hyphen (inr (inl pool)) =
+    let ws : List (List ℕ) = codes "pool" ∷ pool.0 ∷ [] in
+    let here : All IsPlain ws = subst (λ (ws : List (List ℕ)). All IsPlain ws) pool.1 no_hyphen in
+    subst (λ (ws : List (List ℕ)). fault_of program ws ≡ []) (sym pool.1) (pool_taken pool.0 (nth_plain ws here 1 (omega arith)))
+forms_pass words no_hyphen (inr (inr load)) =
     let ws : List (List ℕ) = codes "load" ∷ load.0 ∷ load.1 ∷ load.2 ∷ [] in
     let here : All IsPlain ws = subst (λ (ws : List (List ℕ)). All IsPlain ws) load.3 no_hyphen in
     subst (λ (ws : List (List ℕ)). fault_of program ws ≡ []) (sym load.3)

@@ -20,6 +20,10 @@ number_rule name = record (new_rule name) { action = Some Set; required = true }
 abbrev pub load_app : App
 load_app = with_rule (with_rule (with_rule (new_app (codes "load")) (number_rule (codes "from"))) (number_rule (codes "clients"))) (number_rule (codes "ops"))
 
+-- the command `pool` with its number
+abbrev pub pool_app : App
+pool_app = with_rule (new_app (codes "pool")) (number_rule (codes "seats"))
+
 abbrev pub program : App
 program = record {
   top = record (new_shape (codes "cx_tool")) {
@@ -29,16 +33,18 @@ program = record {
     disable_help_subcommand = true;
     subcommand_required = true;
   };
-  subs = new_shape (codes "run") ∷ new_shape (codes "image") ∷ new_shape (codes "recover") ∷ new_shape (codes "fifo") ∷ new_shape (codes "trace") ∷ load_app.top ∷ [];
+  subs = new_shape (codes "run") ∷ new_shape (codes "image") ∷ new_shape (codes "recover") ∷ new_shape (codes "fifo") ∷ new_shape (codes "trace") ∷ load_app.top ∷ pool_app.top ∷ [];
 }
 
 -- a word that is a command by itself
 abbrev pub IsLone : List ℕ → Type 0
 IsLone word = (word ≡ codes "run") ⊎ ((word ≡ codes "image") ⊎ ((word ≡ codes "recover") ⊎ ((word ≡ codes "fifo") ⊎ (word ≡ codes "trace"))))
 
--- one such word alone, or `load` and three more
+-- one such word alone, `pool` and one more, or `load` and three more
 abbrev pub IsForm : List (List ℕ) → Type 0
-IsForm words = ((word : List ℕ) × IsLone word × (words ≡ word ∷ [])) ⊎ ((a b c : List ℕ) × (words ≡ codes "load" ∷ a ∷ b ∷ c ∷ []))
+IsForm words =
+    ((word : List ℕ) × IsLone word × (words ≡ word ∷ []))
+    ⊎ (((a : List ℕ) × (words ≡ codes "pool" ∷ a ∷ [])) ⊎ ((a b c : List ℕ) × (words ≡ codes "load" ∷ a ∷ b ∷ c ∷ [])))
 
 -- The words have the form of a command, and none begins with a hyphen.
 pub record HasForm (words : List (List ℕ)) : Type 0 where

@@ -3,19 +3,20 @@ use Rattle.std.specs.Prelude.{◌≡◌, ℕ, Bool, true, false, List, [], Optio
 use Rattle.cx_rule.specs.Ending.{Ending}
 use Rattle.image_answers.specs.Texts.{Ends, Writes}
 use Rattle.image_answers.specs.declared.answering.ImageEnd.{ImageEnd}
-use Rattle.doc_text.specs.Grammar.{IsScript, document_grammar}
+use Rattle.doc_text.specs.Grammar.{IsPoolScript, IsScript, document_grammar, pool_grammar}
 use Rattle.doc_text.specs.Reasons.{reason_text}
 use Rattle.fifo_answers.specs.Texts.{IsFifoReport}
 use Rattle.fifo_text.specs.Grammar.{IsFifoScript, queue_grammar}
 use Rattle.fifo_text.specs.Reasons as queue_reasons
+use Rattle.pool_answers.specs.Texts.{IsPoolReport}
 use Rattle.script_answers.specs.Texts.{IsLastImage, IsReport, IsSummary}
 use Rattle.trace_answers.specs.Texts.{IsTraceVerdict}
 use Rattle.trace_text.specs.Traces.{IsTrace}
 use Rattle.cx_program.specs.Status.{status_of}
 use Rattle.cx_program.specs.Texts.{IsRefusal, IsTraceRefusal, usage_text}
-use Rattle.cx_program.specs.Words.{IsAlone, IsLoadOf}
+use Rattle.cx_program.specs.Words.{IsAlone, IsLoadOf, IsPoolOf}
 use Rattle.cx_program.specs.declared.asked.Asked.{Asked}
-use Rattle.cx_program.specs.declared.asked.Asked.TheVariants.{Run, Image, Recover, Fifo, Trace, Load}
+use Rattle.cx_program.specs.declared.asked.Asked.TheVariants.{Run, Image, Recover, Fifo, Trace, Load, Pool}
 use Rattle.cx_program.specs.declared.status.Status.{Status}
 use Rattle.cx_program.specs.declared.status.Status.TheVariants.{Fine, Usage, Refused}
 
@@ -93,6 +94,15 @@ load_command from clients ops = record {
   writes = λ input status trails text. IsSummary from clients ops trails text;
 }
 
+-- `pool` tells in a report of a life whose clients share so many callers
+abbrev pub pool_command : ℕ → Command
+pool_command seats = record {
+  asked = IsPoolOf seats;
+  reads = true;
+  calls = script_calls IsPoolScript;
+  writes = script_writes IsPoolScript (IsRefusal pool_grammar reason_text) (IsPoolReport seats);
+}
+
 abbrev pub command : Asked → Command
 command Run = run_command
 command Image = image_command
@@ -100,6 +110,7 @@ command Recover = recover_command
 command Fifo = fifo_command
 command Trace = trace_command
 command (Load load) = load_command load.from load.clients load.ops
+command (Pool seats) = pool_command seats.count
 
 -- words that ask for none of these are told which there are
 abbrev pub usage_command : Command

@@ -1,8 +1,8 @@
 //! What words can ask for.
 
-ghost use Rattle.std.specs.Prelude.{ℕ, [], ◌∷◌, codes, IfSome, IfNone};
+ghost use Rattle.std.specs.Prelude.{◌≤◌, ℕ, [], ◌∷◌, codes, IfSome, IfNone};
 ghost use Rattle.doc_text.specs.Generated.{IsLoad};
-ghost use Rattle.cx_program.specs.Words.{IsLoadOf};
+ghost use Rattle.cx_program.specs.Words.{IsLoadOf, IsPoolOf};
 
 use doc_model::number_of;
 
@@ -11,6 +11,9 @@ const MAX_CLIENTS: u64 = 8;
 
 /// The most commands of each client.
 const MAX_OPS: u64 = 10_000;
+
+/// The most callers that the clients of a pool share.
+const MAX_SEATS: u64 = 8;
 
 /// A load: the number from which its count of commands begins, its clients, and the commands of each.
 #[derive(Drop)]
@@ -42,6 +45,30 @@ impl Load {
     }
 }
 
+/// The callers of a service that the clients of a pool share.
+#[derive(Drop)]
+pub(crate) struct Seats {
+    pub(crate) count: u32,
+    ghost within: { (1 ≤ count) × (count ≤ 8) },
+}
+
+impl Seats {
+    /// So many as a word writes, in decimal without sign and without leading zeros. None exactly where it writes no number of
+    /// 1 to 8.
+    pub(crate) fn read(word: &str) -> Option<Seats>
+        ensures some { IfSome result (λ seats. IsPoolOf seats.count (codes "pool" ∷ word.now ∷ [])) }
+        ensures none { IfNone result ((n : ℕ) → IsPoolOf n (codes "pool" ∷ word.now ∷ []) → ⊥) }
+    {
+        let count = number_of(word.as_bytes())?;
+        if count == 0 || count > MAX_SEATS {
+            return None;
+        }
+        Some(Seats {
+            count: count as u32,
+        })
+    }
+}
+
 /// A command that words ask for.
 #[derive(Drop)]
 pub(crate) enum Asked {
@@ -57,4 +84,6 @@ pub(crate) enum Asked {
     Trace,
     /// That a script is made and run.
     Load(Load),
+    /// That a script is run whose clients share so many callers, and reported.
+    Pool(Seats),
 }

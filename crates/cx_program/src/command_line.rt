@@ -6,10 +6,10 @@ ghost use Rattle.clap.specs.Kinds.{FailsBy};
 ghost use Rattle.clap.specs.Simple.{new_shape, with_subcommand};
 ghost use Rattle.clap.specs.Words.{app_of, rule_of};
 ghost use Rattle.clap.specs.declared.builder.command.Command.TheViews.{out-Command as fields_of};
-ghost use Rattle.cx_program.specs.CommandLine.{HasForm, IsJudged, begins_with_hyphen, load_app, number_rule, program};
+ghost use Rattle.cx_program.specs.CommandLine.{HasForm, IsJudged, begins_with_hyphen, load_app, number_rule, pool_app, program};
 ghost use Rattle.cx_program.specs.Commands.{command_of};
 
-use crate::asked::{Asked, Load};
+use crate::asked::{Asked, Load, Seats};
 use clap::error::ErrorKind;
 use clap::{Arg, ArgAction, ArgMatches, Command, Error};
 use std::alloc::{AllocError, Global};
@@ -25,7 +25,7 @@ pub(crate) fn read_words(alloc: Global, words: &[String]) -> Result<Option<Asked
     }
 }
 
-// What words ask for that have the form of a command: one word alone, or `load` and three more.
+// What words ask for that have the form of a command: one word alone, `pool` and one more, or `load` and three more.
 fn asked_by(words: &[String]) -> Option<Asked>
     requires { HasForm (map string_bytes words.now) }
     ensures { (command_of result).asked (map string_bytes words.now) }
@@ -33,6 +33,10 @@ fn asked_by(words: &[String]) -> Option<Asked>
     match words {
         [_load, from, clients, ops] => match Load::read(from, clients, ops) {
             Some(load) => Some(Asked::Load(load)),
+            None => None,
+        },
+        [_pool, seats] => match Seats::read(seats) {
+            Some(seats) => Some(Asked::Pool(seats)),
             None => None,
         },
         [word] => asked_alone(word.as_str()),
@@ -121,6 +125,25 @@ fn load_command<'a>(alloc: Global) -> Result<Command<'a>, AllocError>
         .arg(number(alloc, "ops"))
 }
 
+// The command `pool` with its number.
+fn pool_command<'a>(alloc: Global) -> Result<Command<'a>, AllocError>
+    ensures app { IfOk result (λ command. app_of command ≡ pool_app) }
+    ensures local { IfOk result (λ command. (fields_of command).has_globals ≡ false) }
+{
+    Command::new(alloc, "pool").arg(number(alloc, "seats"))
+}
+
+// The command line with the commands that want numbers.
+fn with_numbers<'a>(alloc: Global, line: Command<'a>) -> Result<Command<'a>, AllocError>
+    ensures { IfOk result (λ command. app_of command ≡ with_subcommand (with_subcommand (app_of line.entry) load_app.top) pool_app.top) }
+{
+    let load = load_command(alloc)?;
+    let with_load = line.subcommand(load)?;
+    let pool = pool_command(alloc)?;
+    let command = with_load.subcommand(pool)?;
+    Ok(command)
+}
+
 // The command line with one command more, which is a word alone. So one value of the parser lives at a time.
 fn with_lone<'a>(alloc: Global, line: Command<'a>, name: &'a str) -> Result<Command<'a>, AllocError>
     ensures { IfOk result (λ command. app_of command ≡ with_subcommand (app_of line.entry) (new_shape name.entry.now)) }
@@ -143,6 +166,5 @@ fn matches<'a>(alloc: Global, words: &'a [String]) -> Result<ArgMatches<'a>, Err
     let with_recover = with_lone(alloc, with_image, "recover")?;
     let with_fifo = with_lone(alloc, with_recover, "fifo")?;
     let with_trace = with_lone(alloc, with_fifo, "trace")?;
-    let load = load_command(alloc)?;
-    with_trace.subcommand(load)?.try_get_matches_from(words)
+    with_numbers(alloc, with_trace)?.try_get_matches_from(words)
 }

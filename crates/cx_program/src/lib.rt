@@ -10,6 +10,7 @@ mod input;
 mod load;
 mod output;
 mod patient;
+mod pool;
 mod recover;
 mod refusal;
 mod run;

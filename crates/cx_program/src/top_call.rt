@@ -12,6 +12,7 @@ use crate::image::image_text;
 use crate::input::{Input, read_input};
 use crate::load::load_text;
 use crate::output::write_text;
+use crate::pool::pool_text;
 use crate::recover::recover_text;
 use crate::run::run_text;
 use crate::status::{Ended, Status};
@@ -23,13 +24,14 @@ use std::thread::Threads;
 
 /// What is written where the words are no command.
 const USAGE: &[u8] =
-    b"usage: cx_tool run | image | recover | load FROM CLIENTS OPS | fifo | trace\n";
+    b"usage: cx_tool run | image | recover | load FROM CLIENTS OPS | fifo | trace | pool SEATS\n";
 
 /// Runs the command that the words name. With `run` it reads a script from the source, runs its lives and writes the
 /// report, with `image` the image that the last loss of power left; with `recover` it reads such an image, and tells what is recovered
 /// from it; with `fifo` it reads a script of a queue, runs its lives and writes their report; with `trace` it reads a recorded trace,
-/// and tells whether it is a run or which line is the first that fails; with `load` and three numbers it makes a script, runs it and
-/// tells of it in four lines, and nothing is read. A text that says why is written in its place where the words or the input are refused.
+/// and tells whether it is a run or which line is the first that fails; with `pool` and a number it reads a script whose clients share so
+/// many callers, runs its life and writes the report; with `load` and three numbers it makes a script, runs it and tells of it in four lines,
+/// and nothing is read. A text that says why is written in its place where the words or the input are refused.
 /// The whole text is made before its first byte is written. Every outcome is a status. It may wait.
 pub fn cx_run<R: Threads + Wait + Sync, S: Source, K: Sink, G: Gate + Sync>(
     rt: &R,
@@ -42,7 +44,8 @@ pub fn cx_run<R: Threads + Wait + Sync, S: Source, K: Sink, G: Gate + Sync>(
     // What was written is what the command that the words ask for owes, with the one status that its input calls for. For `run` and
     // `Fine` it is the report of legal lives of the script that the input is, each told by the trail of the service that ran it; for
     // `image` the image from which the base is recovered that such lives end with; for `recover` what is recovered from the input; for
-    // `fifo` the report of legal lives of a queue, each told by such a trail; for `trace` the one verdict that is of the trace.
+    // `fifo` the report of legal lives of a queue, each told by such a trail; for `pool` the report of a pool life of the script that the input
+    // is, told by the trail of the service whose callers the clients shared; for `trace` the one verdict that is of the trace.
     ensures answer { Answers (map string_bytes words.now) (S.left source.old) result.status result.trails (K.written sink.old) (K.written sink.new) }
     // A fault is told only where the object that was handed in counted one.
     ensures cause { HasCause result.status (S.faults source.old) (S.faults source.new) (K.faults sink.old) (K.faults sink.new) }
@@ -105,6 +108,7 @@ fn reads(asked: &Asked) -> bool
         Asked::Fifo => true,
         Asked::Trace => true,
         Asked::Load(_) => false,
+        Asked::Pool(_) => true,
     }
 }
 
@@ -159,5 +163,6 @@ fn text_of<R: Threads + Wait + Sync, G: Gate + Sync>(
         Asked::Fifo => queue_text(rt, alloc, bytes, gate),
         Asked::Trace => verdict_text(alloc, bytes),
         Asked::Load(load) => load_text(rt, alloc, load, gate),
+        Asked::Pool(seats) => pool_text(rt, alloc, seats, bytes, gate),
     }
 }

@@ -1,1 +1,2 @@
 mod Boxed
+pub mod Closed

@@ -4,21 +4,42 @@ use Rattle.std.specs.Global.{Global}
 use Rattle.std_alloc.specs.declared.boxed.Box.{Box}
 use Rattle.doc_store.specs.ExactStep.{reads_in}
 use Rattle.fifo_object.specs.Fifo.{fifo_reads}
-use Rattle.c_sessions.specs.Sessions.{CallsIn, FinishesIn, IsReady}
+use Rattle.cx_rule.specs.Running.{Running}
+use Rattle.cx_service.specs.Closes.{seats_of}
+use Rattle.cx_table.specs.Remains.{AreSeats}
+use Rattle.doc_store.specs.declared.store.DocStore.{DocStore}
+use Rattle.fifo_object.specs.declared.fifo.Fifo.{Fifo}
+use Rattle.c_sessions.specs.Sessions.{CallsIn, FinishesIn, IsReady, IsReadyOf}
 use Rattle.c_sessions.specs.declared.steps.Called.{Called}
-use Rattle.c_sessions.specs.declared.steps.Called.TheVariants.{Done, Pending, Again, Full, Worn, Stopped, OutOfTurn}
+use Rattle.c_sessions.specs.declared.steps.Called.TheVariants.{OutOfTurn}
+use Rattle.githoppu_c.specs.Codes.{code_of}
+use Rattle.githoppu_c.specs.Objects.{IsClosedQueue, IsClosedStore}
 use Rattle.githoppu_c.specs.declared.content.Content.{Content}
-use Rattle.githoppu_c.specs.declared.content.Content.TheVariants.{Documents, Queue}
+use Rattle.githoppu_c.specs.declared.content.Content.TheVariants.{Documents, Queue, KeptDocuments, KeptQueue, ClosedDocuments, ClosedQueue, Gone}
 
--- a session that may be called
+-- what C may call: a session that is ready, a service with all its callers that is still to be closed, and what a closed one left
 abbrev pub IsCallable : Content → Type 0
 IsCallable (Documents session) = IsReady session
 IsCallable (Queue session) = IsReady session
+IsCallable (KeptDocuments kept) = AreSeats kept.service (seats_of kept.callers.items)
+IsCallable (KeptQueue kept) = AreSeats kept.service (seats_of kept.callers.items)
+IsCallable (ClosedDocuments remains) = (r : Running DocStore) × IsClosedStore r remains
+IsCallable (ClosedQueue remains) = (r : Running Fifo) × IsClosedQueue r remains
+IsCallable Gone = Unit {0}
 
--- so many boxes, each of a session that may be called
-pub record AreCallable (count : ℕ) (boxes : List (Box Content Global)) : Type 0 where
+-- a session of this store, or of this queue
+abbrev pub IsStoreOf : Running DocStore → Content → Type 0
+IsStoreOf r (Documents session) = IsReadyOf r session
+IsStoreOf r content = ⊥
+
+abbrev pub IsQueueOf : Running Fifo → Content → Type 0
+IsQueueOf r (Queue session) = IsReadyOf r session
+IsQueueOf r content = ⊥
+
+-- so many boxes, with this in each
+pub record AreBoxes (is : Content → Type 0) (count : ℕ) (boxes : List (Box Content Global)) : Type 0 where
   pub all : length boxes ≡ count
-  pub each : All (λ (b : Box Content Global). IsCallable b.value) boxes
+  pub each : All (λ (b : Box Content Global). is b.value) boxes
 
 -- what may be opened: an object of 64 to 16,384 lines, with 1 to 8 sessions
 pub record MayOpen (lines count : ℕ) : Type 0 where
@@ -35,38 +56,45 @@ Refuses lines count code = ((¬ MayOpen lines count) × (code ≡ pos 7)) ⊎ (M
 abbrev pub Opens : ℕ → ℕ → ℤ → Type 0
 Opens lines count code = (MayOpen lines count × (code ≡ pos 0)) ⊎ Refuses lines count code
 
--- so many boxes of sessions that may be called, of an object that may be opened
-pub record AreOpened (lines count : ℕ) (boxes : List (Box Content Global)) : Type 0 where
+-- so many boxes of sessions of one service of an object in so many lines that may be opened
+pub record AreOpened {O : Type 0} (is : Running O → Content → Type 0) (lines count : ℕ) (boxes : List (Box Content Global)) : Type 0 where
   pub may : MayOpen lines count
-  pub callable : AreCallable count boxes
+  pub service : Running O
+  pub callers_are : service.callers ≡ count
+  pub lines_are : service.lines ≡ lines
+  pub of : AreBoxes (is service) count boxes
+
+-- what is no session was called out of turn, and is as it was
+abbrev pub IsNoTurn : Content → Called → Content → Type 0
+IsNoTurn before called after = (called ≡ OutOfTurn) × (after ≡ before)
 
 -- a call of this operation, in so many tries, came to this
 abbrev pub Calls : List ℕ → ℕ → Content → Called → Content → List ℕ → Type 0
 Calls op tries (Documents before) called (Documents after) reply = CallsIn (λ _. reads_in) op tries before called after reply
+Calls op tries (Documents before) called after reply = ⊥
 Calls op tries (Queue before) called (Queue after) reply = CallsIn (λ _. fifo_reads) op tries before called after reply
-Calls op tries before called after reply = ⊥
+Calls op tries (Queue before) called after reply = ⊥
+Calls op tries before called after reply = IsNoTurn before called after
 
 -- and so did finishing, in so many turns
 abbrev pub Finishes : ℕ → Content → Called → Content → List ℕ → Type 0
 Finishes tries (Documents before) called (Documents after) reply = FinishesIn tries before called after reply
+Finishes tries (Documents before) called after reply = ⊥
 Finishes tries (Queue before) called (Queue after) reply = FinishesIn tries before called after reply
-Finishes tries before called after reply = ⊥
+Finishes tries (Queue before) called after reply = ⊥
+Finishes tries before called after reply = IsNoTurn before called after
 
--- the number of what a call came to
-abbrev pub code_of : Called → ℤ
-code_of Done = pos 0
-code_of Pending = pos 1
-code_of Again = pos 2
-code_of Full = pos 3
-code_of Worn = pos 4
-code_of Stopped = pos 5
-code_of OutOfTurn = pos 6
-
--- what C is answered: the number of what some tries came to, which left a session that may be called
-pub record Answers (come_to : ℕ → Called → Content → Type 0) (code : ℤ) : Type 0 where
-  pub tries : ℕ
+-- as many tries as are asked for, but at least 1 and at most 2^20
+pub record IsTriesFor (asked tries : ℕ) : Type 0 where
   pub some : 1 ≤ tries
   pub most : tries ≤ 2 ^ 20
+  pub few : (tries ≤ asked) ⊎ (tries ≡ 1)
+  pub all : (asked ≤ tries) ⊎ (tries ≡ 2 ^ 20)
+
+-- what C is answered: the number of what these tries came to, which left what may be called
+pub record Answers (asked : ℕ) (come_to : ℕ → Called → Content → Type 0) (code : ℤ) : Type 0 where
+  pub tries : ℕ
+  pub asked_for : IsTriesFor asked tries
   pub called : Called
   pub after : Content
   pub callable : IsCallable after

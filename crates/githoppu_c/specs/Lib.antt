@@ -1,2 +1,6 @@
+pub mod Closings
+pub mod Codes
 pub mod Contents
+pub mod Objects
+pub mod Recoveries
 pub mod Sealed

@@ -1,9 +1,11 @@
 //! What the calls answer, as numbers.
 
 ghost use Rattle.std.specs.Prelude.{◌≡◌};
-ghost use Rattle.githoppu_c.specs.Contents as spec;
+ghost use Rattle.githoppu_c.specs.Codes as spec;
 
+use c_images::WordsFault;
 use c_sessions::Called;
+use recovery::ImageFault;
 
 /// Done, and the reply is there.
 pub const DONE: i32 = 0;
@@ -17,12 +19,32 @@ pub const FULL: i32 = 3;
 pub const WORN: i32 = 4;
 /// The session has come to its limit of steps.
 pub const STOPPED: i32 = 5;
-/// An entry is linked that is not answered, or none is where one is to be finished.
+/// A call that the state of what C holds does not take.
 pub const OUT_OF_TURN: i32 = 6;
-/// The lines are not 64 to 16,384, or the sessions not 1 to 8.
+/// The lines, the sessions or the words are not as many as there may be.
 pub const BAD_SIZE: i32 = 7;
 /// There is no memory.
 pub const NO_MEMORY: i32 = 8;
+/// Other sessions are not closed.
+pub const OTHERS: i32 = 11;
+/// Not all callers were there when the last session was closed.
+pub const LOST: i32 = 12;
+/// The words are no image.
+pub const NO_IMAGE: i32 = 13;
+/// The image is of another kind of object.
+pub const OTHER_KIND: i32 = 14;
+/// The image has not as many words as its callers and lines make.
+pub const IMAGE_SIZE: i32 = 15;
+/// The root's place is above 2^40.
+pub const IMAGE_ROOT: i32 = 16;
+/// The object's version is not known.
+pub const IMAGE_VERSION: i32 = 17;
+/// The place of the root's replica is not the root's.
+pub const IMAGE_PLACE: i32 = 18;
+/// The results or the object are not lawful.
+pub const IMAGE_BODY: i32 = 19;
+/// A result has a number above the place.
+pub const IMAGE_NUMBERS: i32 = 20;
 
 /// The number of what a call came to.
 pub fn code_of(called: Called) -> i32
@@ -36,5 +58,31 @@ pub fn code_of(called: Called) -> i32
         Called::Worn => WORN,
         Called::Stopped => STOPPED,
         Called::OutOfTurn => OUT_OF_TURN,
+    }
+}
+
+/// The number of why nothing is taken up from words.
+pub fn fault_code(fault: WordsFault) -> i32
+    ensures { result ≡ spec.fault_code fault }
+{
+    match fault {
+        WordsFault::Head => NO_IMAGE,
+        WordsFault::Kind { .. } => OTHER_KIND,
+        WordsFault::Image(fault) => image_code(fault),
+        WordsFault::Numbers => IMAGE_NUMBERS,
+    }
+}
+
+/// The number of recovery's refusal.
+fn image_code(fault: ImageFault) -> i32
+    ensures { result ≡ spec.image_code fault }
+{
+    match fault {
+        ImageFault::Size { .. } => IMAGE_SIZE,
+        ImageFault::Root { .. } => IMAGE_ROOT,
+        ImageFault::Version { .. } => IMAGE_VERSION,
+        ImageFault::Place { .. } => IMAGE_PLACE,
+        ImageFault::Body => IMAGE_BODY,
+        ImageFault::Memory => NO_MEMORY,
     }
 }

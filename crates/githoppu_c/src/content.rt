@@ -1,16 +1,30 @@
 //! What C holds.
 
+ghost use Rattle.std.specs.Prelude.{◌≡◌};
+ghost use Rattle.githoppu_c.specs.Closings.{ClosesAs, Images, queue_left, store_left};
+ghost use Rattle.githoppu_c.specs.Codes.{closing_code};
 ghost use Rattle.githoppu_c.specs.Contents.{Calls, Finishes, IsCallable};
 
-use c_sessions::{Called, Session, Tries};
+use crate::codes::{AGAIN, DONE, LOST, NO_MEMORY, OTHERS, OUT_OF_TURN};
+use crate::images::{DOCUMENTS, QUEUE, write_to};
+use c_sessions::{Called, Closing, Session, Tries, close_kept};
+use cx_service::Kept;
+use cx_table::Remains;
 use doc_store::DocStore;
 use fifo_object::Fifo;
+use std::alloc::Global;
 
-/// A session of a document store or of a queue.
+/// A session of a document store or of a queue; a service that is to be closed with all its callers, once there is memory; what a closed one
+/// left; or nothing any more.
 #[derive(Drop)]
 pub enum Content {
     Documents(Session<DocStore>),
     Queue(Session<Fifo>),
+    KeptDocuments(Kept<DocStore>),
+    KeptQueue(Kept<Fifo>),
+    ClosedDocuments(Remains),
+    ClosedQueue(Remains),
+    Gone,
 }
 
 impl Content {
@@ -23,6 +37,7 @@ impl Content {
         match self {
             Content::Documents(session) => session.call(op, reply, tries),
             Content::Queue(session) => session.call(op, reply, tries),
+            _ => Called::OutOfTurn,
         }
     }
 
@@ -35,13 +50,82 @@ impl Content {
         match self {
             Content::Documents(session) => session.finish(reply, tries),
             Content::Queue(session) => session.finish(reply, tries),
+            _ => Called::OutOfTurn,
         }
+    }
+
+    /// Closes a session, or what is still to be closed.
+    pub fn close(self, alloc: Global) -> (Content, i32)
+        requires callable { IsCallable self }
+        ensures callable { IsCallable result.0 }
+        ensures closes { ClosesAs self result.0 result.1 }
+    {
+        match self {
+            Content::Documents(session) => store_closed(session.close(alloc)),
+            Content::Queue(session) => queue_closed(session.close(alloc)),
+            Content::KeptDocuments(kept) => match close_kept(alloc, kept) {
+                Ok(remains) => (Content::ClosedDocuments(remains), DONE),
+                Err(kept) => (Content::KeptDocuments(kept), NO_MEMORY),
+            },
+            Content::KeptQueue(kept) => match close_kept(alloc, kept) {
+                Ok(remains) => (Content::ClosedQueue(remains), DONE),
+                Err(kept) => (Content::KeptQueue(kept), NO_MEMORY),
+            },
+            other => (other, OUT_OF_TURN),
+        }
+    }
+
+    /// Writes what a loss of power leaves, by choice, where there are as many words as it takes, which are told.
+    pub fn image(&self, choice: u64, words: &mut [u64], needed: &mut u64) -> i32
+        requires callable { IsCallable self.now }
+        ensures { Images self.now choice words.old words.new needed.new result }
+    {
+        match self {
+            Content::ClosedDocuments(remains) => {
+                write_to(remains, DOCUMENTS, choice, words, needed)
+            }
+            Content::ClosedQueue(remains) => write_to(remains, QUEUE, choice, words, needed),
+            _ => {
+                *needed = 0;
+                OUT_OF_TURN
+            }
+        }
+    }
+}
+
+/// What closing a session of a store left.
+fn store_closed(closing: Closing<DocStore>) -> (Content, i32)
+    ensures { (result.0 ≡ store_left closing) × (result.1 ≡ closing_code closing) }
+{
+    match closing {
+        Closing::Others => (Content::Gone, OTHERS),
+        Closing::Again(session) => (Content::Documents(session), AGAIN),
+        Closing::Closed(remains) => (Content::ClosedDocuments(remains), DONE),
+        Closing::Kept(kept) => (Content::KeptDocuments(kept), NO_MEMORY),
+        Closing::Lost => (Content::Gone, LOST),
+    }
+}
+
+/// What closing a session of a queue left.
+fn queue_closed(closing: Closing<Fifo>) -> (Content, i32)
+    ensures { (result.0 ≡ queue_left closing) × (result.1 ≡ closing_code closing) }
+{
+    match closing {
+        Closing::Others => (Content::Gone, OTHERS),
+        Closing::Again(session) => (Content::Queue(session), AGAIN),
+        Closing::Closed(remains) => (Content::ClosedQueue(remains), DONE),
+        Closing::Kept(kept) => (Content::KeptQueue(kept), NO_MEMORY),
+        Closing::Lost => (Content::Gone, LOST),
     }
 }
 
 const fn goes_to_a_thread<T: Send>() {}
 
-/// What C holds may go to another thread.
+/// What C holds may go to another thread, in each of its cases.
 pub const fn contents_cross_threads() {
-    goes_to_a_thread::<Content>();
+    goes_to_a_thread::<Session<DocStore>>();
+    goes_to_a_thread::<Session<Fifo>>();
+    goes_to_a_thread::<Kept<DocStore>>();
+    goes_to_a_thread::<Kept<Fifo>>();
+    goes_to_a_thread::<Remains>();
 }

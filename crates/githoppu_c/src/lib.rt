@@ -2,28 +2,36 @@
 //! service, and C gives each to one call at a time.
 #![tactic(auto)]
 
-ghost use Rattle.std.specs.Prelude.{◌≤◌, ◌^◌};
 ghost use Rattle.std.specs.Prelude.{length};
-ghost use Rattle.githoppu_c.specs.Contents.{Answers, Calls, Finishes, IsCallable, Opens};
+ghost use Rattle.githoppu_c.specs.Closings.{ClosesAs, Images};
+ghost use Rattle.githoppu_c.specs.Contents.{Answers, Calls, Finishes, IsCallable, IsTriesFor, Opens};
+ghost use Rattle.githoppu_c.specs.Objects.{IsQueueFault, IsQueueIn, IsStoreFault, IsStoreIn};
+ghost use Rattle.githoppu_c.specs.Recoveries.{Recovers};
+ghost use Rattle.githoppu_c.specs.declared.content.Content as content_type;
 
 mod codes;
 mod content;
 mod handle;
+mod images;
 mod opening;
 mod raw_box;
+mod recovering;
 
-use crate::codes::{DONE, code_of};
+use crate::codes::{DONE, LOST, OTHERS, code_of};
+use crate::content::Content;
 use crate::handle::Handle;
 use crate::opening::{hand_out, open_documents, open_queue};
+use crate::recovering::{recover_documents, recover_queue};
 use c_sessions::Tries;
 use std::alloc::Global;
+use std::{mem, ptr};
 
 /// The most tries of a call.
 const MOST: u64 = 1 << 20;
 
 /// As many tries as are asked for, but at least one and not too many.
 fn tries_of(asked: u64) -> Tries
-    ensures { result.count ≤ 2 ^ 20 }
+    ensures { IsTriesFor asked result.count }
 {
     Tries {
         count: asked.clamp(1, MOST),
@@ -68,7 +76,7 @@ pub extern "C" fn githoppu_call(
     out: &mut *mut u8,
 ) -> i32
     requires { IsCallable session.content }
-    ensures { Answers (λ n called after. Calls op.now n session.content called after reply.new) result }
+    ensures { Answers tries (λ n called after. Calls op.now n session.content called after reply.new) result }
 {
     let mut content = session.into_box();
     let called = content.call(op, reply, tries_of(tries));
@@ -85,7 +93,7 @@ pub extern "C" fn githoppu_finish(
     out: &mut *mut u8,
 ) -> i32
     requires { IsCallable session.content }
-    ensures { Answers (λ n called after. Finishes n session.content called after reply.new) result }
+    ensures { Answers tries (λ n called after. Finishes n session.content called after reply.new) result }
 {
     let mut content = session.into_box();
     let called = content.finish(reply, tries_of(tries));
@@ -93,7 +101,76 @@ pub extern "C" fn githoppu_finish(
     code_of(called)
 }
 
-/// Gives a session up. The last one of a store or a queue gives that up.
+/// Closes a session. Its caller is handed in; the session of a store or a queue that is closed last closes it, and what it left stands at `out`. Where
+/// others are not closed, or not all callers were there, nothing stands there, and else what is to be closed again.
+#[unsafe(no_mangle)]
+pub extern "C" fn githoppu_close(alloc: Global, session: Handle, out: &mut *mut u8) -> i32
+    requires { IsCallable session.content }
+    ensures { (after : content_type.Content) × IsCallable after × ClosesAs session.content after result }
+{
+    let mut content = session.into_box();
+    let (after, code) = mem::replace(&mut *content, Content::Gone).close(alloc);
+    *content = after;
+    if code == OTHERS || code == LOST {
+        drop(content);
+        *out = ptr::null_mut();
+    } else {
+        *out = Box::into_raw(content) as *mut u8;
+    }
+    code
+}
+
+/// Writes what a loss of power leaves of a closed store or queue, by choice, where there are as many words as it takes, which are told.
+#[unsafe(no_mangle)]
+pub extern "C" fn githoppu_image(
+    closed: Handle,
+    choice: u64,
+    words: &mut [u64],
+    needed: &mut u64,
+    out: &mut *mut u8,
+) -> i32
+    requires { IsCallable closed.content }
+    ensures { Images closed.content choice words.old words.new needed.new result }
+{
+    let content = closed.into_box();
+    let code = content.image(choice, words, needed);
+    *out = Box::into_raw(content) as *mut u8;
+    code
+}
+
+/// Takes up a document store from the words of an image, and puts a session into each slot. Where it is refused, no slot is written.
+#[unsafe(no_mangle)]
+pub extern "C" fn githoppu_recover(alloc: Global, words: &[u64], sessions: &mut [*mut u8]) -> i32
+    ensures { Recovers 1 (IsStoreIn words.now) (IsStoreFault words.now) words.now (length sessions.old) result }
+{
+    match recover_documents(alloc, words, sessions.len()) {
+        Ok(made) => {
+            hand_out(made, sessions);
+            DONE
+        }
+        Err(code) => code,
+    }
+}
+
+/// Takes up a queue from the words of an image, and puts a session into each slot. Where it is refused, no slot is written.
+#[unsafe(no_mangle)]
+pub extern "C" fn githoppu_recover_queue(
+    alloc: Global,
+    words: &[u64],
+    sessions: &mut [*mut u8],
+) -> i32
+    ensures { Recovers 2 (IsQueueIn words.now) (IsQueueFault words.now) words.now (length sessions.old) result }
+{
+    match recover_queue(alloc, words, sessions.len()) {
+        Ok(made) => {
+            hand_out(made, sessions);
+            DONE
+        }
+        Err(code) => code,
+    }
+}
+
+/// Gives up what C holds. The last session of a store or a queue gives that up.
 #[unsafe(no_mangle)]
 pub extern "C" fn githoppu_drop(session: Handle) {
     drop(session.into_box());

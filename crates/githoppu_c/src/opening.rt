@@ -1,8 +1,11 @@
 //! Sessions are opened, and put where C wants them.
 
-ghost use Rattle.std.specs.Prelude.{◌↔◌, IfOk, IsTrue, MatchResult, length, ℕ};
-ghost use Rattle.c_sessions.specs.Sessions.{AreReady};
-ghost use Rattle.githoppu_c.specs.Contents.{AreCallable, AreOpened, MayOpen, Refuses};
+ghost use Rattle.std.specs.Prelude.{◌↔◌, All, IfOk, IsTrue, MatchResult, length};
+ghost use Rattle.cx_rule.specs.Running.{Running};
+ghost use Rattle.doc_store.specs.declared.store.DocStore as doc_store_type;
+ghost use Rattle.fifo_object.specs.declared.fifo.Fifo as fifo_type;
+ghost use Rattle.c_sessions.specs.Sessions.{IsReadyOf};
+ghost use Rattle.githoppu_c.specs.Contents.{AreBoxes, AreOpened, IsQueueOf, IsStoreOf, MayOpen, Refuses};
 
 use crate::codes::{BAD_SIZE, NO_MEMORY};
 use crate::content::Content;
@@ -13,28 +16,34 @@ use std::alloc::{AllocError, Global};
 
 /// So many sessions of an empty document store in so many lines.
 pub fn open_documents(alloc: Global, lines: u64, count: usize) -> Result<Vec<Box<Content>>, i32>
-    ensures { MatchResult result (λ boxes. AreOpened lines count boxes.items) (Refuses lines count) }
+    ensures { MatchResult result (λ boxes. AreOpened IsStoreOf lines count boxes.items) (Refuses lines count) }
 {
     if !may_open(lines, count) {
         return Err(BAD_SIZE);
     }
-    match open(alloc, DocStore::of(lines), count as u32) {
-        Ok(sessions) => boxed(as_documents(alloc, sessions)),
-        // the sizes are right
+    // the sizes are right
+    let Ok(sessions) = open(alloc, DocStore::of(lines), count as u32) else {
+        return Err(NO_MEMORY);
+    };
+    match as_documents(alloc, sessions) {
+        Ok(contents) => Ok(contents),
         Err(_) => Err(NO_MEMORY),
     }
 }
 
 /// So many sessions of an empty queue in so many lines.
 pub fn open_queue(alloc: Global, lines: u64, count: usize) -> Result<Vec<Box<Content>>, i32>
-    ensures { MatchResult result (λ boxes. AreOpened lines count boxes.items) (Refuses lines count) }
+    ensures { MatchResult result (λ boxes. AreOpened IsQueueOf lines count boxes.items) (Refuses lines count) }
 {
     if !may_open(lines, count) {
         return Err(BAD_SIZE);
     }
-    match open(alloc, Fifo::of(lines), count as u32) {
-        Ok(sessions) => boxed(as_queue(alloc, sessions)),
-        // the sizes are right
+    // the sizes are right
+    let Ok(sessions) = open(alloc, Fifo::of(lines), count as u32) else {
+        return Err(NO_MEMORY);
+    };
+    match as_queue(alloc, sessions) {
+        Ok(contents) => Ok(contents),
         Err(_) => Err(NO_MEMORY),
     }
 }
@@ -57,23 +66,12 @@ fn may_open(lines: u64, count: usize) -> bool
     lines >= 64 && lines <= 16384 && count >= 1 && count <= 8
 }
 
-/// What was made, or the number of want of memory.
-fn boxed(made: Result<Vec<Box<Content>>, AllocError>) -> Result<Vec<Box<Content>>, i32>
-    ensures { (lines count : ℕ) → MayOpen lines count → IfOk made (λ boxes. AreCallable count boxes.items) → MatchResult result (λ boxes. AreOpened lines count boxes.items) (Refuses lines count) }
-{
-    match made {
-        Ok(contents) => Ok(contents),
-        Err(_) => Err(NO_MEMORY),
-    }
-}
-
 /// A box for each session of a document store.
-fn as_documents(
+pub(crate) fn as_documents(
     alloc: Global,
     sessions: Vec<Session<DocStore>>,
 ) -> Result<Vec<Box<Content>>, AllocError>
-    requires { AreReady (length sessions.items) sessions.items }
-    ensures { IfOk result (λ boxes. AreCallable (length sessions.items) boxes.items) }
+    ensures { (r : Running doc_store_type.DocStore) → All (IsReadyOf r) sessions.items → IfOk result (λ boxes. AreBoxes (IsStoreOf r) (length sessions.items) boxes.items) }
 {
     let mut contents = Vec::new(alloc);
     for session in sessions {
@@ -83,9 +81,11 @@ fn as_documents(
 }
 
 /// A box for each session of a queue.
-fn as_queue(alloc: Global, sessions: Vec<Session<Fifo>>) -> Result<Vec<Box<Content>>, AllocError>
-    requires { AreReady (length sessions.items) sessions.items }
-    ensures { IfOk result (λ boxes. AreCallable (length sessions.items) boxes.items) }
+pub(crate) fn as_queue(
+    alloc: Global,
+    sessions: Vec<Session<Fifo>>,
+) -> Result<Vec<Box<Content>>, AllocError>
+    ensures { (r : Running fifo_type.Fifo) → All (IsReadyOf r) sessions.items → IfOk result (λ boxes. AreBoxes (IsQueueOf r) (length sessions.items) boxes.items) }
 {
     let mut contents = Vec::new(alloc);
     for session in sessions {

@@ -60,11 +60,11 @@ module _ {O : Type 0} where
             numbers = starts.all.numbers;
           };
           unlimited = λ c limit at. (
-          let s = some_of (slice_get seats c) limit (sym (slice_get-map (λ (x : Seated). x.known.local.limit) seats c) ∙ at) in
-          let below : c < callers = (let within = slice_get_within seats c s.0 s.1 in omega (arith, within, long)) in
-          let here : 0 + c ≡ c = omega arith in
-          let is : s.0 ≡ seat c = sym (get_or_from_slice_get seats c s.0 s.0 s.1) ∙ ap (λ (xs : List Seated). get_or xs c s.0) starts.opened ∙ get_or-map-range_with_len seat 0 callers c c s.0 below here in
-          sym s.2 ∙ ap (λ (x : Seated). x.known.local.limit) is ∙ ap (λ (xs : List ℕ). get_or xs c 0) all ∙ get_or-replicate callers c (2 ^ 64 - 1) 0 below);
+              let s = some_of (slice_get seats c) limit (sym (slice_get-map (λ (x : Seated). x.known.local.limit) seats c) ∙ at) in
+              let below : c < callers = (let within = slice_get_within seats c s.0 s.1 in omega (arith, within, long)) in
+              let here : 0 + c ≡ c = omega arith in
+              let is : s.0 ≡ seat c = sym (get_or_from_slice_get seats c s.0 s.0 s.1) ∙ ap (λ (xs : List Seated). get_or xs c s.0) starts.opened ∙ get_or-map-range_with_len seat 0 callers c c s.0 below here in
+              sym s.2 ∙ ap (λ (x : Seated). x.known.local.limit) is ∙ ap (λ (xs : List ℕ). get_or xs c 0) all ∙ get_or-replicate callers c (2 ^ 64 - 1) 0 below);
         },
       )
 
@@ -95,11 +95,11 @@ module _ {O : Type 0} (r : Running O) (table : TableId) where
           unlimited = subst AreUnlimited (sym (all_at (λ (c : Client). limits_of c.lent ≡ limits) clients i x new.limits_are at)) unlimited;
         };
         closing = λ last. (
-        let number = numbered_at clients (length clients) i x new.clients_are.numbers at in
-        let here : i ≡ length ends.front = omega (arith, number, last, new.count_is, ap length ends.are, length-append ends.front (ends.last ∷ [])) in
-        let there : slice_get clients i ≡ Some ends.last = ap (λ (cs : List Client). slice_get cs i) ends.are ∙ ap (slice_get (ends.front ++ ends.last ∷ [])) here ∙ slice_get-last ends.front ends.last in
-        let same : x ≡ ends.last = same_Some x ends.last (sym at ∙ there) in
-        (ends.closing, ap (λ (c : Client). c.closing) same ∙ ends.has, subst (λ n. IsClosing r table n ends.closing) new.count_is ends.is));
+            let number = numbered_at clients (length clients) i x new.clients_are.numbers at in
+            let here : i ≡ length ends.front = omega (arith, number, last, new.count_is, ap length ends.are, length-append ends.front (ends.last ∷ [])) in
+            let there : slice_get clients i ≡ Some ends.last = ap (λ (cs : List Client). slice_get cs i) ends.are ∙ ap (slice_get (ends.front ++ ends.last ∷ [])) here ∙ slice_get-last ends.front ends.last in
+            let same : x ≡ ends.last = same_Some x ends.last (sym at ∙ there) in
+            (ends.closing, ap (λ (c : Client). c.closing) same ∙ ends.has, subst (λ n. IsClosing r table n ends.closing) new.count_is ends.is));
         none = all_at (λ (c : Client). HasCalls r c []) clients i x new.calls at;
       }
 

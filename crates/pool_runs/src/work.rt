@@ -48,7 +48,16 @@ pub(crate) fn serve<O: TypedObject, R: Wait, G: Gate>(
             number += 1;
             gate.pass(me, number, false);
             let goes_on = make(
-                rt, alloc, object, pool, life, &mut client, &mut lines, number, command, clients,
+                rt,
+                alloc,
+                object,
+                pool,
+                life,
+                &mut client,
+                &mut lines,
+                number,
+                command,
+                clients,
             )?;
             gate.pass(me, number, true);
             if !goes_on {

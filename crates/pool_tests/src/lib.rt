@@ -1,11 +1,13 @@
-//! Tests of clients that share the callers of a service: one after another and on threads of their own, and where a caller is stopped. It has
-//! tests alone.
+//! Tests of clients that share the callers of a service: one after another and on threads of their own, where a caller is stopped, and as a server
+//! has them. It has tests alone.
 #![tactic(auto)]
 
 #[cfg(test)]
 mod holds;
 #[cfg(test)]
 mod opening;
+#[cfg(test)]
+mod serving;
 #[cfg(test)]
 mod sharing;
 #[cfg(test)]

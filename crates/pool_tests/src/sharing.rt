@@ -86,7 +86,7 @@ fn all_told(clients: &[Client], row: &Row) -> Option<Sum> {
 }
 
 /// The place of the region that was published last, and what counter 0 has there.
-fn last(remains: &Remains) -> Option<(u64, u64)> {
+pub(crate) fn last(remains: &Remains) -> Option<(u64, u64)> {
     let code = *remains.published.last()?;
     let callers = remains.callers;
     if callers < 1 || callers > 8 {

@@ -39,29 +39,31 @@ impl Gate for ComparingGate {
     }
 }
 
-/// What a run of the script past a gate writes, of at most so many bytes. `None` where it ends with another status than 0.
+/// What a run of the script past a gate writes by these words, of at most so many bytes. `None` where it ends with another status than 0.
 pub(crate) fn written_past<R: Threads + Wait + Sync + AllocGlobal, G: Gate + Sync>(
     rt: &R,
+    words: &[&str],
     script: &str,
     gate: &G,
     room: usize,
 ) -> Result<Option<SureSink>, AllocError> {
     let alloc = rt.alloc();
-    let words = words_of(alloc, &["run"])?;
+    let words = words_of(alloc, words)?;
     let mut sink = SureSink::new(Vec::with_capacity(alloc, room)?);
     let mut source = SureSource::new(Vec::from_slice(alloc, script.as_bytes())?);
     let (code, _) = run_over(rt, &words, &mut source, &mut sink, gate);
     Ok(if code == 0 { Some(sink) } else { None })
 }
 
-/// Whether a run of the script past a gate ends with status 0, having written this.
+/// Whether a run of the script past a gate ends by these words with status 0, having written this.
 fn writes<R: Threads + Wait + Sync + AllocGlobal, G: Gate + Sync>(
     rt: &R,
+    words: &[&str],
     script: &str,
     gate: &G,
     text: &str,
 ) -> Result<bool, AllocError> {
-    Ok(match written_past(rt, script, gate, 256)? {
+    Ok(match written_past(rt, words, script, gate, 256)? {
         Some(sink) => sink.written() == text.as_bytes(),
         None => false,
     })
@@ -73,7 +75,7 @@ fn each_command_passes_the_gate_before_and_after_it(rt: HostRuntime) -> Result<(
         calls: AtomicUsize::new(0),
         is_wrong: AtomicBool::new(false),
     };
-    holds(&rt, writes(&rt, SCRIPT, &gate, REPORT)?);
+    holds(&rt, writes(&rt, &["run"], SCRIPT, &gate, REPORT)?);
     holds(&rt, gate.calls.load(Ordering::SeqCst) == PASSED.len());
     holds(&rt, !gate.is_wrong.load(Ordering::SeqCst));
     Ok(())
@@ -110,13 +112,22 @@ impl Gate for HoldingGate {
     }
 }
 
-#[test]
-fn a_client_that_is_held_comes_second(rt: HostRuntime) -> Result<(), Fail> {
+/// Whether the other client is first while one is held, in a run by these words.
+fn comes_second<R: Threads + Wait + Sync + AllocGlobal>(
+    rt: &R,
+    words: &[&str],
+) -> Result<bool, AllocError> {
     let gate = HoldingGate {
         answered: AtomicBool::new(false),
         turns_left: AtomicU64::new(0),
     };
-    holds(&rt, writes(&rt, TWO_CLIENTS, &gate, TURNED)?);
-    holds(&rt, gate.turns_left.load(Ordering::SeqCst) > 0);
+    let is_right = writes(rt, words, TWO_CLIENTS, &gate, TURNED)?;
+    Ok(is_right && gate.turns_left.load(Ordering::SeqCst) > 0)
+}
+
+#[test]
+fn a_client_that_is_held_comes_second(rt: HostRuntime) -> Result<(), Fail> {
+    holds(&rt, comes_second(&rt, &["run"])?);
+    holds(&rt, comes_second(&rt, &["pool", "2"])?);
     Ok(())
 }

@@ -8,7 +8,7 @@ use std::sync::Wait;
 use std::test::Fail;
 use std::thread::Threads;
 
-/// A run: its word, its input, its exit code, how many trails it leaves, and what it writes.
+/// A run: its words, its input, its exit code, how many trails it leaves, and what it writes.
 pub(crate) type Row = (&'static str, &'static str, u8, usize, &'static str);
 
 const ROWS: [Row; 16] = [
@@ -110,14 +110,15 @@ const ROWS: [Row; 16] = [
     ),
 ];
 
-/// What a run with a word over an input comes to: its exit code, how many trails it leaves, and the sink behind it.
+/// What a run with these words over an input comes to: its exit code, how many trails it leaves, and the sink behind it.
 fn ran<R: Threads + Wait + Sync + AllocGlobal>(
     rt: &R,
-    word: &str,
+    asked: &str,
     input: &[u8],
 ) -> Result<(u8, usize, SureSink), AllocError> {
     let alloc = rt.alloc();
-    let words = words_of(alloc, &[word])?;
+    let parts: Vec<&str> = asked.split(' ').collect(alloc)?;
+    let words = words_of(alloc, &parts)?;
     let mut sink = SureSink::new(Vec::with_capacity(alloc, 4096)?);
     let mut source = SureSource::new(Vec::from_slice(alloc, input)?);
     let (code, trails) = run_over(rt, &words, &mut source, &mut sink, &OpenGate);
@@ -129,8 +130,8 @@ pub(crate) fn first_wrong<R: Threads + Wait + Sync + AllocGlobal>(
     rt: &R,
     rows: &[Row],
 ) -> Result<Option<usize>, AllocError> {
-    for (i, (word, input, code, trails, text)) in rows.iter().enumerate() {
-        let (got, left, sink) = ran(rt, word, input.as_bytes())?;
+    for (i, (words, input, code, trails, text)) in rows.iter().enumerate() {
+        let (got, left, sink) = ran(rt, words, input.as_bytes())?;
         if got != *code || left != *trails || sink.written() != text.as_bytes() {
             return Ok(Some(i));
         }

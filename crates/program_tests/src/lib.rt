@@ -1,4 +1,4 @@
-//! Tests of the program behind its `main`: its words, its gate, its images, its queue, its traces, its standard ends and their faults. It has tests alone.
+//! Tests of the program behind its `main`: its words, its gate, its images, its queue, its pool, its traces, its standard ends and their faults. It has tests alone.
 #![tactic(auto)]
 
 #[cfg(test)]
@@ -13,6 +13,8 @@ mod given_words;
 mod holds;
 #[cfg(test)]
 mod images;
+#[cfg(test)]
+mod pools;
 #[cfg(test)]
 mod program_runs;
 #[cfg(test)]

@@ -153,7 +153,7 @@ fn has_journal<R: Threads + Wait + Sync + AllocGlobal, G: Gate + Sync>(
     in_turn: bool,
 ) -> Result<bool, AllocError> {
     let alloc = rt.alloc();
-    let Some(sink) = written_past(rt, &script(alloc)?, gate, 4096)? else {
+    let Some(sink) = written_past(rt, &["run"], &script(alloc)?, gate, 4096)? else {
         return Ok(false);
     };
     let lines = journal(alloc, sink.written())?;

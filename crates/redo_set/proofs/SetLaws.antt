@@ -6,7 +6,7 @@ use Rattle.cx_core.specs.WriteSet.{stored}
 use Rattle.redo_set.specs.Sets.{AreWithin, put_over, with_pair}
 
 -- what is stored depends on the words of the pairs alone
-stored_same : (n : ℕ) (set set' words : List ℕ) → ((i : ℕ) → 0 < i → i < 2 * n + 1 → slice_index set' i ≡ slice_index set i) → stored n set' words ≡ stored n set words
+pub stored_same : (n : ℕ) (set set' words : List ℕ) → ((i : ℕ) → 0 < i → i < 2 * n + 1 → slice_index set' i ≡ slice_index set i) → stored n set' words ≡ stored n set words
 stored_same zero set set' words same = refl
 stored_same (suc n) set set' words same =
     let rest = stored_same n set set' words (λ i some below. same i some (omega (arith, below))) in

@@ -1,19 +1,30 @@
 //! Write sets: addresses and values that lead from one image to the next.
 //!
-//! Nothing of the running service uses it yet: a caller still applies another's entry by the entry's full step.
+//! No turn of the running service uses it yet: a caller still applies another's entry by the entry's full step.
 //!
 //! - A set takes a pair behind its others, and refuses one, unchanged, exactly where it holds 256: `WriteSet::note` (`noted`, `full`, `same`).
 //!   To store it is then to store what it held, and that pair last: `last`.
 //! - A set is stored over any writable memory that has its addresses, pair by pair in order, for every pair of lists that stands; it halts only
 //!   where no access is left, with the first of its pairs stored: `apply_set` (`done`, `cut`, `halts`). Where the full image at a ticket is
 //!   there, and the set is a write set of that ticket, the full image after the entry is there afterwards: `next`.
+//! - A set is taken from the cell of another's entry, which the slot last looked at shows and a confirmed protection keeps: its offer word, and
+//!   where that is the ticket plus 1, exactly then, the number of its pairs and each pair. It is then noted whole with the ticket, so by the
+//!   table's rule a write set of the ticket, and what really is there fits what the seat has with it; beside the steps and the offer last seen
+//!   nothing else changes, also at a `Halt`: `take` (`taken`: `Takes`; `leaves`).
+//! - A set that whatever fits tells to be one of an own entry's ticket is written beside the entry's cell, each word that differs from the one
+//!   there, and offered. What the seat had it has still, and what really is there fits; with `Halt` nothing is offered: `offer` (`offered`:
+//!   `OffersSet`; `has`: `HasStill`; `halts`: `WritesSet`).
 //!
-//! Tested (`word_tests`): one address noted twice, each limit of its two stores, one set that is emptied and used again, and 256 pairs with a
-//! 257th that is refused.
+//! Tested (`table_tests`): one address noted twice, each limit of its two stores, one set that is emptied and used again, and 256 pairs with a
+//! 257th that is refused; a set that is written at each limit of steps, and found not to be offered at each limit.
 #![tactic(auto)]
 
 mod apply;
+mod offering;
 mod set;
+mod taking;
 
 pub use apply::apply_set;
+pub use offering::offer;
 pub use set::WriteSet;
+pub use taking::take;

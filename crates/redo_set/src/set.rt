@@ -13,7 +13,7 @@ const MOST_PAIRS: u64 = 256;
 /// a cell's write set: the number of pairs, then address and value of each.
 #[derive(Drop)]
 pub struct WriteSet {
-    words: Vec<u64>,
+    pub(crate) words: Vec<u64>,
 }
 
 impl Model for WriteSet {
@@ -60,6 +60,14 @@ impl WriteSet {
     {
         let i = 2 * m as usize;
         (self.words[i + 1], self.words[i + 2])
+    }
+
+    /// A word: the number of pairs, or the address or the value of one.
+    pub(crate) fn word(&self, i: u64) -> u64
+        requires { i < 513 }
+        ensures { result ≡ slice_index self.now i }
+    {
+        self.words[i as usize]
     }
 
     /// Adds a pair behind the others. It is false exactly where 256 pairs are held, and then nothing changes.

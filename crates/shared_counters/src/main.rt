@@ -1,6 +1,5 @@
-//! A service over an object of one's own: counters that two threads share. Each adds to one of them ten times, then one reads it,
-//! and the service is closed. The power is lost, and the same is done in a service that starts from what was kept. For both it prints
-//! what was read, and the place of the region that is current at the end.
+//! A service over an object of one's own: counters that four threads share. Each adds to one of them ten times. The power is lost, and four
+//! threads count on in a service that starts from what was kept.
 #![tactic(auto)]
 
 mod sharing;
@@ -10,16 +9,10 @@ use std::io;
 
 fn main(rt: HostRuntime) -> io::Result<()> {
     match count_over_a_loss(&rt, rt.alloc()) {
-        Ok((before, after)) => {
-            println!(rt;
-                "counted {}, in a region after {} entries",
-                before.count, before.place
-            )?;
-            println!(rt;
-                "after a loss of power counted {}, in a region after {} entries",
-                after.count, after.place
-            )?;
-        }
+        Ok(counted) => println!(rt;
+            "four threads counted to {}, and after a loss of power to {}",
+            counted.before, counted.after
+        )?,
         Err(_) => println!(rt; "no memory")?,
     }
     Ok(())

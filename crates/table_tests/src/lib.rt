@@ -1,4 +1,4 @@
-//! Tests of the running table: steps, try-locks, the queue, replicas and turns. It has tests alone.
+//! Tests of the running table: steps, try-locks, the queue, replicas, turns and write sets. It has tests alone.
 #![tactic(auto)]
 
 #[cfg(test)]
@@ -17,6 +17,8 @@ mod images;
 mod limit_tests;
 #[cfg(test)]
 mod linking;
+#[cfg(test)]
+mod noted_sets;
 #[cfg(test)]
 mod publishing;
 #[cfg(test)]
@@ -37,3 +39,5 @@ mod thread_tests;
 mod trylocks;
 #[cfg(test)]
 mod turns;
+#[cfg(test)]
+mod write_sets;

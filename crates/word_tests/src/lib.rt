@@ -43,5 +43,3 @@ mod rows;
 mod shapes;
 #[cfg(test)]
 mod single_stores;
-#[cfg(test)]
-mod write_sets;

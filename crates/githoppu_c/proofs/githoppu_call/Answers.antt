@@ -4,8 +4,7 @@ use Rattle.githoppu_c.proofs.githoppu_call.Goals as goal
 pub returns : goal.returns
 returns c = record {
   tries = c.tries_of.result.count;
-  some = search rules;
-  most = search rules;
+  asked_for = c.tries_of.ensures;
   called = c.call-called.result;
   after = c.call-called.new.self;
   callable = c.call-called.ensures.callable;

@@ -4,8 +4,7 @@ use Rattle.githoppu_c.proofs.githoppu_finish.Goals as goal
 pub returns : goal.returns
 returns c = record {
   tries = c.tries_of.result.count;
-  some = search rules;
-  most = search rules;
+  asked_for = c.tries_of.ensures;
   called = c.finish-called.result;
   after = c.finish-called.new.self;
   callable = c.finish-called.ensures.callable;

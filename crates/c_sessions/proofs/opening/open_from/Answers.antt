@@ -1,10 +1,19 @@
-use Rattle.std.proofs.Common.{◌≡◌, ap, map, ◌∙◌}
+use Rattle.std.proofs.Common.{◌≡◌, ◌≤◌, ap, length, map, subst, sym, ◌∙◌}
 use Rattle.std.specs.List.{range_with_len}
+use Rattle.std.proofs.lemmas.List.{length-map}
 use Rattle.std.proofs.lemmas.List.FromFn.{length-range_with_len}
 use Rattle.cx_rule.specs.Running.{Running}
 use Rattle.c_sessions.specs.Sessions.{number_in}
-use Rattle.c_sessions.proofs.Numbers.{as_many}
+use Rattle.c_sessions.proofs.Numbers.{as_many, number_of}
 use Rattle.c_sessions.proofs.opening.open_from.Goals as goal
+
+pub shared-requires-clause-all : goal.shared-requires-clause-all
+shared-requires-clause-all g c =
+    let started = c.in_ok-service.ensures in
+    let count : c.in_ok-service.service.callers ≡ c.args.callers = ap (λ (r : Running g.row.O.Denot). r.callers) started.is in
+    let many : length c.in_ok-service.callers.items ≡ c.in_ok-service.service.callers =
+    sym (length-map c.in_ok-service.callers.items number_of) ∙ ap length started.all.numbers ∙ length-range_with_len 0 c.in_ok-service.service.callers in
+    (many, subst (λ n. n ≤ 8) (sym count) started.right.0.1)
 
 pub returns-in-Ok-shared : goal.returns-in-Ok-shared
 returns-in-Ok-shared g c =
@@ -14,7 +23,8 @@ returns-in-Ok-shared g c =
     c.in-Ok-shared.ensures.numbers ∙ started.all.numbers ∙ ap (λ (r : Running g.row.O.Denot). range_with_len 0 r.callers) started.is in
     record {
       all = as_many sessions (range_with_len 0 c.args.callers) numbers ∙ length-range_with_len 0 c.args.callers;
-      service = c.in-Ok-shared.ensures.service;
+      service = c.in_ok-service.service;
+      is = started.is;
       each = c.in-Ok-shared.ensures.each;
       numbers = numbers;
     }

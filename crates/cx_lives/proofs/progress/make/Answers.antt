@@ -5,15 +5,15 @@ use Rattle.cx_lives.specs.declared.progress.Progress.{Progress}
 use Rattle.cx_lives.proofs.Turning.{entry_turned, full_turned, if_ok, read_turned, stop_turned, worn_turned}
 use Rattle.cx_lives.proofs.progress.make.Goals as goal
 
-pub returns-in-Done : goal.returns-in-Done
-returns-in-Done g c =
+pub returns-in-Queued : goal.returns-in-Queued
+returns-in-Queued g c =
     let r = c.args.service.now in
     let m = g.O.TypedObject.meaning r.object in
     let n = c.args.number in
-    let progress : Progress g.row.O-Reply.Denot = record { caller = c.in-Done.caller; lines = c.args.progress.lines } in
-    if_ok (EntryTurn m c.args.command.now.client n c.in-Done.answer progress) (Turned m c.args.life.now r c.args.command.now.client n)
+    let progress : Progress g.row.O-Reply.Denot = record { caller = c.in-Queued.caller; lines = c.args.progress.lines } in
+    if_ok (EntryTurn m c.args.command.now.client n c.in-Queued.answer progress) (Turned m c.args.life.now r c.args.command.now.client n)
     (λ turn t. entry_turned m c.args.life.now r c.args.command.now.client (n - 1) n c.args.progress.caller c.args.progress.lines c.requires.served.lists (omega (arith, c.requires.number)) c.args.command.now.op c.words_of-op.result
-    c.words_of-op.ensures c.requires.named c.requires.op c.op_is_a_value.ensures c.in-Done.caller c.in-Done.answer turn c.in-Done.ensures t)
+    c.words_of-op.ensures c.requires.named c.requires.op c.op_is_a_value.ensures c.in-Queued.caller c.in-Queued.answer turn c.in-Queued.ensures t)
     c.with_entry.result c.with_entry.ensures
 
 pub returns-in-Read : goal.returns-in-Read

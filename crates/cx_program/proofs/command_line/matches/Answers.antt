@@ -1,4 +1,4 @@
-use Rattle.std.proofs.Common.{◌≡◌, ◌∙◌, refl, ap, ap₂, map, string_bytes, codes, true, subst, ℕ, List}
+use Rattle.std.proofs.Common.{◌≡◌, ◌∙◌, refl, ap, map, string_bytes, codes, true, subst, ℕ, List}
 use Rattle.clap.specs.Faults.{fault_of, is_simple_and_free}
 use Rattle.clap.specs.Kinds.{FailsBy}
 use Rattle.clap.specs.Words.{app_of}
@@ -6,7 +6,7 @@ use Rattle.clap.specs.Simple.{App, app_of_fields, new_app, new_shape, with_subco
 use Rattle.clap.specs.declared.builder.command.Command.{Command}
 use Rattle.clap.specs.declared.builder.command.Command.TheOpen.{Command-F}
 use Rattle.clap.proofs.OnLiterals.{clap_on_literals}
-use Rattle.cx_program.specs.CommandLine.{program}
+use Rattle.cx_program.specs.CommandLine.{load_app, pool_app, program}
 use Rattle.cx_program.proofs.command_line.matches.Goals as goal
 
 is_simple_program : is_simple_and_free program ≡ true
@@ -33,6 +33,6 @@ returns c =
     let with_recover = c.in_ok-with_recover.ensures ∙ next (codes "recover") _ _ with_image in
     let with_fifo = c.in_ok-with_fifo.ensures ∙ next (codes "fifo") _ _ with_recover in
     let with_trace = c.in_ok-with_trace.ensures ∙ next (codes "trace") _ _ with_fifo in
-    let app_is : app_of c.in_ok-subcommand.field-0 ≡ program =
-    c.in_ok-subcommand.ensures.shape c.in_ok-load.ensures.local ∙ ap₂ with_subcommand with_trace (ap (λ (a : App). a.top) c.in_ok-load.ensures.app) in
+    let app_is : app_of c.in_ok-with_numbers.field-0 ≡ program =
+    c.in_ok-with_numbers.ensures ∙ ap (λ (a : App). with_subcommand (with_subcommand a load_app.top) pool_app.top) with_trace in
     subst (λ (a : App). FailsBy (fault_of a (map string_bytes c.args.words.now)) c.try_get_matches_from.result) app_is (c.try_get_matches_from.ensures.kinds (ap is_simple_and_free app_is ∙ is_simple_program))

@@ -17,3 +17,8 @@ returns-clause-held g c =
     let shared = c.args.shared.now in
     let e = c.in_ok-unprotect.ensures in
     held_protected (g.O.Object.line_count shared.object) shared (g.O.Object.lawful shared.object) (g.O.Object.step shared.object) c.replay_to.new.seat c.unprotect.new.seat c.args.held.now e.leaves.of e.leaves.rest c.in_ok-replay_to.ensures.replayed.ready.is_held
+
+pub returns-clause-image : goal.returns-clause-image
+returns-clause-image g c =
+    let shared = c.args.shared.now in
+    image_protected (g.O.Object.line_count shared.object) shared (g.O.Object.lawful shared.object) (g.O.Object.step shared.object) c.replay_to.new.seat c.unprotect.new.seat c.in_ok-unprotect.ensures.leaves.rest c.in_ok-replay_to.ensures.replayed.ready.image

@@ -1,0 +1,106 @@
+-- An image in words: eight of head, and then the words of all replicas.
+use Rattle.std.specs.Prelude.{◌≡◌, ◌≢◌, ◌+◌, ◌<◌, ◌≤◌, ℕ, List, length, slice_index}
+use Rattle.cx_base.specs.OldFormat.{OldFormat}
+use Rattle.cx_core.specs.declared.entry.Base.{Base}
+use Rattle.cx_core.specs.declared.entry.Image.{Image}
+use Rattle.cx_table.specs.declared.remains.Remains.{Remains}
+use Rattle.recovery.specs.Crashes.{left_root, left_word}
+use Rattle.recovery.specs.Images.{Gives, image_size}
+use Rattle.recovery.specs.Recovery.{IsFaultOf, IsRecovered, NumbersWithin}
+use Rattle.recovery.specs.declared.recovering.ImageFault.{ImageFault}
+use Rattle.recovery.specs.declared.recovering.ImageFault.TheVariants.{Memory}
+use Rattle.c_images.specs.declared.head.Head.{Head}
+use Rattle.c_images.specs.declared.reading.WordsFault.{WordsFault}
+use Rattle.c_images.specs.declared.reading.WordsFault.TheVariants.{Head as HeadFault, Kind, Image as ImageRefused, Numbers}
+
+-- the words of a head: the name and the format, the kind of object, the callers, the lines and the root
+abbrev pub kind_in : List ℕ → ℕ
+kind_in words = slice_index words 2
+
+abbrev pub callers_in : List ℕ → ℕ
+callers_in words = slice_index words 3
+
+abbrev pub lines_in : List ℕ → ℕ
+lines_in words = slice_index words 4
+
+abbrev pub root_in : List ℕ → ℕ
+root_in words = slice_index words 5
+
+-- words that begin with the head of some image: "githoppu", format 1, 1 to 8 callers, 64 to 16,384 lines
+pub record IsHeaded (words : List ℕ) : Type 0 where
+  pub enough : 8 ≤ length words
+  pub name : slice_index words 0 ≡ 8462387323625302375
+  pub format : slice_index words 1 ≡ 1
+  pub some : 1 ≤ callers_in words
+  pub few : callers_in words ≤ 8
+  pub least : 64 ≤ lines_in words
+  pub most : lines_in words ≤ 16384
+
+-- words with such a head, which is this one
+pub record IsSaid (words : List ℕ) (head : Head) : Type 0 where
+  pub headed : IsHeaded words
+  pub callers : head.callers ≡ callers_in words
+  pub lines : head.lines ≡ lines_in words
+  pub root : head.root ≡ root_in words
+
+-- words with this head, of an object of this kind
+abbrev pub IsHeadOf : ℕ → List ℕ → Head → Type 0
+IsHeadOf kind words head = (kind_in words ≡ kind) × IsSaid words head
+
+-- why there is none: they begin with no head, or are of another kind
+abbrev pub IsHeadFault : ℕ → List ℕ → WordsFault → Type 0
+IsHeadFault kind words HeadFault = ¬ IsHeaded words
+IsHeadFault kind words (Kind found) = IsHeaded words × (found ≡ kind_in words) × (kind_in words ≢ kind)
+IsHeadFault kind words fault = ⊥
+
+-- the image that words say: the numbers of the head, and the words behind it
+pub record Says (words : List ℕ) (image : Image) : Type 0 where
+  pub callers : image.callers ≡ callers_in words
+  pub lines : image.lines ≡ lines_in words
+  pub root : image.root ≡ root_in words
+  pub count : length words ≡ image.count + 8
+  pub pairs : Gives (λ at. slice_index words (at + 8)) image.count image.pairs
+
+-- the first so many words behind the head are those that a loss of power leaves, of so many in all
+pub record AreLeftWords (r : Remains) (choice end_ count : ℕ) (words : List ℕ) : Type 0 where
+  pub long : length words ≡ count + 8
+  pub each : (at : ℕ) → at < end_ → slice_index words (at + 8) ≡ left_word r choice at
+
+-- words of what a loss of power leaves of a closed service by choice, whose object is of this kind
+pub record IsWritten (kind : ℕ) (r : Remains) (choice : ℕ) (words : List ℕ) : Type 0 where
+  pub name : slice_index words 0 ≡ 8462387323625302375
+  pub format : slice_index words 1 ≡ 1
+  pub kind_is : kind_in words ≡ kind
+  pub callers : callers_in words ≡ r.callers
+  pub lines : lines_in words ≡ r.lines
+  pub root : root_in words ≡ left_root r choice
+  pub left : AreLeftWords r choice (image_size r.callers r.lines) (image_size r.callers r.lines) words
+
+-- The base that is taken up from words, for an object with this version, these lawful images and this old format: the one that recovery gives for the image
+-- that they say. No number of its results is above its place.
+pub record IsTakenUp (version : ℕ) (lawful : List ℕ → Type 0) (old : OldFormat) (words : List ℕ) (base : Base) : Type 0 where
+  pub image : Image
+  pub says : Says words image
+  pub recovered : IsRecovered version lawful old image base
+  pub numbers : NumbersWithin base
+
+-- recovery refuses the image that they say
+pub record IsRefused (version : ℕ) (lawful : List ℕ → Type 0) (old : OldFormat) (words : List ℕ) (fault : ImageFault) : Type 0 where
+  pub image : Image
+  pub says : Says words image
+  pub is : IsFaultOf version lawful old image fault
+
+-- it gives a base of which a result has a number above the place
+pub record HasNumberAbove (version : ℕ) (lawful : List ℕ → Type 0) (old : OldFormat) (words : List ℕ) : Type 0 where
+  pub image : Image
+  pub says : Says words image
+  pub base : Base
+  pub recovered : IsRecovered version lawful old image base
+  pub above : ¬ NumbersWithin base
+
+-- why no base is taken up from words with a head
+abbrev pub IsWordsFault : ℕ → (List ℕ → Type 0) → OldFormat → List ℕ → WordsFault → Type 0
+IsWordsFault version lawful old words (ImageRefused Memory) = Unit {0}
+IsWordsFault version lawful old words (ImageRefused fault) = IsRefused version lawful old words fault
+IsWordsFault version lawful old words Numbers = HasNumberAbove version lawful old words
+IsWordsFault version lawful old words fault = ⊥

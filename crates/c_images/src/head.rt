@@ -1,0 +1,51 @@
+//! The head of an image in words.
+
+ghost use Rattle.std.specs.Prelude.{◌≡◌, ◌↔◌, IsTrue, MatchResult, length};
+ghost use Rattle.c_images.specs.Words.{IsHeadFault, IsHeaded, IsHeadOf};
+
+use crate::reading::WordsFault;
+
+/// How many words the head has.
+pub(crate) const HEAD: usize = 8;
+/// "githoppu" in bytes, the first in the lowest bits.
+pub(crate) const NAME: u64 = 8462387323625302375;
+/// The format.
+pub(crate) const FORMAT: u64 = 1;
+
+/// What the head says: the callers of the service that the image is of, the lines of its object, and the root.
+#[derive(Clone, Copy, Debug, Drop)]
+pub struct Head {
+    pub callers: u32,
+    pub lines: u64,
+    pub root: u64,
+}
+
+/// The head of words that say an image of an object of this kind.
+pub fn head_of(words: &[u64], kind: u64) -> Result<Head, WordsFault>
+    ensures { MatchResult result (IsHeadOf kind words.now) (IsHeadFault kind words.now) }
+{
+    if !is_headed(words) {
+        return Err(WordsFault::Head);
+    }
+    if words[2] != kind {
+        return Err(WordsFault::Kind { found: words[2] });
+    }
+    Ok(Head {
+        callers: words[3] as u32,
+        lines: words[4],
+        root: words[5],
+    })
+}
+
+/// Whether words begin with the head of some image.
+fn is_headed(words: &[u64]) -> bool
+    ensures { IsTrue result ↔ IsHeaded words.now }
+{
+    words.len() >= HEAD
+        && words[0] == NAME
+        && words[1] == FORMAT
+        && words[3] >= 1
+        && words[3] <= 8
+        && words[4] >= 64
+        && words[4] <= 16384
+}

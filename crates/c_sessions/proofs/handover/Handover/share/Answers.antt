@@ -1,0 +1,5 @@
+use Rattle.c_sessions.proofs.Gatherings.{parts}
+use Rattle.c_sessions.proofs.handover.Handover.share.Goals as goal
+
+pub another-requires-clause-rule : goal.another-requires-clause-rule
+another-requires-clause-rule g c = parts _ c.args.service.now _ c.requires.home

@@ -1,0 +1,12 @@
+use Rattle.std.proofs.Common.{refl}
+use Rattle.c_sessions.proofs.Gatherings.{begins, opens, takes}
+use Rattle.c_sessions.proofs.handover.open_for.Goals as goal
+
+pub ruled-requires-clause-rule : goal.ruled-requires-clause-rule
+ruled-requires-clause-rule g c = begins
+
+pub try_push_as-requires-clause-rule : goal.try_push_as-requires-clause-rule
+try_push_as-requires-clause-rule g c = opens _ _ _ _ c.in_ok-line.ensures.3 refl
+
+pub try_pop_as-requires-clause-rule : goal.try_pop_as-requires-clause-rule
+try_pop_as-requires-clause-rule g c = takes _ _

@@ -1,0 +1,118 @@
+//! Sessions are closed one by one, in any order and by any thread. The last one closes the service.
+
+ghost use Rattle.std.specs.Prelude.{◌≡◌, MatchResult};
+ghost use Rattle.cx_rule.specs.Running.{Running};
+ghost use Rattle.cx_service.specs.Closes.{seats_of};
+ghost use Rattle.cx_table.specs.Remains.{AreSeats};
+ghost use Rattle.c_sessions.specs.Closings.{Closes, ClosesTo, IsClosedOf};
+ghost use Rattle.c_sessions.specs.Handing.{IsExitOf};
+ghost use Rattle.c_sessions.specs.Sessions.{IsReady};
+
+use crate::exit::Exit;
+use crate::gathering::{gather, in_order};
+use crate::rule::HandedIn;
+use crate::session::Session;
+use cx_base::Object;
+use cx_service::{Handed, Kept, Service};
+use cx_table::Remains;
+use std::alloc::Global;
+use std::sync::Arc;
+use std::sync::atomic::Ordering;
+
+/// What closing a session comes to.
+#[derive(Drop)]
+pub enum Closing<O: Object> {
+    /// Other sessions of the service are not closed. The caller lies with those that are handed in.
+    Others,
+    /// Others were in the way: the session is as it was.
+    Again(Session<O>),
+    /// It was the last: what the service leaves.
+    Closed(Remains),
+    /// It was the last, and there is no memory: the service and all its callers, of caller 0 first.
+    Kept(Kept<O>),
+    /// It was the last, and did not find all callers of the service, or a share of it was elsewhere.
+    Lost,
+}
+
+impl<O: Object> Session<O> {
+    /// Closes the session. Its caller is handed in, in whatever state it is. The session that is closed last takes all callers of the
+    /// service out, and closes it.
+    pub fn close(self, alloc: Global) -> Closing<O>
+        requires { IsReady self }
+        ensures { Closes O.line_count O.lawful O.step O.only_reads self result }
+    {
+        let Session {
+            service,
+            exit,
+            handed,
+        } = self;
+        let Exit {
+            handover,
+            mut pass,
+            gathered,
+            out,
+        } = exit;
+        if let Err(back) = handover.hand_in(&mut pass, HandedIn { service, handed }) {
+            let exit = Exit {
+                handover,
+                pass,
+                gathered,
+                out,
+            };
+            return Closing::Again(Session {
+                service: back.service,
+                exit,
+                handed: back.handed,
+            });
+        }
+        let came = handover.came.fetch_add(1, Ordering::SeqCst);
+        let last = u64::from(handover.callers) - 1;
+        // of one caller there are no others
+        if came != last && last > 0 {
+            return Closing::Others;
+        }
+        let exit = Exit {
+            handover,
+            pass,
+            gathered,
+            out,
+        };
+        all_in(alloc, exit)
+    }
+}
+
+/// Closes the service whose callers are all handed in.
+fn all_in<O: Object>(alloc: Global, exit: Exit<O>) -> Closing<O>
+    requires { (r : Running O) × IsExitOf r exit }
+    ensures { (r : Running O) → IsExitOf r exit → ClosesTo O.line_count O.lawful O.step O.only_reads r result }
+{
+    let Exit {
+        handover,
+        mut pass,
+        gathered,
+        out,
+    } = exit;
+    let Some((service, gathered)) = gather(&handover, &mut pass, gathered) else {
+        return Closing::Lost;
+    };
+    let Ok(service) = Arc::try_unwrap(service) else {
+        return Closing::Lost;
+    };
+    let Some(callers) = in_order(&service, gathered, out) else {
+        return Closing::Lost;
+    };
+    match close_kept(alloc, Kept { service, callers }) {
+        Ok(remains) => Closing::Closed(remains),
+        Err(kept) => Closing::Kept(kept),
+    }
+}
+
+/// Closes a service that was not closed for want of memory. `Err` is want of memory again, and hands all back as it was.
+pub fn close_kept<O: Object>(alloc: Global, kept: Kept<O>) -> Result<Remains, Kept<O>>
+    requires { AreSeats kept.service (seats_of kept.callers.items) }
+    ensures { MatchResult result (IsClosedOf O.line_count O.lawful O.step O.only_reads kept.service) (λ back. back ≡ kept) }
+{
+    let Kept { service, callers } = kept;
+    let _ = service.lines();
+    service.close(alloc, callers)
+}

@@ -1,0 +1,43 @@
+-- What C is answered, as numbers.
+use Rattle.std.specs.Prelude.{ℤ, pos}
+use Rattle.c_images.specs.declared.reading.WordsFault.{WordsFault}
+use Rattle.c_images.specs.declared.reading.WordsFault.TheVariants.{Head, Kind, Image, Numbers}
+use Rattle.c_sessions.specs.declared.closing.Closing.{Closing}
+use Rattle.c_sessions.specs.declared.closing.Closing.TheVariants.{Others, Again as ClosingAgain, Closed, Kept, Lost}
+use Rattle.c_sessions.specs.declared.steps.Called.{Called}
+use Rattle.c_sessions.specs.declared.steps.Called.TheVariants.{Done, Pending, Again, Full, Worn, Stopped, OutOfTurn}
+use Rattle.recovery.specs.declared.recovering.ImageFault.{ImageFault}
+use Rattle.recovery.specs.declared.recovering.ImageFault.TheVariants.{Size, Root, Version, Place, Body, Memory}
+
+-- the number of what a call came to
+abbrev pub code_of : Called → ℤ
+code_of Done = pos 0
+code_of Pending = pos 1
+code_of Again = pos 2
+code_of Full = pos 3
+code_of Worn = pos 4
+code_of Stopped = pos 5
+code_of OutOfTurn = pos 6
+
+-- the number of what closing a session came to
+abbrev pub closing_code : {O : Type 0} → Closing O → ℤ
+closing_code (Closed remains) = pos 0
+closing_code (ClosingAgain session) = pos 2
+closing_code (Kept kept) = pos 8
+closing_code Others = pos 11
+closing_code Lost = pos 12
+
+-- the number of why nothing is recovered
+abbrev pub image_code : ImageFault → ℤ
+image_code Memory = pos 8
+image_code (Size found) = pos 15
+image_code (Root found) = pos 16
+image_code (Version found) = pos 17
+image_code (Place root region) = pos 18
+image_code Body = pos 19
+
+abbrev pub fault_code : WordsFault → ℤ
+fault_code Head = pos 13
+fault_code (Kind found) = pos 14
+fault_code (Image fault) = image_code fault
+fault_code Numbers = pos 20

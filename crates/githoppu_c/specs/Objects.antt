@@ -1,0 +1,42 @@
+-- What the definitions of sessions and of images say of the two objects.
+use Rattle.std.specs.Prelude.{ℕ, List}
+use Rattle.cx_base.specs.OldFormat.{no_old_format}
+use Rattle.cx_core.specs.declared.entry.Base.{Base}
+use Rattle.cx_rule.specs.Running.{Running}
+use Rattle.cx_table.specs.declared.remains.Remains.{Remains}
+use Rattle.c_images.specs.Words.{IsTakenUp, IsWordsFault, lines_in}
+use Rattle.c_images.specs.declared.reading.WordsFault.{WordsFault}
+use Rattle.c_sessions.specs.Closings.{ClosesTo, Closes, IsClosedOf}
+use Rattle.c_sessions.specs.declared.closing.Closing.{Closing}
+use Rattle.c_sessions.specs.declared.session.Session.{Session}
+use Rattle.doc_store.specs.declared.store.DocStore.{DocStore}
+use Rattle.doc_store.specs.ExactStep.{IsImage, first_format, reads_in, store_step}
+use Rattle.fifo_object.specs.declared.fifo.Fifo.{Fifo}
+use Rattle.fifo_object.specs.Fifo.{IsFifo, fifo_reads, fifo_step}
+
+-- what a closed store left, and a closed queue
+abbrev pub IsClosedStore : Running DocStore → Remains → Type 0
+IsClosedStore = IsClosedOf (λ (s : DocStore). s.lines) (λ s. IsImage s.lines) (λ s. store_step s.lines) (λ _. reads_in)
+
+abbrev pub IsClosedQueue : Running Fifo → Remains → Type 0
+IsClosedQueue = IsClosedOf (λ (f : Fifo). f.lines) (λ f. IsFifo f.lines) (λ f. fifo_step f.lines) (λ _. fifo_reads)
+
+-- what closing a session of either came to
+abbrev pub ClosesStore : Session DocStore → Closing DocStore → Type 0
+ClosesStore = Closes (λ (s : DocStore). s.lines) (λ s. IsImage s.lines) (λ s. store_step s.lines) (λ _. reads_in)
+
+abbrev pub ClosesQueue : Session Fifo → Closing Fifo → Type 0
+ClosesQueue = Closes (λ (f : Fifo). f.lines) (λ f. IsFifo f.lines) (λ f. fifo_step f.lines) (λ _. fifo_reads)
+
+-- what is taken up from words of a store and of a queue, and why nothing is
+abbrev pub IsStoreIn : List ℕ → Base → Type 0
+IsStoreIn words = IsTakenUp 2 (IsImage (lines_in words)) (first_format (lines_in words)) words
+
+abbrev pub IsStoreFault : List ℕ → WordsFault → Type 0
+IsStoreFault words = IsWordsFault 2 (IsImage (lines_in words)) (first_format (lines_in words)) words
+
+abbrev pub IsQueueIn : List ℕ → Base → Type 0
+IsQueueIn words = IsTakenUp 16 (IsFifo (lines_in words)) no_old_format words
+
+abbrev pub IsQueueFault : List ℕ → WordsFault → Type 0
+IsQueueFault words = IsWordsFault 16 (IsFifo (lines_in words)) no_old_format words

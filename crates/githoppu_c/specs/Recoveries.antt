@@ -1,0 +1,38 @@
+-- What C is answered where it recovers.
+use Rattle.std.specs.Prelude.{◌≡◌, ◌⊎◌, ◌≤◌, ℕ, ℤ, pos, List}
+use Rattle.std.specs.Global.{Global}
+use Rattle.std_alloc.specs.declared.boxed.Box.{Box}
+use Rattle.cx_core.specs.declared.entry.Base.{Base}
+use Rattle.cx_rule.specs.Running.{Running}
+use Rattle.c_images.specs.Words.{IsHeadFault}
+use Rattle.c_images.specs.declared.reading.WordsFault.{WordsFault}
+use Rattle.githoppu_c.specs.Codes.{fault_code}
+use Rattle.githoppu_c.specs.Contents.{AreBoxes}
+use Rattle.githoppu_c.specs.declared.content.Content.{Content}
+
+-- 1 to 8 sessions
+pub record AreFew (count : ℕ) : Type 0 where
+  pub some : 1 ≤ count
+  pub few : count ≤ 8
+
+-- the words are refused, with the number of their fault: of their head, or of what stands behind it
+pub record IsRefusedBy (kind : ℕ) (faulty : WordsFault → Type 0) (words : List ℕ) (code : ℤ) : Type 0 where
+  pub fault : WordsFault
+  pub because : IsHeadFault kind words fault ⊎ faulty fault
+  pub is : code ≡ fault_code fault
+
+-- why nothing is recovered: there would be no sessions or too many, the words are refused, or there is no memory
+abbrev pub RefusesWords : ℕ → (WordsFault → Type 0) → List ℕ → ℕ → ℤ → Type 0
+RefusesWords kind faulty words count code = ((¬ AreFew count) × (code ≡ pos 7)) ⊎ (AreFew count × (IsRefusedBy kind faulty words code ⊎ (code ≡ pos 8)))
+
+-- so many boxes of sessions of one service that opens from a base that these words say
+pub record AreRecovered {O : Type 0} (is : Running O → Content → Type 0) (taken : Base → Type 0) (count : ℕ) (boxes : List (Box Content Global)) : Type 0 where
+  pub few : AreFew count
+  pub service : Running O
+  pub callers_are : service.callers ≡ count
+  pub said : taken service.base
+  pub of : AreBoxes (is service) count boxes
+
+-- what C is answered
+abbrev pub Recovers : ℕ → (Base → Type 0) → (WordsFault → Type 0) → List ℕ → ℕ → ℤ → Type 0
+Recovers kind taken faulty words count code = (AreFew count × ((base : Base) × taken base) × (code ≡ pos 0)) ⊎ RefusesWords kind faulty words count code

@@ -1,0 +1,33 @@
+//! What a closed service left, as words of C's.
+
+ghost use Rattle.recovery.specs.Crashes.{IsWhole};
+ghost use Rattle.githoppu_c.specs.Closings.{Writes};
+
+use crate::codes::{BAD_SIZE, DONE};
+use c_images::{image_words, write_image};
+use cx_table::Remains;
+
+/// The kinds of objects in images.
+pub const DOCUMENTS: u64 = 1;
+
+pub const QUEUE: u64 = 2;
+
+/// Writes what a loss of power leaves, by choice, where there are as many words as it takes, which are told.
+pub fn write_to(
+    remains: &Remains,
+    kind: u64,
+    choice: u64,
+    words: &mut [u64],
+    needed: &mut u64,
+) -> i32
+    requires { IsWhole remains.now }
+    ensures { Writes kind remains.now choice words.old words.new needed.new result }
+{
+    let count = image_words(remains);
+    *needed = count;
+    if words.len() as u64 != count {
+        return BAD_SIZE;
+    }
+    write_image(remains, kind, choice, words);
+    DONE
+}

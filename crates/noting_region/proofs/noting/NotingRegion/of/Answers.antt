@@ -1,0 +1,13 @@
+use Rattle.noting_region.proofs.NotingLaws.{kept_none}
+use Rattle.noting_region.proofs.noting.NotingRegion.of.Goals as goal
+
+pub invariant_of-result : goal.invariant_of-result
+invariant_of-result g c =
+    let table = c.args.table.now in
+    let seat = c.args.seat.now in
+    record {
+      of = c.requires.held;
+      within = c.steps-steps.ensures.within;
+      place = c.requires.begins.place;
+      notes = λ all. kept_none (g.T.HeldWords.line_count table) (g.T.HeldWords.running table) (g.T.HeldWords.lawful table) (g.T.HeldWords.step table) g.J.Began.known seat seat c.clear.new.self c.requires.begins.same c.clear.ensures;
+    }

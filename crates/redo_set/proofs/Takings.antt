@@ -1,0 +1,121 @@
+-- Reading a write set, word after word.
+use Rattle.std.proofs.Common.{◌≡◌, ◌+◌, ◌*◌, ◌<◌, ◌≤◌, ℕ, zero, suc, List, [], ◌∷◌, ◌++◌, length, slice_index, refl, sym, ap, subst, ◌∙◌, arith, append-nil, zero-add, length-append, take, Option, Some}
+use Rattle.std.proofs.lemmas.List.{append_assoc, get_or-take, get_or_append_left}
+use Rattle.std.specs.List.{slice_get}
+use Rattle.cx_base.specs.declared.object.Object.{Ghosts}
+use Rattle.cx_core.specs.declared.kinds.Kind.TheVariants.{LoadOffer, ReadSet}
+use Rattle.cx_core.specs.declared.local.SeenOffer.{SeenOffer}
+use Rattle.cx_core.specs.State.{Instance, one_more}
+use Rattle.core_queue.specs.declared.notes.SetNoted.{SetNoted}
+use Rattle.core_queue.specs.NotedSets.{IsNotedSet}
+use Rattle.cx_rule.specs.declared.rule.Noted.{Noted}
+use Rattle.cx_rule.specs.Fitting.{Fitting}
+use Rattle.cx_rule.specs.Running.{Running, instance_at}
+use Rattle.cx_rule.specs.Seats.{Seated, stepped}
+use Rattle.cx_table.specs.Runs.{Runs, no_step, one_more_step, set_reads_from}
+use Rattle.redo_set.specs.Taking.{LeavesTaking, ReadsWords, set_notes, with_notes}
+
+abbrev note : ℕ → ℕ → ℕ → SetNoted
+note ticket i w = record { ticket = ticket; index = i; word = w }
+
+notes_more : (ticket i : ℕ) (ws : List ℕ) (w : ℕ) → set_notes ticket i (ws ++ w ∷ []) ≡ set_notes ticket i ws ++ note ticket (i + length ws) w ∷ []
+notes_more ticket i [] w = ap (λ k. note ticket k w ∷ []) (omega arith)
+notes_more ticket i (x ∷ ws) w =
+    ap (λ rest. note ticket i x ∷ rest)
+    (notes_more ticket (i + 1) ws w ∙ ap (λ k. set_notes ticket (i + 1) ws ++ note ticket k w ∷ []) (omega arith))
+
+-- a seat whose caller has these parts
+abbrev seat_with : Seated → Option SeenOffer → ℕ → List Noted → List SetNoted → Seated
+seat_with s seen steps noted sets = record s { known = record s.known { local = record s.known.local { seen_offer = seen; steps = steps }; noted = noted; sets = sets } }
+
+-- what a seat is after some notes it leaves
+pub leaves_of : (seen : Option SeenOffer) (steps : ℕ) (notes : List SetNoted) (s after : Seated) → after ≡ with_notes seen steps notes s → LeavesTaking s after
+leaves_of seen steps notes s after is = record {
+  notes = notes;
+  seat = is ∙ (λ k. with_notes (sym (ap (λ (x : Seated). x.known.local.seen_offer) is) k) (sym (ap (λ (x : Seated). x.known.local.steps) is) k) notes s);
+}
+
+none_is : (s : Seated) → s ≡ with_notes s.known.local.seen_offer s.known.local.steps [] s
+none_is s = ap (seat_with s s.known.local.seen_offer s.known.local.steps s.known.noted) (sym (append-nil s.known.sets))
+
+-- nothing was made
+pub leaves_none : (s after : Seated) → after ≡ s → LeavesTaking s after
+leaves_none s after same = leaves_of s.known.local.seen_offer s.known.local.steps [] s after (same ∙ none_is s)
+
+-- an offer was looked at
+pub looked_is : (instance : Instance) (cell ticket found : ℕ) (s after : Seated) → after ≡ stepped instance (LoadOffer cell ticket) s found →
+    after ≡ with_notes (Some (record { cell = cell; ticket = ticket; word = found })) (one_more s.known.local.steps) [] s
+looked_is instance cell ticket found s after step =
+    step ∙ (λ k. seat_with s (Some (record { cell = cell; ticket = ticket; word = found })) (one_more s.known.local.steps) (append-nil s.known.noted k) (sym (append-nil s.known.sets) k))
+
+-- one word more was read
+pub read_one : (instance : Instance) (cell ticket i v : ℕ) (seen : Option SeenOffer) (steps : ℕ) (notes : List SetNoted) (s t after : Seated) → t ≡ with_notes seen steps notes s → after ≡ stepped instance (ReadSet cell ticket i) t v →
+    after ≡ with_notes seen (one_more steps) (notes ++ note ticket i v ∷ []) s
+read_one instance cell ticket i v seen steps notes s t after is step =
+    step ∙ ap (λ x. stepped instance (ReadSet cell ticket i) x v) is
+    ∙ (λ k. seat_with s seen (one_more steps) (append-nil s.known.noted k) (append_assoc s.known.sets notes (note ticket i v ∷ []) k))
+
+-- notes behind notes
+pub notes_then : (seen : Option SeenOffer) (steps more_steps : ℕ) (notes more : List SetNoted) (s t u : Seated) → t ≡ with_notes seen steps notes s → u ≡ with_notes t.known.local.seen_offer more_steps more t → u ≡ with_notes seen more_steps (notes ++ more) s
+notes_then seen steps more_steps notes more s t u is then =
+    then ∙ ap (λ (x : Seated). with_notes x.known.local.seen_offer more_steps more x) is ∙ (λ k. seat_with s seen more_steps s.known.noted (append_assoc s.known.sets notes more k))
+
+module _ {O : Type 0} (o : Ghosts O) (r : Running O) where
+  pub words_none : (ticket from : ℕ) (s after : Seated) → after ≡ s → ReadsWords o r ticket from [] s after
+  words_none ticket from s after same = record {
+    seat = same ∙ none_is s ∙ (λ k. with_notes s.known.local.seen_offer (sym same k).known.local.steps [] s);
+    fits = λ f. subst (λ (x : Seated). Fitting r.lines (o.lawful r.object) r.base (o.step r.object) x.known) (sym same) f;
+  }
+
+  pub words_more : (cell ticket from : ℕ) (ws : List ℕ) (v i : ℕ) (s t after : Seated) → ReadsWords o r ticket from ws s t → i ≡ from + length ws → after ≡ stepped (instance_at r o.step o.only_reads) (ReadSet cell ticket i) t v → Fitting r.lines (o.lawful r.object) r.base (o.step r.object) after.known →
+      ReadsWords o r ticket from (ws ++ v ∷ []) s after
+  words_more cell ticket from ws v i s t after was at step fits =
+      let seen = s.known.local.seen_offer in
+      let is = read_one (instance_at r o.step o.only_reads) cell ticket i v seen t.known.local.steps (set_notes ticket from ws) s t after was.seat step in
+      let notes : set_notes ticket from ws ++ note ticket i v ∷ [] ≡ set_notes ticket from (ws ++ v ∷ []) = ap (λ k. set_notes ticket from ws ++ note ticket k v ∷ []) at ∙ sym (notes_more ticket from ws v) in
+      record {
+        seat = is ∙ (λ k. with_notes seen (sym (ap (λ (x : Seated). x.known.local.steps) is) k) (notes k) s);
+        fits = λ _. fits;
+      }
+
+  -- what a run of reads leads to
+  pub run_words : (cell ticket from : ℕ) (words : List ℕ) (before after : Seated) → Runs r o.step o.only_reads (o.lawful r.object) (set_reads_from cell ticket from) words before after → ReadsWords o r ticket from words before after
+  run_words cell ticket from words before after (no_step _ _ _ nothing same) = subst (λ (ws : List ℕ). ReadsWords o r ticket from ws before after) (sym nothing) (words_none ticket from before after same)
+  run_words cell ticket from words before after (one_more_step _ _ _ first found mid longer run made fits) =
+      subst (λ (ws : List ℕ). ReadsWords o r ticket from ws before after) (sym longer)
+      (words_more cell ticket from first found (from + length first) before mid after (run_words cell ticket from first before mid run) refl made.made fits)
+
+-- the words of a set are noted one by one
+noted_at : (ticket from i : ℕ) (words : List ℕ) → i < length words → slice_get (set_notes ticket from words) i ≡ Some (note ticket (from + i) (slice_index words i))
+noted_at ticket from i [] below = absurd (omega arith)
+noted_at ticket from zero (w ∷ words) below = ap (λ k. Some (note ticket k w)) (omega arith)
+noted_at ticket from (suc i) (w ∷ words) below = noted_at ticket (from + 1) i words (omega arith) ∙ ap (λ k. Some (note ticket k (slice_index words i))) (omega arith)
+
+behind : {X : Type 0} (xs ys : List X) (i : ℕ) (x : X) → slice_get ys i ≡ Some x → slice_get (xs ++ ys) (length xs + i) ≡ Some x
+behind [] ys i x is = ap (slice_get ys) (zero-add i) ∙ is
+behind (y ∷ xs) ys i x is = (let next : suc (length xs) + i ≡ suc (length xs + i) = omega arith in ap (slice_get (y ∷ (xs ++ ys))) next ∙ behind xs ys i x is)
+
+-- a set that was read whole is noted whole
+pub whole_noted : (ticket count : ℕ) (pairs set : List ℕ) (sets notes : List SetNoted) → notes ≡ sets ++ set_notes ticket 0 (count ∷ pairs) → length pairs ≡ 2 * count → count ≤ 256 → ((i : ℕ) → i < 2 * count + 1 → slice_index set i ≡ slice_index (count ∷ pairs) i) →
+    IsNotedSet notes ticket set
+whole_noted ticket count pairs set sets notes are long few same =
+    let first : slice_index set 0 ≡ count = same 0 (omega arith) in
+    record {
+      few = subst (λ n. n ≤ 256) (sym first) few;
+      each = λ i below. (
+          let within : i < 2 * count + 1 = omega (arith, below, first) in
+          let at : i < length (count ∷ pairs) = omega (arith, within, long) in
+          let here = noted_at ticket 0 i (count ∷ pairs) at ∙ ap (λ k. Some (note ticket k (slice_index (count ∷ pairs) i))) (zero-add i) ∙ ap (λ w. Some (note ticket i w)) (sym (same i within)) in
+          (length sets + i, ap (λ ns. slice_get ns (length sets + i)) are ∙ behind sets (set_notes ticket 0 (count ∷ pairs)) i _ here));
+    }
+
+-- words that were put behind the first of a list
+pub put_behind : (size count i : ℕ) (now pairs post rest : List ℕ) → i < size → 0 < length now → slice_index now 0 ≡ count → i < length pairs + 1 →
+    slice_index (take size ((take 1 now ++ (pairs ++ post)) ++ rest)) i ≡ slice_index (count ∷ pairs) i
+put_behind size count i [] pairs post rest within some first below = absurd (omega arith)
+put_behind size count zero (x ∷ now) pairs post rest within some first below = get_or-take size (x ∷ ((pairs ++ post) ++ rest)) 0 0 within ∙ first
+put_behind size count (suc i) (x ∷ now) pairs post rest within some first below =
+    let here : i < length pairs = omega arith in
+    get_or-take size (x ∷ ((pairs ++ post) ++ rest)) (suc i) 0 within
+    ∙ get_or_append_left (pairs ++ post) rest 0 i (omega (arith, here, length-append pairs post))
+    ∙ get_or_append_left pairs post 0 i here

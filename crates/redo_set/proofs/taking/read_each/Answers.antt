@@ -1,0 +1,33 @@
+use Rattle.std.proofs.Common.{◌+◌, ◌<◌, List, ℕ, length, take, refl, sym, ◌∙◌, subst, arith}
+use Rattle.std.proofs.lemmas.List.{length-set, length-take}
+use Rattle.cx_core.specs.declared.kinds.Kind.TheVariants.{ReadSet}
+use Rattle.cx_core.specs.Events.{Guard}
+use Rattle.cx_rule.specs.Running.{instance_at}
+use Rattle.cx_rule.specs.Seats.{Seated, unseen}
+use Rattle.cx_table.proofs.Runs.{take_set}
+use Rattle.redo_set.specs.Taking.{ReadsWords}
+use Rattle.redo_set.proofs.Takings.{words_more, words_none}
+use Rattle.redo_set.proofs.taking.read_each.Goals as goal
+
+pub loop-i-init : goal.loop-i-init
+loop-i-init g c = record { read = words_none g.O.Object c.args.shared.now c.args.ticket 1 c.args.seat.now c.args.seat.now refl; long = refl; of = c.requires.may.of }
+
+pub read_set-requires : goal.read_set-requires
+read_set-requires g c = record {
+  seat = c.loop-i.invariant.of;
+  guard = subst (λ (x : Seated). Guard (instance_at c.args.shared.now g.O.Object.step g.O.Object.only_reads) unseen (ReadSet c.args.cell c.args.ticket (1 + c.loop-i.i)) x.known.local) (sym c.loop-i.invariant.read.seat)
+      (c.requires.may.guard (1 + c.loop-i.i) (omega (arith, c.loop-i-test.true, c.loop-i.invariant.long, c.requires.few)));
+}
+
+pub loop-i-preserved : goal.loop-i-preserved
+loop-i-preserved g c =
+    let i = c.loop-i.i in
+    let v = c.in_ok-into.field-0 in
+    let ok = c.in_ok-into.ensures in
+    let below : i < length c.loop-i.into = omega (arith, c.loop-i-test.true, c.loop-i.invariant.long) in
+    record {
+      read = subst (λ (ws : List ℕ). ReadsWords g.O.Object c.args.shared.now c.args.ticket 1 ws c.args.seat.now c.read_set.new.seat) (sym (take_set c.loop-i.into i v below))
+          (words_more g.O.Object c.args.shared.now c.args.cell c.args.ticket 1 (take i c.loop-i.into) v (1 + i) c.args.seat.now c.loop-i.seat c.read_set.new.seat c.loop-i.invariant.read (omega (arith, length-take i c.loop-i.into, below)) ok.made.made ok.fits);
+      long = length-set c.loop-i.into i v ∙ c.loop-i.invariant.long;
+      of = ok.made.seat;
+    }

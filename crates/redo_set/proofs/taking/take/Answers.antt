@@ -1,0 +1,39 @@
+use Rattle.std.proofs.Common.{◌≡◌, ◌+◌, ◌*◌, ◌-◌, ◌≤◌, [], ◌∷◌, drop, slice_index, length, refl, sym, ap, ◌∙◌, subst, arith, Option, Some}
+use Rattle.std.proofs.lemmas.List.{get_or-set_same, length-drop, length-set, length-take-le}
+use Rattle.cx_core.specs.declared.local.SeenOffer.{SeenOffer}
+use Rattle.cx_core.specs.SetEvents.{ShowsOffer}
+use Rattle.cx_core.specs.State.{one_more}
+use Rattle.cx_rule.specs.Running.{instance_at}
+use Rattle.cx_rule.specs.Seats.{Seated}
+use Rattle.redo_set.specs.Taking.{set_notes}
+use Rattle.redo_set.proofs.Takings.{looked_is, notes_then, put_behind, read_one, whole_noted}
+use Rattle.redo_set.proofs.taking.take.Goals as goal
+
+pub returns-clause-taken : goal.returns-clause-taken
+returns-clause-taken g c =
+    let s = c.args.seat.now in
+    let cell = c.args.cell in
+    let ticket = c.args.ticket in
+    let found = c.in_ok-found.found in
+    let count = c.in_ok-count.count in
+    let pairs = c.read_words.new.into in
+    let t = c.read_set.new.seat in
+    let u = c.read_words.new.seat in
+    let instance = instance_at c.args.shared.now g.O.Object.step g.O.Object.only_reads in
+    let seen : Option SeenOffer = Some (record { cell = cell; ticket = ticket; word = found }) in
+    let steps = one_more s.known.local.steps in
+    let looked = looked_is instance cell ticket found s c.load_offer.new.seat c.in_ok-found.ensures.made.made in
+    let first = read_one instance cell ticket 0 count seen steps [] s c.load_offer.new.seat t looked c.in_ok-count.ensures.made.made in
+    let all = notes_then seen (one_more steps) u.known.local.steps (set_notes ticket 0 (count ∷ [])) (set_notes ticket 1 pairs) s t u first c.in_ok-read_words.ensures.read.seat in
+    let few : count ≤ 256 = c.in_ok-count.ensures.made.told refl in
+    let now = c.deref_mut.result.now in
+    let items = c.into.inside.words.items in
+    let size : length now ≡ 513 = ap length c.deref_mut.ensures.value ∙ length-set items 0 count ∙ c.into.invariant.long in
+    let behind : length (drop 1 now) ≡ 512 = length-drop 1 now ∙ ap (λ n. n - 1) size in
+    let long : length pairs ≡ 2 * count = c.in_ok-read_words.ensures.long ∙ length-take-le (2 * count + 1 - 1) (drop 1 now) (omega (arith, behind, few)) ∙ omega arith in
+    let is : slice_index now 0 ≡ count = ap (λ ws. slice_index ws 0) c.deref_mut.ensures.value ∙ get_or-set_same items 0 count 0 (omega (arith, c.into.invariant.long)) in
+    record {
+      offered = (λ _. subst (λ (x : Seated). ShowsOffer x.known.local.seen_offer cell ticket) (sym all) (refl, refl, c.names.ensures.0 c.if-not-names.false), λ _. refl);
+      noted = λ _. whole_noted ticket count pairs _ s.known.sets u.known.sets (ap (λ (x : Seated). x.known.sets) all) long few (λ i below. put_behind c.into.inside.words.len count i now pairs _ _ (omega (arith, below, few, size, c.deref_mut.ensures.len)) (omega (arith, size)) is (omega (arith, below, long)));
+      fits = λ _. c.in_ok-read_words.ensures.read.fits c.in_ok-count.ensures.fits;
+    }

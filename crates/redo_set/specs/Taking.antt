@@ -1,0 +1,52 @@
+-- The write set of another's entry, as a caller takes it: word by word from the cell that the slot last looked at shows.
+use Rattle.std.specs.Prelude.{◌≡◌, ◌+◌, ◌<◌, ◌↔◌, ℕ, IsTrue, Bool, List, [], ◌∷◌, ◌++◌, Option}
+use Rattle.cx_base.specs.declared.object.Object.{Ghosts}
+use Rattle.cx_core.specs.declared.kinds.Kind.TheVariants.{ReadSet}
+use Rattle.cx_core.specs.declared.local.SeenOffer.{SeenOffer}
+use Rattle.cx_core.specs.Events.{Guard}
+use Rattle.cx_core.specs.QueueEvents.{ShowsTicket}
+use Rattle.cx_core.specs.RingEvents.{Protects}
+use Rattle.cx_core.specs.SetEvents.{ShowsOffer}
+use Rattle.core_queue.specs.declared.notes.SetNoted.{SetNoted}
+use Rattle.core_queue.specs.NotedSets.{IsNotedSet}
+use Rattle.cx_rule.specs.Fitting.{Fitting}
+use Rattle.cx_rule.specs.Running.{IsSeatOf, Running, instance_at}
+use Rattle.cx_rule.specs.Seats.{Seated, unseen}
+
+-- the offer of the entry with a ticket may be looked at in a cell: the slot last looked at shows it there, and a protection keeps it
+pub record MayTake {O : Type 0} (r : Running O) (cell ticket : ℕ) (seat : Seated) : Type 0 where
+  pub of : IsSeatOf r seat
+  pub linked : ticket < seat.known.local.front
+  pub shows : ShowsTicket r.callers seat.known.local.seen_slot ticket cell
+  pub protected : Protects ticket seat.known.local.protection
+
+-- and each word of its set may be read: it was seen to be offered
+pub record MayReadSet {O : Type 0} (o : Ghosts O) (r : Running O) (cell ticket : ℕ) (seat : Seated) : Type 0 where
+  pub of : IsSeatOf r seat
+  pub guard : (i : ℕ) → i < 513 → Guard (instance_at r o.step o.only_reads) unseen (ReadSet cell ticket i) seat.known.local
+
+-- the notes of words of the set of a ticket, from an index on
+abbrev pub set_notes : ℕ → ℕ → List ℕ → List SetNoted
+set_notes ticket i [] = []
+set_notes ticket i (w ∷ words) = record { ticket = ticket; index = i; word = w } ∷ set_notes ticket (i + 1) words
+
+-- the seat after so many steps, where this offer was seen last and these words of sets were noted more
+abbrev pub with_notes : Option SeenOffer → ℕ → List SetNoted → Seated → Seated
+with_notes seen steps notes s = record s { known = record s.known { local = record s.known.local { seen_offer = seen; steps = steps }; sets = s.known.sets ++ notes } }
+
+-- words of a set were read, from an index on, and noted, and nothing else changed but the steps
+pub record ReadsWords {O : Type 0} (o : Ghosts O) (r : Running O) (ticket from : ℕ) (words : List ℕ) (before after : Seated) : Type 0 where
+  pub seat : after ≡ with_notes before.known.local.seen_offer after.known.local.steps (set_notes ticket from words) before
+  pub fits : Fitting r.lines (o.lawful r.object) r.base (o.step r.object) before.known → Fitting r.lines (o.lawful r.object) r.base (o.step r.object) after.known
+
+-- nothing changed but the steps and the offer last seen, and there may be more notes of sets
+pub record LeavesTaking (before after : Seated) : Type 0 where
+  pub notes : List SetNoted
+  pub seat : after ≡ with_notes after.known.local.seen_offer after.known.local.steps notes before
+
+-- A set was taken, exactly where the entry was seen to be offered: the set is noted whole with the ticket. What really is there then fits what
+-- its caller knows.
+pub record Takes {O : Type 0} (o : Ghosts O) (r : Running O) (cell ticket : ℕ) (set : List ℕ) (after : Seated) (taken : Bool) : Type 0 where
+  pub offered : IsTrue taken ↔ ShowsOffer after.known.local.seen_offer cell ticket
+  pub noted : IsTrue taken → IsNotedSet after.known.sets ticket set
+  pub fits : IsTrue taken → Fitting r.lines (o.lawful r.object) r.base (o.step r.object) after.known

@@ -1,0 +1,133 @@
+-- What a look, an offer and a set that was taken leave of a replica that is the image after its place.
+use Rattle.std.proofs.Common.{All, inl, inr, ◌≡◌, ◌<◌, ◌⊎◌, ◌++◌, ℕ, List, [], ap, sym, subst, ◌∙◌, Option, None}
+use Rattle.cx_base.specs.declared.object.Object.{Ghosts}
+use Rattle.cx_core.specs.declared.local.SeenSlot.{SeenSlot}
+use Rattle.cx_core.specs.Region.{region_words}
+use Rattle.cx_core.specs.Rights.{held_dirty}
+use Rattle.cx_core.proofs.ListLemmas.{slice_get-append_left}
+use Rattle.core_queue.specs.declared.notes.SetNoted.{SetNoted}
+use Rattle.core_queue.specs.NotedSets.{IsNotedSet}
+use Rattle.cx_rule.specs.declared.rule.Known.{Known}
+use Rattle.cx_rule.specs.Fitting.{Fitting, FitsOn, Has, IsOwnSet, HasEntry, SomeFits, entries_of, has_of}
+use Rattle.cx_rule.specs.Running.{IsSeatOf, Running}
+use Rattle.cx_rule.specs.Seats.{Seated}
+use Rattle.cx_rule.proofs.HasMore.{HasMore, fits_more, some_same}
+use Rattle.cx_table.specs.Right.{Right}
+use Rattle.cx_table.specs.Tokens.{IsExclusiveOf}
+use Rattle.mutation_queue.specs.Entries.{with_look}
+use Rattle.redo_set.specs.Offering.{HasStill, with_set}
+use Rattle.redo_set.specs.Taking.{LeavesTaking, with_notes}
+use Rattle.replica.specs.Held.{IsHeld, beside_held}
+use Rattle.replica.specs.Laws.{image_more, image_same}
+use Rattle.replica.specs.Replays.{IsReady, noted_place}
+use Rattle.replica_sets.specs.Offered.{LeavesOffered, beside_offered}
+use Rattle.replica_sets.specs.Own.{HasApplied, LeavesOwn, beside_own}
+
+-- what a seat has, with these notes of sets
+abbrev has_with : Known → List SetNoted → Has
+has_with known sets = record { entry = HasEntry (entries_of known); set = λ t pairs. IsNotedSet sets t pairs ⊎ IsOwnSet known.local.cells t pairs }
+
+-- where further words of sets are noted, what is had is had still
+sets_more : (known : Known) (more : List SetNoted) → HasMore (has_of known) (has_of (record known { sets = known.sets ++ more }))
+sets_more known more = record {
+  entry = λ t e had. had;
+  set = λ t pairs had. elim had [
+    | inl noted ↦ inl (record { few = noted.few; each = λ i below. (let at = noted.each i below in (at.0, slice_get-append_left known.sets more at.0 _ at.1)) })
+    | inr mine ↦ inr mine
+  ];
+}
+
+module _ {O : Type 0} (o : Ghosts O) (r : Running O) (held : Right) (at : ℕ) where
+  -- a slot was looked at
+  pub ready_looked : (seen : Option SeenSlot) (before after : Seated) → IsSeatOf r after → after ≡ with_look seen before → IsReady o r held at before → IsReady o r held at after
+  ready_looked seen before after of is was =
+      let has : has_of after.known ≡ has_of before.known = ap (λ (s : Seated). has_of s.known) is in
+      let accesses = ap (λ (s : Seated). s.known.accesses) is in
+      record {
+        is_held = record {
+          sized = was.is_held.sized;
+          of = of;
+          right = subst (λ s. IsExclusiveOf r.callers s held) (sym is) (let right : IsExclusiveOf r.callers (with_look seen before) held = record { few = was.is_held.right.few; caller = was.is_held.right.caller; holds = was.is_held.right.holds } in right);
+          some = some_same (o.line_count r.object) (o.lawful r.object) r.base (o.step r.object) before.known after.known has accesses was.is_held.some;
+          dirty = subst (λ (s : Seated). All (λ i. i < region_words (o.line_count r.object)) (held_dirty s.known.local.exclusive)) (sym is) was.is_held.dirty;
+        };
+        image = image_same (o.line_count r.object) (o.lawful r.object) r.base (o.step r.object) before.known after.known has accesses was.image;
+        place = ap noted_place is ∙ was.place;
+      }
+
+  held_noted : (before after : Seated) → IsSeatOf r after → (l : LeavesTaking before after) → SomeFits (o.line_count r.object) (o.lawful r.object) r.base (o.step r.object) after.known → IsHeld (o.line_count r.object) r (o.lawful r.object) (o.step r.object) before held → IsHeld (o.line_count r.object) r (o.lawful r.object) (o.step r.object) after held
+  held_noted before after of l some was = record {
+    sized = was.sized;
+    of = of;
+    right = subst (λ s. IsExclusiveOf r.callers s held) (sym l.seat) (let right : IsExclusiveOf r.callers (with_notes after.known.local.seen_offer after.known.local.steps l.notes before) held = record { few = was.right.few; caller = was.right.caller; holds = was.right.holds } in right);
+    some = some;
+    dirty = subst (λ (s : Seated). All (λ i. i < region_words (o.line_count r.object)) (held_dirty s.known.local.exclusive)) (sym l.seat) was.dirty;
+  }
+
+  -- a set was taken
+  pub ready_taken : (before after : Seated) → IsSeatOf r after → LeavesTaking before after → Fitting r.lines (o.lawful r.object) r.base (o.step r.object) after.known → IsReady o r held at before → IsReady o r held at after
+  ready_taken before after of l fits was = record {
+    is_held = held_noted before after of l (subst (λ n. SomeFits n (o.lawful r.object) r.base (o.step r.object) after.known) was.is_held.sized.lines_are fits.exclusive) was.is_held;
+    image = image_more (o.line_count r.object) (o.lawful r.object) r.base (o.step r.object) before.known after.known
+        (subst (λ (s : Seated). HasMore (has_of before.known) (has_of s.known)) (sym l.seat) (sets_more before.known l.notes)) (ap (λ (s : Seated). s.known.accesses) l.seat) was.image;
+    place = ap noted_place l.seat ∙ was.place;
+  }
+
+  -- an offer was looked at, and no set was taken
+  pub ready_untaken : (before after : Seated) → IsSeatOf r after → LeavesTaking before after → after.known.sets ≡ before.known.sets → IsReady o r held at before → IsReady o r held at after
+  ready_untaken before after of l kept was =
+      let has : has_of after.known ≡ has_of before.known = ap (λ (s : Seated). has_with s.known after.known.sets) l.seat ∙ ap (has_with before.known) kept in
+      let accesses = ap (λ (s : Seated). s.known.accesses) l.seat in
+      record {
+        is_held = held_noted before after of l (some_same (o.line_count r.object) (o.lawful r.object) r.base (o.step r.object) before.known after.known has accesses was.is_held.some) was.is_held;
+        image = image_same (o.line_count r.object) (o.lawful r.object) r.base (o.step r.object) before.known after.known has accesses was.image;
+        place = ap noted_place l.seat ∙ was.place;
+      }
+
+-- a seat beside what work on the replica held exclusively changes, beside what is seen and noted of sets too
+abbrev beside_both : Seated → Seated
+beside_both b = record b { known = record b.known { local = record b.known.local { seen_slot = None; seen_offer = None }; sets = [] } }
+
+module _ {O : Type 0} (r : Running O) (replica : ℕ) where
+  pub leaves_looked : (seen : Option SeenSlot) (before after : Seated) → IsSeatOf r after → after ≡ with_look seen before → LeavesOffered r replica before after
+  leaves_looked seen before after of is = record { seat = of; rest = ap (beside_offered replica) is }
+
+  pub leaves_taken : (before mid after : Seated) → LeavesOffered r replica before mid → IsSeatOf r after → LeavesTaking mid after → LeavesOffered r replica before after
+  leaves_taken before mid after was of l = record { seat = of; rest = ap (beside_offered replica) l.seat ∙ was.rest }
+
+  pub leaves_stored : (before mid after : Seated) → LeavesOffered r replica before mid → IsSeatOf r after → beside_held replica after ≡ beside_held replica mid → LeavesOffered r replica before after
+  leaves_stored before mid after was of same = record { seat = of; rest = ap beside_both same ∙ was.rest }
+
+abbrev beside_cells : Seated → Seated
+beside_cells b = record b { known = record b.known { local = record b.known.local { cells = [] } } }
+
+module _ {O : Type 0} (r : Running O) (replica : ℕ) where
+  pub leaves_held : (before after : Seated) → IsSeatOf r after → beside_held replica after ≡ beside_held replica before → LeavesOwn r replica before after
+  leaves_held before after of same = record { seat = of; rest = ap beside_cells same }
+
+  -- words of an own set were written, or it was offered
+  pub leaves_set : (before mid after : Seated) (j : ℕ) (set : List ℕ) (offer steps : ℕ) → LeavesOwn r replica before mid → IsSeatOf r after → after ≡ with_set j set offer steps mid → LeavesOwn r replica before after
+  leaves_set before mid after j set offer steps was of is = record { seat = of; rest = ap (beside_own replica) is ∙ was.rest }
+
+-- an own set was offered
+pub applied_offered : {O : Type 0} (o : Ghosts O) (r : Running O) (held : Right) (at caller : ℕ) (reply : List ℕ) (before after : Seated) (j : ℕ) (set : List ℕ) (offer steps : ℕ) → IsSeatOf r after → after ≡ with_set j set offer steps before →
+    HasStill before.known after.known → Fitting r.lines (o.lawful r.object) r.base (o.step r.object) after.known → HasApplied o r held at caller reply before → HasApplied o r held at caller reply after
+applied_offered o r held at caller reply before after j set offer steps of is still fits was =
+    let lines = o.line_count r.object in
+    let held_before = was.ready.is_held in
+    let more : HasMore (has_of before.known) (has_of after.known) = record { entry = still.entry; set = still.set } in
+    let accesses : after.known.accesses ≡ before.known.accesses = ap (λ (s : Seated). s.known.accesses) is in
+    record {
+      ready = record {
+        is_held = record {
+          sized = held_before.sized;
+          of = of;
+          right = subst (λ s. IsExclusiveOf r.callers s held) (sym is) (let right : IsExclusiveOf r.callers (with_set j set offer steps before) held = record { few = held_before.right.few; caller = held_before.right.caller; holds = held_before.right.holds } in right);
+          some = subst (λ n. SomeFits n (o.lawful r.object) r.base (o.step r.object) after.known) held_before.sized.lines_are fits.exclusive;
+          dirty = subst (λ (s : Seated). All (λ i. i < region_words lines) (held_dirty s.known.local.exclusive)) (sym is) held_before.dirty;
+        };
+        image = image_more lines (o.lawful r.object) r.base (o.step r.object) before.known after.known more accesses was.ready.image;
+        place = ap noted_place is ∙ was.ready.place;
+      };
+      replied = λ first now f. was.replied first now (fits_more lines (o.lawful r.object) r.base (o.step r.object) (has_of before.known) (has_of after.known) more before.known.accesses first now (subst (λ xs. FitsOn lines (o.lawful r.object) r.base (o.step r.object) (has_of after.known) xs first now) accesses f));
+    }

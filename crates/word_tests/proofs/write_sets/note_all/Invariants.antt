@@ -1,5 +1,0 @@
-use Rattle.redo_set.specs.Sets.{AreWithin}
-use Rattle.word_tests.proofs.write_sets.note_all.Given as goal
-
-abbrev pub invariant-loop-i : goal.invariant-loop-i
-invariant-loop-i l = AreWithin 1680 l.set
