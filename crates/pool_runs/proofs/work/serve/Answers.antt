@@ -31,8 +31,8 @@ make-requires-clause-at_work g c κs within =
     let same : n ≡ n + 1 - 1 = omega arith in (
       omega arith,
       subst (λ k. IsAtWork m life r table k c.command_at-command.result.now.client (n + 1 - 1) c.loop-at.client c.loop-at.lines) (sym c.clients-clients.ensures)
-      (subst (λ k. IsAtWork m life r table life.clients k (n + 1 - 1) c.loop-at.client c.loop-at.lines) (sym c.if-command-me.true)
-      (subst (λ k. IsAtWork m life r table life.clients c.number-me.result k c.loop-at.client c.loop-at.lines) same c.loop-at.invariant.work)),
+          (subst (λ k. IsAtWork m life r table life.clients k (n + 1 - 1) c.loop-at.client c.loop-at.lines) (sym c.if-command-me.true)
+          (subst (λ k. IsAtWork m life r table life.clients c.number-me.result k c.loop-at.client c.loop-at.lines) same c.loop-at.invariant.work)),
     )
 
 pub make-requires-clause-named : goal.make-requires-clause-named
