@@ -40,6 +40,10 @@ impl<M: Memory> Memory for Part<'_, M> {
         self.inner.load(self.from + at)
     }
 
+    fn load_words(&mut self, at: u64, into: &mut [u64]) -> Result<(), Halt> {
+        self.inner.load_words(self.from + at, into)
+    }
+
     fn store(&mut self, at: u64, v: u64) -> Result<(), Halt> {
         self.inner.store(self.from + at, v)
     }

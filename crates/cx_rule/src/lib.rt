@@ -9,7 +9,7 @@
 //! - What is really there fits what a seat knows, and stays lawful through each entry and each write set that the seat has, which are those
 //!   that it read whole and its caller's own: `what_is_there_fits` (`FitsThere`).
 //! - A set in the cell of an own entry may be offered where whatever fits tells that it leads from the image at the entry's ticket to the next:
-//!   `told_sets_may_be_offered` (`TellsOffer`). No step call offers or reads a set yet.
+//!   `told_sets_may_be_offered` (`TellsOffer`).
 //! - Each step call is the event of its name, of its seat's caller, by one atomic instruction, and afterwards the seat knows what the event
 //!   teaches; it tells what the lawful state says of the caller by itself, before and after, and of the word found: `write_cell`, `link`,
 //!   `look`, `read_cell`, `load_free` (`made`: `Steps`); `try_exclusive`, `try_shared`, `back_off`, `downgrade`, `release_exclusive`;
@@ -22,8 +22,8 @@
 //! - Some pair of words fits what a caller noted of the replicas that it holds: words lawful as a base, at a place from the base's on, that
 //!   agree with the loads and lead by the stores to the words now: `fits` of `try_exclusive`, `try_shared`, `load_word` and `store_word`
 //!   (`Fitting`). The rule says that what is really there does.
-//! - An exclusive right is given up where whatever fits is the image after its place by entries that the caller has: `replayed` of `downgrade` and
-//!   `release_exclusive` asks that, and the event's guard, that the words are a full image, then holds.
+//! - An exclusive right is given up where whatever fits is the image after its place by entries and write sets that the caller has: `replayed` of
+//!   `downgrade` and `release_exclusive` asks that, and the event's guard, that the words are a full image, then holds.
 //! - A word found in CUR, FREE or LOW is at least what the caller found there before, and the replica that CUR names is not held exclusively by
 //!   the caller. A word found by `look` and `link` names a ticket of its slot, at least as late as each of the slot below the front; one that
 //!   the caller's confirmed protection keeps stands there; a link that was lost found a later ticket; a caller that scans itself finds the need

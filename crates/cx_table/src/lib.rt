@@ -3,6 +3,9 @@
 //!
 //! - A run of loads is an event for each of its words, in order, each as its step call would tell it; it is refused only where the limit leaves
 //!   fewer steps than there are words, and then nothing changes: `load_words`, `read_words` (`made`, `short`, `none`: `Runs`).
+//! - A write set is written beside the cell of the caller's own linked entry and offered where whatever fits tells it, and another's is looked at
+//!   and read under the protection that keeps its entry: `write_set`, `offer`, `load_offer`, `read_set` (`Steps`), and a run of words of it by
+//!   `read_set_words` (`Runs`). A seat lends the offers and the sets of its caller's cells: `CallerSeat::offered_cell`, `set_word`.
 //! - A publication hands its win out exactly where it found the code last seen in CUR, and else gives the downgraded right back: `token` of
 //!   `publish`. A seat keeps a win that is not retired, also once it was halted: `CallerSeat::won`.
 //! - `Halt` comes exactly where the seat's steps equal its limit, and then nothing changes: `halted`, with `allowed` of `made`.
