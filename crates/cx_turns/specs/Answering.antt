@@ -12,7 +12,7 @@ use Rattle.cx_rule.specs.Seats.{IsAtLimit, Seated, unanswered_ticket}
 use Rattle.cx_table.specs.Right.{Right}
 use Rattle.cx_turns.specs.declared.lookup.Seen.{Seen}
 use Rattle.cx_turns.specs.Reads.{IsRead}
-use Rattle.cx_turns.specs.Turns.{HaltsTurn, IsAtRest, StepsAtMost, TurnRefused, beside_turn}
+use Rattle.cx_turns.specs.Turns.{HaltsTurn, IsAtRest, StepsAtMost, TurnRefused, beside_turn, but_sets}
 use Rattle.publish.specs.Publishing.{beside_publish, place_in}
 use Rattle.strong_trylock.specs.Held.{all_rights, no_rights}
 
@@ -20,9 +20,13 @@ use Rattle.strong_trylock.specs.Held.{all_rights, no_rights}
 abbrev pub beside_raise : Seated → Seated
 beside_raise s = (let b = beside_turn s in record b { known = record b.known { local = record b.known.local { raised = 0; floor = 0 } } })
 
--- what a turn for an entry leaves as it was: all of that but the answered entries
+-- what handing a replica over for an entry leaves as it was: all of that but the answered entries
+abbrev pub beside_hand_over : Seated → Seated
+beside_hand_over s = (let b = beside_raise s in record b { known = record b.known { local = record b.known.local { answered = [] } } })
+
+-- what a turn for an entry leaves as it was: all of that but what work with write sets changes
 abbrev pub beside_update : Seated → Seated
-beside_update s = (let b = beside_raise s in record b { known = record b.known { local = record b.known.local { answered = [] } } })
+beside_update s = but_sets (beside_hand_over s)
 
 -- what a raise that answers an entry, and the retiring of a win behind it, leave as it was
 abbrev pub beside_settling : Seated → Seated

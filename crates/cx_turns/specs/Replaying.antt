@@ -1,5 +1,5 @@
 -- A replica held exclusively that is brought up to a ticket.
-use Rattle.std.specs.Prelude.{◌≡◌, ◌^◌, ◌<◌, ◌⊎◌, ℕ, List, [], ◌∷◌, None}
+use Rattle.std.specs.Prelude.{◌≡◌, ◌+◌, ◌^◌, ◌<◌, ◌⊎◌, ℕ, Bool, IsTrue, List, [], ◌∷◌, None}
 use Rattle.std.specs.Option.{option_map}
 use Rattle.cx_base.specs.Memory.{Becomes}
 use Rattle.cx_base.specs.declared.object.Object.{Ghosts}
@@ -11,7 +11,7 @@ use Rattle.cx_rule.specs.Fitting.{Fitting, FitsKnown, HasEntry, entries_of}
 use Rattle.cx_rule.specs.Running.{Running}
 use Rattle.cx_rule.specs.Seats.{IsWithinLimit, Seated}
 use Rattle.cx_table.specs.Right.{Right}
-use Rattle.cx_turns.specs.Turns.{unguarded}
+use Rattle.cx_turns.specs.Turns.{but_sets, unguarded}
 use Rattle.mutation_queue.specs.Entries.{IsNotedEntry, ReadsEntry}
 use Rattle.replica.specs.Flushes.{IsFlushed}
 use Rattle.replica.specs.Held.{IsHeld, beside_held, but_words}
@@ -37,6 +37,10 @@ beside_work s = record s {
     accesses = [];
   };
 }
+
+-- what no replay on it changes: all of that but what work with write sets changes
+abbrev pub beside_replay : Seated → Seated
+beside_replay s = but_sets (beside_work s)
 
 -- the entry with a ticket was read: it is noted, it is one that may come there, and what is noted fits what is there
 pub record ReadsNext {O : Type 0} (o : Ghosts O) (r : Running O) (ticket : ℕ) (entry : Entry) (before after : Seated) : Type 0 where
@@ -67,10 +71,11 @@ pub record IsReplayed {O : Type 0} (o : Ghosts O) (r : Running O) (held : Right)
   pub ready : IsReady o r held (noted_place seat) seat
   pub place : ticket < noted_place seat
 
--- An entry of this caller was applied to a replica held exclusively, which is the image after this place and has this reply for that caller.
-pub record IsApplied {O : Type 0} (o : Ghosts O) (r : Running O) (held : Right) (at caller : ℕ) (reply : List ℕ) (seat : Seated) : Type 0 where
-  pub ready : IsReady o r held at seat
-  pub replied : ShowsReply (o.line_count r.object) (o.lawful r.object) r.base (o.step r.object) seat.known caller reply
+-- The entry with a ticket was applied to a replica held exclusively, which is the image after the next place. Where it is the caller's own and
+-- its step was done, the replica has this reply for the caller.
+pub record IsApplied {O : Type 0} (o : Ghosts O) (r : Running O) (held : Right) (ticket : ℕ) (reply : List ℕ) (seat : Seated) (own : Bool) : Type 0 where
+  pub ready : IsReady o r held (ticket + 1) seat
+  pub replied : IsTrue own → ShowsReply (o.line_count r.object) (o.lawful r.object) r.base (o.step r.object) seat.known seat.known.local.number reply
 
 -- It is the image after the place that it had, no word of it is dirty, and the caller's last entry there has this reply.
 pub record IsSettled {O : Type 0} (o : Ghosts O) (r : Running O) (held : Right) (before after : Seated) (reply : List ℕ) : Type 0 where
@@ -86,6 +91,6 @@ pub record LoadsOnly {O : Type 0} (o : Ghosts O) (r : Running O) (held : Right) 
   pub within : IsWithinLimit after.known.local
   pub rest : beside_held held.replica after ≡ beside_held held.replica before
 
--- the seat beside work on the replica and the caller's protection
+-- the seat beside replay on the replica and the caller's protection
 abbrev pub beside_bringing : Seated → Seated
-beside_bringing s = beside_work (unguarded s)
+beside_bringing s = beside_replay (unguarded s)

@@ -1,11 +1,14 @@
 -- A caller between its calls, what a refusal and a halt leave, and what no step of a turn changes before its raise.
-use Rattle.std.specs.Prelude.{◌≡◌, ◌+◌, ◌-◌, ◌<◌, ◌≤◌, false, ℕ, [], None, Some}
+use Rattle.std.specs.Prelude.{◌≡◌, ◌+◌, ◌-◌, ◌<◌, ◌≤◌, false, ℕ, [], None, Some, map, min}
 use Rattle.cx_core.specs.declared.local.Local.{Local}
 use Rattle.cx_core.specs.declared.local.Protection.TheVariants.{Unprotected}
+use Rattle.cx_core.specs.Layout.{max_word}
 use Rattle.cx_core.specs.State.{one_more}
 use Rattle.cx_core.specs.Rights.{exclusive_on}
 use Rattle.cx_rule.specs.Running.{IsSeatOf, Running}
 use Rattle.cx_rule.specs.Seats.{IsAtLimit, Seated}
+use Rattle.redo_set.specs.Taking.{sets_read}
+use Rattle.replica_sets.specs.Own.{but_set}
 use Rattle.strong_trylock.specs.Held.{all_rights, no_rights}
 
 -- a caller that is in no call: it has no right, no protection and no scan, no replica is refused to it, and what it saw of CUR is
@@ -60,6 +63,22 @@ beside_turn s = record s {
     accesses = [];
   };
 }
+
+-- a seat but for what work with write sets changes: the sets and the offers of the caller's cells, the offer last seen, and what is noted of sets
+abbrev pub but_sets : Seated → Seated
+but_sets s = record s { known = record s.known { local = record s.known.local { cells = map but_set s.known.local.cells; seen_offer = None }; sets = [] } }
+
+-- what no step of a turn that prepares a replica changes: of what no other step changes all but that
+abbrev pub beside_prepare : Seated → Seated
+beside_prepare s = but_sets (beside_turn s)
+
+-- the write sets of others that were taken, as code counts them: the count stays at its type's end
+abbrev pub IsCounted : ℕ → Seated → Type 0
+IsCounted taken seat = taken ≡ min (sets_read seat.known.sets) max_word
+
+-- a count of them stays one
+abbrev pub KeepsCount : ℕ → Seated → ℕ → Seated → Type 0
+KeepsCount taken before now after = IsCounted taken before → IsCounted now after
 
 -- what a call leaves of a seat: it is one of the table, and what the call does not change, which this function gives, is as it was
 pub record Keeps {O : Type 0} (r : Running O) (beside : Seated → Seated) (before after : Seated) : Type 0 where

@@ -23,6 +23,7 @@ mod lookup;
 mod preparing;
 mod reading;
 mod replaying;
+mod scratch;
 mod taking;
 mod updating;
 
@@ -31,5 +32,6 @@ pub use lookup::{Seen, read_turn};
 pub use preparing::prepare;
 pub use reading::{query_held, query_part, read_current};
 pub use replaying::{own_outcome, replay_to};
+pub use scratch::Scratch;
 pub use taking::take_any;
 pub use updating::update_turn;

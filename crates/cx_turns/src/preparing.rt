@@ -4,11 +4,12 @@ ghost use Rattle.std.specs.Prelude.{◌<◌, ◌≡◌, IfOk, MatchResult, OnErr
 ghost use Rattle.cx_rule.specs.Seats.{IsAtLimit};
 ghost use Rattle.cx_turns.specs.Keeping.{IsKept, MayKeep, no_others, others};
 ghost use Rattle.cx_turns.specs.Preparing.{Prepares, TriesPrepare};
-ghost use Rattle.cx_turns.specs.Turns.{HaltsTurn, MayTurn, Turns, beside_turn};
+ghost use Rattle.cx_turns.specs.Turns.{HaltsTurn, KeepsCount, MayTurn, Turns, beside_prepare};
 ghost use Rattle.replica.specs.Laws.{IsTaken};
 
 use crate::keeping::keep;
 use crate::replaying::bring_up;
+use crate::scratch::Scratch;
 use crate::taking::take_any;
 use cx_base::{Halt, Object};
 use cx_table::{CallerSeat, Downgraded, Exclusive, Shared};
@@ -23,16 +24,18 @@ pub fn prepare<O: Object>(
     shared: &Shared<O>,
     seat: &mut CallerSeat,
     ticket: u64,
+    scratch: &mut Scratch,
     reply: &mut [u64; 144],
 ) -> Result<Option<Downgraded>, Halt>
     requires ready { MayTurn shared.now ticket seat.old }
     ensures allowed { OnOk result (¬ IsAtLimit seat.old.known.local) }
     ensures prepared { IfOk result (TriesPrepare O.Object shared.now ticket reply.new seat.old seat.new) }
     ensures halted { OnErr result (HaltsTurn seat.old seat.new) }
-    ensures turns { Turns shared.now beside_turn seat.old seat.new }
+    ensures counted { OnOk result (KeepsCount scratch.old.taken seat.old scratch.new.taken seat.new) }
+    ensures turns { Turns shared.now beside_prepare seat.old seat.new }
 {
     match take_any(shared, seat)? {
-        Some(held) => renew(shared, seat, held, ticket, reply),
+        Some(held) => renew(shared, seat, held, ticket, scratch, reply),
         None => Ok(None),
     }
 }
@@ -43,6 +46,7 @@ fn renew<O: Object>(
     seat: &mut CallerSeat,
     held: Exclusive,
     ticket: u64,
+    scratch: &mut Scratch,
     reply: &mut [u64; 144],
 ) -> Result<Option<Downgraded>, Halt>
     requires taken { IsTaken (O.line_count shared.now.object) shared.now (O.lawful shared.now.object) (O.step shared.now.object) seat.old held }
@@ -50,11 +54,12 @@ fn renew<O: Object>(
     requires ready { MayKeep ticket seat.old }
     ensures prepared { IfOk result (TriesPrepare O.Object shared.now ticket reply.new seat.old seat.new) }
     ensures halted { OnErr result (HaltsTurn seat.old seat.new) }
-    ensures turns { Turns shared.now beside_turn seat.old seat.new }
+    ensures counted { OnOk result (KeepsCount scratch.old.taken seat.old scratch.new.taken seat.new) }
+    ensures turns { Turns shared.now beside_prepare seat.old seat.new }
 {
     begin(shared, seat, &held)?;
     match keep(shared, seat, held, ticket)? {
-        Some(held) => Ok(Some(finish(shared, seat, held, ticket, reply)?)),
+        Some(held) => Ok(Some(finish(shared, seat, held, ticket, scratch, reply)?)),
         None => Ok(None),
     }
 }
@@ -65,14 +70,16 @@ fn finish<O: Object>(
     seat: &mut CallerSeat,
     held: Exclusive,
     ticket: u64,
+    scratch: &mut Scratch,
     reply: &mut [u64; 144],
 ) -> Result<Downgraded, Halt>
     requires kept { IsKept O.Object shared.now ticket seat.old seat.old held }
     requires linked { ticket < seat.old.known.local.front }
     ensures prepared { MatchResult result (Prepares O.Object shared.now ticket reply.new seat.old seat.new) (λ _. HaltsTurn seat.old seat.new) }
-    ensures turns { Turns shared.now beside_turn seat.old seat.new }
+    ensures counted { OnOk result (KeepsCount scratch.old.taken seat.old scratch.new.taken seat.new) }
+    ensures turns { Turns shared.now beside_prepare seat.old seat.new }
 {
-    bring_up(shared, seat, &held, ticket, reply)?;
+    bring_up(shared, seat, &held, ticket, scratch, reply)?;
     let held = downgrade(shared, seat, held)?;
     Ok(held)
 }

@@ -1,25 +1,28 @@
 //! A replica held exclusively is brought up to a ticket by the entries of the queue.
 
-ghost use Rattle.std.specs.Prelude.{◌+◌, ◌<◌, ◌∷◌, ◌≡◌, ◌≤◌, IfOk, IsTrue, MatchResult, Some, ℕ};
+ghost use Rattle.std.specs.Prelude.{◌+◌, ◌<◌, ◌∷◌, ◌≡◌, ◌≤◌, IfOk, IsTrue, MatchResult, OnOk, Some, true, ℕ};
 ghost use Rattle.cx_base.specs.Memory.{Reads};
 ghost use Rattle.cx_core.specs.Region.{slot_reply};
 ghost use Rattle.cx_core.specs.RingEvents.{Protects};
 ghost use Rattle.cx_rule.specs.Fitting.{FitsKnown};
 ghost use Rattle.cx_rule.specs.Seats.{IsAtLimit};
 ghost use Rattle.cx_turns.specs.Keeping.{IsKept};
-ghost use Rattle.cx_turns.specs.Replaying.{FindsNext, IsApplied, IsBroughtUp, IsReplayed, IsSettled, LoadsOnly, ReadsNext, beside_bringing, beside_work};
-ghost use Rattle.cx_turns.specs.Turns.{Keeps};
+ghost use Rattle.cx_turns.specs.Replaying.{IsApplied, IsBroughtUp, IsReplayed, IsSettled, LoadsOnly, ReadsNext, beside_bringing, beside_replay, beside_work};
+ghost use Rattle.cx_turns.specs.Turns.{Keeps, KeepsCount};
 ghost use Rattle.mutation_queue.specs.Entries.{MayRead};
 ghost use Rattle.replica.specs.Held.{IsHeld, beside_held, left_of};
 ghost use Rattle.replica.specs.Regions.{HasPlace};
 ghost use Rattle.replica.specs.Replays.{IsReady, ShowsReply, noted_place};
+ghost use Rattle.seat_memory.specs.Summaries.{IsOwnEntry};
 
 use crate::keeping::unguard;
+use crate::scratch::Scratch;
 use cx_base::{Halt, Object};
 use cx_core::Entry;
 use cx_table::{CallerSeat, Exclusive, Shared};
 use mutation_queue::entry;
 use replica::{Region, apply, flush, outcome};
+use replica_sets::{replay_offered, replay_own, step_and_offer};
 
 /// Brings a replica that was kept for the entries up to a ticket up to it, removes the protection, and makes it durable. The reply to the
 /// caller's last entry there is the one that the step of that entry gave, where it was made here, and else it is read. `Halt` comes only
@@ -29,14 +32,16 @@ pub(crate) fn bring_up<O: Object>(
     seat: &mut CallerSeat,
     held: &Exclusive,
     ticket: u64,
+    scratch: &mut Scratch,
     reply: &mut [u64; 144],
 ) -> Result<(), Halt>
     requires kept { IsKept O.Object shared.now ticket seat.old seat.old held.now }
     requires linked { ticket < seat.old.known.local.front }
     ensures brought { MatchResult result (λ _. IsBroughtUp O.Object shared.now held.now ticket seat.new reply.new) (λ _. IsAtLimit seat.new.known.local) }
+    ensures counted { OnOk result (KeepsCount scratch.old.taken seat.old scratch.new.taken seat.new) }
     ensures keeps { Keeps shared.now beside_bringing seat.old seat.new }
 {
-    let replied = replay_to(shared, seat, held, ticket, reply)?;
+    let replied = replay_to(shared, seat, held, ticket, scratch, reply)?;
     unguard(shared, seat)?;
     settle(shared, seat, held, replied, reply)?;
     Ok(())
@@ -80,15 +85,17 @@ fn own_reply<O: Object>(
     own_outcome(shared, seat, held, reply)
 }
 
-/// Applies the entries from the place of a replica held exclusively up to a ticket, in order, the caller's own from the seat's memory, and
-/// each other read from the queue while the caller's protection keeps it: where the place is above the ticket, none. The replica is the image after its place before and
-/// afterwards, and then its place is above the ticket. It tells whether the last one that it applied is the caller's own, whose reply it
-/// then gives. `Halt` comes only where the seat's steps equal its limit.
+/// Applies the entries from the place of a replica held exclusively up to a ticket, in order, each by its write set where the caller has that
+/// or it is offered, and else by its step: where the place is above the ticket, none. The caller's own are had from the seat's memory, and what is
+/// read of another's is read from the queue while the caller's protection keeps it. The write set of an own entry whose step is done is offered. The
+/// replica is the image after its place before and afterwards, and then its place is above the ticket. It tells whether the last one that it
+/// applied is the caller's own by its step, whose reply it then gives. `Halt` comes only where the seat's steps equal its limit.
 pub fn replay_to<O: Object>(
     shared: &Shared<O>,
     seat: &mut CallerSeat,
     held: &Exclusive,
     ticket: u64,
+    scratch: &mut Scratch,
     reply: &mut [u64; 144],
 ) -> Result<bool, Halt>
     requires ready { IsReady O.Object shared.now held.now (noted_place seat.old) seat.old }
@@ -96,7 +103,8 @@ pub fn replay_to<O: Object>(
     requires protected { (t : ℕ) → noted_place seat.old ≤ t → t ≤ ticket → Protects t seat.old.known.local.protection }
     ensures replayed { MatchResult result (λ _. IsReplayed O.Object shared.now held.now ticket seat.new) (λ _. IsAtLimit seat.new.known.local) }
     ensures replied { IfOk result (λ own. IsTrue own → ShowsReply (O.line_count shared.now.object) (O.lawful shared.now.object) shared.now.base (O.step shared.now.object) seat.new.known seat.new.known.local.number reply.new) }
-    ensures keeps { Keeps shared.now beside_work seat.old seat.new }
+    ensures counted { OnOk result (KeepsCount scratch.old.taken seat.old scratch.new.taken seat.new) }
+    ensures keeps { Keeps shared.now beside_replay seat.old seat.new }
 {
     // tickets are few
     let _front = seat.front();
@@ -104,60 +112,86 @@ pub fn replay_to<O: Object>(
     if ticket < place {
         return Ok(false);
     }
-    let mut words = [0; 145];
-    let mut next = Entry {
-        caller: 0,
-        number: 0,
-        op: [0; 144],
-    };
+    let mut own = false;
     for at in place..ticket + 1 {
-        replay_next(shared, seat, held, at, &mut words, &mut next, reply)?;
+        own = replay_next(shared, seat, held, at, scratch, reply)?;
     }
-    Ok(next.caller == seat.number())
+    Ok(own)
 }
 
-/// Applies the entry of the place of a replica held exclusively, which is found in memory of the caller's.
+/// Applies the entry of the place of a replica held exclusively. It tells whether that is the caller's own, whose step was done.
 fn replay_next<O: Object>(
     shared: &Shared<O>,
     seat: &mut CallerSeat,
     held: &Exclusive,
     at: u64,
-    words: &mut [u64; 145],
-    next: &mut Entry,
+    scratch: &mut Scratch,
+    reply: &mut [u64; 144],
+) -> Result<bool, Halt>
+    requires ready { IsReady O.Object shared.now held.now at seat.old }
+    requires may { MayRead shared.now at seat.old }
+    requires later { shared.now.base.place ≤ at }
+    ensures applied { MatchResult result (IsApplied O.Object shared.now held.now at reply.new seat.new) (λ _. IsAtLimit seat.new.known.local) }
+    ensures counted { OnOk result (KeepsCount scratch.old.taken seat.old scratch.new.taken seat.new) }
+    ensures keeps { Keeps shared.now beside_replay seat.old seat.new }
+{
+    if replay_own(shared, seat, held, at)? {
+        return Ok(false);
+    }
+    if seat.own_entry(at, &mut scratch.next) {
+        step_own(shared, seat, held, at, scratch, reply)?;
+        return Ok(true);
+    }
+    replay_another(shared, seat, held, at, scratch, reply)?;
+    Ok(false)
+}
+
+/// Does the step of the caller's own entry, which was found in the seat's memory and whose ticket is the place of a replica held exclusively, and offers
+/// its write set.
+fn step_own<O: Object>(
+    shared: &Shared<O>,
+    seat: &mut CallerSeat,
+    held: &Exclusive,
+    at: u64,
+    scratch: &mut Scratch,
+    reply: &mut [u64; 144],
+) -> Result<(), Halt>
+    requires ready { IsReady O.Object shared.now held.now at seat.old }
+    requires may { MayRead shared.now at seat.old }
+    requires found { IsOwnEntry seat.old.known.local.own seat.old.known.local.number at scratch.old.next }
+    ensures applied { MatchResult result (λ _. IsApplied O.Object shared.now held.now at reply.new seat.new true) (λ _. IsAtLimit seat.new.known.local) }
+    ensures count { (scratch.new.taken ≡ scratch.old.taken) × (seat.new.known.sets ≡ seat.old.known.sets) }
+    ensures keeps { Keeps shared.now beside_replay seat.old seat.new }
+{
+    // callers and tickets are few
+    let _callers = shared.callers();
+    let _front = seat.front();
+    let Scratch { next, set, .. } = scratch;
+    step_and_offer(shared, seat, held, at, next, set, reply)
+}
+
+/// Applies another's entry, whose ticket is the place of a replica held exclusively: by its write set where that is offered, and else by its step.
+fn replay_another<O: Object>(
+    shared: &Shared<O>,
+    seat: &mut CallerSeat,
+    held: &Exclusive,
+    at: u64,
+    scratch: &mut Scratch,
     reply: &mut [u64; 144],
 ) -> Result<(), Halt>
     requires ready { IsReady O.Object shared.now held.now at seat.old }
     requires may { MayRead shared.now at seat.old }
     requires later { shared.now.base.place ≤ at }
-    ensures applied { MatchResult result (λ _. IsApplied O.Object shared.now held.now (at + 1) next.new.caller reply.new seat.new) (λ _. IsAtLimit seat.new.known.local) }
-    ensures keeps { Keeps shared.now beside_work seat.old seat.new }
+    ensures applied { MatchResult result (λ _. IsReady O.Object shared.now held.now (at + 1) seat.new) (λ _. IsAtLimit seat.new.known.local) }
+    ensures counted { OnOk result (KeepsCount scratch.old.taken seat.old scratch.new.taken seat.new) }
+    ensures keeps { Keeps shared.now beside_replay seat.old seat.new }
 {
-    find_next(shared, seat, at, words, next)?;
-    apply(shared, seat, held, next, reply)?;
-    Ok(())
-}
-
-/// Finds the entry with a ticket, which is linked and protected: the caller's own in the seat's memory, without a step, and that of another
-/// in its cell.
-fn find_next<O: Object>(
-    shared: &Shared<O>,
-    seat: &mut CallerSeat,
-    ticket: u64,
-    words: &mut [u64; 145],
-    next: &mut Entry,
-) -> Result<(), Halt>
-    requires may { MayRead shared.now ticket seat.old }
-    requires later { shared.now.base.place ≤ ticket }
-    ensures found { MatchResult result (λ _. FindsNext O.Object shared.now ticket next.new seat.old seat.new) (λ _. IsAtLimit seat.new.known.local) }
-    ensures keeps { Keeps shared.now beside_work seat.old seat.new }
-{
-    // callers and tickets are few
-    let _callers = shared.callers();
-    let _front = seat.front();
-    if seat.own_entry(ticket, next) {
+    if replay_offered(shared, seat, held, at, &mut scratch.set)? {
+        scratch.taken = scratch.taken.saturating_add(1);
         return Ok(());
     }
-    read_next(shared, seat, ticket, words, next)?;
+    read_next(shared, seat, at, &mut scratch.words, &mut scratch.next)?;
+    apply(shared, seat, held, &scratch.next, reply)?;
     Ok(())
 }
 

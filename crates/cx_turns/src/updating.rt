@@ -5,12 +5,13 @@ ghost use Rattle.cx_rule.specs.Running.{IsSeatOf};
 ghost use Rattle.cx_rule.specs.Seats.{IsAtLimit, unanswered_ticket};
 ghost use Rattle.cx_rule.specs.Steps.{Halts};
 ghost use Rattle.cx_table.specs.Tokens.{IsDowngradedOf, IsWonOf};
-ghost use Rattle.cx_turns.specs.Answering.{AnswersBy, AnswersEntry, HaltsFor, HaltsWon, IsPublishedFor, IsReadyFor, TurnsFor, beside_settling, beside_update};
-ghost use Rattle.cx_turns.specs.Turns.{MayTurn, Turns, TurnsIn, cur_rises};
+ghost use Rattle.cx_turns.specs.Answering.{AnswersBy, AnswersEntry, HaltsFor, HaltsWon, IsPublishedFor, IsReadyFor, TurnsFor, beside_hand_over, beside_settling, beside_update};
+ghost use Rattle.cx_turns.specs.Turns.{KeepsCount, MayTurn, Turns, TurnsIn, cur_rises};
 ghost use Rattle.mutation_queue.specs.Leaves.{Leaves};
 ghost use Rattle.strong_trylock.specs.Held.{Has};
 
 use crate::preparing::prepare;
+use crate::scratch::Scratch;
 use cx_base::{Halt, Object};
 use cx_table::{CallerSeat, Downgraded, Shared, Won};
 use publish::{Published, make_durable, publish, retire};
@@ -25,16 +26,18 @@ pub fn update_turn<O: Object>(
     shared: &Shared<O>,
     seat: &mut CallerSeat,
     ticket: u64,
+    scratch: &mut Scratch,
 ) -> Result<Option<[u64; 144]>, Halt>
     requires ready { MayTurn shared.now ticket seat.old }
     requires last { unanswered_ticket seat.old.known.local ≡ Some ticket }
     ensures allowed { OnOk result (¬ IsAtLimit seat.old.known.local) }
     ensures turned { IfOk result (TurnsFor ticket seat.old seat.new) }
     ensures halted { OnErr result (HaltsFor shared.now.callers ticket seat.old seat.new) }
+    ensures counted { OnOk result (KeepsCount scratch.old.taken seat.old scratch.new.taken seat.new) }
     ensures turns { Turns shared.now beside_update seat.old seat.new }
 {
     let mut reply = [0; 144];
-    let Some(held) = prepare(shared, seat, ticket, &mut reply)? else {
+    let Some(held) = prepare(shared, seat, ticket, scratch, &mut reply)? else {
         return Ok(None);
     };
     hand_over(shared, seat, held)?;
@@ -51,7 +54,7 @@ fn hand_over<O: Object>(
     requires ready { (ticket : ℕ) × (reply : List ℕ) × IsReadyFor O.Object shared.now ticket reply seat.old }
     ensures answered { (ticket : ℕ) (reply : List ℕ) → IsReadyFor O.Object shared.now ticket reply seat.old → OnOk result (AnswersEntry 1 ticket reply seat.old seat.new) }
     ensures halted { (ticket : ℕ) (reply : List ℕ) → IsReadyFor O.Object shared.now ticket reply seat.old → OnErr result (HaltsFor shared.now.callers ticket seat.old seat.new) }
-    ensures turns { TurnsIn shared.now beside_update (3 + cur_rises seat.old seat.new) seat.old seat.new }
+    ensures turns { TurnsIn shared.now beside_hand_over (3 + cur_rises seat.old seat.new) seat.old seat.new }
 {
     match publish(shared, seat, held)? {
         Published::Won(won) => settle_won(shared, seat, won),

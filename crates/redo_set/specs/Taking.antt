@@ -1,5 +1,5 @@
 -- The write set of another's entry, as a caller takes it: word by word from the cell that the slot last looked at shows.
-use Rattle.std.specs.Prelude.{◌≡◌, ◌+◌, ◌<◌, ◌↔◌, ℕ, IsTrue, Bool, List, [], ◌∷◌, ◌++◌, Option}
+use Rattle.std.specs.Prelude.{◌≡◌, ◌+◌, ◌<◌, ◌==◌, ◌↔◌, true, false, ℕ, IsTrue, Bool, List, [], ◌∷◌, ◌++◌, Option, if◌then◌else◌}
 use Rattle.cx_base.specs.declared.object.Object.{Ghosts}
 use Rattle.cx_core.specs.declared.kinds.Kind.TheVariants.{ReadSet}
 use Rattle.cx_core.specs.declared.local.SeenOffer.{SeenOffer}
@@ -38,6 +38,16 @@ with_notes seen steps notes s = record s { known = record s.known { local = reco
 pub record ReadsWords {O : Type 0} (o : Ghosts O) (r : Running O) (ticket from : ℕ) (words : List ℕ) (before after : Seated) : Type 0 where
   pub seat : after ≡ with_notes before.known.local.seen_offer after.known.local.steps (set_notes ticket from words) before
   pub fits : Fitting r.lines (o.lawful r.object) r.base (o.step r.object) before.known → Fitting r.lines (o.lawful r.object) r.base (o.step r.object) after.known
+
+-- how many sets were read: of each the number of its pairs, word 0, is noted once
+unfoldable pub sets_read : List SetNoted → ℕ
+sets_read [] = 0
+sets_read (n ∷ notes) = (if n.index == 0 then 1 else 0) + sets_read notes
+
+-- one set more was read where one was taken, and else nothing more is noted of sets
+abbrev pub CountsTaken : Seated → Seated → Bool → Type 0
+CountsTaken before after true = sets_read after.known.sets ≡ sets_read before.known.sets + 1
+CountsTaken before after false = after.known.sets ≡ before.known.sets
 
 -- nothing changed but the steps and the offer last seen, and there may be more notes of sets
 pub record LeavesTaking (before after : Seated) : Type 0 where

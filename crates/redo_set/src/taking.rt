@@ -3,7 +3,7 @@
 ghost use Rattle.std.specs.Prelude.{◌≡◌, ◌+◌, ◌<◌, ◌≤◌, ◌↔◌, false, IfOk, IsTrue, OnErr, OnOk, length};
 ghost use Rattle.cx_table.specs.Running.{IsSeatOf};
 ghost use Rattle.cx_table.specs.Seats.{IsAtLimit};
-ghost use Rattle.redo_set.specs.Taking.{LeavesTaking, MayReadSet, MayTake, ReadsWords, Takes};
+ghost use Rattle.redo_set.specs.Taking.{CountsTaken, LeavesTaking, MayReadSet, MayTake, ReadsWords, Takes};
 
 use crate::set::WriteSet;
 use cx_base::{Halt, Object};
@@ -22,7 +22,7 @@ pub fn take<O: Object>(
 ) -> Result<bool, Halt>
     requires may { MayTake shared.now cell ticket seat.old }
     ensures taken { IfOk result (λ taken. Takes O.Object shared.now cell ticket into.new seat.new taken) }
-    ensures kept { IfOk result (λ taken. taken ≡ false → seat.new.known.sets ≡ seat.old.known.sets) }
+    ensures counted { IfOk result (CountsTaken seat.old seat.new) }
     ensures leaves { LeavesTaking seat.old seat.new }
     ensures seat { IsSeatOf shared.now seat.new }
     ensures halts { OnErr result (IsAtLimit seat.new.known.local) }

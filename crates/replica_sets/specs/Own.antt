@@ -1,6 +1,7 @@
 -- The caller's own entry is done on a replica held exclusively, and its write set offered.
-use Rattle.std.specs.Prelude.{◌≡◌, ℕ, List, []}
+use Rattle.std.specs.Prelude.{◌≡◌, ℕ, List, [], map}
 use Rattle.cx_base.specs.declared.object.Object.{Ghosts}
+use Rattle.cx_core.specs.declared.local.Cell.{Cell}
 use Rattle.cx_rule.specs.Running.{IsSeatOf, Running}
 use Rattle.cx_rule.specs.Seats.{Seated}
 use Rattle.cx_table.specs.Right.{Right}
@@ -12,9 +13,13 @@ pub record HasApplied {O : Type 0} (o : Ghosts O) (r : Running O) (held : Right)
   pub ready : IsReady o r held at seat
   pub replied : ShowsReply (o.line_count r.object) (o.lawful r.object) r.base (o.step r.object) seat.known caller reply
 
--- what no such work changes: the seat but for the steps, the caller's cells, and what is noted of the replica
+-- a cell but for its write set and its offer
+abbrev pub but_set : Cell → Cell
+but_set c = record { words = c.words; ticket = c.ticket; set = []; offer = 0 }
+
+-- what no such work changes: the seat but for the steps, the sets and the offers of the caller's cells, and what is noted of the replica
 abbrev pub beside_own : ℕ → Seated → Seated
-beside_own replica s = (let b = beside_held replica s in record b { known = record b.known { local = record b.known.local { cells = [] } } })
+beside_own replica s = (let b = beside_held replica s in record b { known = record b.known { local = record b.known.local { cells = map but_set s.known.local.cells } } })
 
 -- whatever was made of it, the seat is one of the table, and what no such work changes is as it was
 pub record LeavesOwn {O : Type 0} (r : Running O) (replica : ℕ) (before after : Seated) : Type 0 where

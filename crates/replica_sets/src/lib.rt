@@ -1,7 +1,5 @@
 //! Write sets stored over a replica that a caller holds exclusively, in place of the full steps of their entries.
 //!
-//! No turn uses it yet.
-//!
 //! - The set of the ticket that is the replica's place makes it the image after the next place, where its caller has that set: read whole,
 //!   or offered in an own cell. It is stored pair by pair, with no load: `store_set` (`ready`), and from the seat's memory `store_own_set`.
 //! - Another's entry is brought on so where it is offered: its set is taken from its cell, and then stored: `replay_offered` (`replayed`).

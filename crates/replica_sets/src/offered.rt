@@ -1,9 +1,10 @@
 //! Another's entry is brought onto a replica held exclusively by its write set, where it is offered.
 
-ghost use Rattle.std.specs.Prelude.{◌≤◌, MatchResult};
+ghost use Rattle.std.specs.Prelude.{◌≤◌, IfOk, MatchResult};
 ghost use Rattle.cx_rule.specs.Seats.{IsAtLimit};
 ghost use Rattle.cx_table.specs.Calls.{MakesStep};
 ghost use Rattle.mutation_queue.specs.Entries.{Looked, MayRead};
+ghost use Rattle.redo_set.specs.Taking.{CountsTaken};
 ghost use Rattle.replica.specs.Replays.{IsReady};
 ghost use Rattle.replica_sets.specs.Offered.{LeavesOffered, ReplaysOffered};
 
@@ -27,6 +28,7 @@ pub fn replay_offered<O: Object>(
     requires may { MayRead shared.now ticket seat.old }
     requires later { shared.now.base.place ≤ ticket }
     ensures replayed { MatchResult result (ReplaysOffered O.Object shared.now held.now ticket seat.new) (λ _. IsAtLimit seat.new.known.local) }
+    ensures counted { IfOk result (CountsTaken seat.old seat.new) }
     ensures leaves { LeavesOffered shared.now held.now.replica seat.old seat.new }
 {
     let cell = see_cell(shared, seat, ticket)?;
