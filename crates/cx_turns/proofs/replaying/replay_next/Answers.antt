@@ -1,4 +1,4 @@
-use Rattle.std.proofs.Common.{◌+◌, ◌∙◌, ap, refl, subst}
+use Rattle.std.proofs.Common.{◌∙◌, ap, refl, subst}
 use Rattle.cx_rule.specs.Seats.{Seated}
 use Rattle.replica_sets.specs.Offered.{ReplaysOffered}
 use Rattle.cx_turns.proofs.ReadEntries.{applied_alone, may_still}
