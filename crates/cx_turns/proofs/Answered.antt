@@ -22,9 +22,9 @@ use Rattle.cx_rule.specs.Fitting.{has_of}
 use Rattle.cx_rule.proofs.Raising.{reply_still, tells_one}
 use Rattle.cx_table.specs.Right.{Right, WonRight}
 use Rattle.cx_table.specs.Tokens.{IsWonOf}
-use Rattle.cx_turns.specs.Answering.{AnswersBy, AnswersEntry, AnswersReadBy, HaltsFor, HaltsLookup, HaltsWon, IsPublishedFor, IsReadyFor, beside_settling, beside_update, with_answer, with_read}
+use Rattle.cx_turns.specs.Answering.{AnswersBy, AnswersEntry, AnswersReadBy, HaltsFor, HaltsLookup, HaltsWon, IsPublishedFor, IsReadyFor, beside_hand_over, beside_settling, with_answer, with_read}
 use Rattle.cx_turns.specs.Preparing.{Prepares}
-use Rattle.cx_turns.specs.Turns.{IsAtRest, TurnsIn, beside_turn, cur_rises}
+use Rattle.cx_turns.specs.Turns.{IsAtRest, TurnsIn, beside_prepare, cur_rises}
 use Rattle.mutation_queue.specs.Leaves.{Leaves}
 use Rattle.publish.proofs.Options.{none_of, some_of}
 use Rattle.publish.specs.Publishing.{LeavesRest, PassedBy, beside_publish, place_in}
@@ -83,7 +83,7 @@ module _ {O : Type 0} (o : Ghosts O) (r : Running O) (ticket : ℕ) (reply : Lis
       (subst (λ t. TellsReply r.lines (o.lawful r.object) r.base (o.step r.object) seat.known t reply) (sym is) p.tells))
 
 -- what is ready once it is prepared
-pub prepared_ready : {O : Type 0} (o : Ghosts O) (r : Running O) (ticket : ℕ) (reply : List ℕ) (before after : Seated) (held : Right) → beside_turn after ≡ beside_turn before → IsAtRest before.known.local → unanswered_ticket before.known.local ≡ Some ticket → Prepares o r ticket reply before after held → IsReadyFor o r ticket reply after
+pub prepared_ready : {O : Type 0} (o : Ghosts O) (r : Running O) (ticket : ℕ) (reply : List ℕ) (before after : Seated) (held : Right) → beside_prepare after ≡ beside_prepare before → IsAtRest before.known.local → unanswered_ticket before.known.local ≡ Some ticket → Prepares o r ticket reply before after held → IsReadyFor o r ticket reply after
 prepared_ready o r ticket reply before after held same rest last p = record {
   rest = record {
     exclusive = none_of _ after.known.local.exclusive (ap (λ (a : AllRights). a.exclusive) p.rights);
@@ -103,7 +103,7 @@ prepared_ready o r ticket reply before after held same rest last p = record {
 }
 
 -- what the turn comes to after it, by which no refusal was met
-module _ (ticket : ℕ) (before mid after : Seated) (same : beside_turn mid ≡ beside_turn before) (met : mid.known.local.met ≡ before.known.local.met) where
+module _ (ticket : ℕ) (before mid after : Seated) (same : beside_prepare mid ≡ beside_prepare before) (met : mid.known.local.met ≡ before.known.local.met) where
   pub answered_turn : (reply : List ℕ) → AnswersEntry 1 ticket reply mid after → AnswersEntry 1 ticket reply before after
   answered_turn reply a = record {
     rest = a.rest;
@@ -202,13 +202,13 @@ module _ {O : Type 0} (o : Ghosts O) (r : Running O) (code ticket : ℕ) (reply 
         record { rest = retired_rests rest ended; met = omega (arith, met); most = omega (arith, met); answered = ap (λ (t : Seated). t.known.local.answered) s.made ∙ raised_answered }
 
 -- what a publication and the few steps behind it leave of the seat
-pub settled_turns : {O : Type 0} (r : Running O) (n : ℕ) (before mid after : Seated) → n ≤ 2 → LeavesRest r 1 before mid → Leaves r beside_settling n mid after → TurnsIn r beside_update (3 + cur_rises before after) before after
+pub settled_turns : {O : Type 0} (r : Running O) (n : ℕ) (before mid after : Seated) → n ≤ 2 → LeavesRest r 1 before mid → Leaves r beside_settling n mid after → TurnsIn r beside_hand_over (3 + cur_rises before after) before after
 settled_turns r n before mid after few leaves last =
     let cur : after.known.local.seen_cur ≡ mid.known.local.seen_cur = ap (λ (s : Seated). s.known.local.seen_cur) last.rest in
     let front : after.known.local.front ≡ mid.known.local.front = ap (λ (s : Seated). s.known.local.front) last.rest in
     record {
       seat = last.of;
-      rest = ap beside_update last.rest ∙ ap beside_update leaves.rest;
+      rest = ap beside_hand_over last.rest ∙ ap beside_hand_over leaves.rest;
       front = (let rose = leaves.front in omega (arith, rose, front));
       steps = (let most = leaves.steps in let more = last.steps in omega (arith, most, more, cur, few));
     }
@@ -247,7 +247,7 @@ module _ (ticket : ℕ) (before mid after : Seated) (rest : beside_publish mid �
   }
 
   -- what the raise leaves of the seat, whether it was made or not
-  pub passed_turns : {O X E : Type 0} (o : Ghosts O) (r : Running O) (code : ℕ) (reply : List ℕ) (result : Result X E) → LeavesRest r 1 before mid → OnOk result (AnswersBy o r code ticket reply mid after) → OnErr result (Halts r mid after) → TurnsIn r beside_update (3 + cur_rises before after) before after
+  pub passed_turns : {O X E : Type 0} (o : Ghosts O) (r : Running O) (code : ℕ) (reply : List ℕ) (result : Result X E) → LeavesRest r 1 before mid → OnOk result (AnswersBy o r code ticket reply mid after) → OnErr result (Halts r mid after) → TurnsIn r beside_hand_over (3 + cur_rises before after) before after
   passed_turns o r code reply (Ok x) leaves by none = settled_turns r 1 before mid after (omega arith) leaves (raised_leaves o r code ticket reply mid after by)
   passed_turns o r code reply (Err e) leaves none h =
       settled_turns r 0 before mid after (omega arith) leaves (record { of = h.seat; rest = ap beside_settling h.same; steps = (let same = ap (λ (s : Seated). s.known.local.steps) h.same in omega (arith, same)) })

@@ -1,22 +1,25 @@
 -- What an entry that was read leaves of a replica held exclusively, and its words.
-use Rattle.std.proofs.Common.{All, inl, inr, ◌≡◌, ◌^◌, ◌<◌, ℕ, List, [], ◌∷◌, length, drop, slice_index, take, ap, sym, subst, ◌∙◌, arith}
+use Rattle.std.proofs.Common.{All, inl, inr, false, ◌≡◌, ◌+◌, ◌^◌, ◌<◌, ℕ, List, [], ◌∷◌, length, drop, slice_index, take, ap, sym, subst, ◌∙◌, arith}
+use Rattle.std.proofs.lemmas.Bool.{false≢true}
 use Rattle.std.proofs.lemmas.List.{take_all}
 use Rattle.cx_base.specs.declared.object.Object.{Ghosts}
 use Rattle.cx_core.specs.declared.entry.Entry.{Entry}
 use Rattle.cx_core.specs.History.{IsLawfulEntry}
 use Rattle.cx_core.specs.Region.{region_words}
 use Rattle.cx_core.specs.Rights.{held_dirty}
+use Rattle.cx_core.specs.RingEvents.{Protects}
 use Rattle.cx_rule.specs.Fitting.{Fitting, HasEntry, SomeFits, entries_of, has_of}
 use Rattle.cx_rule.specs.Running.{IsSeatOf, Running}
 use Rattle.cx_rule.specs.Seats.{Seated}
 use Rattle.cx_rule.proofs.HasMore.{HasMore, noted_more}
 use Rattle.cx_table.specs.Right.{Right}
 use Rattle.cx_table.specs.Tokens.{IsExclusiveOf}
-use Rattle.cx_turns.specs.Replaying.{FindsNext}
-use Rattle.mutation_queue.specs.Entries.{ReadsEntry, notes_of, with_look, with_read}
+use Rattle.cx_turns.specs.Replaying.{IsApplied, ReadsNext}
+use Rattle.mutation_queue.specs.Entries.{MayRead, ReadsEntry, notes_of, with_look, with_read}
 use Rattle.replica.specs.Held.{IsHeld}
 use Rattle.replica.specs.Replays.{ComesNext, IsReady, noted_place}
 use Rattle.replica.specs.Laws.{image_more}
+use Rattle.seat_memory.specs.Summaries.{IsOwnEntry}
 
 -- a replica that is held still is, once an entry was read
 held_read : {O : Type 0} (lines : ℕ) (r : Running O) (lawful : List ℕ → Type 0) (step : List ℕ → List ℕ → List ℕ × List ℕ) (caller ticket : ℕ) (words : List ℕ) (before after : Seated) (held : Right) → IsSeatOf r after → ReadsEntry caller ticket words before after → Fitting r.lines lawful r.base step after.known → IsHeld lines r lawful step before held → IsHeld lines r lawful step after held
@@ -39,20 +42,33 @@ ready_read o r caller ticket at words before after held of read fits was = recor
   place = ap noted_place read.seat ∙ was.place;
 }
 
--- and once it was found
-pub ready_found : {O : Type 0} (o : Ghosts O) (r : Running O) (at : ℕ) (entry : Entry) (before after : Seated) (held : Right) → IsSeatOf r after → FindsNext o r at entry before after → IsReady o r held at before → IsReady o r held at after
-ready_found o r at entry before after held of next was = elim next.found [
-  | inl same ↦ subst (IsReady o r held at) (sym same) was
-  | inr read ↦ ready_read o r entry.caller at at (entry.number ∷ entry.op) before after held of read.read read.fits was
-]
-
--- it comes next where it has the replica's place as its ticket
-pub found_next : {O : Type 0} (o : Ghosts O) (r : Running O) (at : ℕ) (entry : Entry) (before after : Seated) → FindsNext o r at entry before after → noted_place after ≡ at → ComesNext entry after
-found_next o r at entry before after next place = record {
-  had = subst (λ p. HasEntry (entries_of after.known) p entry) (sym place) next.had;
-  lawful = subst (λ p. IsLawfulEntry p entry) (sym place) next.lawful;
-  small = subst (λ p. p < 2 ^ 40) (sym place) next.small;
+-- an entry that was read comes next where it has the replica's place as its ticket
+pub read_comes : {O : Type 0} (o : Ghosts O) (r : Running O) (at : ℕ) (entry : Entry) (before after : Seated) → ReadsNext o r at entry before after → noted_place after ≡ at → ComesNext entry after
+read_comes o r at entry before after next place = record {
+  had = subst (λ p. HasEntry (entries_of after.known) p entry) (sym place) (inl next.noted.noted);
+  lawful = subst (λ p. IsLawfulEntry p entry) (sym place) next.noted.lawful;
+  small = subst (λ p. p < 2 ^ 40) (sym place) next.noted.small;
 }
+
+-- so does an own one that stands in the seat's memory
+pub own_comes : (at : ℕ) (entry : Entry) (seat : Seated) → IsOwnEntry seat.known.local.own seat.known.local.number at entry → seat.known.local.number < 8 → noted_place seat ≡ at → ComesNext entry seat
+own_comes at entry seat mine few place = record {
+  had = subst (λ p. HasEntry (entries_of seat.known) p entry) (sym place) (inr mine.own);
+  lawful = subst (λ p. IsLawfulEntry p entry) (sym place) (mine.lawful few);
+  small = subst (λ p. p < 2 ^ 40) (sym place) mine.small;
+}
+
+-- an entry may still be read
+pub may_still : {O : Type 0} (r : Running O) (at : ℕ) (before after : Seated) → IsSeatOf r after → after.known.local.front ≡ before.known.local.front → after.known.local.protection ≡ before.known.local.protection → MayRead r at before → MayRead r at after
+may_still r at before after of front protection may = record {
+  of = of;
+  linked = subst (λ n. at < n) (sym front) may.linked;
+  protected = subst (Protects at) (sym protection) may.protected;
+}
+
+-- where its reply is not given, the replica alone is told
+pub applied_alone : {O : Type 0} (o : Ghosts O) (r : Running O) (held : Right) (at : ℕ) (reply : List ℕ) (seat : Seated) → IsReady o r held (at + 1) seat → IsApplied o r held at reply seat false
+applied_alone o r held at reply seat ready = record { ready = ready; replied = λ own. absurd (false≢true own) }
 
 -- words, the first of them and the 144 behind it
 pub first_and_rest : (ws op : List ℕ) → length ws ≡ 145 → op ≡ take 144 (drop 1 ws) → slice_index ws 0 ∷ op ≡ ws

@@ -1,12 +1,18 @@
 -- What work on a replica held exclusively keeps.
-use Rattle.std.proofs.Common.{◌≡◌, ℕ, refl, ap, sym, ◌∙◌, Option, Some, None}
+use Rattle.std.proofs.Common.{◌≡◌, ◌+◌, ℕ, List, [], ◌∷◌, map, min, refl, ap, sym, ◌∙◌, arith, Option, Some, None}
 use Rattle.std.specs.Option.{option_map}
+use Rattle.cx_core.specs.declared.local.Cell.{Cell}
 use Rattle.cx_core.specs.declared.local.HeldExclusive.{HeldExclusive}
 use Rattle.cx_core.specs.declared.local.HeldShared.{HeldShared}
+use Rattle.cx_core.specs.Layout.{max_word}
 use Rattle.cx_core.specs.Rights.{shared_on}
 use Rattle.cx_rule.specs.Seats.{Seated}
-use Rattle.cx_turns.specs.Replaying.{beside_work, but_loads}
+use Rattle.cx_turns.specs.Replaying.{beside_bringing, beside_replay, beside_work, but_loads}
+use Rattle.cx_turns.specs.Turns.{KeepsCount, but_sets, unguarded}
 use Rattle.replica.specs.Held.{beside_held, but_loaded, but_words}
+use Rattle.redo_set.specs.Taking.{sets_read}
+use Rattle.replica_sets.specs.Offered.{beside_offered}
+use Rattle.replica_sets.specs.Own.{beside_own, but_set}
 use Rattle.strong_trylock.specs.Held.{AllRights, all_rights}
 
 words_once : (o : Option HeldExclusive) → option_map but_words (option_map but_words o) ≡ option_map but_words o
@@ -30,6 +36,32 @@ work_beside r s =
 pub work_held : (r : ℕ) (before after : Seated) → beside_held r after ≡ beside_held r before → beside_work after ≡ beside_work before
 work_held r before after same = sym (work_beside r after) ∙ ap beside_work same ∙ work_beside r before
 
+-- and such replay
+pub replay_held : (r : ℕ) (before after : Seated) → beside_held r after ≡ beside_held r before → beside_replay after ≡ beside_replay before
+replay_held r before after same = ap but_sets (work_held r before after same)
+
+offered_beside : (r : ℕ) (s : Seated) → beside_replay (beside_offered r s) ≡ beside_replay s
+offered_beside r s = ap but_sets (work_beside r s)
+
+-- so is what brings it on by another's write set
+pub replay_offered : (r : ℕ) (before after : Seated) → beside_offered r after ≡ beside_offered r before → beside_replay after ≡ beside_replay before
+replay_offered r before after same = sym (offered_beside r after) ∙ ap beside_replay same ∙ offered_beside r before
+
+cells_once : (cells : List Cell) → map but_set (map but_set cells) ≡ map but_set cells
+cells_once [] = refl
+cells_once (c ∷ cells) = ap (λ cs. but_set c ∷ cs) (cells_once cells)
+
+with_cells : Seated → List Cell → Seated
+with_cells s cells = record (beside_replay s) { known = record (beside_replay s).known { local = record (beside_replay s).known.local { cells = cells } } }
+
+own_beside : (r : ℕ) (s : Seated) → beside_replay (beside_own r s) ≡ beside_replay s
+unfolding with_cells
+own_beside r s = ap (with_cells (beside_held r s)) (cells_once s.known.local.cells) ∙ ap but_sets (work_beside r s)
+
+-- and what does an own entry's step and offers its write set
+pub replay_own : (r : ℕ) (before after : Seated) → beside_own r after ≡ beside_own r before → beside_replay after ≡ beside_replay before
+replay_own r before after same = sym (own_beside r after) ∙ ap beside_replay same ∙ own_beside r before
+
 replica_once : (o : Option HeldExclusive) → option_map (λ (h : HeldExclusive). h.replica) (option_map but_words o) ≡ option_map (λ (h : HeldExclusive). h.replica) o
 replica_once None = refl
 replica_once (Some h) = refl
@@ -44,5 +76,20 @@ rights_beside s =
     ∙ ap (λ o. (let x : AllRights = record (all_rights s) { shared = o } in x)) (shared_once s.known.local.shared)
 
 -- the rights stay
-pub rights_kept : (before after : Seated) → beside_work after ≡ beside_work before → all_rights after ≡ all_rights before
+pub rights_kept : (before after : Seated) → beside_replay after ≡ beside_replay before → all_rights after ≡ all_rights before
 rights_kept before after same = sym (rights_beside after) ∙ ap all_rights same ∙ rights_beside before
+
+-- nothing more is noted of sets, and nothing more is counted
+pub counted_same : (taken now : ℕ) (before after : Seated) → now ≡ taken → after.known.sets ≡ before.known.sets → KeepsCount taken before now after
+counted_same taken now before after still same was = still ∙ was ∙ sym (ap (λ ns. min (sets_read ns) max_word) same)
+
+one_more_counted : (n most : ℕ) → min (min n most + 1) most ≡ min (n + 1) most
+one_more_counted n most = omega arith
+
+-- one set more was read, and is counted
+pub counted_more : (taken : ℕ) (before after : Seated) → sets_read after.known.sets ≡ sets_read before.known.sets + 1 → KeepsCount taken before (min (taken + 1) max_word) after
+counted_more taken before after more was = ap (λ n. min (n + 1) max_word) was ∙ one_more_counted (sets_read before.known.sets) max_word ∙ sym (ap (λ n. min n max_word) more)
+
+-- a replica is brought up by such replay, then the protection is removed, and then such work is done
+pub still_bringing : (before mid then last : Seated) → beside_work last ≡ beside_work then → unguarded then ≡ unguarded mid → beside_replay mid ≡ beside_replay before → beside_bringing last ≡ beside_bringing before
+still_bringing before mid then last work guard replay = ap (λ s. but_sets (unguarded s)) work ∙ ap beside_replay guard ∙ ap unguarded replay

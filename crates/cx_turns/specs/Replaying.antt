@@ -1,13 +1,12 @@
 -- A replica held exclusively that is brought up to a ticket.
-use Rattle.std.specs.Prelude.{◌≡◌, ◌+◌, ◌^◌, ◌<◌, ◌⊎◌, ℕ, Bool, IsTrue, List, [], ◌∷◌, None}
+use Rattle.std.specs.Prelude.{◌≡◌, ◌+◌, ◌<◌, ℕ, Bool, IsTrue, List, [], ◌∷◌, None}
 use Rattle.std.specs.Option.{option_map}
 use Rattle.cx_base.specs.Memory.{Becomes}
 use Rattle.cx_base.specs.declared.object.Object.{Ghosts}
 use Rattle.cx_core.specs.declared.entry.Entry.{Entry}
 use Rattle.cx_core.specs.declared.local.HeldShared.{HeldShared}
 use Rattle.cx_core.specs.declared.local.Protection.TheVariants.{Unprotected}
-use Rattle.cx_core.specs.History.{IsLawfulEntry}
-use Rattle.cx_rule.specs.Fitting.{Fitting, FitsKnown, HasEntry, entries_of}
+use Rattle.cx_rule.specs.Fitting.{Fitting, FitsKnown}
 use Rattle.cx_rule.specs.Running.{Running}
 use Rattle.cx_rule.specs.Seats.{IsWithinLimit, Seated}
 use Rattle.cx_table.specs.Right.{Right}
@@ -47,14 +46,6 @@ pub record ReadsNext {O : Type 0} (o : Ghosts O) (r : Running O) (ticket : ℕ) 
   pub read : ReadsEntry entry.caller ticket (entry.number ∷ entry.op) before after
   pub noted : IsNotedEntry ticket after entry
   pub fits : Fitting r.lines (o.lawful r.object) r.base (o.step r.object) after.known
-
--- The caller has the entry with a ticket, and it is one that may come there. It is an own one that stands in the seat's memory, and nothing
--- is changed, or it was read.
-pub record FindsNext {O : Type 0} (o : Ghosts O) (r : Running O) (ticket : ℕ) (entry : Entry) (before after : Seated) : Type 0 where
-  pub had : HasEntry (entries_of after.known) ticket entry
-  pub lawful : IsLawfulEntry ticket entry
-  pub small : ticket < 2 ^ 40
-  pub found : (after ≡ before) ⊎ ReadsNext o r ticket entry before after
 
 -- A replica held exclusively is the image after a place above a ticket, no word of it is dirty, and the caller's last entry there
 -- has this reply.

@@ -135,7 +135,8 @@ fn replay_next<O: Object>(
     ensures counted { OnOk result (KeepsCount scratch.old.taken seat.old scratch.new.taken seat.new) }
     ensures keeps { Keeps shared.now beside_replay seat.old seat.new }
 {
-    if replay_own(shared, seat, held, at)? {
+    let done = replay_own(shared, seat, held, at)?;
+    if done {
         return Ok(false);
     }
     if seat.own_entry(at, &mut scratch.next) {
@@ -157,17 +158,16 @@ fn step_own<O: Object>(
     reply: &mut [u64; 144],
 ) -> Result<(), Halt>
     requires ready { IsReady O.Object shared.now held.now at seat.old }
-    requires may { MayRead shared.now at seat.old }
     requires found { IsOwnEntry seat.old.known.local.own seat.old.known.local.number at scratch.old.next }
     ensures applied { MatchResult result (λ _. IsApplied O.Object shared.now held.now at reply.new seat.new true) (λ _. IsAtLimit seat.new.known.local) }
     ensures count { (scratch.new.taken ≡ scratch.old.taken) × (seat.new.known.sets ≡ seat.old.known.sets) }
     ensures keeps { Keeps shared.now beside_replay seat.old seat.new }
 {
-    // callers and tickets are few
+    // callers are few
     let _callers = shared.callers();
-    let _front = seat.front();
     let Scratch { next, set, .. } = scratch;
-    step_and_offer(shared, seat, held, at, next, set, reply)
+    step_and_offer(shared, seat, held, at, next, set, reply)?;
+    Ok(())
 }
 
 /// Applies another's entry, whose ticket is the place of a replica held exclusively: by its write set where that is offered, and else by its step.
@@ -186,12 +186,34 @@ fn replay_another<O: Object>(
     ensures counted { OnOk result (KeepsCount scratch.old.taken seat.old scratch.new.taken seat.new) }
     ensures keeps { Keeps shared.now beside_replay seat.old seat.new }
 {
-    if replay_offered(shared, seat, held, at, &mut scratch.set)? {
+    let taken = replay_offered(shared, seat, held, at, &mut scratch.set)?;
+    if taken {
         scratch.taken = scratch.taken.saturating_add(1);
         return Ok(());
     }
-    read_next(shared, seat, at, &mut scratch.words, &mut scratch.next)?;
-    apply(shared, seat, held, &scratch.next, reply)?;
+    let Scratch { words, next, .. } = scratch;
+    step_another(shared, seat, held, at, words, next, reply)?;
+    Ok(())
+}
+
+/// Reads another's entry, whose ticket is the place of a replica held exclusively, and does its step.
+fn step_another<O: Object>(
+    shared: &Shared<O>,
+    seat: &mut CallerSeat,
+    held: &Exclusive,
+    at: u64,
+    words: &mut [u64; 145],
+    next: &mut Entry,
+    reply: &mut [u64; 144],
+) -> Result<(), Halt>
+    requires ready { IsReady O.Object shared.now held.now at seat.old }
+    requires may { MayRead shared.now at seat.old }
+    requires later { shared.now.base.place ≤ at }
+    ensures applied { MatchResult result (λ _. IsReady O.Object shared.now held.now (at + 1) seat.new) (λ _. IsAtLimit seat.new.known.local) }
+    ensures keeps { Keeps shared.now beside_work seat.old seat.new }
+{
+    read_next(shared, seat, at, words, next)?;
+    apply(shared, seat, held, next, reply)?;
     Ok(())
 }
 

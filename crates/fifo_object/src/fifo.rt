@@ -8,7 +8,7 @@ ghost use Rattle.fifo_object.specs.Fifo.{HasItems, HoldsFifo, IsFifo, IsHeader, 
 ghost use Rattle.fifo_object.specs.FifoLaws as laws;
 
 use cx_base::{Halt, Memory, Object, store_words};
-use fifo_model::{is_item, item_of_number, kind_in, words_of};
+use fifo_model::{is_item, item_of_number, kind_in};
 use std::alloc::{AllocError, Global};
 
 const VERSION: u64 = 16;
@@ -59,68 +59,96 @@ impl Fifo {
     }
 
     /// Puts an item behind the last.
-    fn push<M: Memory>(&self, mem: &mut M, item: &[u64]) -> Result<[u64; 144], Halt>
+    fn push<M: Memory>(&self, mem: &mut M, item: &[u64], reply: &mut [u64; 144]) -> Result<(), Halt>
         requires holds { HoldsFifo M.Memory self.now.lines mem.old }
         requires writable { IsTrue (M.writable mem.old) }
         requires item { length item.now ≡ 8 }
-        ensures { Changes M.Memory mem.old mem.new result (λ reply before now. push_step self.now.lines item.now before ≡ (now, reply)) }
+        ensures { Changes M.Memory mem.old mem.new result (λ _ before now. push_step self.now.lines item.now before ≡ (now, reply.new)) }
     {
         let ends = self.ends(mem)?;
         if self.lines - 1 <= ends.count {
-            return Ok(words_of(2, &NO_ITEM));
+            put_words(2, &NO_ITEM, reply);
+            return Ok(());
         }
         let place = (ends.head + ends.count) % (self.lines - 1);
         store_words(mem, 8 * (place + 1), item)?;
         mem.store(COUNT_AT, ends.count + 1)?;
-        Ok(words_of(1, &NO_ITEM))
+        put_words(1, &NO_ITEM, reply);
+        Ok(())
     }
 
     /// Takes the item at the front.
-    fn pop<M: Memory>(&self, mem: &mut M) -> Result<[u64; 144], Halt>
+    fn pop<M: Memory>(&self, mem: &mut M, reply: &mut [u64; 144]) -> Result<(), Halt>
         requires holds { HoldsFifo M.Memory self.now.lines mem.old }
         requires writable { IsTrue (M.writable mem.old) }
-        ensures { Changes M.Memory mem.old mem.new result (λ reply before now. pop_step self.now.lines before ≡ (now, reply)) }
+        ensures { Changes M.Memory mem.old mem.new result (λ _ before now. pop_step self.now.lines before ≡ (now, reply.new)) }
     {
         let ends = self.ends(mem)?;
         if ends.count == 0 {
-            return Ok(words_of(4, &NO_ITEM));
+            put_words(4, &NO_ITEM, reply);
+            return Ok(());
         }
-        let reply = self.item_reply(mem, ends.head)?;
+        self.item_reply(mem, ends.head, reply)?;
         mem.store(HEAD_AT, (ends.head + 1) % (self.lines - 1))?;
         mem.store(COUNT_AT, ends.count - 1)?;
-        Ok(reply)
+        Ok(())
     }
 
     /// Tells the item at the front.
-    fn peek<M: Memory>(&self, mem: &mut M) -> Result<[u64; 144], Halt>
+    fn peek<M: Memory>(&self, mem: &mut M, reply: &mut [u64; 144]) -> Result<(), Halt>
         requires { HoldsFifo M.Memory self.now.lines mem.old }
-        ensures { Finds M.Memory mem.old mem.new result (λ reply now. reply ≡ front_words now) }
+        ensures { Finds M.Memory mem.old mem.new result (λ _ now. reply.new ≡ front_words now) }
     {
         let ends = self.ends(mem)?;
         if ends.count == 0 {
-            return Ok(words_of(4, &NO_ITEM));
+            put_words(4, &NO_ITEM, reply);
+            return Ok(());
         }
-        self.item_reply(mem, ends.head)
+        self.item_reply(mem, ends.head, reply)
     }
 
     /// The reply that is the item at a place.
-    fn item_reply<M: Memory>(&self, mem: &mut M, place: u64) -> Result<[u64; 144], Halt>
+    fn item_reply<M: Memory>(
+        &self,
+        mem: &mut M,
+        place: u64,
+        reply: &mut [u64; 144],
+    ) -> Result<(), Halt>
         requires size { M.size mem.old ≡ 8 * self.now.lines }
         requires place { place < self.now.lines - 1 }
-        ensures { Finds M.Memory mem.old mem.new result (λ reply now. reply ≡ spec.words_of 3 (item_at now place)) }
+        ensures { Finds M.Memory mem.old mem.new result (λ _ now. reply.new ≡ spec.words_of 3 (item_at now place)) }
     {
         let mut item = [0; 8];
         mem.load_words(8 * (place + 1), &mut item)?;
-        Ok(words_of(3, &item))
+        put_words(3, &item, reply);
+        Ok(())
     }
 
     /// Tells the number of items.
-    fn len<M: Memory>(&self, mem: &mut M) -> Result<[u64; 144], Halt>
+    fn len<M: Memory>(&self, mem: &mut M, reply: &mut [u64; 144]) -> Result<(), Halt>
         requires size { M.size mem.old ≡ 8 * self.now.lines }
-        ensures { Finds M.Memory mem.old mem.new result (λ reply now. reply ≡ spec.words_of 5 (spec.number_item (count_in now))) }
+        ensures { Finds M.Memory mem.old mem.new result (λ _ now. reply.new ≡ spec.words_of 5 (spec.number_item (count_in now))) }
     {
         let count = mem.load(COUNT_AT)?;
-        Ok(words_of(5, &item_of_number(count)))
+        put_words(5, &item_of_number(count), reply);
+        Ok(())
+    }
+
+    /// Answers an operation that only reads.
+    fn answer<M: Memory>(
+        &self,
+        mem: &mut M,
+        op: &[u64; 144],
+        reply: &mut [u64; 144],
+    ) -> Result<(), Halt>
+        requires holds { HoldsFifo M.Memory self.now.lines mem.old }
+        requires reads { IsTrue (fifo_reads op.now) }
+        ensures { Finds M.Memory mem.old mem.new result (λ _ now. fifo_step self.now.lines now op.now ≡ (now, reply.new)) }
+    {
+        match kind_in(op) {
+            3 => self.peek(mem, reply),
+            _ => self.len(mem, reply),
+        }
     }
 
     /// Whether words have a header.
@@ -158,6 +186,16 @@ impl Fifo {
     {
         words.len() as u64 == 8 * self.lines && self.has_header(words) && self.has_items(words)
     }
+}
+
+/// Puts the words of a kind and an item where the reply is made: to move such words costs as much as the step.
+fn put_words(kind: u64, item: &[u64], reply: &mut [u64; 144])
+    requires { length item.now ≡ 8 }
+    ensures { reply.new ≡ spec.words_of kind item.now }
+{
+    *reply = [0; 144];
+    reply[0] = kind;
+    reply[1..9].copy_from_slice(item);
 }
 
 /// Whether what stands at a place is a text.
@@ -218,20 +256,33 @@ impl Object for Fifo {
     }
 
     fn run<M: Memory>(&self, mem: &mut M, op: &[u64; 144]) -> Result<[u64; 144], Halt> {
+        let mut reply = [0; 144];
+        self.run_into(mem, op, &mut reply)?;
+        Ok(reply)
+    }
+
+    fn run_into<M: Memory>(
+        &self,
+        mem: &mut M,
+        op: &[u64; 144],
+        reply: &mut [u64; 144],
+    ) -> Result<(), Halt> {
         match kind_in(op) {
-            1 => self.push(mem, &op[1..9]),
-            2 => self.pop(mem),
-            3 => self.peek(mem),
-            4 => self.len(mem),
-            _ => Ok([0; 144]),
+            1 => self.push(mem, &op[1..9], reply),
+            2 => self.pop(mem, reply),
+            3 => self.peek(mem, reply),
+            4 => self.len(mem, reply),
+            _ => {
+                *reply = [0; 144];
+                Ok(())
+            }
         }
     }
 
     fn query<M: Memory>(&self, mem: &mut M, op: &[u64; 144]) -> Result<[u64; 144], Halt> {
-        match kind_in(op) {
-            3 => self.peek(mem),
-            _ => self.len(mem),
-        }
+        let mut reply = [0; 144];
+        self.answer(mem, op, &mut reply)?;
+        Ok(reply)
     }
 
     fn check(&self, _alloc: Global, words: &[u64]) -> Result<bool, AllocError> {

@@ -1,5 +1,5 @@
 -- Reading a write set, word after word.
-use Rattle.std.proofs.Common.{◌≡◌, ◌+◌, ◌*◌, ◌<◌, ◌≤◌, ℕ, zero, suc, List, [], ◌∷◌, ◌++◌, length, slice_index, refl, sym, ap, subst, ◌∙◌, arith, append-nil, zero-add, length-append, take, Option, Some}
+use Rattle.std.proofs.Common.{◌≡◌, ◌≢◌, ◌+◌, ◌*◌, ◌<◌, ◌≤◌, ◌==◌, if◌then◌else◌, ne_eqb, ℕ, zero, suc, List, [], ◌∷◌, ◌++◌, length, slice_index, refl, sym, ap, subst, ◌∙◌, arith, append-nil, zero-add, length-append, take, Option, Some}
 use Rattle.std.proofs.lemmas.List.{append_assoc, get_or-take, get_or_append_left}
 use Rattle.std.specs.List.{slice_get}
 use Rattle.cx_base.specs.declared.object.Object.{Ghosts}
@@ -13,7 +13,7 @@ use Rattle.cx_rule.specs.Fitting.{Fitting}
 use Rattle.cx_rule.specs.Running.{Running, instance_at}
 use Rattle.cx_rule.specs.Seats.{Seated, stepped}
 use Rattle.cx_table.specs.Runs.{Runs, no_step, one_more_step, set_reads_from}
-use Rattle.redo_set.specs.Taking.{LeavesTaking, ReadsWords, set_notes, with_notes}
+use Rattle.redo_set.specs.Taking.{LeavesTaking, ReadsWords, set_notes, sets_read, with_notes}
 
 abbrev note : ℕ → ℕ → ℕ → SetNoted
 note ticket i w = record { ticket = ticket; index = i; word = w }
@@ -57,8 +57,8 @@ read_one instance cell ticket i v seen steps notes s t after is step =
 
 -- notes behind notes
 pub notes_then : (seen : Option SeenOffer) (steps more_steps : ℕ) (notes more : List SetNoted) (s t u : Seated) → t ≡ with_notes seen steps notes s → u ≡ with_notes t.known.local.seen_offer more_steps more t → u ≡ with_notes seen more_steps (notes ++ more) s
-notes_then seen steps more_steps notes more s t u is then =
-    then ∙ ap (λ (x : Seated). with_notes x.known.local.seen_offer more_steps more x) is ∙ (λ k. seat_with s seen more_steps s.known.noted (append_assoc s.known.sets notes more k))
+notes_then seen steps more_steps notes more s t u is next =
+    next ∙ ap (λ (x : Seated). with_notes x.known.local.seen_offer more_steps more x) is ∙ (λ k. seat_with s seen more_steps s.known.noted (append_assoc s.known.sets notes more k))
 
 module _ {O : Type 0} (o : Ghosts O) (r : Running O) where
   pub words_none : (ticket from : ℕ) (s after : Seated) → after ≡ s → ReadsWords o r ticket from [] s after
@@ -119,3 +119,25 @@ put_behind size count (suc i) (x ∷ now) pairs post rest within some first belo
     get_or-take size (x ∷ ((pairs ++ post) ++ rest)) (suc i) 0 within
     ∙ get_or_append_left (pairs ++ post) rest 0 i (omega (arith, here, length-append pairs post))
     ∙ get_or_append_left pairs post 0 i here
+
+sum_of : (a b c : ℕ) → a + (b + c) ≡ a + b + c
+sum_of a b c = omega arith
+
+-- the sets that were read in two parts of notes
+read_both : (xs ys : List SetNoted) → sets_read (xs ++ ys) ≡ sets_read xs + sets_read ys
+unfolding sets_read
+read_both [] ys = sym (zero-add (sets_read ys))
+read_both (x ∷ xs) ys = ap (λ n. (if x.index == 0 then 1 else 0) + n) (read_both xs ys) ∙ sum_of (if x.index == 0 then 1 else 0) (sets_read xs) (sets_read ys)
+
+-- words behind the first one of a set make none
+read_none : (ticket i : ℕ) (words : List ℕ) → i ≢ 0 → sets_read (set_notes ticket i words) ≡ 0
+unfolding sets_read
+read_none ticket i [] behind_first = refl
+read_none ticket i (w ∷ words) behind_first =
+    ap (λ b. (if b then 1 else 0) + sets_read (set_notes ticket (i + 1) words)) (ne_eqb i 0 behind_first)
+    ∙ ap (λ n. 0 + n) (read_none ticket (i + 1) words (omega arith))
+
+-- the words of a set make one
+pub read_whole : (sets : List SetNoted) (ticket count : ℕ) (pairs : List ℕ) → sets_read (sets ++ set_notes ticket 0 (count ∷ pairs)) ≡ sets_read sets + 1
+unfolding sets_read
+read_whole sets ticket count pairs = read_both sets (set_notes ticket 0 (count ∷ pairs)) ∙ ap (λ n. sets_read sets + (1 + n)) (read_none ticket 1 pairs (omega arith))

@@ -1,7 +1,10 @@
 -- What a look, an offer and a set that was taken leave of a replica that is the image after its place.
-use Rattle.std.proofs.Common.{All, inl, inr, ◌≡◌, ◌<◌, ◌⊎◌, ◌++◌, ℕ, List, [], ap, sym, subst, ◌∙◌, Option, None}
+use Rattle.std.proofs.Common.{All, inl, inr, ◌≡◌, ◌<◌, ◌⊎◌, ◌++◌, ℕ, List, [], map, slice_set, ap, refl, sym, subst, ◌∙◌, Option, None}
+use Rattle.std.proofs.Math.Seq.{map-set_same}
 use Rattle.cx_base.specs.declared.object.Object.{Ghosts}
+use Rattle.cx_core.specs.declared.local.Cell.{Cell}
 use Rattle.cx_core.specs.declared.local.SeenSlot.{SeenSlot}
+use Rattle.cx_core.specs.QueueEvents.{cell_of}
 use Rattle.cx_core.specs.Region.{region_words}
 use Rattle.cx_core.specs.Rights.{held_dirty}
 use Rattle.cx_core.proofs.ListLemmas.{slice_get-append_left}
@@ -21,7 +24,7 @@ use Rattle.replica.specs.Held.{IsHeld, beside_held}
 use Rattle.replica.specs.Laws.{image_more, image_same}
 use Rattle.replica.specs.Replays.{IsReady, noted_place}
 use Rattle.replica_sets.specs.Offered.{LeavesOffered, beside_offered}
-use Rattle.replica_sets.specs.Own.{HasApplied, LeavesOwn, beside_own}
+use Rattle.replica_sets.specs.Own.{HasApplied, LeavesOwn, beside_own, but_set}
 
 -- what a seat has, with these notes of sets
 abbrev has_with : Known → List SetNoted → Has
@@ -98,8 +101,13 @@ module _ {O : Type 0} (r : Running O) (replica : ℕ) where
   pub leaves_stored : (before mid after : Seated) → LeavesOffered r replica before mid → IsSeatOf r after → beside_held replica after ≡ beside_held replica mid → LeavesOffered r replica before after
   leaves_stored before mid after was of same = record { seat = of; rest = ap beside_both same ∙ was.rest }
 
+-- a seat but for the sets and the offers of the caller's cells
 abbrev beside_cells : Seated → Seated
-beside_cells b = record b { known = record b.known { local = record b.known.local { cells = [] } } }
+beside_cells b = record b { known = record b.known { local = record b.known.local { cells = map but_set b.known.local.cells } } }
+
+-- the same with these as its cells
+abbrev own_with : ℕ → Seated → List Cell → Seated
+own_with replica s cells = (let b = beside_held replica s in record b { known = record b.known { local = record b.known.local { cells = cells } } })
 
 module _ {O : Type 0} (r : Running O) (replica : ℕ) where
   pub leaves_held : (before after : Seated) → IsSeatOf r after → beside_held replica after ≡ beside_held replica before → LeavesOwn r replica before after
@@ -107,7 +115,11 @@ module _ {O : Type 0} (r : Running O) (replica : ℕ) where
 
   -- words of an own set were written, or it was offered
   pub leaves_set : (before mid after : Seated) (j : ℕ) (set : List ℕ) (offer steps : ℕ) → LeavesOwn r replica before mid → IsSeatOf r after → after ≡ with_set j set offer steps mid → LeavesOwn r replica before after
-  leaves_set before mid after j set offer steps was of is = record { seat = of; rest = ap (beside_own replica) is ∙ was.rest }
+  leaves_set before mid after j set offer steps was of is =
+      let cell : Cell = record (cell_of mid.known.local j) { set = set; offer = offer } in
+      let same : map but_set (slice_set mid.known.local.cells j cell) ≡ map but_set mid.known.local.cells =
+      map-set_same but_set mid.known.local.cells j cell (record { words = []; ticket = None; set = []; offer = 0 }) refl in
+      record { seat = of; rest = ap (beside_own replica) is ∙ ap (own_with replica mid) same ∙ was.rest }
 
 -- an own set was offered
 pub applied_offered : {O : Type 0} (o : Ghosts O) (r : Running O) (held : Right) (at caller : ℕ) (reply : List ℕ) (before after : Seated) (j : ℕ) (set : List ℕ) (offer steps : ℕ) → IsSeatOf r after → after ≡ with_set j set offer steps before →

@@ -7,8 +7,8 @@ ghost use Rattle.cx_core.specs.Region.{region_words};
 ghost use Rattle.cx_rule.specs.Fitting.{IsSetWithin};
 ghost use Rattle.cx_rule.specs.Seats.{IsAtLimit};
 ghost use Rattle.replica.specs.Replays.{ComesNext, IsReady};
-ghost use Rattle.replica.specs.Held.{IsSized};
-ghost use Rattle.replica_sets.specs.Offered.{LeavesOffered, ReplaysOffered};
+ghost use Rattle.replica.specs.Held.{IsSized, LeavesHeld};
+ghost use Rattle.replica_sets.specs.Offered.{ReplaysOffered};
 ghost use Rattle.replica_sets.specs.Own.{HasApplied, LeavesOwn};
 
 use crate::storing::store_own_set;
@@ -29,7 +29,7 @@ pub fn replay_own<O: Object>(
 ) -> Result<bool, Halt>
     requires ready { IsReady O.Object shared.now held.now ticket seat.old }
     ensures replayed { MatchResult result (ReplaysOffered O.Object shared.now held.now ticket seat.new) (λ _. IsAtLimit seat.new.known.local) }
-    ensures leaves { LeavesOffered shared.now held.now.replica seat.old seat.new }
+    ensures leaves { LeavesHeld O.Object shared.now held.now seat.old seat.new }
 {
     let Some(cell) = seat.offered_cell(ticket) else {
         return Ok(false);

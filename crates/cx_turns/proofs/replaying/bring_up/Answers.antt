@@ -1,7 +1,8 @@
-use Rattle.std.proofs.Common.{ap, refl}
+use Rattle.std.proofs.Common.{ap, refl, ◌∙◌}
 use Rattle.cx_rule.specs.Fitting.{has_of}
 use Rattle.cx_rule.specs.Seats.{Seated}
 use Rattle.cx_turns.proofs.Kept.{held_same, shows_same}
+use Rattle.cx_turns.proofs.Working.{counted_same, still_bringing}
 use Rattle.replica.specs.Laws.{image_same}
 use Rattle.cx_turns.proofs.replaying.bring_up.Goals as goal
 
@@ -24,3 +25,14 @@ settle-requires g c =
       };
       given = λ own. shows_same g.O.Object t mid last c.args.held.now has accesses number c.replay_to.new.reply (done.replied own);
     }
+
+pub returns-clause-counted : goal.returns-clause-counted
+returns-clause-counted g c was =
+    let sets = ap (λ (s : Seated). s.known.sets) c.settle.ensures.keeps.rest ∙ ap (λ (s : Seated). s.known.sets) c.unguard.ensures.leaves.rest in
+    counted_same c.replay_to.new.scratch.taken c.replay_to.new.scratch.taken c.replay_to.new.seat c.settle.new.seat refl sets (c.in_ok-replied.ensures.counted was)
+
+pub returns-clause-keeps : goal.returns-clause-keeps
+returns-clause-keeps g c = record {
+  seat = c.settle.ensures.keeps.seat;
+  rest = still_bringing c.args.seat.now c.replay_to.new.seat c.unguard.new.seat c.settle.new.seat c.settle.ensures.keeps.rest c.unguard.ensures.leaves.rest c.replay_to.ensures.keeps.rest;
+}

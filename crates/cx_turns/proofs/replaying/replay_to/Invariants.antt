@@ -1,6 +1,7 @@
-use Rattle.std.proofs.Common.{◌≡◌, ◌<◌, ◌≤◌, ℕ}
+use Rattle.std.proofs.Common.{◌≡◌, ◌<◌, ◌≤◌, ℕ, IsTrue}
 use Rattle.cx_core.specs.RingEvents.{Protects}
-use Rattle.cx_turns.specs.Replaying.{beside_work}
+use Rattle.cx_turns.specs.Replaying.{beside_replay}
+use Rattle.cx_turns.specs.Turns.{KeepsCount}
 use Rattle.replica.specs.Replays.{IsReady, ShowsReply}
 use Rattle.cx_turns.proofs.replaying.replay_to.Given as goal
 
@@ -10,6 +11,7 @@ invariant-loop-at g l = record {
   later : l.shared.base.place ≤ l.at;
   linked : l.ticket < l.seat.known.local.front;
   protected : (t : ℕ) → l.at ≤ t → t ≤ l.ticket → Protects t l.seat.known.local.protection;
-  replied : l.place < l.at → ShowsReply (g.O.Object.line_count l.shared.object) (g.O.Object.lawful l.shared.object) l.shared.base (g.O.Object.step l.shared.object) l.seat.known l.next.caller l.reply;
-  work : beside_work l.seat ≡ beside_work l.fn.seat;
+  replied : IsTrue l.own → ShowsReply (g.O.Object.line_count l.shared.object) (g.O.Object.lawful l.shared.object) l.shared.base (g.O.Object.step l.shared.object) l.seat.known l.seat.known.local.number l.reply;
+  counted : KeepsCount l.fn.scratch.taken l.fn.seat l.scratch.taken l.seat;
+  work : beside_replay l.seat ≡ beside_replay l.fn.seat;
 }

@@ -5,8 +5,8 @@ use Rattle.cx_core.specs.SetEvents.{ShowsOffer}
 use Rattle.cx_core.specs.State.{one_more}
 use Rattle.cx_rule.specs.Running.{instance_at}
 use Rattle.cx_rule.specs.Seats.{Seated}
-use Rattle.redo_set.specs.Taking.{set_notes}
-use Rattle.redo_set.proofs.Takings.{looked_is, notes_then, put_behind, read_one, whole_noted}
+use Rattle.redo_set.specs.Taking.{set_notes, sets_read}
+use Rattle.redo_set.proofs.Takings.{looked_is, notes_then, put_behind, read_one, read_whole, whole_noted}
 use Rattle.redo_set.proofs.taking.take.Goals as goal
 
 pub returns-clause-taken : goal.returns-clause-taken
@@ -37,3 +37,21 @@ returns-clause-taken g c =
       noted = λ _. whole_noted ticket count pairs _ s.known.sets u.known.sets (ap (λ (x : Seated). x.known.sets) all) long few (λ i below. put_behind c.into.inside.words.len count i now pairs _ _ (omega (arith, below, few, size, c.deref_mut.ensures.len)) (omega (arith, size)) is (omega (arith, below, long)));
       fits = λ _. c.in_ok-read_words.ensures.read.fits c.in_ok-count.ensures.fits;
     }
+
+pub returns-clause-counted : goal.returns-clause-counted
+returns-clause-counted g c =
+    let s = c.args.seat.now in
+    let cell = c.args.cell in
+    let ticket = c.args.ticket in
+    let found = c.in_ok-found.found in
+    let count = c.in_ok-count.count in
+    let pairs = c.read_words.new.into in
+    let t = c.read_set.new.seat in
+    let u = c.read_words.new.seat in
+    let instance = instance_at c.args.shared.now g.O.Object.step g.O.Object.only_reads in
+    let seen : Option SeenOffer = Some (record { cell = cell; ticket = ticket; word = found }) in
+    let steps = one_more s.known.local.steps in
+    let looked = looked_is instance cell ticket found s c.load_offer.new.seat c.in_ok-found.ensures.made.made in
+    let first = read_one instance cell ticket 0 count seen steps [] s c.load_offer.new.seat t looked c.in_ok-count.ensures.made.made in
+    let all = notes_then seen (one_more steps) u.known.local.steps (set_notes ticket 0 (count ∷ [])) (set_notes ticket 1 pairs) s t u first c.in_ok-read_words.ensures.read.seat in
+    ap (λ (x : Seated). sets_read x.known.sets) all ∙ read_whole s.known.sets ticket count pairs

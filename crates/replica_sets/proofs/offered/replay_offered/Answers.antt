@@ -2,6 +2,7 @@ use Rattle.std.proofs.Common.{◌+◌, ◌<◌, ◌∙◌, ap, inl, refl, subst,
 use Rattle.cx_core.specs.RingEvents.{Protects}
 use Rattle.cx_rule.specs.Fitting.{IsSetWithin, has_of}
 use Rattle.cx_rule.specs.Seats.{Seated}
+use Rattle.redo_set.specs.Taking.{CountsTaken, sets_read}
 use Rattle.replica_sets.proofs.Ready.{leaves_looked, leaves_stored, leaves_taken, ready_looked, ready_taken, ready_untaken}
 use Rattle.replica_sets.proofs.offered.replay_offered.Goals as goal
 
@@ -30,9 +31,11 @@ returns-then-not-taken g c =
     let looked = c.in_ok-cell.ensures.made in
     let mid = c.see_cell.new.seat in
     let replica = c.args.held.now.replica in
+    let kept = subst (CountsTaken mid c.take.new.seat) c.if-not-taken.true c.in_ok-taken.ensures.counted in
     record {
-      replayed = ready_untaken g.O.Object t c.args.held.now c.args.ticket mid c.take.new.seat c.take.ensures.seat c.take.ensures.leaves (c.in_ok-taken.ensures.kept c.if-not-taken.true)
+      replayed = ready_untaken g.O.Object t c.args.held.now c.args.ticket mid c.take.new.seat c.take.ensures.seat c.take.ensures.leaves kept
           (ready_looked g.O.Object t c.args.held.now c.args.ticket _ c.args.seat.now mid looked.of looked.seat c.requires.ready);
+      counted = kept ∙ ap (λ (s : Seated). s.known.sets) looked.seat;
       leaves = leaves_taken t replica c.args.seat.now mid c.take.new.seat (leaves_looked t replica _ c.args.seat.now mid looked.of looked.seat) c.take.ensures.seat c.take.ensures.leaves;
     }
 
@@ -74,7 +77,9 @@ returns g c =
     let before = ready_taken g.O.Object t c.args.held.now c.args.ticket mid c.take.new.seat c.take.ensures.seat c.take.ensures.leaves (taken.fits c.if-not-taken.false)
     (ready_looked g.O.Object t c.args.held.now c.args.ticket _ c.args.seat.now mid looked.of looked.seat c.requires.ready) in
     let ready = c.in_ok-store_set.ensures.ready in
+    let counted = subst (CountsTaken mid c.take.new.seat) c.if-not-taken.false c.in_ok-taken.ensures.counted in
     record {
       replayed = record { is_held = ready.is_held; image = ready.image; place = ready.place ∙ ap (λ n. n + 1) before.place };
+      counted = ap (λ (s : Seated). sets_read s.known.sets) e.rest ∙ counted ∙ ap (λ (s : Seated). sets_read s.known.sets + 1) looked.seat;
       leaves = leaves_stored t replica c.args.seat.now c.take.new.seat c.store_set.new.seat (leaves_taken t replica c.args.seat.now mid c.take.new.seat (leaves_looked t replica _ c.args.seat.now mid looked.of looked.seat) c.take.ensures.seat c.take.ensures.leaves) e.still.of e.rest;
     }

@@ -10,10 +10,10 @@ use Rattle.fifo_object.proofs.fifo.Fifo.peek.Goals as goal
 pub returns-then-ends-eq0 : goal.returns-then-ends-eq0
 returns-then-ends-eq0 g c =
     let ends = c.in_ok-ends.ends in
-    found (Reads-weaker c.in_ok-ends.ensures.finds.done (λ ws r. none_front ws c.words_of.result ends.count r.1 c.if-ends-eq0.true c.words_of.ensures)) (search rules) (search rules) (search rules)
+    found (Reads-weaker c.in_ok-ends.ensures.finds.done (λ ws r. none_front ws c.put_words.new.reply ends.count r.1 c.if-ends-eq0.true c.put_words.ensures)) (search rules) (search rules) (search rules)
 
 pub returns : goal.returns
 returns g c =
     let ends = c.in_ok-ends.ends in
-    found (IfOk-weaker c.item_reply.result (λ reply. Reads (g.M.Memory.stands c.ends.new.mem) (g.M.Memory.stands c.item_reply.new.mem) (λ now. reply ≡ words_of 3 (item_at now ends.head))) _
-    (λ reply f. Reads-then c.in_ok-ends.ensures.finds.done f (λ ws r told. some_front ws reply ends.head ends.count r.0 r.1 c.if-ends-eq0.false told)) c.item_reply.ensures.done) (search rules) (search rules) (search rules)
+    found (IfOk-weaker c.item_reply.result (λ _. Reads (g.M.Memory.stands c.ends.new.mem) (g.M.Memory.stands c.item_reply.new.mem) (λ now. c.item_reply.new.reply ≡ words_of 3 (item_at now ends.head))) _
+    (λ _ f. Reads-then c.in_ok-ends.ensures.finds.done f (λ ws r told. some_front ws c.item_reply.new.reply ends.head ends.count r.0 r.1 c.if-ends-eq0.false told)) c.item_reply.ensures.done) (search rules) (search rules) (search rules)

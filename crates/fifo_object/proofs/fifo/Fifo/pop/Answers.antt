@@ -10,16 +10,16 @@ use Rattle.fifo_object.proofs.fifo.Fifo.pop.Goals as goal
 pub returns-then-ends-eq0 : goal.returns-then-ends-eq0
 returns-then-ends-eq0 g c =
     let ends = c.in_ok-ends.ends in
-    changed (Becomes-weaker (Becomes-from-read c.in_ok-ends.ensures.finds.done) (λ first x y s r. none_runs c.args.self.now.lines x y c.words_of.result ends.count r.0 r.1.1 c.if-ends-eq0.true c.words_of.ensures)) (search rules) (search rules)
+    changed (Becomes-weaker (Becomes-from-read c.in_ok-ends.ensures.finds.done) (λ first x y s r. none_runs c.args.self.now.lines x y c.put_words.new.reply ends.count r.0 r.1.1 c.if-ends-eq0.true c.put_words.ensures)) (search rules) (search rules)
 
 pub returns : goal.returns
 returns g c =
     let ends = c.in_ok-ends.ends in
     let lines = c.args.self.now.lines in
-    let reply = c.in_ok-reply.reply in
+    let reply = c.item_reply.new.reply in
     let next = (ends.head + 1) % (lines - 1) in
     let read : Reads (g.M.Memory.stands c.args.mem.now) (g.M.Memory.stands c.item_reply.new.mem) (λ ws. ((head_in ws ≡ ends.head) × (count_in ws ≡ ends.count)) × (reply ≡ words_of 3 (item_at ws ends.head))) =
-    Reads-then c.in_ok-ends.ensures.finds.done c.in_ok-reply.ensures.done (λ ws r told. (r, told)) in
+    Reads-then c.in_ok-ends.ensures.finds.done c.in_ok-item_reply.ensures.done (λ ws r told. (r, told)) in
     let headed : Becomes (g.M.Memory.stands c.args.mem.now) (g.M.Memory.stands c.store.new.self) (λ x z. (z ≡ slice_set x 1 next) × (head_in x ≡ ends.head) × (count_in x ≡ ends.count) × (reply ≡ words_of 3 (item_at x ends.head))) =
     Becomes-store (Becomes-from-read read) c.in_ok-store.ensures.stands
     (λ first x y s r. (

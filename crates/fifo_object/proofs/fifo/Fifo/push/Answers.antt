@@ -10,7 +10,7 @@ pub returns-then-self-ends : goal.returns-then-self-ends
 returns-then-self-ends g c =
     let ends = c.in_ok-ends.ends in
     changed (Becomes-weaker (Becomes-from-read c.in_ok-ends.ensures.finds.done)
-    (λ first x y s r. full_runs c.args.self.now.lines c.args.item.now x y c.words_of.result ends.count r.0 r.1.1 c.if-self-ends.true c.words_of.ensures)) (search rules) (search rules)
+    (λ first x y s r. full_runs c.args.self.now.lines c.args.item.now x y c.put_words.new.reply ends.count r.0 r.1.1 c.if-self-ends.true c.put_words.ensures)) (search rules) (search rules)
 
 pub returns : goal.returns
 returns g c =
@@ -22,4 +22,4 @@ returns g c =
     let put : Becomes (g.M.Memory.stands c.args.mem.now) (g.M.Memory.stands c.store_words.new.mem) (λ x z. (z ≡ overwritten (8 * (place + 1)) item x) × (head_in x ≡ ends.head) × (count_in x ≡ ends.count)) =
     Becomes-then (Becomes-from-read c.in_ok-ends.ensures.finds.done) c.in_ok-store_words.ensures.done (λ x y z r d. (d ∙ ap (overwritten (8 * (place + 1)) item) r.0, ap head_in (sym r.0) ∙ r.1.0, ap count_in (sym r.0) ∙ r.1.1)) in
     changed (Becomes-store put c.in_ok-store.ensures.stands (λ first x y s r.
-    put_runs lines item x y c.words_of-2.result ends.head ends.count place r.1 r.2 room refl r.0 c.words_of-2.ensures)) (search rules) (search rules)
+    put_runs lines item x y c.put_words-2.new.reply ends.head ends.count place r.1 r.2 room refl r.0 c.put_words-2.ensures)) (search rules) (search rules)
