@@ -37,6 +37,8 @@ mod stopping;
 #[cfg(test)]
 mod submits;
 #[cfg(test)]
+mod taken;
+#[cfg(test)]
 mod tasks;
 #[cfg(test)]
 mod threads;

@@ -109,10 +109,13 @@ fn kept_at(alloc: Global, limit: u64) -> Result<(Option<u64>, bool), AllocError>
     Ok((kept(alloc, &stopped.remains), is_answered(&stopped.log)))
 }
 
-// The steps by which an update is linked, before which it is lost, and those by which it is answered.
+// The steps by which an update is linked, before which it is lost, those by which it is published, behind another's whose write set is
+// taken, and those by which it is answered.
 const LINKED: u64 = 148;
 
-const ANSWERED: u64 = 477;
+const PUBLISHED: u64 = 193;
+
+const ANSWERED: u64 = 195;
 
 // The first of limits, each so many above the one before, at which the update is kept or answered.
 fn first_kept(alloc: Global, from: u64, to: u64, step: usize) -> Result<Option<u64>, AllocError>
@@ -130,14 +133,14 @@ fn first_kept(alloc: Global, from: u64, to: u64, step: usize) -> Result<Option<u
 #[test]
 fn updates_are_lost_before_they_are_published(rt: HostRuntime) -> Result<(), Fail> {
     holds(&rt, first_kept(rt.alloc(), 0, LINKED, 21)?.is_none());
-    holds(&rt, first_kept(rt.alloc(), LINKED, 409, 12)?.is_none());
+    holds(&rt, first_kept(rt.alloc(), LINKED, PUBLISHED, 4)?.is_none());
     Ok(())
 }
 
 // Whether the update is kept by each choice where it was answered, and by some and not by others at one of the limits.
 fn are_parted(alloc: Global) -> Result<bool, AllocError> {
     let mut parted = false;
-    for limit in 409..ANSWERED {
+    for limit in PUBLISHED..ANSWERED {
         let (Some(count), answered) = kept_at(alloc, limit)? else {
             return Ok(false);
         };

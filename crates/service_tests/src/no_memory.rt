@@ -9,7 +9,7 @@ ghost use Rattle.doc_store.specs.ExactStep.{IsImage};
 use crate::holds::holds;
 use crate::starting::{NO_LIMIT, all_started};
 use crate::tasks::Work;
-use crate::threads::{Ran, all_worked, is_as_alone};
+use crate::threads::{Ran, all_worked, fewest_taken, is_as_alone};
 use cx_base::Object;
 use cx_core::Base;
 use cx_service::{Handed, Kept, Service, StartFault};
@@ -86,10 +86,16 @@ fn leaves_all<R: Threads + Sync>(rt: &R, alloc: Global) -> Result<bool, AllocErr
     };
     let mut logs = Vec::new(alloc);
     let callers = all_worked(rt, alloc, &service, callers, Work::Documents, &mut logs)?;
+    let taken = fewest_taken(&callers);
     match closed_again(alloc, service, callers)? {
         Some(remains) => {
             let row = (2, Work::Documents, 48, 12);
-            is_as_alone(alloc, &Ran { logs, remains }, &DocStore::of(LINES), &row)
+            let ran = Ran {
+                logs,
+                taken,
+                remains,
+            };
+            is_as_alone(alloc, &ran, &DocStore::of(LINES), &row)
         }
         None => Ok(false),
     }

@@ -85,8 +85,8 @@ pub(crate) fn two_started(
     }
 }
 
-// The items of a list of two.
-fn two(mut callers: Vec<Caller>) -> Option<(Caller, Caller)>
+/// The items of a list of two.
+pub(crate) fn two(mut callers: Vec<Caller>) -> Option<(Caller, Caller)>
     ensures { IfSome result (λ r. callers.items ≡ r.0 ∷ r.1 ∷ []) }
 {
     let second = callers.pop()?;

@@ -100,11 +100,26 @@ fn parted(
     Ok(callers)
 }
 
-/// What callers were told on threads of their own, and what their service left when it was closed.
+/// What callers were told on threads of their own, the fewest entries of others that one of them applied by their write sets, and what
+/// their service left when it was closed.
 #[derive(Drop)]
 pub(crate) struct Ran {
     pub(crate) logs: Vec<Vec<Told>>,
+    pub(crate) taken: u64,
     pub(crate) remains: Remains,
+}
+
+/// The fewest entries of others that one of these callers applied by their write sets: 0 where one is in a call, or stopped.
+pub(crate) fn fewest_taken(callers: &[Handed]) -> u64 {
+    let mut fewest = u64::MAX;
+    for handed in callers {
+        let taken = match handed {
+            Handed::Idle(caller) => caller.taken(),
+            Handed::Linked(_) | Handed::Stopped(_) => 0,
+        };
+        fewest = fewest.min(taken);
+    }
+    fewest
 }
 
 /// All the callers of a service ask for operations on threads of their own, and what each was told is put at the end of a list.
@@ -137,8 +152,13 @@ pub(crate) fn run_on_threads<O: Object + Send + Sync, R: Threads + Sync>(
     };
     let mut logs = Vec::new(alloc);
     let handed = all_worked(rt, alloc, &service, seats, work, &mut logs)?;
+    let taken = fewest_taken(&handed);
     match service.close(alloc, handed) {
-        Ok(remains) => Ok(Ran { logs, remains }),
+        Ok(remains) => Ok(Ran {
+            logs,
+            taken,
+            remains,
+        }),
         Err(_) => Err(AllocError),
     }
 }
@@ -240,6 +260,9 @@ fn callers_on_threads(rt: HostRuntime) -> Result<(), Fail> {
 #[test]
 fn a_long_run_on_threads(rt: HostRuntime) -> Result<(), Fail> {
     let row = (4, Work::Long, 80_000, 1_600);
-    holds(&rt, is_right(&rt, rt.alloc(), &row)?);
+    let object = DocStore::of(256);
+    let ran = run_on_threads(&rt, rt.alloc(), DocStore::of(256), 4, Work::Long)?;
+    holds(&rt, is_as_alone(rt.alloc(), &ran, &object, &row)?);
+    holds(&rt, ran.taken > 0);
     Ok(())
 }
