@@ -276,6 +276,12 @@ module _ {O : Type 0} (r : Running O) (j : ℕ) (op : List ℕ) (s t : Seated) (
     front = at.front;
   }
 
+  -- whatever they came to, no write sets were read
+  pub no_sets_read : (callers tries : ℕ) (v : Seated) (tried : LinkTried) → Tried callers j tries t v tried → v.known.sets ≡ s.known.sets
+  no_sets_read callers tries v (LinkedAt ticket) links = ap (λ (x : Seated). x.known.sets) links.same ∙ ap (λ (x : Seated). x.known.sets) rest
+  no_sets_read callers tries v Again links = ap (λ (x : Seated). x.known.sets) links.none.same ∙ ap (λ (x : Seated). x.known.sets) rest
+  no_sets_read callers tries v Worn links = ap (λ (x : Seated). x.known.sets) links.none.same ∙ ap (λ (x : Seated). x.known.sets) rest
+
   -- what tries to link it come to
   pub entered : (tries most : ℕ) (v : Seated) (tried : LinkTried) → Tried r.callers j tries t v tried → ¬ IsAtLimit s.known.local → v.known.local.steps ≤ s.known.local.steps + most →
       min (s.known.local.steps + writes s.known.local j (next_number r.base s.known.local ∷ op)) max_word ≤ t.known.local.steps → EntersIn 0 most r op tries s v tried

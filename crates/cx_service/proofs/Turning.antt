@@ -1,5 +1,6 @@
 -- What turns for an entry, and for a read, leave of their caller, and what turns come to one after another.
-use Rattle.std.proofs.Common.{◌≡◌, ◌+◌, ◌<◌, ◌≤◌, ◌⊎◌, inl, inr, ℕ, List, [], length, refl, ap, sym, subst, ◌∙◌, arith, Some, None, length-append}
+use Rattle.std.proofs.Common.{◌≡◌, ◌+◌, ◌<◌, ◌≤◌, ◌⊎◌, inl, inr, ℕ, List, length, map, refl, ap, sym, subst, ◌∙◌, arith, Some, None, length-append}
+use Rattle.std.proofs.Math.ListN.{get_or-map}
 use Rattle.std.proofs.lemmas.Bool.{cases_lt}
 use Rattle.std.proofs.lemmas.Option.{slice_get_past}
 use Rattle.std.specs.List.{slice_get}
@@ -16,10 +17,11 @@ use Rattle.cx_rule.specs.Seats.{IsAtLimit, Seated, unanswered_ticket}
 use Rattle.cx_service.specs.Callers.{IsBetweenCalls, IsCallerOf, IsLinkedOf, StoppedSeat}
 use Rattle.cx_service.specs.Drives.{DriveDone, DriveHalted, DriveKeeps, DriveDue, DrivePending, MeetsAtMost, MeetsFewer, MeetsMore}
 use Rattle.cx_service.specs.Lookups.{ReadAnswered, ReadDue, ReadHalted, ReadKeeps, ReadPending}
-use Rattle.cx_service.proofs.Cells.{own_kept}
+use Rattle.cx_service.proofs.Cells.{default, own_kept}
 use Rattle.cx_turns.specs.Answering.{AnswersEntry, AnswersRead, HaltsFor, HaltsLookup, beside_lookup, beside_update, with_answer, with_read}
 use Rattle.cx_turns.specs.declared.lookup.Seen.{Seen}
 use Rattle.cx_turns.specs.Turns.{IsAtRest, StepsAtMost, TurnRefused}
+use Rattle.replica_sets.specs.Own.{but_set}
 
 -- a refusal more, and refusals in turn after turn
 pub meets_one : (s v : Seated) → v.known.local.met ≡ one_more s.known.local.met → MeetsMore 1 s v
@@ -40,15 +42,22 @@ meets_then n m s u v a (inr b) = inr b
 most_one : (s v : Seated) → v.known.local.met ≡ one_more s.known.local.met → MeetsAtMost 1 s v
 most_one s v is = omega (arith, is)
 
--- a caller of which turns left the entries and the cells as they were, and of whose answers there are so many
-between_after : {O : Type 0} (r : Running O) (n m : ℕ) (s v : Seated) → IsBetweenCalls n r s → v.known.local.own ≡ s.known.local.own → v.known.local.cells ≡ s.known.local.cells →
+-- cells that differ in their sets and offers alone have the same tickets
+same_tickets : (xs ys : List Cell) → map but_set xs ≡ map but_set ys → (j : ℕ) → (slice_index_or xs j default).ticket ≡ (slice_index_or ys j default).ticket
+same_tickets xs ys same j =
+    ap (λ (c : Cell). c.ticket) (sym (get_or-map but_set xs j default))
+    ∙ ap (λ (cs : List Cell). (slice_index_or cs j default).ticket) same
+    ∙ ap (λ (c : Cell). c.ticket) (get_or-map but_set ys j default)
+
+-- a caller of which turns left the entries as they were, and the cells but for their sets and offers, and of whose answers there are so many
+between_after : {O : Type 0} (r : Running O) (n m : ℕ) (s v : Seated) → IsBetweenCalls n r s → v.known.local.own ≡ s.known.local.own → map but_set v.known.local.cells ≡ map but_set s.known.local.cells →
     s.known.local.front ≤ v.known.local.front → IsSeatOf r v → IsAtRest v.known.local → length v.known.local.answered + m ≡ length s.known.local.answered + n → IsBetweenCalls m r v
 between_after r n m s v was own cells front of rest answered = record {
   of = of;
   rest = rest;
   count = (let long = ap (λ (xs : List Linked). length xs) own in omega (arith, long, answered, was.count));
   front = omega (arith, was.front, front);
-  cells = own_kept s.known.local v.known.local was.cells own front (λ j t at. ap (λ (xs : List Cell). (slice_index_or xs j (record { words = []; ticket = None; set = []; offer = 0 })).ticket) (sym cells) ∙ at);
+  cells = own_kept s.known.local v.known.local was.cells own front (λ j t at. sym (same_tickets v.known.local.cells s.known.local.cells cells j) ∙ at);
 }
 
 module _ {O : Type 0} (r : Running O) (s v : Seated) (linked : IsLinkedOf r s) (rest : beside_update v ≡ beside_update s) (front : s.known.local.front ≤ v.known.local.front) (of : IsSeatOf r v) where
@@ -225,7 +234,7 @@ module _ {O : Type 0} (r : Running O) (op : List ℕ) (s v : Seated) (caller : I
 
   still : IsAtRest v.known.local → IsCallerOf r v
   still at =
-      between_after r 0 0 s v caller (ap (λ (x : Seated). x.known.local.own) rest) (ap (λ (x : Seated). x.known.local.cells) rest) front of at
+      between_after r 0 0 s v caller (ap (λ (x : Seated). x.known.local.own) rest) (ap (λ (x : Seated). map but_set x.known.local.cells) rest) front of at
       (ap (λ (x : Seated). length x.known.local.answered + 0) rest)
 
   pub read_done : (seen : Seen) → ¬ IsAtLimit s.known.local → AnswersRead op seen.place seen.reply s v → ReadAnswered r op s v seen

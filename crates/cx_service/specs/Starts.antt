@@ -1,5 +1,5 @@
 -- What starting a service comes to.
-use Rattle.std.specs.Prelude.{◌≡◌, ◌≤◌, ℕ, List, All, map}
+use Rattle.std.specs.Prelude.{◌≡◌, ◌≤◌, ℕ, List, [], All, map}
 use Rattle.std.specs.List.{range_with_len}
 use Rattle.cx_core.specs.declared.entry.Base.{Base}
 use Rattle.cx_rule.specs.Running.{Running}
@@ -22,6 +22,10 @@ abbrev pub IsStartFault : ℕ → ℕ → StartFault → Type 0
 IsStartFault callers lines (Callers found) = (found ≡ callers) × (¬ AreFewCallers callers)
 IsStartFault callers lines (Lines found) = (found ≡ lines) × AreFewCallers callers × (¬ AreFewLines lines)
 IsStartFault callers lines Memory = AreFewCallers callers × AreFewLines lines
+
+-- the seat of a caller that read no write sets
+abbrev pub HasNoSets : Seated → Type 0
+HasNoSets seat = seat.known.sets ≡ []
 
 -- The service of so many callers of this object, which opens from this base, and its callers, of caller 0 first. None has made a
 -- step. The limit of caller c is item c of the limits.

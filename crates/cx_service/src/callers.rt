@@ -1,16 +1,26 @@
-//! The callers of a service. Contracts see of each its seat: what it knows, linked and was answered. A seat lies in memory of its
-//! own, so that callers are handed on by a word.
+//! The callers of a service. Contracts see of each its seat: what it knows, linked and was answered. A seat and the room that its turns
+//! work in lie in memory of their own, so that callers are handed on by a word.
 
-ghost use Rattle.std.specs.Prelude.{◌≡◌, ◌+◌, ◌^◌, ◌≤◌, Some, length};
+ghost use Rattle.std.specs.Prelude.{◌≡◌, ◌+◌, ◌^◌, ◌≤◌, Some, length, min};
+ghost use Rattle.cx_core.specs.Layout.{max_word};
 ghost use Rattle.cx_rule.specs.Seats.{unanswered_ticket};
+ghost use Rattle.redo_set.specs.Taking.{sets_read};
 
 use cx_table::CallerSeat;
+use cx_turns::Scratch;
 use std::marker::Model;
+
+/// A caller's seat, and the room that its turns work in.
+#[derive(Drop)]
+pub(crate) struct Desk {
+    pub(crate) seat: CallerSeat,
+    pub(crate) scratch: Scratch,
+}
 
 /// A caller with no call under way.
 #[derive(Drop)]
 pub struct Caller {
-    pub(crate) seat: Box<CallerSeat>,
+    pub(crate) desk: Box<Desk>,
 }
 
 impl Model for Caller {
@@ -18,13 +28,17 @@ impl Model for Caller {
 
     ghost Value = { Seated };
 
-    ghost view = { λ c. c.seat.value };
+    ghost use Rattle.cx_turns.specs.Turns.{IsCounted};
+
+    ghost view = { λ c. c.desk.value.seat };
+
+    ghost invariant = { λ c. IsCounted c.desk.value.scratch.taken c.desk.value.seat };
 }
 
 /// A caller whose entry is linked and not answered.
 #[derive(Drop)]
 pub struct Linked {
-    pub(crate) seat: Box<CallerSeat>,
+    pub(crate) desk: Box<Desk>,
 }
 
 impl Model for Linked {
@@ -33,17 +47,18 @@ impl Model for Linked {
     ghost Value = { Seated };
 
     ghost use Rattle.std.specs.Prelude.{◌≡◌, ◌+◌, length};
+    ghost use Rattle.cx_turns.specs.Turns.{IsCounted};
 
-    ghost view = { λ c. c.seat.value };
+    ghost view = { λ c. c.desk.value.seat };
 
-    ghost invariant = { λ c. length c.seat.value.known.local.own ≡ length c.seat.value.known.local.answered + 1 };
+    ghost invariant = { λ c. (length c.desk.value.seat.known.local.own ≡ length c.desk.value.seat.known.local.answered + 1) × IsCounted c.desk.value.scratch.taken c.desk.value.seat };
 }
 
 /// A caller whose step limit was reached. It makes no further step. Contracts see of it its seat, and the ticket of its linked entry
 /// that no call has answered.
 #[derive(Drop)]
 pub struct Stopped {
-    pub(crate) seat: Box<CallerSeat>,
+    pub(crate) desk: Box<Desk>,
     pub(crate) linked: Option<u64>,
 }
 
@@ -53,9 +68,9 @@ impl Model for Stopped {
 
     ghost Value = { StoppedSeat };
 
-    ghost view = { λ c. record { seat = c.seat.value; linked = c.linked } };
+    ghost view = { λ c. record { seat = c.desk.value.seat; linked = c.linked } };
 
-    ghost invariant = { λ c. IsAtLimit c.seat.value.known.local };
+    ghost invariant = { λ c. IsAtLimit c.desk.value.seat.known.local };
 }
 
 impl Caller {
@@ -63,14 +78,14 @@ impl Caller {
     pub fn number(&self) -> u32
         ensures { result ≡ self.now.known.local.number }
     {
-        self.seat.number()
+        self.desk.seat.number()
     }
 
     /// The steps made. This stays at 2^64 - 1 once there.
     pub fn steps(&self) -> u64
         ensures { result ≡ self.now.known.local.steps }
     {
-        self.seat.steps()
+        self.desk.seat.steps()
     }
 
     /// Every ticket from the base's place to below it is linked.
@@ -78,14 +93,21 @@ impl Caller {
         ensures value { result ≡ self.now.known.local.front }
         ensures small { result ≤ 2 ^ 40 }
     {
-        self.seat.front()
+        self.desk.seat.front()
     }
 
     /// The refusals met. This stays at 2^64 - 1 once there.
     pub fn met(&self) -> u64
         ensures { result ≡ self.now.known.local.met }
     {
-        self.seat.met()
+        self.desk.seat.met()
+    }
+
+    /// How often this caller applied another's entry by its write set in this service, on whichever replica. This stays at 2^64 - 1 once there.
+    pub fn taken(&self) -> u64
+        ensures { result ≡ min (sets_read self.now.known.sets) max_word }
+    {
+        self.desk.scratch.taken
     }
 }
 
@@ -94,14 +116,14 @@ impl Linked {
     pub fn number(&self) -> u32
         ensures { result ≡ self.now.known.local.number }
     {
-        self.seat.number()
+        self.desk.seat.number()
     }
 
     /// The steps made. This stays at 2^64 - 1 once there.
     pub fn steps(&self) -> u64
         ensures { result ≡ self.now.known.local.steps }
     {
-        self.seat.steps()
+        self.desk.seat.steps()
     }
 
     /// Every ticket from the base's place to below it is linked.
@@ -109,21 +131,21 @@ impl Linked {
         ensures value { result ≡ self.now.known.local.front }
         ensures small { result ≤ 2 ^ 40 }
     {
-        self.seat.front()
+        self.desk.seat.front()
     }
 
     /// The refusals met. This stays at 2^64 - 1 once there.
     pub fn met(&self) -> u64
         ensures { result ≡ self.now.known.local.met }
     {
-        self.seat.met()
+        self.desk.seat.met()
     }
 
     /// The ticket of the entry that is linked and not answered.
     pub fn ticket(&self) -> u64
         ensures { unanswered_ticket self.now.known.local ≡ Some result }
     {
-        self.seat.unanswered().unwrap()
+        self.desk.seat.unanswered().unwrap()
     }
 }
 
@@ -132,7 +154,7 @@ impl Stopped {
     pub fn number(&self) -> u32
         ensures { result ≡ self.now.seat.known.local.number }
     {
-        self.seat.number()
+        self.desk.seat.number()
     }
 
     /// The steps made, which are as many as its limit.
@@ -140,7 +162,7 @@ impl Stopped {
         ensures value { result ≡ self.now.seat.known.local.steps }
         ensures limit { result ≡ self.now.seat.known.local.limit }
     {
-        self.seat.steps()
+        self.desk.seat.steps()
     }
 
     /// Every ticket from the base's place to below it is linked.
@@ -148,14 +170,14 @@ impl Stopped {
         ensures value { result ≡ self.now.seat.known.local.front }
         ensures small { result ≤ 2 ^ 40 }
     {
-        self.seat.front()
+        self.desk.seat.front()
     }
 
     /// The refusals met. This stays at 2^64 - 1 once there.
     pub fn met(&self) -> u64
         ensures { result ≡ self.now.seat.known.local.met }
     {
-        self.seat.met()
+        self.desk.seat.met()
     }
 
     /// The ticket of its linked entry that no call has answered, also where the durable root was raised above it before the limit was

@@ -5,7 +5,7 @@ ghost use Rattle.cx_rule.specs.Running.{instance_at};
 ghost use Rattle.cx_table.specs.Remains.{AreSeats, Leaves};
 ghost use Rattle.cx_service.specs.Closes.{seat_of, seats_of};
 
-use crate::callers::{Caller, Linked, Stopped};
+use crate::callers::{Caller, Desk, Linked, Stopped};
 use crate::service::Service;
 use cx_base::Object;
 use cx_table::{CallerSeat, Remains};
@@ -67,9 +67,11 @@ fn as_seats(callers: Vec<Handed>, mut seats: Vec<CallerSeat>) -> Vec<CallerSeat>
 fn as_seat(handed: Handed) -> CallerSeat
     ensures { result ≡ seat_of handed }
 {
-    match handed {
-        Handed::Idle(Caller { seat }) => Box::into_inner(seat),
-        Handed::Linked(Linked { seat }) => Box::into_inner(seat),
-        Handed::Stopped(Stopped { seat, .. }) => Box::into_inner(seat),
-    }
+    let desk = match handed {
+        Handed::Idle(Caller { desk }) => desk,
+        Handed::Linked(Linked { desk }) => desk,
+        Handed::Stopped(Stopped { desk, .. }) => desk,
+    };
+    let Desk { seat, .. } = Box::into_inner(desk);
+    seat
 }

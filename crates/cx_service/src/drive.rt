@@ -4,7 +4,7 @@ ghost use Rattle.std.specs.Prelude.{◌≤◌};
 ghost use Rattle.cx_service.specs.Callers.{IsLinkedOf};
 ghost use Rattle.cx_service.specs.Drives.{Drives};
 
-use crate::callers::{Caller, Linked, Stopped};
+use crate::callers::{Caller, Desk, Linked, Stopped};
 use crate::service::Service;
 use cx_base::{Halt, Object};
 use cx_core::Answer;
@@ -48,15 +48,15 @@ impl<O: Object> Service<O> {
         ensures { Drives self.now 1 linked result }
     {
         let ticket = linked.ticket();
-        let Linked { mut seat } = linked;
-        let at = &mut *seat;
+        let Linked { mut desk } = linked;
+        let Desk { seat, scratch } = &mut *desk;
         // refusals are counted in a word
-        let _met = at.met();
-        match update_turn(&self.shared, at, ticket) {
-            Ok(Some(reply)) => Driven::Done(Caller { seat }, Answer { ticket, reply }),
-            Ok(None) => Driven::Pending(Linked { seat }),
+        let _met = seat.met();
+        match update_turn(&self.shared, seat, ticket, scratch) {
+            Ok(Some(reply)) => Driven::Done(Caller { desk }, Answer { ticket, reply }),
+            Ok(None) => Driven::Pending(Linked { desk }),
             Err(Halt) => Driven::Halted(Stopped {
-                seat,
+                desk,
                 linked: Some(ticket),
             }),
         }

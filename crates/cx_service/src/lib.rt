@@ -1,5 +1,8 @@
 //! The service: callers submit operations to an object that they share, and close it in the end. Its
 //! calls wait for nobody, but for `update` and `read`, which try again.
+//!
+//! A caller that drives its entry brings a replica up to it. Another's entry it applies by its write set, where its caller offered that,
+//! and else by its step: `Caller::taken` counts the sets that it took.
 #![tactic(auto)]
 
 mod callers;

@@ -60,14 +60,14 @@ impl<O: Object> Service<O> {
         requires reads { IsTrue (O.only_reads self.now.object op.now) }
         ensures { LooksOnce self.now op.now reply.new caller result }
     {
-        let Caller { mut seat } = caller;
-        let at = &mut *seat;
+        let Caller { mut desk } = caller;
+        let seat = &mut desk.seat;
         // refusals are counted in a word
-        let _met = at.met();
-        match read_turn(&self.shared, at, op, reply) {
-            Ok(Some(place)) => Looked::Found(Caller { seat }, place),
-            Ok(None) => Looked::Refused(Caller { seat }),
-            Err(Halt) => Looked::Ended(Stopped { seat, linked: None }),
+        let _met = seat.met();
+        match read_turn(&self.shared, seat, op, reply) {
+            Ok(Some(place)) => Looked::Found(Caller { desk }, place),
+            Ok(None) => Looked::Refused(Caller { desk }),
+            Err(Halt) => Looked::Ended(Stopped { desk, linked: None }),
         }
     }
 }

@@ -1,14 +1,15 @@
 //! Starting a service.
 
-ghost use Rattle.std.specs.Prelude.{◌≡◌, ◌≤◌, [], IfOk, MatchResult, length, vec_capacity, vec_len};
+ghost use Rattle.std.specs.Prelude.{◌≡◌, ◌≤◌, [], All, IfOk, MatchResult, length, vec_capacity, vec_len};
 ghost use Rattle.cx_core.specs.Base.{LawfulBase};
-ghost use Rattle.cx_service.specs.Starts.{AreFewCallers, AreFewLines, IsStartFault, Starts};
+ghost use Rattle.cx_service.specs.Starts.{AreFewCallers, AreFewLines, HasNoSets, IsStartFault, Starts};
 
-use crate::callers::Caller;
+use crate::callers::{Caller, Desk};
 use crate::service::Service;
 use cx_base::Object;
 use cx_core::Base;
 use cx_table::{CallerSeat, Shared};
+use cx_turns::Scratch;
 use std::alloc::{AllocError, Global};
 
 /// Why a service was not started.
@@ -63,19 +64,29 @@ impl<O: Object> Service<O> {
     }
 }
 
-/// The callers of seats, each of which gets memory of its own.
+/// The callers of seats that read no write sets.
 fn as_callers(
     alloc: Global,
     seats: Vec<CallerSeat>,
     mut callers: Vec<Caller>,
 ) -> Result<Vec<Caller>, AllocError>
+    requires fresh { All HasNoSets seats.items }
     requires none { callers.items ≡ [] }
     requires room { vec_len seats ≤ vec_capacity callers }
     ensures { IfOk result (λ made. made.items ≡ seats.items) }
 {
     for seat in seats {
-        let seat = Box::new(alloc, seat)?;
-        callers.push_reserved(Caller { seat });
+        callers.push_reserved(as_caller(alloc, seat)?);
     }
     Ok(callers)
+}
+
+/// The caller of a seat that read no write sets, which gets memory of its own.
+fn as_caller(alloc: Global, seat: CallerSeat) -> Result<Caller, AllocError>
+    requires fresh { HasNoSets seat }
+    ensures { IfOk result (λ made. made ≡ seat) }
+{
+    let scratch = Scratch::new(alloc)?;
+    let desk = Box::new(alloc, Desk { seat, scratch })?;
+    Ok(Caller { desk })
 }

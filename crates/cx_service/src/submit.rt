@@ -41,28 +41,27 @@ impl<O: Object> Service<O> {
         requires tries { 1 ≤ tries }
         ensures { Submits self.now op.now tries caller result }
     {
-        let Caller { mut seat } = caller;
-        let at = &mut *seat;
-        match find_cell(&self.shared, at) {
-            Ok(Ok(cell)) => self.enter(seat, cell, op, tries),
-            Ok(Err(note)) => Submitted::Full(Caller { seat }, note),
-            Err(Halt) => Submitted::Halted(Stopped { seat, linked: None }),
+        let Caller { mut desk } = caller;
+        match find_cell(&self.shared, &mut desk.seat) {
+            Ok(Ok(cell)) => self.enter(Caller { desk }, cell, op, tries),
+            Ok(Err(note)) => Submitted::Full(Caller { desk }, note),
+            Err(Halt) => Submitted::Halted(Stopped { desk, linked: None }),
         }
     }
 
     /// Enters an operation in an idle cell of the caller.
-    fn enter(&self, mut seat: Box<CallerSeat>, cell: u32, op: &[u64; 144], tries: u64) -> Submitted
-        requires caller { IsCallerOf self.now seat.value }
-        requires cell { (cell < 16) × IsIdle seat.value.known.local cell }
+    fn enter(&self, caller: Caller, cell: u32, op: &[u64; 144], tries: u64) -> Submitted
+        requires caller { IsCallerOf self.now caller }
+        requires cell { (cell < 16) × IsIdle caller.known.local cell }
         requires tries { 1 ≤ tries }
-        ensures { Enters (146 + 2 * tries) self.now op.now tries seat.value result }
+        ensures { Enters (146 + 2 * tries) self.now op.now tries caller result }
     {
-        let at = &mut *seat;
-        match announce_and_link(&self.shared, at, cell, op, tries) {
-            Ok(LinkTried::Linked { ticket: _ }) => Submitted::Linked(Linked { seat }),
-            Ok(LinkTried::Again) => Submitted::Again(Caller { seat }),
-            Ok(LinkTried::Worn) => Submitted::Worn(Caller { seat }),
-            Err(Halt) => Submitted::Halted(Stopped { seat, linked: None }),
+        let Caller { mut desk } = caller;
+        match announce_and_link(&self.shared, &mut desk.seat, cell, op, tries) {
+            Ok(LinkTried::Linked { ticket: _ }) => Submitted::Linked(Linked { desk }),
+            Ok(LinkTried::Again) => Submitted::Again(Caller { desk }),
+            Ok(LinkTried::Worn) => Submitted::Worn(Caller { desk }),
+            Err(Halt) => Submitted::Halted(Stopped { desk, linked: None }),
         }
     }
 }
@@ -81,6 +80,7 @@ fn announce_and_link<O: Object>(
     requires tries { 1 ≤ tries }
     ensures entered { IfOk result (EntersIn 1 (146 + 2 * tries) shared.now op.now tries seat.old seat.new) }
     ensures halted { OnErr result (HaltsInCell shared.now op.now tries (146 + 2 * tries) seat.old (unlinked seat.new)) }
+    ensures sets { IfOk result (λ _. seat.new.known.sets ≡ seat.old.known.sets) }
 {
     let _cur = shared.load_cur(seat)?;
     announce(shared, seat, cell, op)?;

@@ -1,4 +1,4 @@
-use Rattle.std.proofs.Common.{◌+◌, ◌*◌, ap, inl, inr, sym, subst, arith}
+use Rattle.std.proofs.Common.{◌≡◌, ◌+◌, ◌*◌, ap, inl, inr, sym, subst, arith, ◌∙◌}
 use Rattle.std.proofs.lemmas.Result.{IfOk-weaker, on_err_weaker}
 use Rattle.cx_core.specs.QueueEvents.{IsIdle, cell_of}
 use Rattle.cx_rule.specs.Running.{instance_at}
@@ -7,7 +7,7 @@ use Rattle.mutation_queue.specs.Links.{EndsBy, HaltsTry, Tried}
 use Rattle.cx_service.specs.Callers.{unlinked}
 use Rattle.cx_service.specs.Submits.{EntersIn}
 use Rattle.cx_service.proofs.Announced.{halted_in, if_any_err}
-use Rattle.cx_service.proofs.Entering.{answered_still, beside_submit, entered, halts, halts_linking, stale, tries_of}
+use Rattle.cx_service.proofs.Entering.{answered_still, beside_submit, entered, halts, halts_linking, no_sets_read, stale, tries_of}
 use Rattle.cx_service.proofs.Looking.{cur_caller, cur_loaded, enters_then, halted_then, tries_then, writing_then}
 use Rattle.cx_service.proofs.submit.announce_and_link.Goals as goal
 
@@ -100,3 +100,18 @@ returns-clause-halted g c =
           (tries_of r c.args.cell op (stale at) t caller c.requires.cell.0 c.told-op done.cell done.others done.rest (EndsBy r.callers tries (HaltsTry r.callers)) v (let count = done.count in omega (arith, count)) halted.2)),
     ))
     c.link.ensures.halted
+
+pub returns-clause-sets : goal.returns-clause-sets
+returns-clause-sets g c =
+    let r = c.args.shared.now in
+    let s = c.args.seat.now in
+    let at = c.load_cur.new.seat in
+    let t = c.announce.new.seat in
+    let v = c.link.new.seat in
+    let tries = c.args.tries in
+    let made = c.in_ok-_cur.ensures.made in
+    let caller = cur_caller r (instance_at r g.O.Object.step g.O.Object.only_reads) s at c.in_ok-_cur._cur made.made made.allowed c.requires.caller in
+    let done = c.in_ok-announce.ensures.announced in
+    IfOk-weaker c.link.result (Tried r.callers c.args.cell tries t v) (λ _. v.known.sets ≡ s.known.sets)
+    (λ tried links. no_sets_read r c.args.cell c.args.op.now (stale at) t caller c.requires.cell.0 c.told-op done.cell done.others done.rest r.callers tries v tried links ∙ ap (λ (x : Seated). x.known.sets) made.made)
+    c.link.ensures.tried

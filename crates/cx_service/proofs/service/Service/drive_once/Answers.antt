@@ -1,17 +1,18 @@
-use Rattle.std.proofs.Common.{◌≡◌, arith, subst, sym, Some, ◌∙◌}
+use Rattle.std.proofs.Common.{◌≡◌, arith, subst, sym, Some, ◌∙◌, ap}
 use Rattle.cx_core.specs.declared.local.Answer.{Answer}
 use Rattle.cx_rule.specs.Running.{IsSeatOf, Running}
 use Rattle.cx_rule.specs.Seats.{Seated, unanswered_ticket}
 use Rattle.cx_service.specs.Callers.{IsLinkedOf, StoppedSeat}
 use Rattle.cx_service.specs.Drives.{DriveDone, DriveDue, DriveHalted, DrivePending, MeetsAtMost}
+use Rattle.cx_service.specs.declared.callers.Desk.{Desk}
 use Rattle.cx_service.proofs.Turning.{turn_done, turn_halted, turn_refused}
 use Rattle.cx_turns.specs.Answering.{HaltsFor, TurnsFor}
 use Rattle.cx_service.proofs.service.Service.drive_once.Goals as goal
 
 pub returns-in-Ok-Some : goal.returns-in-Ok-Some
 returns-in-Ok-Some g c =
-    let s = c.deref_mut-at.result.now in
-    let is = c.deref_mut-at.ensures.value ∙ c.linked.view_is in
+    let s = c.deref_mut.result.now.seat in
+    let is = ap (λ (d : Desk). d.seat) c.deref_mut.ensures.value ∙ c.linked.view_is in
     let v = c.update_turn.new.seat in
     let ticket = c.ticket-ticket.result in
     let answer : Answer = record { ticket = ticket; reply = c.in-Ok-Some.reply } in
@@ -25,8 +26,8 @@ returns-in-Ok-Some g c =
 
 pub returns-in-Ok-None : goal.returns-in-Ok-None
 returns-in-Ok-None g c =
-    let s = c.deref_mut-at.result.now in
-    let is = c.deref_mut-at.ensures.value ∙ c.linked.view_is in
+    let s = c.deref_mut.result.now.seat in
+    let is = ap (λ (d : Desk). d.seat) c.deref_mut.ensures.value ∙ c.linked.view_is in
     let v = c.update_turn.new.seat in
     subst (λ (x : Seated). DrivePending c.args.self.now 1 x v) is
     (turn_refused c.args.self.now s v (subst (IsLinkedOf c.args.self.now) (sym is) c.requires) c.update_turn.ensures.turns.rest c.update_turn.ensures.turns.front (subst (λ (t : Running _). IsSeatOf t v) c.self.view_is c.update_turn.ensures.turns.seat)
@@ -34,8 +35,8 @@ returns-in-Ok-None g c =
 
 pub returns-in-Err : goal.returns-in-Err
 returns-in-Err g c =
-    let s = c.deref_mut-at.result.now in
-    let is = c.deref_mut-at.ensures.value ∙ c.linked.view_is in
+    let s = c.deref_mut.result.now.seat in
+    let is = ap (λ (d : Desk). d.seat) c.deref_mut.ensures.value ∙ c.linked.view_is in
     let v = c.update_turn.new.seat in
     let ticket = c.ticket-ticket.result in
     let h : StoppedSeat = record { seat = v; linked = Some ticket } in

@@ -1,9 +1,10 @@
-use Rattle.std.proofs.Common.{arith, subst, sym, ◌∙◌, None}
+use Rattle.std.proofs.Common.{arith, subst, sym, ◌∙◌, None, ap}
 use Rattle.cx_rule.specs.Running.{IsSeatOf, Running}
 use Rattle.cx_rule.specs.Seats.{Seated}
 use Rattle.cx_service.specs.Callers.{IsCallerOf}
 use Rattle.cx_service.specs.Drives.{MeetsFewer}
 use Rattle.cx_service.specs.Lookups.{ReadAnswered, ReadDue, ReadHalted, ReadPending}
+use Rattle.cx_service.specs.declared.callers.Desk.{Desk}
 use Rattle.cx_service.proofs.Turning.{all_answered, read_done, read_ended, read_refused}
 use Rattle.cx_turns.specs.declared.lookup.Seen.{Seen}
 use Rattle.cx_turns.specs.Answering.{LooksUp, seen_at}
@@ -11,8 +12,8 @@ use Rattle.cx_service.proofs.service.Service.read_once.Goals as goal
 
 pub returns-in-Ok-Some : goal.returns-in-Ok-Some
 returns-in-Ok-Some g c =
-    let s = c.deref_mut-at.result.now in
-    let is = c.deref_mut-at.ensures.value ∙ c.caller.view_is in
+    let s = c.deref_mut.result.now.seat in
+    let is = ap (λ (d : Desk). d.seat) c.deref_mut.ensures.value ∙ c.caller.view_is in
     let v = c.read_turn.new.seat in
     let reply = c.read_turn.new.reply in
     let seen : Seen = record { place = c.in-Ok-Some.place; reply = reply } in
@@ -25,8 +26,8 @@ returns-in-Ok-Some g c =
 
 pub returns-in-Ok-None : goal.returns-in-Ok-None
 returns-in-Ok-None g c =
-    let s = c.deref_mut-at.result.now in
-    let is = c.deref_mut-at.ensures.value ∙ c.caller.view_is in
+    let s = c.deref_mut.result.now.seat in
+    let is = ap (λ (d : Desk). d.seat) c.deref_mut.ensures.value ∙ c.caller.view_is in
     let v = c.read_turn.new.seat in
     subst (λ (x : Seated). ReadPending c.args.self.now 1 x v) is
     (read_refused c.args.self.now c.args.op.now s v (subst (IsCallerOf c.args.self.now) (sym is) c.requires.caller) c.read_turn.ensures.turns.rest c.read_turn.ensures.turns.front (subst (λ (t : Running _). IsSeatOf t v) c.self.view_is c.read_turn.ensures.turns.seat)
@@ -34,14 +35,14 @@ returns-in-Ok-None g c =
 
 pub returns-in-Err : goal.returns-in-Err
 returns-in-Err g c =
-    let s = c.deref_mut-at.result.now in
-    let is = c.deref_mut-at.ensures.value ∙ c.caller.view_is in
+    let s = c.deref_mut.result.now.seat in
+    let is = ap (λ (d : Desk). d.seat) c.deref_mut.ensures.value ∙ c.caller.view_is in
     let v = c.read_turn.new.seat in
     subst (λ (x : Seated). ReadHalted c.args.self.now c.args.op.now x (record { seat = v; linked = None }) × ReadDue 1 x v) is
     (read_ended c.args.self.now c.args.op.now s v (subst (IsCallerOf c.args.self.now) (sym is) c.requires.caller) c.read_turn.ensures.turns.rest c.read_turn.ensures.turns.front (subst (λ (t : Running _). IsSeatOf t v) c.self.view_is c.read_turn.ensures.turns.seat) c.in-Err.ensures.halted)
 
 pub read_turn-requires-clause-ready : goal.read_turn-requires-clause-ready
 read_turn-requires-clause-ready g c =
-    let is = c.deref_mut-at.ensures.value ∙ c.caller.view_is in
+    let is = ap (λ (d : Desk). d.seat) c.deref_mut.ensures.value ∙ c.caller.view_is in
     let caller = subst (IsCallerOf c.args.self.now) (sym is) c.requires.caller in
-    record { of = subst (λ (t : Running _). IsSeatOf t c.deref_mut-at.result.now) (sym c.self.view_is) caller.of; rest = caller.rest; answered = all_answered c.args.self.now c.deref_mut-at.result.now caller }
+    record { of = subst (λ (t : Running _). IsSeatOf t c.deref_mut.result.now.seat) (sym c.self.view_is) caller.of; rest = caller.rest; answered = all_answered c.args.self.now c.deref_mut.result.now.seat caller }

@@ -2,7 +2,7 @@ use Rattle.std.proofs.Common.{◌≡◌, length, map, ap, sym, subst, ◌∙◌,
 use Rattle.std.specs.List.{range_with_len}
 use Rattle.std.proofs.lemmas.List.FromFn.{length-map-range_with_len}
 use Rattle.cx_table.specs.Remains.{AreSeats, opening_seat}
-use Rattle.cx_service.proofs.Starting.{each_opened}
+use Rattle.cx_service.proofs.Starting.{all_fresh, each_opened}
 use Rattle.cx_service.proofs.service.Service.start.Goals as goal
 
 pub as_callers-requires-clause-room : goal.as_callers-requires-clause-room
@@ -10,6 +10,9 @@ as_callers-requires-clause-room g c =
     let f = opening_seat c.in-Ok-make.shared c.args.limits.now in
     let long = ap length c.in-Ok-make.ensures.seats in
     omega (arith, c.in-Ok-make.seats.ok.0, long, length-map-range_with_len f 0 c.args.callers, c.in-Ok.ensures.capacity)
+
+pub as_callers-requires-clause-fresh : goal.as_callers-requires-clause-fresh
+as_callers-requires-clause-fresh g c = all_fresh c.in-Ok-make.shared c.args.limits.now c.args.callers c.in-Ok-make.seats.items c.in-Ok-make.ensures.seats
 
 pub returns : goal.returns
 returns g c =
