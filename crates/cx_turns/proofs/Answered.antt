@@ -22,9 +22,9 @@ use Rattle.cx_rule.specs.Fitting.{has_of}
 use Rattle.cx_rule.proofs.Raising.{reply_still, tells_one}
 use Rattle.cx_table.specs.Right.{Right, WonRight}
 use Rattle.cx_table.specs.Tokens.{IsWonOf}
-use Rattle.cx_turns.specs.Answering.{AnswersBy, AnswersEntry, AnswersReadBy, HaltsFor, HaltsLookup, HaltsWon, IsPublishedFor, IsReadyFor, beside_hand_over, beside_settling, beside_update, with_answer, with_read}
+use Rattle.cx_turns.specs.Answering.{AnswersBy, AnswersEntry, AnswersReadBy, HaltsFor, HaltsLookup, HaltsWon, IsPublishedFor, IsReadyFor, beside_hand_over, beside_settling, with_answer, with_read}
 use Rattle.cx_turns.specs.Preparing.{Prepares}
-use Rattle.cx_turns.specs.Turns.{IsAtRest, TurnsIn, beside_prepare, but_sets, cur_rises}
+use Rattle.cx_turns.specs.Turns.{IsAtRest, TurnsIn, beside_prepare, cur_rises}
 use Rattle.mutation_queue.specs.Leaves.{Leaves}
 use Rattle.publish.proofs.Options.{none_of, some_of}
 use Rattle.publish.specs.Publishing.{LeavesRest, PassedBy, beside_publish, place_in}
@@ -101,11 +101,6 @@ prepared_ready o r ticket reply before after held same rest last p = record {
   tells = record { replayed = p.replayed; above = p.place; slot = p.reply };
   last = ap (λ (s : Seated). unanswered_ticket s.known.local) same ∙ last;
 }
-
--- what a turn leaves as it was, once a replica was prepared and handed over
-pub turned_rest : (before mid after : Seated) → beside_hand_over after ≡ beside_hand_over mid → beside_prepare mid ≡ beside_prepare before → beside_update after ≡ beside_update before
-turned_rest before mid after handed prepared =
-    ap but_sets handed ∙ ap (λ (s : Seated). (let b : Seated = record s { known = record s.known { local = record s.known.local { raised = 0; floor = 0; answered = [] } } } in b)) prepared
 
 -- what the turn comes to after it, by which no refusal was met
 module _ (ticket : ℕ) (before mid after : Seated) (same : beside_prepare mid ≡ beside_prepare before) (met : mid.known.local.met ≡ before.known.local.met) where

@@ -1,5 +1,6 @@
 -- What an entry that was read leaves of a replica held exclusively, and its words.
-use Rattle.std.proofs.Common.{All, inl, inr, ◌≡◌, ◌^◌, ◌<◌, ℕ, List, [], ◌∷◌, length, drop, slice_index, take, ap, sym, subst, ◌∙◌, arith}
+use Rattle.std.proofs.Common.{All, inl, inr, false, ◌≡◌, ◌+◌, ◌^◌, ◌<◌, ℕ, List, [], ◌∷◌, length, drop, slice_index, take, ap, sym, subst, ◌∙◌, arith}
+use Rattle.std.proofs.lemmas.Bool.{false≢true}
 use Rattle.std.proofs.lemmas.List.{take_all}
 use Rattle.cx_base.specs.declared.object.Object.{Ghosts}
 use Rattle.cx_core.specs.declared.entry.Entry.{Entry}
@@ -13,7 +14,7 @@ use Rattle.cx_rule.specs.Seats.{Seated}
 use Rattle.cx_rule.proofs.HasMore.{HasMore, noted_more}
 use Rattle.cx_table.specs.Right.{Right}
 use Rattle.cx_table.specs.Tokens.{IsExclusiveOf}
-use Rattle.cx_turns.specs.Replaying.{ReadsNext}
+use Rattle.cx_turns.specs.Replaying.{IsApplied, ReadsNext}
 use Rattle.mutation_queue.specs.Entries.{MayRead, ReadsEntry, notes_of, with_look, with_read}
 use Rattle.replica.specs.Held.{IsHeld}
 use Rattle.replica.specs.Replays.{ComesNext, IsReady, noted_place}
@@ -64,6 +65,10 @@ may_still r at before after of front protection may = record {
   linked = subst (λ n. at < n) (sym front) may.linked;
   protected = subst (Protects at) (sym protection) may.protected;
 }
+
+-- where its reply is not given, the replica alone is told
+pub applied_alone : {O : Type 0} (o : Ghosts O) (r : Running O) (held : Right) (at : ℕ) (reply : List ℕ) (seat : Seated) → IsReady o r held (at + 1) seat → IsApplied o r held at reply seat false
+applied_alone o r held at reply seat ready = record { ready = ready; replied = λ own. absurd (false≢true own) }
 
 -- words, the first of them and the 144 behind it
 pub first_and_rest : (ws op : List ℕ) → length ws ≡ 145 → op ≡ take 144 (drop 1 ws) → slice_index ws 0 ∷ op ≡ ws

@@ -11,7 +11,7 @@ use Rattle.cx_table.specs.Right.{Right}
 use Rattle.cx_turns.specs.Keeping.{Others, no_others, others}
 use Rattle.cx_turns.specs.Preparing.{Prepares}
 use Rattle.cx_turns.specs.Replaying.{IsBroughtUp, beside_bringing}
-use Rattle.cx_turns.specs.Turns.{beside_prepare, beside_turn, unguarded}
+use Rattle.cx_turns.specs.Turns.{unguarded}
 use Rattle.cx_turns.proofs.Working.{rights_kept}
 use Rattle.replica.specs.Replays.{ShowsReply, noted_place}
 use Rattle.strong_trylock.specs.Ends.{Downgrades}
@@ -53,11 +53,3 @@ finished o r ticket before mid after held token reply alone holds brought work d
       refused = ap (λ (s : Seated). s.known.local.refused) made ∙ ap (λ (s : Seated). s.known.local.refused) work ∙ ap (λ (o : Others). o.refused) alone;
       met = ap (λ (s : Seated). s.known.local.met) made ∙ ap (λ (s : Seated). s.known.local.met) work;
     }
-
--- what preparing leaves as it was, once a replica was brought up and the right downgraded, or the limit was come to before that
-module _ {O : Type 0} (o : Ghosts O) (r : Running O) (before mid after : Seated) (work : beside_bringing mid ≡ beside_bringing before) where
-  pub brought_rest : beside_prepare mid ≡ beside_prepare before
-  brought_rest = ap beside_turn work
-
-  pub finished_rest : (held token : Right) → Downgrades r o.step o.only_reads held.replica mid after token → beside_prepare after ≡ beside_prepare before
-  finished_rest held token d = ap beside_prepare d.made.made ∙ brought_rest

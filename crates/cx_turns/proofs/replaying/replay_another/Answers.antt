@@ -1,10 +1,9 @@
-use Rattle.std.proofs.Common.{◌+◌, ◌≡◌, ◌∙◌, ap, refl, subst, sym}
+use Rattle.std.proofs.Common.{◌∙◌, ap, refl, subst}
 use Rattle.cx_rule.specs.Seats.{Seated}
 use Rattle.redo_set.specs.Taking.{CountsTaken}
 use Rattle.replica_sets.specs.Offered.{ReplaysOffered}
 use Rattle.cx_turns.proofs.ReadEntries.{may_still}
 use Rattle.cx_turns.proofs.Working.{counted_more, counted_same, replay_offered}
-use Rattle.cx_turns.specs.Replaying.{beside_work}
 use Rattle.cx_turns.specs.Turns.{but_sets}
 use Rattle.cx_turns.proofs.replaying.replay_another.Goals as goal
 

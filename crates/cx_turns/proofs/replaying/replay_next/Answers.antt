@@ -1,8 +1,7 @@
-use Rattle.std.proofs.Common.{◌+◌, ◌∙◌, ap, refl, subst}
-use Rattle.std.proofs.lemmas.Bool.{false≢true}
+use Rattle.std.proofs.Common.{◌∙◌, ap, refl, subst}
 use Rattle.cx_rule.specs.Seats.{Seated}
 use Rattle.replica_sets.specs.Offered.{ReplaysOffered}
-use Rattle.cx_turns.proofs.ReadEntries.{may_still}
+use Rattle.cx_turns.proofs.ReadEntries.{applied_alone, may_still}
 use Rattle.cx_turns.proofs.Working.{counted_same, replay_held}
 use Rattle.cx_turns.proofs.replaying.replay_next.Goals as goal
 
@@ -16,7 +15,7 @@ returns-then-done g c =
     let mid = c.replay_own.new.seat in
     let e = c.replay_own.ensures.leaves in
     record {
-      applied = record { ready = subst (ReplaysOffered g.O.Object c.args.shared.now c.args.held.now c.args.at mid) c.if-done.true c.in_ok-done.ensures.replayed; replied = λ own. absurd (false≢true own) };
+      applied = applied_alone g.O.Object c.args.shared.now c.args.held.now c.args.at c.args.reply.now mid (subst (ReplaysOffered g.O.Object c.args.shared.now c.args.held.now c.args.at mid) c.if-done.true c.in_ok-done.ensures.replayed);
       counted = counted_same c.args.scratch.now.taken c.args.scratch.now.taken c.args.seat.now mid refl (ap (λ (s : Seated). s.known.sets) e.rest);
       keeps = record { seat = e.still.of; rest = replay_held c.args.held.now.replica c.args.seat.now mid e.rest };
     }
@@ -69,7 +68,7 @@ returns g c =
     let f = c.replay_another.ensures.keeps in
     let taken = c.args.scratch.now.taken in
     record {
-      applied = record { ready = c.in_ok-replay_another.ensures.applied; replied = λ own. absurd (false≢true own) };
+      applied = applied_alone g.O.Object c.args.shared.now c.args.held.now c.args.at c.replay_another.new.reply last c.in_ok-replay_another.ensures.applied;
       counted = λ was. c.in_ok-replay_another.ensures.counted (counted_same taken taken c.args.seat.now mid refl (ap (λ (s : Seated). s.known.sets) e.rest) was);
       keeps = record { seat = f.seat; rest = f.rest ∙ replay_held c.args.held.now.replica c.args.seat.now mid e.rest };
     }

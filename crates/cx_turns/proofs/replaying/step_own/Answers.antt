@@ -1,4 +1,4 @@
-use Rattle.std.proofs.Common.{◌≤◌, ◌<◌, ◌≡◌, ℕ, ap, arith, refl, subst, sym, ◌∙◌}
+use Rattle.std.proofs.Common.{◌≡◌, ap, arith, refl, sym, ◌∙◌}
 use Rattle.cx_core.specs.Region.{slot_reply}
 use Rattle.cx_rule.specs.Seats.{Seated}
 use Rattle.cx_turns.proofs.ReadEntries.{own_comes}
