@@ -8,7 +8,7 @@ Build the programs first: python3 bench/build.py service_bench
                           cd bench/peers && cargo build --release --offline
 
 `--doc docs/PERFORMANCE.md` writes the page there, and the plot into `pictures` beside it; else the page is printed. All takes some 3 minutes.
-The section on a queue, which queue_performance.py writes at the end of the page, stays there. With --redraw nothing is measured: the plot is
+The section on a queue, which queue_performance.py writes, stays there, and what is behind it. With --redraw nothing is measured: the plot is
 drawn anew from the table of the page that is there. It shows calls a second; of a peer they are ours, by the table, times its ratio.
 
 In each round the service and each peer run in turn, so that what else the machine does is met by all alike; who begins changes from
@@ -252,8 +252,15 @@ def draw_plot(name):
     written(os.path.join(os.path.dirname(name), PICTURE), drawn(panels(found), FORMS))
 
 
+def with_section(page, head, text):
+    """The page with this section in the place of an older one of its head, else at its end."""
+    before, found, rest = page.partition(f"{head}\n")
+    _, begun, after = rest.partition("\n## ") if found else ("", "", "")
+    return before.rstrip("\n") + "\n\n" + text + (f"{begun}{after}" if begun else "")
+
+
 def queue_section(name):
-    """The section on a queue of the page that is there, or nothing."""
+    """The section on a queue of the page that is there and what stands behind it, or nothing."""
     if not os.path.exists(name):
         return ""
     with open(name, encoding="utf-8") as file:

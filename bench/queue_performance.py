@@ -22,7 +22,7 @@ import sys
 from dataclasses import dataclass
 
 from build import path_of
-from performance import LEAST_ROUNDS, PEERS, QUEUE_HEAD, machine, said_by, written
+from performance import LEAST_ROUNDS, PEERS, QUEUE_HEAD, machine, said_by, with_section, written
 from performance_words import short
 
 SERVICE = path_of("fifo_bench")
@@ -91,11 +91,6 @@ def section(measured, options, where):
     return "\n".join(lines) + "\n"
 
 
-def with_section(page, text):
-    """The page with this section at its end, in the place of an older one."""
-    return page.partition(QUEUE_HEAD)[0].rstrip("\n") + "\n\n" + text
-
-
 def callers_of(text):
     return [tuple(int(count) for count in pair.split("+")) for pair in text.split(",")]
 
@@ -122,7 +117,7 @@ def main(words):
     if options.doc:
         with open(options.doc, encoding="utf-8") as file:
             page = file.read()
-        written(options.doc, with_section(page, text))
+        written(options.doc, with_section(page, QUEUE_HEAD, text))
     else:
         print(text, end="")
 

@@ -1,5 +1,5 @@
 #!/usr/bin/env python3
-"""Tests of the table, the words and the plot of performance.py, without a measurement.
+"""Tests of the tables, the words and the plot of performance.py, queue_performance.py and aims.py, without a measurement.
 
 Example: python3 bench/test_performance.py
 Status 0 where all passed, else 1.
@@ -12,6 +12,7 @@ import tempfile
 import unittest
 import xml.etree.ElementTree as ElementTree
 
+import aims
 import performance
 import performance_plot
 import performance_words
@@ -77,13 +78,55 @@ class Queues(unittest.TestCase):
         rounds = [dict.fromkeys(queue_performance.FORMS, one)] * 3
         text = queue_performance.section({(1, 1): rounds, (2, 2): rounds}, self.OPTIONS, "a machine")
         self.assertIn("| 2 | 2 | 2,000 (400, 3) | 2,000 (400, 3) |\n", text)
-        page = queue_performance.with_section("# Performance\n\nWords.\n", text)
-        self.assertEqual(page, queue_performance.with_section(page, text))
+        page = performance.with_section("# Performance\n\nWords.\n", performance.QUEUE_HEAD, text)
+        self.assertEqual(page, performance.with_section(page, performance.QUEUE_HEAD, text))
+        behind = page + "\n## Clients\n\nWords.\n"
+        self.assertEqual(behind, performance.with_section(behind, performance.QUEUE_HEAD, text))
         self.assertEqual("# Performance\n\nWords.\n\n" + text, page)
         with tempfile.NamedTemporaryFile("w+", encoding="utf-8") as file:
             file.write(page)
             file.flush()
             self.assertEqual("\n" + text, performance.queue_section(file.name))
+
+
+class Aims(unittest.TestCase):
+    OPTIONS = aims.options_of(["peers", "--rounds", "3"])
+    SETTING = Setting(1024, 100, 1, 0)
+
+    def rounds(self, aim, ours, other):
+        called = []
+
+        def run_ours(setting, ms):
+            called.append(OURS)
+            return ours
+
+        def run_peer(peers, name, setting, ms):
+            called.append(name)
+            return other
+
+        rounds = aims.rounds_of(aim, self.SETTING, self.OPTIONS, run_ours, run_peer)
+        self.assertEqual([OURS, aim.other, aim.other, OURS, OURS, aim.other], called)
+        return rounds
+
+    def test_time_is_at_most_and_throughput_at_least(self):
+        for aim in aims.AIMS:
+            rounds = self.rounds(aim, Ran(300.0, 300.0), Ran(100.0, 100.0))
+            self.assertEqual(3.0, aims.ratio_of(aim, rounds))
+            self.assertEqual("no" if aim.at_most else "yes", aims.row(aim, self.SETTING, rounds)[-1])
+            rounds = self.rounds(aim, Ran(99.0, 100.0), Ran(100.0, 100.0))
+            self.assertEqual("yes" if aim.at_most else "no", aims.row(aim, self.SETTING, rounds)[-1])
+
+    def test_what_a_peer_says(self):
+        self.assertEqual(Ran(460430.0, 1917.0), aims.peer_said('{"contestant":"cx","ops_per_s":460430,"cpu_ns_per_op":1917.0}\n'))
+        words = aims.peer_words("peers", "cx+limit", self.SETTING, 60)
+        self.assertEqual("cx+limit", words[words.index("--contestants") + 1])
+
+    def test_section_has_a_row_for_each_aim_at_the_end_of_the_page(self):
+        measured = {(aim, self.SETTING): self.rounds(aim, Ran(2e6, 500.0), Ran(1e6, 500.0)) for aim in aims.AIMS}
+        text = aims.section(measured, self.OPTIONS, "a machine")
+        self.assertEqual(len(aims.AIMS), text.count("| 1,024 | 100 |"))
+        self.assertIn("A try", text)
+        self.assertEqual("# Words\n\n" + text, performance.with_section("# Words\n", aims.HEAD, text))
 
 
 class Words(unittest.TestCase):

@@ -1,6 +1,6 @@
 //! The queue over the words of any memory.
 
-ghost use Rattle.std.specs.Prelude.{◌≡◌, ◌+◌, ◌-◌, ◌*◌, ◌^◌, ◌<◌, ◌≤◌, ◌↔◌, IsTrue, IfOk, length};
+ghost use Rattle.std.specs.Prelude.{◌≡◌, ◌+◌, ◌-◌, ◌*◌, ◌^◌, ◌<◌, ◌≤◌, ◌↔◌, IsTrue, IfOk, length, replicate};
 ghost use Rattle.cx_base.specs.Calls.{Changes, Finds};
 ghost use Rattle.cx_base.specs.OldFormat.{no_old_format, takes_over_nothing};
 ghost use Rattle.fifo_model.specs.Words as spec;
@@ -63,6 +63,7 @@ impl Fifo {
         requires holds { HoldsFifo M.Memory self.now.lines mem.old }
         requires writable { IsTrue (M.writable mem.old) }
         requires item { length item.now ≡ 8 }
+        requires zero { reply.old ≡ replicate 144 0 }
         ensures { Changes M.Memory mem.old mem.new result (λ _ before now. push_step self.now.lines item.now before ≡ (now, reply.new)) }
     {
         let ends = self.ends(mem)?;
@@ -81,6 +82,7 @@ impl Fifo {
     fn pop<M: Memory>(&self, mem: &mut M, reply: &mut [u64; 144]) -> Result<(), Halt>
         requires holds { HoldsFifo M.Memory self.now.lines mem.old }
         requires writable { IsTrue (M.writable mem.old) }
+        requires zero { reply.old ≡ replicate 144 0 }
         ensures { Changes M.Memory mem.old mem.new result (λ _ before now. pop_step self.now.lines before ≡ (now, reply.new)) }
     {
         let ends = self.ends(mem)?;
@@ -96,7 +98,8 @@ impl Fifo {
 
     /// Tells the item at the front.
     fn peek<M: Memory>(&self, mem: &mut M, reply: &mut [u64; 144]) -> Result<(), Halt>
-        requires { HoldsFifo M.Memory self.now.lines mem.old }
+        requires holds { HoldsFifo M.Memory self.now.lines mem.old }
+        requires zero { reply.old ≡ replicate 144 0 }
         ensures { Finds M.Memory mem.old mem.new result (λ _ now. reply.new ≡ front_words now) }
     {
         let ends = self.ends(mem)?;
@@ -116,6 +119,7 @@ impl Fifo {
     ) -> Result<(), Halt>
         requires size { M.size mem.old ≡ 8 * self.now.lines }
         requires place { place < self.now.lines - 1 }
+        requires zero { reply.old ≡ replicate 144 0 }
         ensures { Finds M.Memory mem.old mem.new result (λ _ now. reply.new ≡ spec.words_of 3 (item_at now place)) }
     {
         let mut item = [0; 8];
@@ -127,6 +131,7 @@ impl Fifo {
     /// Tells the number of items.
     fn len<M: Memory>(&self, mem: &mut M, reply: &mut [u64; 144]) -> Result<(), Halt>
         requires size { M.size mem.old ≡ 8 * self.now.lines }
+        requires zero { reply.old ≡ replicate 144 0 }
         ensures { Finds M.Memory mem.old mem.new result (λ _ now. reply.new ≡ spec.words_of 5 (spec.number_item (count_in now))) }
     {
         let count = mem.load(COUNT_AT)?;
@@ -143,6 +148,7 @@ impl Fifo {
     ) -> Result<(), Halt>
         requires holds { HoldsFifo M.Memory self.now.lines mem.old }
         requires reads { IsTrue (fifo_reads op.now) }
+        requires zero { reply.old ≡ replicate 144 0 }
         ensures { Finds M.Memory mem.old mem.new result (λ _ now. fifo_step self.now.lines now op.now ≡ (now, reply.new)) }
     {
         match kind_in(op) {
@@ -188,12 +194,12 @@ impl Fifo {
     }
 }
 
-/// Puts the words of a kind and an item where the reply is made: to move such words costs as much as the step.
+/// Puts the words of a kind and an item where the reply is made, in words that are 0: to move such words costs as much as the step.
 fn put_words(kind: u64, item: &[u64], reply: &mut [u64; 144])
-    requires { length item.now ≡ 8 }
+    requires item { length item.now ≡ 8 }
+    requires zero { reply.old ≡ replicate 144 0 }
     ensures { reply.new ≡ spec.words_of kind item.now }
 {
-    *reply = [0; 144];
     reply[0] = kind;
     reply[1..9].copy_from_slice(item);
 }
@@ -267,15 +273,13 @@ impl Object for Fifo {
         op: &[u64; 144],
         reply: &mut [u64; 144],
     ) -> Result<(), Halt> {
+        *reply = [0; 144];
         match kind_in(op) {
             1 => self.push(mem, &op[1..9], reply),
             2 => self.pop(mem, reply),
             3 => self.peek(mem, reply),
             4 => self.len(mem, reply),
-            _ => {
-                *reply = [0; 144];
-                Ok(())
-            }
+            _ => Ok(()),
         }
     }
 

@@ -9,7 +9,7 @@ use Rattle.cx_rule.specs.Fitting.{Fitting}
 use Rattle.cx_rule.specs.Running.{Running}
 use Rattle.cx_rule.specs.Seats.{Seated}
 use Rattle.cx_rule.specs.Steps.{Steps}
-use Rattle.cx_table.specs.Runs.{Runs, one_more_step}
+use Rattle.cx_table.specs.Runs.{Runs, no_step, one_more_step}
 use Rattle.replica.specs.Held.{LoadsRun, no_load, one_more_load}
 
 -- one word more stands behind others
@@ -26,6 +26,20 @@ module _ {O : Type 0} (r : Running O) (step : O → List ℕ → List ℕ → Li
   pub run_more : (words : List ℕ) (i v : ℕ) (before mid after : Seated) → i < length words → Runs r step reads lawful kinds (take i words) before mid → Steps r step reads (kinds i) v mid after → Fitting r.lines lawful r.base (step r.object) after.known → Runs r step reads lawful kinds (take (i + 1) (set words i v)) before after
   run_more words i v before mid after below run last fits =
       one_more_step _ _ _ (take i words) v mid (take_more_set words i v below) run (subst (λ k. Steps r step reads (kinds k) v mid after) (sym (length-take-le i words (omega arith))) last) fits
+
+  -- no word was loaded by no step
+  none_made : (words : List ℕ) (before after : Seated) → length words ≡ 0 → Runs r step reads lawful kinds words before after → after ≡ before
+  none_made words before after none (no_step _ _ _ _ same) = same
+  none_made words before after none (one_more_step _ _ _ first found mid longer run last fits) = absurd (let long = ap length longer ∙ length-append first (found ∷ []) in omega (arith, long, none))
+
+  -- one word was loaded by one step
+  pub one_made : (words : List ℕ) (before after : Seated) → length words ≡ 1 → Runs r step reads lawful kinds words before after → Steps r step reads (kinds 0) (slice_index words 0) before after × Fitting r.lines lawful r.base (step r.object) after.known
+  one_made words before after one (no_step _ _ _ none same) = absurd (omega (arith, ap length none, one))
+  one_made words before after one (one_more_step _ _ _ first found mid longer run last fits) =
+      let long = ap length longer ∙ length-append first (found ∷ []) in
+      let empty : length first ≡ 0 = omega (arith, long, one) in
+      let word : found ≡ slice_index words 0 = sym (ap (λ ws. slice_index ws 0) longer ∙ subst (λ n. slice_index (first ++ found ∷ []) n ≡ found) empty (get_or-append_seam first found [] 0)) in
+      (subst (λ v. Steps r step reads (kinds 0) v before after) word (subst (λ s. Steps r step reads (kinds 0) found s after) (none_made first before mid empty run) (subst (λ n. Steps r step reads (kinds n) found mid after) empty last)), fits)
 
 -- whether all the words were loaded or not, some were
 pub some_of : {A E : Type 0} (result : Result A E) (P : List ℕ → Type 0) (words : List ℕ) → OnOk result (P words) → OnErr result ((n : ℕ) × P (take n words)) → (n : ℕ) × P (take n words)

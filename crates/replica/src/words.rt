@@ -5,7 +5,9 @@ ghost use Rattle.cx_core.specs.Region.{region_words};
 ghost use Rattle.cx_core.specs.RegionEvents.{CanLoad};
 ghost use Rattle.cx_rule.specs.Running.{IsSeatOf, Running};
 ghost use Rattle.cx_rule.specs.Seats.{IsAtLimit};
-ghost use Rattle.cx_rule.specs.Steps.{Halts};
+ghost use Rattle.cx_rule.specs.Steps.{Halts, Steps};
+ghost use Rattle.cx_core.specs.declared.kinds.Kind.TheVariants.{LoadWord};
+ghost use Rattle.cx_table.specs.Calls.{MakesFittingStep, MayStep};
 ghost use Rattle.cx_table.specs.Runs.{Runs, loads_from};
 ghost use Rattle.replica.specs.Held.{Accesses, EndsRun, IsHeld, IsHeldShared, LoadsHeld, LoadsRun, LoadsShared};
 
@@ -100,8 +102,9 @@ impl<O: Object> HeldWords for Shared<O> {
 
     ghost step = { λ s. O.step s.object };
 
+    #[inline]
     fn load_held(&self, seat: &mut CallerSeat, held: &Exclusive, at: u64) -> Result<u64, Halt> {
-        self.load_word(seat, held.replica() as u64, at, false)
+        load_one(self, seat, held.replica() as u64, at)
     }
 
     fn load_held_words(
@@ -124,8 +127,9 @@ impl<O: Object> HeldWords for Shared<O> {
         self.store_word(seat, held.replica() as u64, at, v)
     }
 
+    #[inline]
     fn load_shared(&self, seat: &mut CallerSeat, held: &SharedHold, at: u64) -> Result<u64, Halt> {
-        self.load_word(seat, held.replica() as u64, at, false)
+        load_one(self, seat, held.replica() as u64, at)
     }
 
     fn load_shared_words(
@@ -137,6 +141,40 @@ impl<O: Object> HeldWords for Shared<O> {
     ) -> Result<(), Halt> {
         load_run(self, seat, held.replica() as u64, from, into)
     }
+}
+
+/// Loads a word of a replica that the caller holds exclusively or shared: one behind the place by the shorter call, where the limit leaves
+/// a step. It stands in the code of each walk, and the longer call does not.
+#[inline]
+fn load_one<O: Object>(
+    shared: &Shared<O>,
+    seat: &mut CallerSeat,
+    r: u64,
+    i: u64,
+) -> Result<u64, Halt>
+    requires { MayStep O.Object shared.now (LoadWord r i false) seat.old }
+    ensures { MakesFittingStep O.Object shared.now seat.old seat.new result (λ found. Steps shared.now O.step O.only_reads (LoadWord r i false) found seat.old seat.new) }
+{
+    let mut one = [0; 1];
+    if i > 0 && shared.load_words(seat, r, i, &mut one) {
+        return Ok(one[0]);
+    }
+    load_alone(shared, seat, r, i)
+}
+
+/// The same by the longer call.
+#[cold]
+#[inline(never)]
+fn load_alone<O: Object>(
+    shared: &Shared<O>,
+    seat: &mut CallerSeat,
+    r: u64,
+    i: u64,
+) -> Result<u64, Halt>
+    requires { MayStep O.Object shared.now (LoadWord r i false) seat.old }
+    ensures { MakesFittingStep O.Object shared.now seat.old seat.new result (λ found. Steps shared.now O.step O.only_reads (LoadWord r i false) found seat.old seat.new) }
+{
+    shared.load_word(seat, r, i, false)
 }
 
 /// Loads words of a replica that the caller holds exclusively or shared, from a place on, by one call where that may be. `Halt` comes

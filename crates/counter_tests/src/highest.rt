@@ -1,0 +1,104 @@
+//! The operations of the object to copy on words, and its images.
+
+use crate::holds::holds;
+use crate::objects::{Answered, opening, stepped, told};
+use cx_base::Object;
+use object_to_copy::{Highest, Op, Reply};
+use std::alloc::{AllocError, Global};
+use std::test::Fail;
+
+// The number, in 64 lines.
+fn highest() -> Highest {
+    Highest::of(64)
+}
+
+// An operation, what it is answered, and the number then.
+type Case = (Op, Reply, u64);
+
+const CASES: [Case; 8] = [
+    (Op::Read, Reply::Value(0), 0),
+    (Op::Raise { to: 0 }, Reply::Value(0), 0),
+    (Op::Raise { to: 5 }, Reply::Value(5), 5),
+    (Op::Raise { to: 4 }, Reply::Value(5), 5),
+    (Op::Other, Reply::NoOperation, 5),
+    (Op::Raise { to: u64::MAX }, Reply::Value(u64::MAX), u64::MAX),
+    (Op::Raise { to: 6 }, Reply::Value(u64::MAX), u64::MAX),
+    (Op::Read, Reply::Value(u64::MAX), u64::MAX),
+];
+
+// Whether words have the number, and behind it what `format` made.
+fn have(words: &[u64], number: u64) -> bool {
+    words.len() == 512
+        && words[0] == 1
+        && words[1] == number
+        && words[2..].iter().all(|word| *word == 0)
+}
+
+// Whether this is the answer, and the number is this then.
+fn is_answer(answered: &Answered, reply: Reply, number: u64) -> bool {
+    have(&answered.words, number) && Reply::of(&answered.reply) == reply
+}
+
+// Whether `query` answers an operation that only reads so, and leaves the words, which have the number already; it answers no other.
+fn is_told(alloc: Global, words: Vec<u64>, case: &Case) -> Result<bool, AllocError> {
+    let (op, reply, number) = case;
+    match told(alloc, &highest(), words, &op.words())? {
+        Some(answered) => Ok(*op == Op::Read && is_answer(&answered, *reply, *number)),
+        None => Ok(*op != Op::Read),
+    }
+}
+
+// The first case that comes out otherwise, from the opening image on.
+fn first_other_case(alloc: Global, cases: &[Case]) -> Result<Option<usize>, AllocError> {
+    let object = highest();
+    let Some(mut words) = opening(alloc, &object)? else {
+        return Ok(Some(cases.len()));
+    };
+    for (i, case) in cases.iter().enumerate() {
+        let (op, reply, number) = case;
+        match stepped(alloc, &object, words, &op.words(), None)? {
+            Some(answered) if is_answer(&answered, *reply, *number) => words = answered.words,
+            _ => return Ok(Some(i)),
+        }
+        if !is_told(alloc, words.clone()?, case)? {
+            return Ok(Some(i));
+        }
+    }
+    Ok(None)
+}
+
+// How many words, the version, and whether they are an image.
+const IMAGES: [(usize, u64, bool); 6] = [
+    (512, 1, true),
+    (512, 0, false),
+    (512, 2, false),
+    (511, 1, false),
+    (520, 1, false),
+    (0, 1, false),
+];
+
+// The first row of words that are told otherwise; behind the version they may be any.
+fn first_other_image(
+    alloc: Global,
+    rows: &[(usize, u64, bool)],
+) -> Result<Option<usize>, AllocError> {
+    for (i, (len, version, truth)) in rows.iter().enumerate() {
+        let mut words = vec![in alloc; u64::MAX; *len]?;
+        if let Some(first) = words.first_mut() {
+            *first = *version;
+        }
+        if highest().check(alloc, &words)? != *truth {
+            return Ok(Some(i));
+        }
+    }
+    Ok(None)
+}
+
+#[test]
+fn the_highest_number_stays(rt: HostRuntime) -> Result<(), Fail> {
+    let alloc = rt.alloc();
+    holds(&rt, first_other_case(alloc, &CASES)?.is_none());
+    holds(&rt, first_other_image(alloc, &IMAGES)?.is_none());
+    holds(&rt, highest().lines() == 64 && highest().version() == 1);
+    Ok(())
+}
