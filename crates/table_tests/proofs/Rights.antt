@@ -9,7 +9,7 @@ use Rattle.cx_rule.specs.Fitting.{Fitting}
 use Rattle.cx_rule.specs.Running.{IsRunning, Running}
 use Rattle.cx_rule.specs.Seats.{Seated}
 use Rattle.cx_table.specs.Right.{Right}
-use Rattle.cx_turns.specs.Replaying.{beside_work, but_loads}
+use Rattle.cx_turns.specs.Replaying.{beside_replay, but_loads}
 use Rattle.replica.specs.Held.{beside_held, but_loaded, but_words}
 use Rattle.replica.specs.Laws.{taken_held}
 use Rattle.strong_trylock.specs.declared.trying.ExclusiveTried.{ExclusiveTried}
@@ -30,9 +30,9 @@ loaded_kept : (r : ℕ) (o : Option HeldShared) → option_map (λ (h : HeldShar
 loaded_kept r None = refl
 loaded_kept r (Some h) = refl
 
-beside_rights : (s : Seated) → all_rights (beside_work s) ≡ all_rights s
+beside_rights : (s : Seated) → all_rights (beside_replay s) ≡ all_rights s
 beside_rights s =
-    ap (λ o. (let x : AllRights = record (all_rights s) { exclusive = o; shared = shared_on (beside_work s).known.local } in x)) (words_kept s.known.local.exclusive)
+    ap (λ o. (let x : AllRights = record (all_rights s) { exclusive = o; shared = shared_on (beside_replay s).known.local } in x)) (words_kept s.known.local.exclusive)
     ∙ ap (λ o. (let x : AllRights = record (all_rights s) { shared = o } in x)) (loads_kept s.known.local.shared)
 
 held_rights : (r : ℕ) (s : Seated) → all_rights (beside_held r s) ≡ all_rights s
@@ -40,7 +40,7 @@ held_rights r s =
     ap (λ o. (let x : AllRights = record (all_rights s) { exclusive = o; shared = shared_on (beside_held r s).known.local } in x)) (words_kept s.known.local.exclusive)
     ∙ ap (λ o. (let x : AllRights = record (all_rights s) { shared = o } in x)) (loaded_kept r s.known.local.shared)
 
-pub work_rights : (before after : Seated) → beside_work after ≡ beside_work before → all_rights after ≡ all_rights before
+pub work_rights : (before after : Seated) → beside_replay after ≡ beside_replay before → all_rights after ≡ all_rights before
 work_rights before after same = sym (beside_rights after) ∙ ap all_rights same ∙ beside_rights before
 
 pub access_rights : (r : ℕ) (before after : Seated) → beside_held r after ≡ beside_held r before → all_rights after ≡ all_rights before

@@ -16,6 +16,7 @@ use crate::tables::{NO_LIMIT, closed, made, update};
 use crate::turns::{try_one, turn};
 use cx_base::{Halt, Object};
 use cx_table::{CallerSeat, Exclusive, Remains, Shared, SharedHold};
+use cx_turns::Scratch;
 use doc_store::DocStore;
 use mutation_queue::LinkTried;
 use replica::renew_from;
@@ -72,6 +73,7 @@ fn renew_and_copy<O: Object>(
     shared: &Shared<O>,
     seat: &mut CallerSeat,
     op: &[u64; 144],
+    scratch: &mut Scratch,
 ) -> Result<Option<Copied>, Halt>
     requires callers { shared.now.callers ≡ 2 }
     requires new { IsNew shared.now seat.old }
@@ -80,7 +82,7 @@ fn renew_and_copy<O: Object>(
     let LinkTried::Linked { ticket } = update(shared, seat, op)? else {
         return Ok(None);
     };
-    turn(shared, seat, SOURCE, ticket)?;
+    turn(shared, seat, SOURCE, ticket, scratch)?;
     match try_one(shared, seat, TARGET)? {
         Some(held) => copy_beside(shared, seat, &held),
         None => Ok(None),
@@ -102,7 +104,10 @@ pub(crate) fn at_limit(
     limit: u64,
 ) -> Result<Option<Outcome>, AllocError> {
     let (shared, mut first, second) = made(alloc, DocStore::of(LINES), &[limit, NO_LIMIT])?;
-    let copied = renew_and_copy(&shared, &mut first, op).ok().flatten();
+    let mut scratch = Scratch::new(alloc)?;
+    let copied = renew_and_copy(&shared, &mut first, op, &mut scratch)
+        .ok()
+        .flatten();
     let steps = first.steps();
     match closed(alloc, shared, first, second)? {
         Some(left) => Ok(Some(Outcome {

@@ -101,10 +101,39 @@ fn stored_by(alloc: Global, entry: &Entry) -> Result<u64, AllocError>
     Ok(differing(&words, &opening(alloc)?))
 }
 
-// How many words were persisted after so many steps since the full step began, one of which gives the protection up.
-fn persisted_after(steps: u64, accesses: u64, is_done: bool) -> u64 {
+// The words that are not 0 of the pairs of an address and a value that lead from words to others.
+fn pair_words(before: &[u64], after: &[u64]) -> u64 {
+    let mut count = 0u64;
+    for (at, (old, new)) in before.iter().zip(after.iter()).enumerate() {
+        if *old != *new {
+            count = count
+                .saturating_add(u64::from(at != 0))
+                .saturating_add(u64::from(*new != 0));
+        }
+    }
+    count
+}
+
+// The steps that offer the write set of an entry's full step of so many accesses, each store of which changes a word: one for each word of the
+// set that is not 0, as the cell has none yet, and one for the offer.
+fn offered_by(alloc: Global, entry: &Entry, accesses: u64) -> Result<u64, AllocError>
+    requires { entry.now.caller < 8 }
+{
+    let mut before = opening(alloc)?;
+    let mut count = 2u64;
+    for made in 0..=accesses {
+        let (words, _) = stepped(alloc, entry, Some(made))?;
+        count = count.saturating_add(pair_words(&before, &words));
+        before = words;
+    }
+    Ok(count)
+}
+
+// How many words were persisted after so many steps since the full step began, where it takes so many with the offer and one more gives the
+// protection up.
+fn persisted_after(steps: u64, offered: u64, is_done: bool) -> u64 {
     if is_done {
-        steps.saturating_sub(accesses).saturating_sub(1)
+        steps.saturating_sub(offered).saturating_sub(1)
     } else {
         0
     }
@@ -115,7 +144,7 @@ fn dirty_after(
     alloc: Global,
     entry: &Entry,
     opening: &[u64],
-    accesses: u64,
+    offered: u64,
     limit: u64,
 ) -> Result<Option<u64>, AllocError>
     requires { entry.now.caller < 8 }
@@ -126,7 +155,7 @@ fn dirty_after(
     let model = Model {
         opening,
         words: &words,
-        persisted: persisted_after(steps, accesses, is_done).min(most),
+        persisted: persisted_after(steps, offered, is_done).min(most),
     };
     dirty_at(alloc, &entry.op, limit, &model)
 }
@@ -135,7 +164,7 @@ fn dirty_after(
 fn most_dirty(
     alloc: Global,
     entry: &Entry,
-    accesses: u64,
+    offered: u64,
     last: u64,
 ) -> Result<Option<u64>, AllocError>
     requires { entry.now.caller < 8 }
@@ -143,7 +172,7 @@ fn most_dirty(
     let opening = opening(alloc)?;
     let mut most = 0u64;
     for limit in 0..=last {
-        match dirty_after(alloc, entry, &opening, accesses, limit)? {
+        match dirty_after(alloc, entry, &opening, offered, limit)? {
             Some(dirty) => most = most.max(dirty),
             None => return Ok(None),
         }
@@ -151,7 +180,7 @@ fn most_dirty(
     Ok(Some(most))
 }
 
-// Whether the steps before the copy are those before the full step, its accesses, one that gives the protection up, one to persist each
+// Whether the steps before the copy are those before the full step, its accesses and its offer, one that gives the protection up, one to persist each
 // word that it stores, a downgrade, one that gives the right up, and one try for each of the two rights of a copy. Each limit of fewer
 // leaves the words of the model, and before the first persist all words that the full step stores are dirty.
 fn are_right(alloc: Global) -> Result<bool, AllocError> {
@@ -163,11 +192,12 @@ fn are_right(alloc: Global) -> Result<bool, AllocError> {
         return Ok(false);
     };
     let stored = stored_by(alloc, &entry)?;
+    let offered = accesses.saturating_add(offered_by(alloc, &entry, accesses)?);
     let all = steps_before(&entry.op)
-        .saturating_add(accesses)
+        .saturating_add(offered)
         .saturating_add(stored)
         .saturating_add(1 + 1 + 1 + 2);
-    Ok(before == all && most_dirty(alloc, &entry, accesses, before)? == Some(stored))
+    Ok(before == all && most_dirty(alloc, &entry, offered, before)? == Some(stored))
 }
 
 #[test]

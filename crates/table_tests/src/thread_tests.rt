@@ -14,6 +14,7 @@ use crate::turns::{Turns, make_turns};
 use cx_base::{Halt, Object, VecMemory};
 use cx_core::{Base, Entry};
 use cx_table::{CallerSeat, Remains, Shared};
+use cx_turns::Scratch;
 use doc_store::DocStore;
 use mutation_queue::LinkTried;
 use std::alloc::{AllocError, Global};
@@ -30,6 +31,7 @@ fn link_and_turn<O: Object>(
     seat: &mut CallerSeat,
     op: &[u64; 144],
     count: u64,
+    scratch: &mut Scratch,
 ) -> Result<Option<Done>, Halt>
     requires { IsNew shared.now seat.old }
     ensures { IsSeatOf shared.now seat.new }
@@ -37,7 +39,7 @@ fn link_and_turn<O: Object>(
     match update(shared, seat, op)? {
         LinkTried::Linked { ticket } => Ok(Some((
             ticket,
-            make_turns(shared, seat, ticket, count)?,
+            make_turns(shared, seat, ticket, count, scratch)?,
         ))),
         LinkTried::Again | LinkTried::Worn => Ok(None),
     }
@@ -49,11 +51,12 @@ fn on_thread<O: Object>(
     mut seat: CallerSeat,
     op: &[u64; 144],
     count: u64,
+    mut scratch: Scratch,
 ) -> (CallerSeat, Option<Done>)
     requires { IsNew shared.now seat }
     ensures { IsSeatOf shared.now result.0 }
 {
-    let done = link_and_turn(shared, &mut seat, op, count);
+    let done = link_and_turn(shared, &mut seat, op, count, &mut scratch);
     (seat, done.ok().flatten())
 }
 
@@ -73,6 +76,7 @@ fn joined<R: Runtime + Threads + Sync>(
     second: CallerSeat,
     ops: &[[u64; 144]; 2],
     count: u64,
+    scratches: (Scratch, Scratch),
 ) -> ((CallerSeat, Option<Done>), (CallerSeat, Option<Done>))
     requires first { IsNew shared.now first }
     requires second { IsNew shared.now second }
@@ -80,10 +84,11 @@ fn joined<R: Runtime + Threads + Sync>(
     ensures second { IsSeatOf shared.now result.1.0 }
 {
     let [one, other] = ops;
+    let (room, other_room) = scratches;
     join(
         rt,
-        move || on_thread(shared, first, one, count),
-        move || on_thread(shared, second, other, count),
+        move || on_thread(shared, first, one, count, room),
+        move || on_thread(shared, second, other, count, other_room),
     )
 }
 
@@ -95,7 +100,8 @@ fn two_threads<R: Runtime + Threads + Sync>(
     count: u64,
 ) -> Result<Option<Ended>, AllocError> {
     let (shared, first, second) = made(alloc, DocStore::of(LINES), &NO_LIMITS)?;
-    let ((first, one), (second, other)) = joined(rt, &shared, first, second, ops, count);
+    let scratches = (Scratch::new(alloc)?, Scratch::new(alloc)?);
+    let ((first, one), (second, other)) = joined(rt, &shared, first, second, ops, count, scratches);
     Ok(both_ended(one, other, closed(alloc, shared, first, second)?))
 }
 
@@ -242,6 +248,41 @@ fn replayed_on<R: Runtime + Threads + Sync>(
         replayed = replayed.saturating_add(entries);
     }
     Ok(Some(replayed))
+}
+
+// What two callers came to, one after the other, and how many write sets each took: the second one's turn, on a replica of its own, brings that
+// on by the set that the first one offered, and by its own step.
+fn one_then_other(
+    alloc: Global,
+    ops: &[[u64; 144]; 2],
+) -> Result<Option<(Ended, u64, u64)>, AllocError> {
+    let (shared, mut first, mut second) = made(alloc, DocStore::of(LINES), &NO_LIMITS)?;
+    let (mut room, mut other_room) = (Scratch::new(alloc)?, Scratch::new(alloc)?);
+    let one = link_and_turn(&shared, &mut first, &ops[0], 2, &mut room);
+    let other = link_and_turn(&shared, &mut second, &ops[1], 1, &mut other_room);
+    let (taken, other_taken) = (room.taken, other_room.taken);
+    let left = closed(alloc, shared, first, second)?;
+    match both_ended(one.ok().flatten(), other.ok().flatten(), left) {
+        Some(ended) => Ok(Some((ended, taken, other_taken))),
+        None => Ok(None),
+    }
+}
+
+// Whether the second of two callers takes the set of the first, and both leave the images after one entry and after both.
+fn set_is_taken(alloc: Global) -> Result<bool, AllocError> {
+    let ops = [put(b"one", 40), put(b"other", 150)];
+    let Some((ended, taken, other_taken)) = one_then_other(alloc, &ops)? else {
+        return Ok(false);
+    };
+    let is_right = ended.first.1.right && ended.second.1.right;
+    let places = places_of(alloc, &ended, &ops)?;
+    Ok(is_right && taken == 0 && other_taken == 1 && places == Some(3))
+}
+
+#[test]
+fn an_offered_set_is_taken(rt: HostRuntime) -> Result<(), Fail> {
+    holds(&rt, set_is_taken(rt.alloc())?);
+    Ok(())
 }
 
 // On each of a hundred tables, two threads make a hundred turns each. Replica 0 is the current one, and refused to both. What is

@@ -11,7 +11,7 @@ ghost use Rattle.strong_trylock.specs.Held.{all_rights, no_rights};
 use cx_base::{Halt, Object};
 use cx_core::Protection;
 use cx_table::{CallerSeat, Downgraded, Exclusive, Shared};
-use cx_turns::replay_to;
+use cx_turns::{Scratch, replay_to};
 use mutation_queue::{Protected, protect, unprotect};
 use replica::{begin, flush};
 use strong_trylock::{ExclusiveTried, downgrade, release_downgraded, try_exclusive};
@@ -56,6 +56,7 @@ fn replay_protected<O: Object>(
     seat: &mut CallerSeat,
     held: &Exclusive,
     ticket: u64,
+    scratch: &mut Scratch,
 ) -> Result<(), Halt>
     requires held { IsHeld (O.line_count shared.now.object) shared.now (O.lawful shared.now.object) (O.step shared.now.object) seat.old held.now }
     requires image { IsImage (O.line_count shared.now.object) (O.lawful shared.now.object) shared.now.base (O.step shared.now.object) seat.old.known }
@@ -77,7 +78,7 @@ fn replay_protected<O: Object>(
     let Protected::Kept = protect(shared, seat, place)? else {
         return Err(Halt);
     };
-    replay_to(shared, seat, held, ticket, &mut [0; 144])?;
+    replay_to(shared, seat, held, ticket, scratch, &mut [0; 144])?;
     unprotect(shared, seat)?;
     Ok(())
 }
@@ -92,6 +93,7 @@ fn bring_up<O: Object>(
     seat: &mut CallerSeat,
     held: &Exclusive,
     ticket: u64,
+    scratch: &mut Scratch,
 ) -> Result<Places, Halt>
     requires taken { IsTaken (O.line_count shared.now.object) shared.now (O.lawful shared.now.object) (O.step shared.now.object) seat.old held.now }
     ensures up { OnOk result (IsFlushedImage (O.line_count shared.now.object) shared.now (O.lawful shared.now.object) (O.step shared.now.object) seat.new held.now) }
@@ -102,7 +104,7 @@ fn bring_up<O: Object>(
     if ticket >= seat.front() {
         return Err(Halt);
     }
-    replay_protected(shared, seat, held, ticket)?;
+    replay_protected(shared, seat, held, ticket, scratch)?;
     let after = seat.noted_place();
     flush(shared, seat, held)?;
     Ok((before, after))
@@ -114,13 +116,14 @@ fn renew<O: Object>(
     seat: &mut CallerSeat,
     held: Exclusive,
     ticket: u64,
+    scratch: &mut Scratch,
 ) -> Result<Places, Halt>
     requires taken { IsTaken (O.line_count shared.now.object) shared.now (O.lawful shared.now.object) (O.step shared.now.object) seat.old held }
     requires free { all_rights seat.old ≡ record no_rights { exclusive = Some held.replica } }
     ensures free { OnOk result (all_rights seat.new ≡ no_rights) }
     ensures seat { IsSeatOf shared.now seat.new }
 {
-    let places = bring_up(shared, seat, &held, ticket)?;
+    let places = bring_up(shared, seat, &held, ticket, scratch)?;
     let token = downgrade(shared, seat, held)?;
     release_downgraded(shared, seat, token)?;
     Ok(places)
@@ -132,6 +135,7 @@ pub(crate) fn turn<O: Object>(
     seat: &mut CallerSeat,
     r: u32,
     ticket: u64,
+    scratch: &mut Scratch,
 ) -> Result<Option<Places>, Halt>
     requires seat { IsSeatOf shared.now seat.old }
     requires free { all_rights seat.old ≡ no_rights }
@@ -140,7 +144,7 @@ pub(crate) fn turn<O: Object>(
     ensures seat { IsSeatOf shared.now seat.new }
 {
     match try_one(shared, seat, r)? {
-        Some(held) => Ok(Some(renew(shared, seat, held, ticket)?)),
+        Some(held) => Ok(Some(renew(shared, seat, held, ticket, scratch)?)),
         None => Ok(None),
     }
 }
@@ -151,6 +155,7 @@ pub(crate) fn make_turns<O: Object>(
     seat: &mut CallerSeat,
     ticket: u64,
     count: u64,
+    scratch: &mut Scratch,
 ) -> Result<Turns, Halt>
     requires seat { IsSeatOf shared.now seat.old }
     requires free { all_rights seat.old ≡ no_rights }
@@ -166,7 +171,7 @@ pub(crate) fn make_turns<O: Object>(
     };
     for k in 0..count {
         let r = (u64::from(first) + k % u64::from(replicas)) % u64::from(replicas);
-        let places = turn(shared, seat, r as u32, ticket)?;
+        let places = turn(shared, seat, r as u32, ticket, scratch)?;
         done = noted(done, places, ticket);
     }
     Ok(done)
