@@ -104,6 +104,10 @@ impl<T: HeldWords, J: Began> Memory for NotingRegion<'_, T, J> {
         self.table.load_held(self.seat, self.held, at)
     }
 
+    fn load_words(&mut self, at: u64, into: &mut [u64]) -> Result<(), Halt> {
+        self.table.load_held_words(self.seat, self.held, at, into)
+    }
+
     fn store(&mut self, at: u64, v: u64) -> Result<(), Halt> {
         self.table.store_held(self.seat, self.held, at, v)?;
         self.whole = self.whole && self.set.note(at, v);

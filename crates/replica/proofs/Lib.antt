@@ -3,7 +3,7 @@ mod LineLoads
 mod LineCopies
 pub mod CopySteps
 mod Reading
-mod RegionLaws
+pub mod RegionLaws
 mod Runs
 pub mod Replaying
 pub mod Persisting
