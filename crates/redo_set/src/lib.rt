@@ -1,7 +1,5 @@
 //! Write sets: addresses and values that lead from one image to the next.
 //!
-//! No turn of the running service uses it yet: a caller still applies another's entry by the entry's full step.
-//!
 //! - A set takes a pair behind its others, and refuses one, unchanged, exactly where it holds 256: `WriteSet::note` (`noted`, `full`, `same`).
 //!   To store it is then to store what it held, and that pair last: `last`.
 //! - A set is stored over any writable memory that has its addresses, pair by pair in order, for every pair of lists that stands; it halts only
