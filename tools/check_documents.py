@@ -26,7 +26,7 @@ ENDINGS = ("rt", "antt", "py", "md", "txt", "script", "report", "svg", "json", "
 PATH = re.compile(rf"[\w.*-]+(?:/[\w.*-]+)+/?|[\w-]+\.(?:{'|'.join(ENDINGS)})")
 PLACE = re.compile(r"\b[A-Z]{2,}\b")
 # the toolchain's own line and a command of it, and a form of JSON
-FOREIGN = {"kit", "logic", "dac8208d650f15bf", "plant", "u00xx"}
+FOREIGN = {"kit", "logic", "dac8208d650f15bf", "lemma", "plant", "u00xx"}
 
 
 def paths_of(root):
