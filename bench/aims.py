@@ -1,14 +1,14 @@
 #!/usr/bin/env python3
 """The service beside plain Rust that makes the same steps and is not proved: how near it comes, and which aims stand.
 
-    aims.py PEERS [--doc FILE] [--rounds N] [--ms M] [--threads 1,2,4] [--sizes LINESxKEYS,..]
+    aims.py PEERS [--doc FILE] [--rounds N] [--ms M] [--threads 1,2,4] [--sizes LINESxKEYS,..] [--updates put|mixed]
 
 Build the service first: python3 bench/build.py service_bench
 PEERS is a program that takes `bench --contestants ..`: `cx` and a mutex over the same document store, std alone. `+limit` has it count each
 step and test a limit, `+bulk` count a loop of steps once, and `+lag` free cells no earlier than it must.
 
 In each round the service and the other run in turn, each for about M milliseconds, and who begins changes from round to round. Updates put a document of
-32 bytes at a key that is there. A figure is the median over rounds of the ratio within a round: of the processor time of a call, or of the
+32 bytes at a key that is there; with `--updates mixed` those of the other also delete documents and add to numbers. A figure is the median over rounds of the ratio within a round: of the processor time of a call, or of the
 calls a second of all threads together. With `--doc docs/PERFORMANCE.md` the section stands at the end of that page, in the place of an older
 one; else it is printed. All takes some 4 minutes.
 
@@ -67,9 +67,9 @@ def ours(setting, ms):
     return Ran(setting.threads * calls * 1e9 / said["wall"], said["cpu"] / calls)
 
 
-def peer_words(peers, name, setting, ms):
+def peer_words(peers, name, setting, ms, updates):
     named = {"contestants": name, "threads": setting.threads, "lines": setting.lines, "keys": setting.keys, "mix": setting.reads, "ms": ms, "rounds": 1}
-    return [peers, "bench", "--updates", "put", *(word for key, value in named.items() for word in (f"--{key}", str(value)))]
+    return [peers, "bench", "--updates", updates, *(word for key, value in named.items() for word in (f"--{key}", str(value)))]
 
 
 def peer_said(text):
@@ -77,8 +77,8 @@ def peer_said(text):
     return Ran(said["ops_per_s"], said["cpu_ns_per_op"])
 
 
-def peer(peers, name, setting, ms):
-    ran = subprocess.run(peer_words(peers, name, setting, ms), check=True, stdout=subprocess.PIPE, text=True)
+def peer(options, name, setting):
+    ran = subprocess.run(peer_words(options.peers, name, setting, options.ms, options.updates), check=True, stdout=subprocess.PIPE, text=True)
     return peer_said(ran.stdout)
 
 
@@ -88,7 +88,7 @@ def rounds_of(aim, setting, options, run_ours=ours, run_peer=peer):
     for number in range(options.rounds):
         found = {}
         for form in (OURS, aim.other) if number % 2 == 0 else (aim.other, OURS):
-            found[form] = run_ours(setting, options.ms) if form == OURS else run_peer(options.peers, form, setting, options.ms)
+            found[form] = run_ours(setting, options.ms) if form == OURS else run_peer(options, form, setting)
         rounds.append(found)
     return rounds
 
@@ -121,7 +121,8 @@ def section(measured, options, where):
         "",
         "The steps of the core once more in plain Rust, of which nothing is proved, over the same document store: `cx`, where `+limit` counts each step and tests a limit, "
         "`+bulk` counts a loop of steps once, and `+lag` frees cells no earlier than it must; and one region under a mutex. "
-        f"{where}. Medians of {options.rounds} rounds of {options.ms} milliseconds, in which both run in turn (`bench/aims.py`). Thousands of calls a "
+        + ("The updates of the other also delete documents and add to numbers. " if options.updates == "mixed" else "")
+        + f"{where}. Medians of {options.rounds} rounds of {options.ms} milliseconds, in which both run in turn (`bench/aims.py`). Thousands of calls a "
         "second of all threads, and in brackets the nanoseconds of processor time of a call; the ratio is ours by the other's.",
         "",
         table_of([head, marks] + [row(aim, setting, rounds) for (aim, setting), rounds in measured.items()]),
@@ -139,6 +140,7 @@ def options_of(words):
     parser.add_argument("--ms", type=int, default=60)
     parser.add_argument("--threads", type=numbers, default=[1, 2, 4])
     parser.add_argument("--sizes", type=pairs, default=SIZES)
+    parser.add_argument("--updates", choices=["put", "mixed"], default="put")
     return parser.parse_args(words)
 
 

@@ -100,7 +100,7 @@ class Aims(unittest.TestCase):
             called.append(OURS)
             return ours
 
-        def run_peer(peers, name, setting, ms):
+        def run_peer(options, name, setting):
             called.append(name)
             return other
 
@@ -118,7 +118,7 @@ class Aims(unittest.TestCase):
 
     def test_what_a_peer_says(self):
         self.assertEqual(Ran(460430.0, 1917.0), aims.peer_said('{"contestant":"cx","ops_per_s":460430,"cpu_ns_per_op":1917.0}\n'))
-        words = aims.peer_words("peers", "cx+limit", self.SETTING, 60)
+        words = aims.peer_words("peers", "cx+limit", self.SETTING, 60, "put")
         self.assertEqual("cx+limit", words[words.index("--contestants") + 1])
 
     def test_section_has_a_row_for_each_aim_at_the_end_of_the_page(self):
