@@ -81,6 +81,22 @@ pub trait Object: Drop {
         requires reads { IsTrue (only_reads self.now op.now) }
         ensures { Finds M.Memory mem.old mem.new result (λ reply now. step self.now now op.now ≡ (now, reply)) };
 
+    /// Gives the reply as `query` does, and puts it where the caller has it: 144 words are not moved where the object makes them there.
+    fn query_into<M: Memory>(
+        &self,
+        mem: &mut M,
+        op: &[u64; 144],
+        reply: &mut [u64; 144],
+    ) -> Result<(), Halt>
+        requires size { M.size mem.old ≡ 8 * line_count self.now }
+        requires lawful { Always (M.stands mem.old) (lawful self.now) }
+        requires reads { IsTrue (only_reads self.now op.now) }
+        ensures { Finds M.Memory mem.old mem.new result (λ _ now. step self.now now op.now ≡ (now, reply.new)) }
+    {
+        *reply = self.query(mem, op)?;
+        Ok(())
+    }
+
     /// Whether words are a lawful image. `Err` is want of memory.
     fn check(&self, alloc: Global, words: &[u64]) -> Result<bool, AllocError>
         ensures { IfOk result (λ yes. IsTrue yes ↔ lawful self.now words.now) };

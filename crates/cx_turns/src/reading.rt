@@ -45,23 +45,7 @@ pub fn query_part<O: Object, M: Memory>(
         from: OBJECT_START,
         len,
     };
-    query_into(object, &mut part, op, reply)
-}
-
-/// The object's query, whose reply is put where the caller has it.
-fn query_into<O: Object, M: Memory>(
-    object: &O,
-    mem: &mut M,
-    op: &[u64; 144],
-    reply: &mut [u64; 144],
-) -> Result<(), Halt>
-    requires size { M.size mem.old ≡ 8 * O.line_count object.now }
-    requires lawful { Always (M.stands mem.old) (O.lawful object.now) }
-    requires reads { IsTrue (O.only_reads object.now op.now) }
-    ensures { Finds M.Memory mem.old mem.new result (λ _ now. O.step object.now now op.now ≡ (now, reply.new)) }
-{
-    *reply = object.query(mem, op)?;
-    Ok(())
+    object.query_into(&mut part, op, reply)
 }
 
 /// Makes the object's reply to an operation that only reads, on a replica held shared whose place was loaded. That the place was

@@ -285,8 +285,18 @@ impl Object for Fifo {
 
     fn query<M: Memory>(&self, mem: &mut M, op: &[u64; 144]) -> Result<[u64; 144], Halt> {
         let mut reply = [0; 144];
-        self.answer(mem, op, &mut reply)?;
+        self.query_into(mem, op, &mut reply)?;
         Ok(reply)
+    }
+
+    fn query_into<M: Memory>(
+        &self,
+        mem: &mut M,
+        op: &[u64; 144],
+        reply: &mut [u64; 144],
+    ) -> Result<(), Halt> {
+        *reply = [0; 144];
+        self.answer(mem, op, reply)
     }
 
     fn check(&self, _alloc: Global, words: &[u64]) -> Result<bool, AllocError> {
