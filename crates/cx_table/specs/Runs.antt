@@ -3,6 +3,7 @@ use Rattle.std.specs.Prelude.{false, ◌≡◌, ◌+◌, ℕ, Bool, List, [], �
 use Rattle.atomic_table.specs.Table.{Me}
 use Rattle.cx_core.specs.declared.kinds.Kind.{Kind}
 use Rattle.cx_core.specs.declared.kinds.Kind.TheVariants.{LoadWord, ReadCell, ReadSet}
+use Rattle.cx_core.specs.Layout.{vol_at}
 use Rattle.cx_core.specs.State.{Instance}
 use Rattle.cx_rule.specs.declared.rule.Known.{Known}
 use Rattle.cx_rule.specs.Fitting.{Fitting}
@@ -13,6 +14,10 @@ use Rattle.cx_rule.specs.Steps.{Steps, Teaches}
 -- the kinds of the loads of a replica's words, of a cell's, and of a set's
 abbrev pub loads_from : ℕ → ℕ → ℕ → Kind
 loads_from r from i = LoadWord r (from + i) false
+
+-- where the words of a replica begin in the table
+abbrev pub StartsAt : {O : Type 0} → Running O → ℕ → ℕ → Type 0
+StartsAt r replica start = start ≡ vol_at r.callers (length r.base.words) replica 0
 
 abbrev pub reads_of : ℕ → ℕ → ℕ → Kind
 reads_of t k i = ReadCell t k i

@@ -1,13 +1,13 @@
 //! Several loads by one call: each is an event of its own, and they are counted at once. Where the limit leaves fewer steps than there are
 //! words, none is made.
 
-ghost use Rattle.std.specs.Prelude.{◌≡◌, ◌+◌, ◌<◌, ◌≤◌, ℕ, IsTrue, false, length};
+ghost use Rattle.std.specs.Prelude.{◌≡◌, ◌+◌, ◌*◌, ◌<◌, ◌≤◌, ℕ, IsTrue, false, length};
 ghost use Rattle.cx_core.specs.Events.{Guard};
 ghost use Rattle.cx_core.specs.declared.kinds.Kind.TheVariants.{ReadCell, ReadSet};
 ghost use Rattle.cx_core.specs.RegionEvents.{CanLoad};
 ghost use Rattle.cx_rule.specs.Running.{IsSeatOf, instance_at};
 ghost use Rattle.cx_rule.specs.Seats.{known_of, unseen};
-ghost use Rattle.cx_table.specs.Runs.{Runs, TeachesRun, loads_from, reads_of, set_reads_from};
+ghost use Rattle.cx_table.specs.Runs.{Runs, StartsAt, TeachesRun, loads_from, reads_of, set_reads_from};
 ghost use Rattle.cx_table.specs.Words.{IsOfOne, IsTaught};
 
 use crate::events::Instruction;
@@ -20,10 +20,28 @@ use cx_core::layout::{CELL_WORDS, cell_at, set_at, vol_at};
 use cx_rule::View;
 
 impl<O: Object> Shared<O> {
+    /// Where the words of a replica begin in the table.
+    pub fn start_of(&self, seat: &CallerSeat, r: u64) -> usize
+        requires seat { IsSeatOf self.now seat.now }
+        requires replica { r < 2 * self.now.callers }
+        ensures { StartsAt self.now r result }
+    {
+        vol_at(self.callers.number, seat.copy.region(), r, 0)
+    }
+
     /// Loads words of a replica that the caller holds exclusively or shared, from one behind the place on, each as `load_word`
-    /// does without a mark. It answers whether the limit leaves so many steps: if not, nothing changes.
-    pub fn load_words(&self, seat: &mut CallerSeat, r: u64, from: u64, into: &mut [u64]) -> bool
+    /// does without a mark. Where the replica's words begin was computed before. It answers whether the limit leaves so many steps:
+    /// if not, nothing changes.
+    pub fn load_words(
+        &self,
+        seat: &mut CallerSeat,
+        r: u64,
+        start: usize,
+        from: u64,
+        into: &mut [u64],
+    ) -> bool
         requires seat { IsSeatOf self.now seat.old × (0 < from) }
+        requires start { StartsAt self.now r start }
         requires guard { (i : ℕ) → i < length into.old → CanLoad self.now.callers (length self.now.base.words) r (from + i) seat.old.known.local }
         ensures made { IsTrue result → Runs self.now O.step O.only_reads (O.lawful self.now.object) (loads_from r from) into.new seat.old seat.new }
         ensures short { result ≡ false → (seat.new ≡ seat.old) × (seat.old.known.local.limit < seat.old.known.local.steps + length into.old) }
@@ -34,27 +52,33 @@ impl<O: Object> Shared<O> {
         if !seat.summary.count(into.len() as u64) {
             return false;
         }
-        let region = seat.copy.region();
-        self.load_each(&mut seat.seat, region, r, from, into);
+        self.load_each(&mut seat.seat, r, start, from, into);
         true
     }
 
     /// Loads words of a replica, as events of the seat's caller.
-    fn load_each(&self, seat: &mut Seat<u8, View>, region: u64, r: u64, from: u64, into: &mut [u64])
+    fn load_each(
+        &self,
+        seat: &mut Seat<u8, View>,
+        r: u64,
+        start: usize,
+        from: u64,
+        into: &mut [u64],
+    )
         requires one { IsOfOne self.now seat.old.table_id seat.old.me }
-        requires region { region ≡ length self.now.base.words }
-        requires guard { (i : ℕ) → i < length into.old → CanLoad self.now.callers region r (from + i) (known_of seat.old.me.0).local }
+        requires start { StartsAt self.now r start }
+        requires guard { (i : ℕ) → i < length into.old → CanLoad self.now.callers (length self.now.base.words) r (from + i) (known_of seat.old.me.0).local }
         ensures taught { IsTaught seat.old.table_id seat.new.table_id (TeachesRun (instance_at self.now O.step O.only_reads) (loads_from r from) into.new seat.old.me seat.new.me) }
         ensures length { length into.new ≡ length into.old }
     {
-        let callers = self.callers.number;
+        let _ = &self.table;
         for i in 0..into.len() {
             let kind = Kind::LoadWord {
                 r,
                 i: from + i as u64,
                 refused: false,
             };
-            let word = vol_at(callers, region, r, from + i as u64);
+            let word = start + (from + i as u64) as usize;
             into[i] = self.learned(seat, &kind, word, Instruction::Load);
         }
     }

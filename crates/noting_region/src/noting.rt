@@ -7,6 +7,7 @@ ghost use Rattle.cx_core.specs.Step.{IsStepped};
 ghost use Rattle.cx_rule.specs.Fitting.{FitsKnown};
 ghost use Rattle.cx_rule.specs.Offers.{TellsSet};
 ghost use Rattle.cx_rule.specs.Seats.{IsWithinLimit};
+ghost use Rattle.cx_table.specs.Runs.{StartsAt};
 ghost use Rattle.noting_region.specs.Noting.{BeginsNoting, CanNote, IsNotingOf, Notes};
 ghost use Rattle.replica.specs.Held.{IsHeld, left_of};
 ghost use Rattle.replica.specs.Regions.{HasPlace};
@@ -39,11 +40,14 @@ pub struct NotingRegion<'a, T: HeldWords, J: Began> {
     table: &'a T,
     seat: &'a mut CallerSeat,
     held: &'a Exclusive,
+    /// Where the replica's words begin in the table.
+    start: usize,
     set: &'a mut WriteSet,
     /// Whether each store was noted.
     whole: bool,
     began: PhantomData<J>,
     ghost of: { IsHeld (T.line_count table.now) (T.running table.now) (T.lawful table.now) (T.step table.now) seat.now held.now },
+    ghost starts: { StartsAt (T.running table.now) held.now.replica start },
     ghost within: { IsWithinLimit seat.now.known.local },
     ghost place: { HasPlace seat.now.known.accesses },
     ghost notes: { IsTrue whole → ∥ Notes (FitsKnown (T.line_count table.now) (T.lawful table.now) (T.running table.now).base (T.step table.now) J.known) (FitsKnown (T.line_count table.now) (T.lawful table.now) (T.running table.now).base (T.step table.now) seat.now.known) (region_words (T.line_count table.now)) set.now ∥₁ },
@@ -63,11 +67,13 @@ impl<'a, T: HeldWords, J: Began> NotingRegion<'a, T, J> {
         ensures names { (result.seat.ghost_name ≡ seat.entry.ghost_name) × (result.set.ghost_name ≡ set.entry.ghost_name) }
     {
         let _steps = seat.steps();
+        let start = table.start_held(seat, held);
         set.clear();
         NotingRegion {
             table,
             seat,
             held,
+            start,
             set,
             whole: true,
             began: PhantomData,
@@ -101,11 +107,12 @@ impl<T: HeldWords, J: Began> Memory for NotingRegion<'_, T, J> {
     ghost words = { λ r. known_words (T.line_count r.table.now) (T.lawful r.table.now) (T.running r.table.now).base (T.step r.table.now) r.seat.now.known };
 
     fn load(&mut self, at: u64) -> Result<u64, Halt> {
-        self.table.load_held(self.seat, self.held, at)
+        self.table.load_held(self.seat, self.held, self.start, at)
     }
 
     fn load_words(&mut self, at: u64, into: &mut [u64]) -> Result<(), Halt> {
-        self.table.load_held_words(self.seat, self.held, at, into)
+        self.table
+            .load_held_words(self.seat, self.held, self.start, at, into)
     }
 
     fn store(&mut self, at: u64, v: u64) -> Result<(), Halt> {

@@ -8,7 +8,7 @@ ghost use Rattle.cx_rule.specs.Seats.{IsAtLimit, known_after};
 ghost use Rattle.cx_rule.specs.Steps.{Halts};
 ghost use Rattle.replica.specs.Copies.{AreLines, ArePiece, Copies, CopiesOn, CopiesPiece, EndsCopy, EndsLoads, HoldsBoth, LeavesCopied, Renews, SeesLine, beside_copy};
 
-use crate::words::load_run;
+use crate::words::{HeldWords, load_run};
 use cx_base::{Halt, Object};
 use cx_core::{HEAD_LINES, LINE_WORDS};
 use cx_table::{CallerSeat, Exclusive, Shared, SharedHold};
@@ -153,8 +153,17 @@ fn load_piece<O: Object>(
     ensures leaves { LeavesCopied O.Object shared.now held.now source.now seat.old seat.new }
     ensures halts { OnErr result (IsAtLimit seat.new.known.local) }
 {
-    load_run(shared, seat, held.replica() as u64, from, held_words)?;
-    load_run(shared, seat, source.replica() as u64, from, source_words)?;
+    let start = shared.start_held(seat, held);
+    let source_start = shared.start_shared(seat, source);
+    load_run(shared, seat, held.replica() as u64, start, from, held_words)?;
+    load_run(
+        shared,
+        seat,
+        source.replica() as u64,
+        source_start,
+        from,
+        source_words,
+    )?;
     Ok(())
 }
 

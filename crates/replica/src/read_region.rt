@@ -4,6 +4,7 @@ ghost use Rattle.std.specs.Prelude.{List, ℕ, IsTrue, None, Some};
 ghost use Rattle.cx_core.specs.Region.{region_words};
 ghost use Rattle.cx_rule.specs.Fitting.{loaded_of};
 ghost use Rattle.cx_rule.specs.Seats.{IsWithinLimit};
+ghost use Rattle.cx_table.specs.Runs.{StartsAt};
 ghost use Rattle.replica.specs.Held.{IsHeldShared};
 ghost use Rattle.replica.specs.Regions.{IsRegionOf, has_loaded};
 
@@ -17,9 +18,12 @@ pub struct ReadRegion<'a, T: HeldWords> {
     table: &'a T,
     seat: &'a mut CallerSeat,
     held: &'a SharedHold,
+    /// Where the replica's words begin in the table.
+    start: usize,
     /// The place, where it was loaded before the region began.
     placed: Option<u64>,
     ghost of: { IsHeldShared (T.line_count table.now) (T.running table.now) (T.lawful table.now) seat.now held.now },
+    ghost starts: { StartsAt (T.running table.now) held.now.replica start },
     ghost within: { IsWithinLimit seat.now.known.local },
     ghost place: { IsTrue (has_loaded placed (loaded_of seat.now.known.local.shared)) },
 }
@@ -31,10 +35,12 @@ impl<'a, T: HeldWords> ReadRegion<'a, T> {
         ensures { IsRegionOf seat.entry.ghost_name result.seat.ghost_name table.now result.table.now seat.old result.seat.now held.now result.held.now None result.placed }
     {
         let _steps = seat.steps();
+        let start = table.start_shared(seat, held);
         ReadRegion {
             table,
             seat,
             held,
+            start,
             placed: None,
         }
     }
@@ -51,10 +57,12 @@ impl<'a, T: HeldWords> ReadRegion<'a, T> {
         ensures { IsRegionOf seat.entry.ghost_name result.seat.ghost_name table.now result.table.now seat.old result.seat.now held.now result.held.now (Some place) result.placed }
     {
         let _steps = seat.steps();
+        let start = table.start_shared(seat, held);
         ReadRegion {
             table,
             seat,
             held,
+            start,
             placed: Some(place),
         }
     }
@@ -87,11 +95,12 @@ impl<T: HeldWords> Memory for ReadRegion<'_, T> {
     ghost words = { λ r. read_words (T.line_count r.table.now) (T.lawful r.table.now) (T.running r.table.now).base (loaded_of r.seat.now.known.local.shared) };
 
     fn load(&mut self, at: u64) -> Result<u64, Halt> {
-        self.table.load_shared(self.seat, self.held, at)
+        self.table.load_shared(self.seat, self.held, self.start, at)
     }
 
     fn load_words(&mut self, at: u64, into: &mut [u64]) -> Result<(), Halt> {
-        self.table.load_shared_words(self.seat, self.held, at, into)
+        self.table
+            .load_shared_words(self.seat, self.held, self.start, at, into)
     }
 
     fn store(&mut self, _at: u64, _v: u64) -> Result<(), Halt> {

@@ -3,6 +3,7 @@
 ghost use Rattle.std.specs.Prelude.{false, true, List, ℕ, IsTrue};
 ghost use Rattle.cx_core.specs.Region.{region_words};
 ghost use Rattle.cx_rule.specs.Seats.{IsWithinLimit};
+ghost use Rattle.cx_table.specs.Runs.{StartsAt};
 ghost use Rattle.replica.specs.Held.{IsHeld};
 ghost use Rattle.replica.specs.Regions.{HasPlace, IsRegionOf};
 
@@ -17,9 +18,12 @@ pub struct Region<'a, T: HeldWords> {
     pub(crate) table: &'a T,
     pub(crate) seat: &'a mut CallerSeat,
     pub(crate) held: &'a Exclusive,
+    /// Where the replica's words begin in the table.
+    start: usize,
     /// Whether the place was loaded or stored before the region began.
     pub(crate) placed: bool,
     ghost of: { IsHeld (T.line_count table.now) (T.running table.now) (T.lawful table.now) (T.step table.now) seat.now held.now },
+    ghost starts: { StartsAt (T.running table.now) held.now.replica start },
     ghost within: { IsWithinLimit seat.now.known.local },
     ghost place: { IsTrue placed → HasPlace seat.now.known.accesses },
 }
@@ -31,10 +35,12 @@ impl<'a, T: HeldWords> Region<'a, T> {
         ensures { IsRegionOf seat.entry.ghost_name result.seat.ghost_name table.now result.table.now seat.old result.seat.now held.now result.held.now false result.placed }
     {
         let _steps = seat.steps();
+        let start = table.start_held(seat, held);
         Region {
             table,
             seat,
             held,
+            start,
             placed: false,
         }
     }
@@ -46,10 +52,12 @@ impl<'a, T: HeldWords> Region<'a, T> {
         ensures { IsRegionOf seat.entry.ghost_name result.seat.ghost_name table.now result.table.now seat.old result.seat.now held.now result.held.now true result.placed }
     {
         let _steps = seat.steps();
+        let start = table.start_held(seat, held);
         Region {
             table,
             seat,
             held,
+            start,
             placed: true,
         }
     }
@@ -80,11 +88,12 @@ impl<T: HeldWords> Memory for Region<'_, T> {
     ghost words = { λ r. known_words (T.line_count r.table.now) (T.lawful r.table.now) (T.running r.table.now).base (T.step r.table.now) r.seat.now.known };
 
     fn load(&mut self, at: u64) -> Result<u64, Halt> {
-        self.table.load_held(self.seat, self.held, at)
+        self.table.load_held(self.seat, self.held, self.start, at)
     }
 
     fn load_words(&mut self, at: u64, into: &mut [u64]) -> Result<(), Halt> {
-        self.table.load_held_words(self.seat, self.held, at, into)
+        self.table
+            .load_held_words(self.seat, self.held, self.start, at, into)
     }
 
     fn store(&mut self, at: u64, v: u64) -> Result<(), Halt> {

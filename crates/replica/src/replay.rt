@@ -32,7 +32,8 @@ pub fn begin<O: Object>(
     ensures leaves { LeavesHeld O.Object shared.now held.now seat.old seat.new }
     ensures halted { OnErr result (Halts shared.now seat.old seat.new) }
 {
-    shared.load_held(seat, held, PLACE_AT)
+    let start = shared.start_held(seat, held);
+    shared.load_held(seat, held, start, PLACE_AT)
 }
 
 /// Does the full step of the entry of the place of a replica held exclusively: it is the image after its place, and then that

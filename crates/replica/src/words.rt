@@ -8,7 +8,7 @@ ghost use Rattle.cx_rule.specs.Seats.{IsAtLimit};
 ghost use Rattle.cx_rule.specs.Steps.{Halts, Steps};
 ghost use Rattle.cx_core.specs.declared.kinds.Kind.TheVariants.{LoadWord};
 ghost use Rattle.cx_table.specs.Calls.{MakesFittingStep, MayStep};
-ghost use Rattle.cx_table.specs.Runs.{Runs, loads_from};
+ghost use Rattle.cx_table.specs.Runs.{Runs, StartsAt, loads_from};
 ghost use Rattle.replica.specs.Held.{Accesses, EndsRun, IsHeld, IsHeldShared, LoadsHeld, LoadsRun, LoadsShared};
 
 use cx_base::{Halt, Object};
@@ -31,9 +31,26 @@ pub trait HeldWords {
     /// What an operation makes of an image, and its reply.
     ghost step: { Self → List ℕ → List ℕ → List ℕ × List ℕ };
 
+    /// Where the words of the replica held exclusively begin in the table.
+    fn start_held(&self, seat: &CallerSeat, held: &Exclusive) -> usize
+        requires { IsHeld (line_count self.now) (running self.now) (lawful self.now) (step self.now) seat.now held.now }
+        ensures { StartsAt (running self.now) held.now.replica result };
+
+    /// The same of a replica held shared.
+    fn start_shared(&self, seat: &CallerSeat, held: &SharedHold) -> usize
+        requires { IsHeldShared (line_count self.now) (running self.now) (lawful self.now) seat.now held.now }
+        ensures { StartsAt (running self.now) held.now.replica result };
+
     /// Loads a word of the replica held exclusively. `Halt` comes exactly where the seat's steps equal its limit.
-    fn load_held(&self, seat: &mut CallerSeat, held: &Exclusive, at: u64) -> Result<u64, Halt>
+    fn load_held(
+        &self,
+        seat: &mut CallerSeat,
+        held: &Exclusive,
+        start: usize,
+        at: u64,
+    ) -> Result<u64, Halt>
         requires held { IsHeld (line_count self.now) (running self.now) (lawful self.now) (step self.now) seat.old held.now }
+        requires start { StartsAt (running self.now) held.now.replica start }
         requires at { at < region_words (line_count self.now) }
         ensures made { IfOk result (λ v. Accesses (line_count self.now) (running self.now) (lawful self.now) (step self.now) held.now (false, at, v) seat.old seat.new) }
         ensures halted { OnErr result (Halts (running self.now) seat.old seat.new) };
@@ -44,10 +61,12 @@ pub trait HeldWords {
         &self,
         seat: &mut CallerSeat,
         held: &Exclusive,
+        start: usize,
         from: u64,
         into: &mut [u64],
     ) -> Result<(), Halt>
         requires held { IsHeld (line_count self.now) (running self.now) (lawful self.now) (step self.now) seat.old held.now }
+        requires start { StartsAt (running self.now) held.now.replica start }
         requires within { from + length into.old ≤ region_words (line_count self.now) }
         ensures made { OnOk result (LoadsRun (LoadsHeld (line_count self.now) (running self.now) (lawful self.now) (step self.now) held.now) from into.new seat.old seat.new) }
         ensures some { (n : ℕ) × LoadsRun (LoadsHeld (line_count self.now) (running self.now) (lawful self.now) (step self.now) held.now) from (take n into.new) seat.old seat.new }
@@ -68,8 +87,15 @@ pub trait HeldWords {
         ensures halted { OnErr result (Halts (running self.now) seat.old seat.new) };
 
     /// Loads a word of the replica held shared. `Halt` comes exactly where the seat's steps equal its limit.
-    fn load_shared(&self, seat: &mut CallerSeat, held: &SharedHold, at: u64) -> Result<u64, Halt>
+    fn load_shared(
+        &self,
+        seat: &mut CallerSeat,
+        held: &SharedHold,
+        start: usize,
+        at: u64,
+    ) -> Result<u64, Halt>
         requires held { IsHeldShared (line_count self.now) (running self.now) (lawful self.now) seat.old held.now }
+        requires start { StartsAt (running self.now) held.now.replica start }
         requires at { at < region_words (line_count self.now) }
         ensures made { IfOk result (λ v. LoadsShared (line_count self.now) (running self.now) (lawful self.now) held.now at v seat.old seat.new) }
         ensures halted { OnErr result (Halts (running self.now) seat.old seat.new) };
@@ -80,10 +106,12 @@ pub trait HeldWords {
         &self,
         seat: &mut CallerSeat,
         held: &SharedHold,
+        start: usize,
         from: u64,
         into: &mut [u64],
     ) -> Result<(), Halt>
         requires held { IsHeldShared (line_count self.now) (running self.now) (lawful self.now) seat.old held.now }
+        requires start { StartsAt (running self.now) held.now.replica start }
         requires within { from + length into.old ≤ region_words (line_count self.now) }
         ensures made { OnOk result (LoadsRun (LoadsShared (line_count self.now) (running self.now) (lawful self.now) held.now) from into.new seat.old seat.new) }
         ensures some { (n : ℕ) × LoadsRun (LoadsShared (line_count self.now) (running self.now) (lawful self.now) held.now) from (take n into.new) seat.old seat.new }
@@ -102,19 +130,34 @@ impl<O: Object> HeldWords for Shared<O> {
 
     ghost step = { λ s. O.step s.object };
 
+    fn start_held(&self, seat: &CallerSeat, held: &Exclusive) -> usize {
+        self.start_of(seat, held.replica() as u64)
+    }
+
+    fn start_shared(&self, seat: &CallerSeat, held: &SharedHold) -> usize {
+        self.start_of(seat, held.replica() as u64)
+    }
+
     #[inline]
-    fn load_held(&self, seat: &mut CallerSeat, held: &Exclusive, at: u64) -> Result<u64, Halt> {
-        load_one(self, seat, held.replica() as u64, at)
+    fn load_held(
+        &self,
+        seat: &mut CallerSeat,
+        held: &Exclusive,
+        start: usize,
+        at: u64,
+    ) -> Result<u64, Halt> {
+        load_one(self, seat, held.replica() as u64, start, at)
     }
 
     fn load_held_words(
         &self,
         seat: &mut CallerSeat,
         held: &Exclusive,
+        start: usize,
         from: u64,
         into: &mut [u64],
     ) -> Result<(), Halt> {
-        load_run(self, seat, held.replica() as u64, from, into)
+        load_run(self, seat, held.replica() as u64, start, from, into)
     }
 
     fn store_held(
@@ -128,18 +171,25 @@ impl<O: Object> HeldWords for Shared<O> {
     }
 
     #[inline]
-    fn load_shared(&self, seat: &mut CallerSeat, held: &SharedHold, at: u64) -> Result<u64, Halt> {
-        load_one(self, seat, held.replica() as u64, at)
+    fn load_shared(
+        &self,
+        seat: &mut CallerSeat,
+        held: &SharedHold,
+        start: usize,
+        at: u64,
+    ) -> Result<u64, Halt> {
+        load_one(self, seat, held.replica() as u64, start, at)
     }
 
     fn load_shared_words(
         &self,
         seat: &mut CallerSeat,
         held: &SharedHold,
+        start: usize,
         from: u64,
         into: &mut [u64],
     ) -> Result<(), Halt> {
-        load_run(self, seat, held.replica() as u64, from, into)
+        load_run(self, seat, held.replica() as u64, start, from, into)
     }
 }
 
@@ -150,13 +200,15 @@ fn load_one<O: Object>(
     shared: &Shared<O>,
     seat: &mut CallerSeat,
     r: u64,
+    start: usize,
     i: u64,
 ) -> Result<u64, Halt>
-    requires { MayStep O.Object shared.now (LoadWord r i false) seat.old }
+    requires may { MayStep O.Object shared.now (LoadWord r i false) seat.old }
+    requires start { StartsAt shared.now r start }
     ensures { MakesFittingStep O.Object shared.now seat.old seat.new result (λ found. Steps shared.now O.step O.only_reads (LoadWord r i false) found seat.old seat.new) }
 {
     let mut one = [0; 1];
-    if i > 0 && shared.load_words(seat, r, i, &mut one) {
+    if i > 0 && shared.load_words(seat, r, start, i, &mut one) {
         return Ok(one[0]);
     }
     load_alone(shared, seat, r, i)
@@ -183,17 +235,19 @@ pub(crate) fn load_run<O: Object>(
     shared: &Shared<O>,
     seat: &mut CallerSeat,
     r: u64,
+    start: usize,
     from: u64,
     into: &mut [u64],
 ) -> Result<(), Halt>
     requires seat { IsSeatOf shared.now seat.old × (from + length into.old < 2 ^ 64) }
+    requires start { StartsAt shared.now r start }
     requires guard { (i : ℕ) → i < length into.old → CanLoad shared.now.callers (length shared.now.base.words) r (from + i) seat.old.known.local }
     ensures made { OnOk result (Runs shared.now O.step O.only_reads (O.lawful shared.now.object) (loads_from r from) into.new seat.old seat.new) }
     ensures halted { OnErr result (EndsRun O.Object shared.now (loads_from r from) into.new seat.old seat.new) }
     ensures length { length into.new ≡ length into.old }
 {
     // the place is noted by itself, and where fewer steps are left the first words are loaded all the same
-    if from > 0 && shared.load_words(seat, r, from, into) {
+    if from > 0 && shared.load_words(seat, r, start, from, into) {
         return Ok(());
     }
     load_each(shared, seat, r, from, into)

@@ -1,10 +1,10 @@
 use Rattle.std.proofs.Common.{false, ◌+◌, ◌*◌, ◌<◌, ◌∷◌, [], ℕ, List, length, refl, sym, ap, ◌∙◌, subst, arith}
 use Rattle.std.proofs.lemmas.List.{length-set}
 use Rattle.atomic_table.specs.Table.{Me}
-use Rattle.cx_core.specs.Layout.{vol_at}
+use Rattle.cx_core.proofs.LayoutLemmas.{vol_within}
 use Rattle.cx_core.specs.RegionEvents.{CanLoad}
 use Rattle.cx_rule.specs.declared.rule.Known.{Known}
-use Rattle.cx_rule.specs.Running.{Running, instance_at}
+use Rattle.cx_rule.specs.Running.{IsRunning, instance_at}
 use Rattle.cx_rule.specs.Seats.{known_of}
 use Rattle.cx_rule.proofs.Giving.{learns_load}
 use Rattle.cx_table.specs.Runs.{loads_from}
@@ -20,19 +20,22 @@ loop-i-init g c = record {
   length = refl;
 }
 
-pub vol_at-word-requires-clause-replica : goal.vol_at-word-requires-clause-replica
-vol_at-word-requires-clause-replica g c =
-    subst (λ n. c.args.r < 2 * n) (sym (ap (λ (x : Running _). x.callers) c.self.view_is)) (c.loop-i.invariant.may c.loop-i.i (omega (arith, c.loop-i-test.true, c.loop-i.invariant.length))).0
+pub learned-requires-clause-on : goal.learned-requires-clause-on
+learned-requires-clause-on g c =
+    let t = c.args.self.now in
+    let may = c.loop-i.invariant.may c.loop-i.i (omega (arith, c.loop-i-test.true, c.loop-i.invariant.length)) in
+    let running = subst (IsRunning g.O.Object.line_count g.O.Object.lawful) c.self.view_is c.self.invariant.0 in
+    record {
+      table_is = c.loop-i.invariant.table;
+      one = c.loop-i.invariant.one;
+      within = omega (arith, c.requires.start, running.words, vol_within t.callers (length t.base.words) c.args.r (c.args.from + c.loop-i.i) may.0 may.1);
+    }
 
 pub learned-requires-clause-learns : goal.learned-requires-clause-learns
 learned-requires-clause-learns g c =
     let t = c.args.self.now in
     let may = c.loop-i.invariant.may c.loop-i.i (omega (arith, c.loop-i-test.true, c.loop-i.invariant.length)) in
-    learns_load (instance_at t g.O.Object.step g.O.Object.only_reads) c.args.r (c.args.from + c.loop-i.i) false (known_of c.loop-i.seat.me.0) _
-    (subst (λ n. CanLoad t.callers n c.args.r (c.args.from + c.loop-i.i) (known_of c.loop-i.seat.me.0).local) c.requires.region may)
-    (c.vol_at-word.ensures.value
-    ∙ ap (λ n. vol_at c.self.inside.callers.number n c.args.r (c.args.from + c.loop-i.i)) c.requires.region
-    ∙ ap (λ (x : Running _). vol_at x.callers (length t.base.words) c.args.r (c.args.from + c.loop-i.i)) c.self.view_is)
+    learns_load (instance_at t g.O.Object.step g.O.Object.only_reads) c.args.r (c.args.from + c.loop-i.i) false (known_of c.loop-i.seat.me.0) _ may (omega (arith, c.requires.start))
 
 pub loop-i-preserved : goal.loop-i-preserved
 loop-i-preserved g c =
@@ -44,8 +47,8 @@ loop-i-preserved g c =
     record {
       table = c.learned.ensures.table ∙ c.loop-i.invariant.table;
       one = taught.knows ∙ ap (λ k. (k ∷ [], [])) (sym known);
-      may = λ j below. subst (λ (k : Known). CanLoad t.callers c.args.region c.args.r (c.args.from + j) k.local) (sym known)
-          (may_still instance t.callers c.args.region c.args.r (c.args.from + j) c.args.r (c.args.from + i) c.learned.result (known_of c.loop-i.seat.me.0) (c.loop-i.invariant.may j (subst (λ n. j < n) (length-set c.loop-i.into i c.learned.result) below)));
+      may = λ j below. subst (λ (k : Known). CanLoad t.callers (length t.base.words) c.args.r (c.args.from + j) k.local) (sym known)
+          (may_still instance t.callers (length t.base.words) c.args.r (c.args.from + j) c.args.r (c.args.from + i) c.learned.result (known_of c.loop-i.seat.me.0) (c.loop-i.invariant.may j (subst (λ n. j < n) (length-set c.loop-i.into i c.learned.result) below)));
       taught = taught_on instance (loads_from c.args.r c.args.from) c.loop-i.into i c.learned.result c.args.seat.now.me c.loop-i.seat.me c.learned.new.seat.me (omega (arith, c.loop-i-test.true, c.loop-i.invariant.length)) c.loop-i.invariant.taught taught;
       length = length-set c.loop-i.into i c.learned.result ∙ c.loop-i.invariant.length;
     }

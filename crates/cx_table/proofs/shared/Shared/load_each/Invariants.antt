@@ -10,7 +10,7 @@ abbrev pub invariant-loop-i : goal.invariant-loop-i
 invariant-loop-i g l = record {
   table : l.seat.table_id ≡ l.self.table;
   one : l.seat.me ≡ (known_of l.seat.me.0 ∷ [], []);
-  may : (i : ℕ) → i < length l.into → CanLoad l.self.callers l.region l.r (l.from + i) (known_of l.seat.me.0).local;
+  may : (i : ℕ) → i < length l.into → CanLoad l.self.callers (length l.self.base.words) l.r (l.from + i) (known_of l.seat.me.0).local;
   taught : TeachesRun (instance_at l.self g.O.Object.step g.O.Object.only_reads) (loads_from l.r l.from) (take l.i l.into) l.fn.seat.me l.seat.me;
   length : length l.into ≡ length l.fn.into;
 }

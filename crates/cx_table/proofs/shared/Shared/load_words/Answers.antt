@@ -10,10 +10,7 @@ use Rattle.cx_table.proofs.Runs.{kept_loading, led_to, may_still, numbers_loaded
 use Rattle.cx_table.proofs.shared.Shared.load_words.Goals as goal
 
 pub load_each-requires-clause-guard : goal.load_each-requires-clause-guard
-load_each-requires-clause-guard g c = λ i below. (
-    let region : length c.args.self.now.base.words ≡ c.region-region.result = sym (c.region-region.ensures ∙ ap (λ (s : Seated). s.region) c.seat.view_is ∙ c.requires.seat.0.region) in
-    subst (λ n. CanLoad c.args.self.now.callers n c.args.r (c.args.from + i) (known_of c.seat.inside.seat.me.0).local) region
-    (subst (λ (s : Seated). CanLoad c.args.self.now.callers (length c.args.self.now.base.words) c.args.r (c.args.from + i) s.known.local) (sym c.seat.view_is) (c.requires.guard i below)))
+load_each-requires-clause-guard g c = λ i below. subst (λ (s : Seated). CanLoad c.args.self.now.callers (length c.args.self.now.base.words) c.args.r (c.args.from + i) s.known.local) (sym c.seat.view_is) (c.requires.guard i below)
 
 -- what the loads lead to
 loads_lead : (g : _) (c : goal.After-slice_known-2-1 g) →

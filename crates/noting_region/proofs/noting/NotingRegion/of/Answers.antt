@@ -7,6 +7,7 @@ invariant_of-result g c =
     let seat = c.args.seat.now in
     record {
       of = c.requires.held;
+      starts = c.start_held-start.ensures;
       within = c.steps-steps.ensures.within;
       place = c.requires.begins.place;
       notes = λ all. kept_none (g.T.HeldWords.line_count table) (g.T.HeldWords.running table) (g.T.HeldWords.lawful table) (g.T.HeldWords.step table) g.J.Began.known seat seat c.clear.new.self c.requires.begins.same c.clear.ensures;

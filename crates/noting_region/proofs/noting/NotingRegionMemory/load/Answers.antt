@@ -16,6 +16,7 @@ invariant_of-self g c =
     let after = held_still lines r lawful step region.held.now region.seat.now last (λ (v : ℕ). (false, c.args.at, v)) c.load_held.result e.made e.halted region.of region.within region.place in
     record {
       of = after.0;
+      starts = region.starts;
       within = after.1;
       place = after.2;
       notes = kept_loaded lines r lawful step g.J.Began.known region.seat.now last region.set.now region.whole c.args.at c.load_held.result

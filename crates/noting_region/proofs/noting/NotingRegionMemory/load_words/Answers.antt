@@ -20,6 +20,7 @@ invariant_of-self g c =
     let read = stands_run lines r lawful step region.held.now c.args.at words region.seat.now last some.1 in
     record {
       of = after.0;
+      starts = region.starts;
       within = after.1;
       place = after.2 refl;
       notes = λ all. ∥∥₁_map (region.notes all) (λ n. record { within = n.within; leads = record { from = λ first now s. n.leads.from first now (read.from first now s).0 } });

@@ -20,11 +20,12 @@ invariant_of-self-2 g c =
     elim c.if-self.branch [
       | then-self w ↦ rw w.self-is (rw w.self2-is (record {
         of = after.0;
+        starts = region.starts;
         within = after.1;
         place = after.2;
         notes = λ noted. kept_stored lines r lawful step g.J.Began.known region.seat.now last region.set.now c.args.at c.args.v w.note-self.new.self c.requires.at w.note-self.ensures.within (w.note-self.ensures.last noted) stored (region.notes w.if-self.true);
       }))
-      | else-self w ↦ rw w.self-is (rw w.self2-is (record { of = after.0; within = after.1; place = after.2; notes = λ noted. absurd (true≢false (sym noted ∙ w.if-self.false)) }))
+      | else-self w ↦ rw w.self-is (rw w.self2-is (record { of = after.0; starts = region.starts; within = after.1; place = after.2; notes = λ noted. absurd (true≢false (sym noted ∙ w.if-self.false)) }))
     ]
 
 pub returns-clause-stands : goal.returns-clause-stands

@@ -8,7 +8,7 @@ invariant_of-self g c =
     let table = region.table.now in
     let e = c.load_held.ensures in
     let after = held_after (g.T.HeldWords.line_count table) (g.T.HeldWords.running table) (g.T.HeldWords.lawful table) (g.T.HeldWords.step table) region.held.now region.seat.now c.load_held.new.seat (λ (v : ℕ). (false, c.args.at, v)) region.placed c.load_held.result e.made e.halted region.of region.within region.place in
-    record { of = after.0; within = after.1; place = after.2 }
+    record { of = after.0; starts = region.starts; within = after.1; place = after.2 }
 
 pub returns-clause-stands : goal.returns-clause-stands
 returns-clause-stands g c =

@@ -10,7 +10,7 @@ invariant_of-self g c =
     let table = region.table.now in
     let some = c.load_held_words.ensures.some in
     let after = held_run (g.T.HeldWords.line_count table) (g.T.HeldWords.running table) (g.T.HeldWords.lawful table) (g.T.HeldWords.step table) region.held.now c.args.at (take some.0 c.load_held_words.new.into) region.seat.now c.load_held_words.new.seat region.placed some.1 region.of region.within region.place in
-    record { of = after.0; within = after.1; place = after.2 }
+    record { of = after.0; starts = region.starts; within = after.1; place = after.2 }
 
 pub returns-clause-read : goal.returns-clause-read
 returns-clause-read g c =

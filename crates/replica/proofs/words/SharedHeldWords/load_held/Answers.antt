@@ -1,8 +1,8 @@
 use Rattle.replica.proofs.Access.{load_guard, made_by_load}
 use Rattle.replica.proofs.words.SharedHeldWords.load_held.Goals as goal
 
-pub load_one-requires : goal.load_one-requires
-load_one-requires g c = record { seat = c.requires.held.of; guard = load_guard _ c.args.self.now _ (g.O.Object.step c.args.self.now.object) c.args.held.now c.replica.result c.args.at c.args.seat.now c.replica.ensures c.requires.held c.requires.at }
+pub load_one-requires-clause-may : goal.load_one-requires-clause-may
+load_one-requires-clause-may g c = record { seat = c.requires.held.of; guard = load_guard _ c.args.self.now _ (g.O.Object.step c.args.self.now.object) c.args.held.now c.replica.result c.args.at c.args.seat.now c.replica.ensures c.requires.held c.requires.at }
 
 pub returns-clause-made : goal.returns-clause-made
 returns-clause-made g c =
