@@ -43,9 +43,9 @@ fn part_clients(
 }
 
 impl<O: Object> Pool<O> {
-    /// Closes the pool and its service: all callers are gathered, those in the queue and those that clients keep, each once and in whatever state it is. The
-    /// calls that the clients were told are those that the callers show as answered, each once, but for at most one of each stopped caller, which was told to
-    /// nobody. `Err` is want of memory alone, and hands back the service, all its callers, of caller 0 first, and what the clients were answered.
+    /// Closes the pool and its service, given all its clients, of client 0 first: all callers are gathered, those in the queue and those that clients keep,
+    /// each once and in whatever state it is. The calls that the clients were told are those that the callers show as answered, each once, but for at most
+    /// one of each stopped caller, which was told to nobody. `Err` is want of memory alone, and hands back the service, all its callers, of caller 0 first, and what the clients were answered.
     pub fn close<R: Wait>(
         self,
         rt: &R,

@@ -129,8 +129,8 @@ fn new_clients<O: Object>(
 }
 
 impl<O: Object> Pool<O> {
-    /// Opens a pool: the callers of a service, which made no call that is answered, and so many clients of theirs. The probe is an operation that only reads.
-    /// `Err` is want of memory alone, and hands back what was given.
+    /// Opens a pool: all callers of a service, of caller 0 first, none of which has linked an entry, and so many clients of theirs, 1 to 64. The probe is
+    /// an operation that only reads. `Err` is want of memory alone, and hands back what was given.
     pub fn open<R: Wait>(
         rt: &R,
         alloc: Global,

@@ -31,8 +31,8 @@ fn enter<O: Object, R: Wait>(
 }
 
 impl<O: Object> Pool<O> {
-    /// Enters an operation into the queue for a client, by a caller that has seen all that the client was answered before. It waits for a caller, and
-    /// for those who link and publish. `Full`, `Worn` and `Stopped` come only where the service answered the caller so in this call: the client keeps
+    /// Enters an operation into the queue for a client that was not told `Stopped`, by a caller that has seen all that the client was answered before. It
+    /// waits for a caller, and for those who link and publish. `Full`, `Worn` and `Stopped` come only where the service answered the caller so in this call: the client keeps
     /// it, and its answers and its floor are as before. `Memory` is want of room for the answer, and leaves all as it was.
     pub fn update<R: Wait>(&self, rt: &R, client: &mut Client, op: &[u64; 144]) -> Pooled
         requires pool { IsPool O.only_reads self.now }
