@@ -1,8 +1,8 @@
 //! The kernels. A line is 8 words, so it is one vector of eight `u64`, and no words of a line are left over. Addresses are
 //! taken eight at once; those that fill no vector go through a plain loop.
 
-ghost use Rattle.std.specs.Prelude.{◌≡◌, ◌+◌, ◌*◌, ◌/◌, ◌<◌, ◌≤◌, ◌↔◌, All, IsTrue, length};
-ghost use Rattle.line_lanes.specs.Lines.{AddsMarks, DifferSomewhere, DiffersInLine, MarksLines, TouchesLine, is_line_of, is_touched};
+ghost use Rattle.std.specs.Prelude.{◌≡◌, ◌≢◌, ◌+◌, ◌*◌, ◌/◌, ◌<◌, ◌≤◌, ◌↔◌, All, IsTrue, length, slice_index};
+ghost use Rattle.line_lanes.specs.Lines.{AddsMarks, AgreeFrom, DifferSomewhere, DiffersInLine, MarksLines, TouchesLine, is_line_of, is_touched};
 
 use std::simd::prelude::*;
 
@@ -20,6 +20,44 @@ pub fn differing(a: &[u64], b: &[u64], out: &mut [bool])
             u64x8::from_slice(&b[first..]),
         );
     }
+}
+
+/// The first place from one on at which two lists of words of one length differ, their length where that is none.
+#[inline]
+pub fn first_apart(a: &[u64], b: &[u64], from: usize) -> usize
+    requires long { length a.now ≡ length b.now }
+    requires from { from ≤ length a.now }
+    ensures least { from ≤ result }
+    ensures most { result ≤ length a.now }
+    ensures same { AgreeFrom a.now b.now from result }
+    ensures apart { result < length a.now → slice_index a.now result ≢ slice_index b.now result }
+{
+    for at in same_eights(a, b, from)..a.len() {
+        if a[at] != b[at] {
+            return at;
+        }
+    }
+    a.len()
+}
+
+// A place up to which two lists of words are the same from one on, eight words at a time.
+#[inline(always)]
+fn same_eights(a: &[u64], b: &[u64], from: usize) -> usize
+    requires long { length a.now ≡ length b.now }
+    requires from { from ≤ length a.now }
+    ensures least { from ≤ result }
+    ensures most { result ≤ length a.now }
+    ensures same { AgreeFrom a.now b.now from result }
+{
+    let mut at = from;
+    while a.len() - at >= 8 {
+        let differs = differ(u64x8::from_slice(&a[at..]), u64x8::from_slice(&b[at..]));
+        if differs {
+            return at;
+        }
+        at += 8;
+    }
+    at
 }
 
 // Whether two lines differ: the words' differences, gathered into one word, are not 0. On x86-64 with SSE4.1 that is four
