@@ -47,21 +47,20 @@ gathered_differ xs ys long = (
   λ d. elim (cases_eq (gathered 0 xs ys) 0) [ inl none ↦ absurd (d.1 ((same_lanes 0 xs ys long none).1 d.0)) | inr some ↦ ap not (ne_eqb _ _ some) ],
 )
 
--- a lane of eight words of a list
-lane_of : (xs : List ℕ) (i lane at : ℕ) → i + lane ≡ at → lane < 8 → get_or xs at 0 ≡ get_or (chunk i 8 xs) lane 0
-lane_of xs i lane at back within = ap (λ k. get_or xs k 0) (sym back) ∙ sym (get_or-chunk i 8 xs lane 0 within)
+-- a lane of so many words of a list
+lane_of : (n : ℕ) (xs : List ℕ) (i lane at : ℕ) → i + lane ≡ at → lane < n → get_or xs at 0 ≡ get_or (chunk i n xs) lane 0
+lane_of n xs i lane at back within = ap (λ k. get_or xs k 0) (sym back) ∙ sym (get_or-chunk i n xs lane 0 within)
 
--- where no lane of eight words differs, the lists agree on
-pub eight_agree : (a b : List ℕ) (from i : ℕ) → (DifferSomewhere (chunk i 8 a) (chunk i 8 b) → ⊥) → AgreeFrom a b from i → AgreeFrom a b from (i + 8)
-eight_agree a b from i none same at least most = elim (cases_lt at i) [
+-- where no lane of sixteen words differs, the lists agree on
+pub sixteen_agree : (a b : List ℕ) (from i : ℕ) → (DifferSomewhere (chunk i 16 a) (chunk i 16 b) → ⊥) → AgreeFrom a b from i → AgreeFrom a b from (i + 16)
+sixteen_agree a b from i none same at least most = elim (cases_lt at i) [
   | inl before ↦ same at least before
   | inr past ↦ elim (cases_eq (get_or a at 0) (get_or b at 0)) [
     | inl e ↦ e
     | inr other ↦ (
-        let lane : ℕ = at - i in
         let back : i + (at - i) ≡ at = omega arith in
-        let within : at - i < 8 = omega arith in
-        absurd (none (lane, λ e. other (lane_of a i (at - i) at back within ∙ e ∙ sym (lane_of b i (at - i) at back within)))))
+        let within : at - i < 16 = omega arith in
+        absurd (none (at - i, λ e. other (lane_of 16 a i (at - i) at back within ∙ e ∙ sym (lane_of 16 b i (at - i) at back within)))))
   ]
 ]
 
@@ -77,7 +76,7 @@ line_differs a b line in_a in_b = (
       let lane : ℕ = d.0 - 8 * line in
       let within : lane < 8 = omega (arith, d.1) in
       let back : 8 * line + lane ≡ d.0 = omega (arith, d.1) in
-      (lane, λ same. d.2 (lane_of a (8 * line) lane d.0 back within ∙ same ∙ sym (lane_of b (8 * line) lane d.0 back within))),
+      (lane, λ same. d.2 (lane_of 8 a (8 * line) lane d.0 back within ∙ same ∙ sym (lane_of 8 b (8 * line) lane d.0 back within))),
 )
   where
     nothing : (xs : List ℕ) (lane : ℕ) → 8 * line + 8 ≤ length xs → 8 ≤ lane → get_or (chunk (8 * line) 8 xs) lane 0 ≡ 0

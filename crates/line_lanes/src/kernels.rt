@@ -32,7 +32,11 @@ pub fn first_apart(a: &[u64], b: &[u64], from: usize) -> usize
     ensures same { AgreeFrom a.now b.now from result }
     ensures apart { result < length a.now → slice_index a.now result ≢ slice_index b.now result }
 {
-    for at in same_eights(a, b, from)..a.len() {
+    // words that differ often stand one behind the other
+    if from < a.len() && a[from] != b[from] {
+        return from;
+    }
+    for at in same_sixteens(a, b, from)..a.len() {
         if a[at] != b[at] {
             return at;
         }
@@ -40,9 +44,9 @@ pub fn first_apart(a: &[u64], b: &[u64], from: usize) -> usize
     a.len()
 }
 
-// A place up to which two lists of words are the same from one on, eight words at a time.
+// A place up to which two lists of words are the same from one on, sixteen words at a time.
 #[inline(always)]
-fn same_eights(a: &[u64], b: &[u64], from: usize) -> usize
+fn same_sixteens(a: &[u64], b: &[u64], from: usize) -> usize
     requires long { length a.now ≡ length b.now }
     requires from { from ≤ length a.now }
     ensures least { from ≤ result }
@@ -50,14 +54,23 @@ fn same_eights(a: &[u64], b: &[u64], from: usize) -> usize
     ensures same { AgreeFrom a.now b.now from result }
 {
     let mut at = from;
-    while a.len() - at >= 8 {
-        let differs = differ(u64x8::from_slice(&a[at..]), u64x8::from_slice(&b[at..]));
+    while a.len() - at >= 16 {
+        let differs = differ_in_sixteen(u64x16::from_slice(&a[at..]), u64x16::from_slice(&b[at..]));
         if differs {
             return at;
         }
-        at += 8;
+        at += 16;
     }
     at
+}
+
+// Whether sixteen words differ, as two lines do.
+#[inline(always)]
+fn differ_in_sixteen(a: u64x16, b: u64x16) -> bool
+    ensures { IsTrue result ↔ DifferSomewhere a b }
+{
+    let apart = a ^ b;
+    apart.reduce_or() != 0
 }
 
 // Whether two lines differ: the words' differences, gathered into one word, are not 0. On x86-64 with SSE4.1 that is four
