@@ -14,7 +14,7 @@
 //! - A shared right whose words were all loaded, and are the words noted last of the replica held exclusively, is released so that the words
 //!   loaded are what is noted of that replica, with nothing stored since: `release_copied` (`StepsCopied`; `AgreeTo`).
 //! - What is persisted is the word last stored, with no load: `persist`. A seat tells whether a word is dirty and some word that is, if any is:
-//!   `CallerSeat::is_dirty`, `some_dirty`; and the words of its caller's cells: `cell_word`.
+//!   `CallerSeat::is_dirty`, `some_dirty`; and where an operation differs from the one in a cell of its caller's: `cell_apart`.
 //! - No seat makes more steps than its limit: `CallerSeat::steps` (`within`).
 //! - A seat lends the numbers of its caller's local state: `CallerSeat`.
 //! - A table is made with the opening words of a lawful base and one seat for each caller with its limit: `Shared::make` (`IsMade`: `table`,

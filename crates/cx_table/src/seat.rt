@@ -1,6 +1,6 @@
 //! A caller's seat: its right to step, and the numbers of its local state that code reads.
 
-ghost use Rattle.std.specs.Prelude.{◌≡◌, ◌+◌, ◌^◌, ◌<◌, ◌≤◌, ◌↔◌, ℕ, IfNone, IfSome, IsTrue, Some, length, slice_index};
+ghost use Rattle.std.specs.Prelude.{◌≡◌, ◌≢◌, ◌+◌, ◌^◌, ◌<◌, ◌≤◌, ◌↔◌, ℕ, IfNone, IfSome, IsTrue, Some, length, slice_index};
 ghost use Rattle.std.specs.List.{Contains};
 ghost use Rattle.cx_core.specs.Rights.{held_dirty};
 ghost use Rattle.cx_core.specs.QueueEvents.{cell_of};
@@ -111,13 +111,17 @@ impl CallerSeat {
         self.summary.tickets[j as usize]
     }
 
-    /// A word of a cell of the caller, as it was last written.
-    pub fn cell_word(&self, j: u64, i: u64) -> u64
+    /// The first place from one on at which an operation differs from the one in a cell of the caller, as its words were last written, and 144
+    /// where that is none.
+    pub fn cell_apart(&self, j: u64, op: &[u64; 144], from: usize) -> usize
         requires j { j < 16 }
-        requires i { i < 145 }
-        ensures { result ≡ slice_index (cell_of self.now.known.local j).words i }
+        requires from { from ≤ 144 }
+        ensures least { from ≤ result }
+        ensures most { result ≤ 144 }
+        ensures same { (at : ℕ) → from ≤ at → at < result → slice_index (cell_of self.now.known.local j).words (at + 1) ≡ slice_index op.now at }
+        ensures apart { result < 144 → slice_index (cell_of self.now.known.local j).words (result + 1) ≢ slice_index op.now result }
     {
-        self.copy.cell_word(j, i)
+        self.copy.cell_apart(j, op, from)
     }
 
     /// The caller's own entry with a ticket, where a cell has it: its words are those last written there. It is false where no cell

@@ -1,5 +1,5 @@
 -- Texts that are packed into words: what is behind them, and their bytes.
-use Rattle.std.proofs.Common.{◌≡◌, ℕ, ◌+◌, ◌-◌, ◌*◌, ◌/◌, ◌%◌, ◌^◌, ◌<◌, ◌≤◌, inl, inr, List, length, get_or, drop, max, All, sym, ap, ap₂, ◌∙◌, zero-add, arith}
+use Rattle.std.proofs.Common.{◌≡◌, ℕ, ◌+◌, ◌-◌, ◌*◌, ◌/◌, ◌%◌, ◌^◌, ◌<◌, ◌≤◌, inl, inr, List, length, get_or, drop, max, All, sym, ap, ap₂, subst, ◌∙◌, zero-add, arith}
 use Rattle.std.specs.Int.{bit_at}
 use Rattle.std.specs.Int.RustNames.{bit_or}
 use Rattle.std.proofs.lemmas.Nat.{shr-shr, shr_le}
@@ -9,7 +9,7 @@ use Rattle.std.proofs.lemmas.List.{get_or_past, get_or_default, get_or-drop}
 use Rattle.std.proofs.lemmas.List.FromFn.{length-map-range_with_len, get_or-map-range_with_len}
 use Rattle.cx_base.specs.Packing.{byte_at, packed, packed_at, unpacked}
 use Rattle.cx_base.proofs.PackingLemmas.{packed_byte, word_of_bytes}
-use Rattle.doc_model.specs.WordParts.{IsPadded, IsShortText}
+use Rattle.doc_model.specs.WordParts.{IsBetween, IsPadded, IsShortText}
 
 -- ---- words that are 0
 
@@ -66,6 +66,23 @@ byte_of_word words k j below =
     let word : (8 * k + j) / 8 ≡ k = omega arith in
     let byte : (8 * k + j) % 8 ≡ j = omega arith in
     ap₂ (λ m n. get_or words m 0 / 2 ^ (8 * n) % 256) word byte
+
+-- the bytes of a word that are all between two numbers, where they stand
+pub more_between : (words : List ℕ) (least most at : ℕ) → ((i : ℕ) → i < 8 → IsBetween least most (get_or words at 0 / 2 ^ (8 * i) % 256))
+    → ((k : ℕ) → k < 8 * at → IsBetween least most (byte_at words k)) → (k : ℕ) → k < 8 * (at + 1) → IsBetween least most (byte_at words k)
+more_between words least most at here before k below = elim (cases_lt k (8 * at)) [
+  | inl less ↦ before k less
+  | inr from ↦ (
+      let place : 8 * at + (k - 8 * at) ≡ k = omega arith in
+      let within : k - 8 * at < 8 = omega arith in
+      let byte : get_or words at 0 / 2 ^ (8 * (k - 8 * at)) % 256 ≡ byte_at words k = sym (byte_of_word words at (k - 8 * at) within) ∙ ap (byte_at words) place in
+      subst (IsBetween least most) byte (here (k - 8 * at) within))
+]
+
+-- the other way
+pub word_between : (words : List ℕ) (least most len at : ℕ) → at < len / 8 → ((k : ℕ) → k < len → IsBetween least most (byte_at words k))
+    → (i : ℕ) → i < 8 → IsBetween least most (get_or words at 0 / 2 ^ (8 * i) % 256)
+word_between words least most len at whole all i below = subst (IsBetween least most) (byte_of_word words at i below) (all (8 * at + i) (omega arith))
 
 pub padded_here : (words : List ℕ) (len : ℕ) → ((k : ℕ) → get_or words k 0 < 2 ^ 64) → IsPadded len words → get_or words (len / 8) 0 / 2 ^ (8 * (len % 8)) ≡ 0
 padded_here words len small padded =

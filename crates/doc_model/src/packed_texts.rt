@@ -1,6 +1,6 @@
 //! Texts that are packed into words, told where they stand, so that no byte of them is copied.
 
-ghost use Rattle.std.specs.Prelude.{◌≡◌, ◌*◌, ◌<◌, ◌≤◌, ◌↔◌, ℕ, IsTrue, All, length};
+ghost use Rattle.std.specs.Prelude.{◌≡◌, ◌*◌, ◌/◌, ◌%◌, ◌^◌, ◌<◌, ◌≤◌, ◌↔◌, ℕ, IsTrue, All, length};
 ghost use Rattle.cx_base.specs.Packing.{byte_at};
 ghost use Rattle.doc_model.specs.WordParts.{IsBetween, IsPadded};
 
@@ -29,14 +29,33 @@ pub(crate) fn is_padded(words: &[u64], len: u64) -> bool
     are_zero(&words[whole + 1..])
 }
 
-/// Whether the first bytes are all from one number to another.
-pub(crate) fn are_between(words: &[u64], len: usize, least: u64, most: u64) -> bool
-    requires { len ≤ 8 * length words.now }
-    ensures { IsTrue result ↔ ((i : ℕ) → i < len → IsBetween least most (byte_at words.now i)) }
+/// Whether the bytes of a word are all from one number to another.
+fn is_word_between<const LEAST: u64, const MOST: u64>(word: u64) -> bool
+    ensures { IsTrue result ↔ ((i : ℕ) → i < 8 → IsBetween LEAST MOST (word / 2 ^ (8 * i) % 256)) }
 {
-    for i in 0..len {
+    for i in 0..8u64 {
+        let byte = (word >> (8 * i)) % 256;
+        if byte < LEAST || byte > MOST {
+            return false;
+        }
+    }
+    true
+}
+
+/// Whether the first bytes are all from one number to another. Those of whole words are told word by word.
+pub(crate) fn are_between<const LEAST: u64, const MOST: u64>(words: &[u64], len: usize) -> bool
+    requires { len ≤ 8 * length words.now }
+    ensures { IsTrue result ↔ ((i : ℕ) → i < len → IsBetween LEAST MOST (byte_at words.now i)) }
+{
+    let whole = len / 8;
+    for at in 0..whole {
+        if !is_word_between::<LEAST, MOST>(words[at]) {
+            return false;
+        }
+    }
+    for i in 8 * whole..len {
         let byte = (words[i / 8] >> (8 * (i % 8))) % 256;
-        if byte < least || byte > most {
+        if byte < LEAST || byte > MOST {
             return false;
         }
     }

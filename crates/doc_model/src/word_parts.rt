@@ -139,7 +139,7 @@ impl<'a, const N: usize> Text<'a, N> {
         if self.len == 0 || self.len > 64 {
             return false;
         }
-        are_between(self.words, self.len, 0x21, 0x7E)
+        are_between::<0x21, 0x7E>(self.words, self.len)
     }
 
     pub(crate) fn is_document(&self) -> bool
@@ -148,7 +148,7 @@ impl<'a, const N: usize> Text<'a, N> {
         if self.len == 0 || self.len > 1024 {
             return false;
         }
-        are_between(self.words, self.len, 0x20, 0xFF)
+        are_between::<0x20, 0xFF>(self.words, self.len)
     }
 
     /// Copies the bytes. `Err` is want of memory.

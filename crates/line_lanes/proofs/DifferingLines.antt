@@ -6,7 +6,7 @@ use Rattle.std.proofs.lemmas.Nat.{and_le_l, and_le_r}
 use Rattle.std.proofs.lemmas.List.{get_or_past}
 use Rattle.std.proofs.lemmas.Simd.{get_or-chunk, length-chunk}
 use lib.Lanes.{chunk, fold_l, zip2}
-use Rattle.line_lanes.specs.Lines.{DifferSomewhere, DiffersInLine}
+use Rattle.line_lanes.specs.Lines.{AgreeFrom, DifferSomewhere, DiffersInLine}
 
 -- the differences of two vectors, gathered over those that were gathered before
 abbrev pub gathered : ℕ → List ℕ → List ℕ → ℕ
@@ -47,6 +47,23 @@ gathered_differ xs ys long = (
   λ d. elim (cases_eq (gathered 0 xs ys) 0) [ inl none ↦ absurd (d.1 ((same_lanes 0 xs ys long none).1 d.0)) | inr some ↦ ap not (ne_eqb _ _ some) ],
 )
 
+-- a lane of so many words of a list
+lane_of : (n : ℕ) (xs : List ℕ) (i lane at : ℕ) → i + lane ≡ at → lane < n → get_or xs at 0 ≡ get_or (chunk i n xs) lane 0
+lane_of n xs i lane at back within = ap (λ k. get_or xs k 0) (sym back) ∙ sym (get_or-chunk i n xs lane 0 within)
+
+-- where no lane of sixteen words differs, the lists agree on
+pub sixteen_agree : (a b : List ℕ) (from i : ℕ) → (DifferSomewhere (chunk i 16 a) (chunk i 16 b) → ⊥) → AgreeFrom a b from i → AgreeFrom a b from (i + 16)
+sixteen_agree a b from i none same at least most = elim (cases_lt at i) [
+  | inl before ↦ same at least before
+  | inr past ↦ elim (cases_eq (get_or a at 0) (get_or b at 0)) [
+    | inl e ↦ e
+    | inr other ↦ (
+        let back : i + (at - i) ≡ at = omega arith in
+        let within : at - i < 16 = omega arith in
+        absurd (none (at - i, λ e. other (lane_of 16 a i (at - i) at back within ∙ e ∙ sym (lane_of 16 b i (at - i) at back within)))))
+  ]
+]
+
 -- the vectors of a line differ where the lists do
 pub line_differs : (a b : List ℕ) (line : ℕ) → 8 * line + 8 ≤ length a → 8 * line + 8 ≤ length b
     → DifferSomewhere (chunk (8 * line) 8 a) (chunk (8 * line) 8 b) ↔ DiffersInLine a b line
@@ -59,11 +76,8 @@ line_differs a b line in_a in_b = (
       let lane : ℕ = d.0 - 8 * line in
       let within : lane < 8 = omega (arith, d.1) in
       let back : 8 * line + lane ≡ d.0 = omega (arith, d.1) in
-      (lane, λ same. d.2 (word a d.0 lane back within ∙ same ∙ sym (word b d.0 lane back within))),
+      (lane, λ same. d.2 (lane_of 8 a (8 * line) lane d.0 back within ∙ same ∙ sym (lane_of 8 b (8 * line) lane d.0 back within))),
 )
   where
     nothing : (xs : List ℕ) (lane : ℕ) → 8 * line + 8 ≤ length xs → 8 ≤ lane → get_or (chunk (8 * line) 8 xs) lane 0 ≡ 0
     nothing xs lane room past = get_or_past (chunk (8 * line) 8 xs) lane 0 (omega (arith, length-chunk (8 * line) 8 xs room))
-
-    word : (xs : List ℕ) (at lane : ℕ) → 8 * line + lane ≡ at → lane < 8 → get_or xs at 0 ≡ get_or (chunk (8 * line) 8 xs) lane 0
-    word xs at lane back within = ap (λ i. get_or xs i 0) (sym back) ∙ sym (get_or-chunk (8 * line) 8 xs lane 0 within)

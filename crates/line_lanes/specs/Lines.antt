@@ -1,10 +1,14 @@
 -- Which lines two lists of words differ in, and which lines a list of addresses touches. A line is 8 words.
-use Rattle.std.specs.Prelude.{◌≡◌, ◌≢◌, ◌/◌, ◌<◌, ◌↔◌, ◌==◌, ◌||◌, ℕ, Bool, false, IsTrue, List, length, slice_index, slice_index_or}
+use Rattle.std.specs.Prelude.{◌≡◌, ◌≢◌, ◌/◌, ◌<◌, ◌≤◌, ◌↔◌, ◌==◌, ◌||◌, ℕ, Bool, false, IsTrue, List, length, slice_index, slice_index_or}
 use Rattle.std.specs.List.{Any, list_any}
 
 -- two lists of words differ in a line: some word of the line is not the same in both
 abbrev pub DiffersInLine : List ℕ → List ℕ → ℕ → Type 0
 DiffersInLine a b line = (at : ℕ) × (at / 8 ≡ line) × (slice_index a at ≢ slice_index b at)
+
+-- two lists have the same words from one place on to below another
+abbrev pub AgreeFrom : List ℕ → List ℕ → ℕ → ℕ → Type 0
+AgreeFrom a b from to = (at : ℕ) → from ≤ at → at < to → slice_index a at ≡ slice_index b at
 
 -- some address lies in a line
 abbrev pub TouchesLine : List ℕ → ℕ → Type 0

@@ -1,8 +1,8 @@
 //! The kernels. A line is 8 words, so it is one vector of eight `u64`, and no words of a line are left over. Addresses are
 //! taken eight at once; those that fill no vector go through a plain loop.
 
-ghost use Rattle.std.specs.Prelude.{◌≡◌, ◌+◌, ◌*◌, ◌/◌, ◌<◌, ◌≤◌, ◌↔◌, All, IsTrue, length};
-ghost use Rattle.line_lanes.specs.Lines.{AddsMarks, DifferSomewhere, DiffersInLine, MarksLines, TouchesLine, is_line_of, is_touched};
+ghost use Rattle.std.specs.Prelude.{◌≡◌, ◌≢◌, ◌+◌, ◌*◌, ◌/◌, ◌<◌, ◌≤◌, ◌↔◌, All, IsTrue, length, slice_index};
+ghost use Rattle.line_lanes.specs.Lines.{AddsMarks, AgreeFrom, DifferSomewhere, DiffersInLine, MarksLines, TouchesLine, is_line_of, is_touched};
 
 use std::simd::prelude::*;
 
@@ -20,6 +20,57 @@ pub fn differing(a: &[u64], b: &[u64], out: &mut [bool])
             u64x8::from_slice(&b[first..]),
         );
     }
+}
+
+/// The first place from one on at which two lists of words of one length differ, their length where that is none.
+#[inline]
+pub fn first_apart(a: &[u64], b: &[u64], from: usize) -> usize
+    requires long { length a.now ≡ length b.now }
+    requires from { from ≤ length a.now }
+    ensures least { from ≤ result }
+    ensures most { result ≤ length a.now }
+    ensures same { AgreeFrom a.now b.now from result }
+    ensures apart { result < length a.now → slice_index a.now result ≢ slice_index b.now result }
+{
+    // words that differ often stand one behind the other
+    if from < a.len() && a[from] != b[from] {
+        return from;
+    }
+    for at in same_sixteens(a, b, from)..a.len() {
+        if a[at] != b[at] {
+            return at;
+        }
+    }
+    a.len()
+}
+
+// A place up to which two lists of words are the same from one on, sixteen words at a time.
+#[inline(always)]
+fn same_sixteens(a: &[u64], b: &[u64], from: usize) -> usize
+    requires long { length a.now ≡ length b.now }
+    requires from { from ≤ length a.now }
+    ensures least { from ≤ result }
+    ensures most { result ≤ length a.now }
+    ensures same { AgreeFrom a.now b.now from result }
+{
+    let mut at = from;
+    while a.len() - at >= 16 {
+        let differs = differ_in_sixteen(u64x16::from_slice(&a[at..]), u64x16::from_slice(&b[at..]));
+        if differs {
+            return at;
+        }
+        at += 16;
+    }
+    at
+}
+
+// Whether sixteen words differ, as two lines do.
+#[inline(always)]
+fn differ_in_sixteen(a: u64x16, b: u64x16) -> bool
+    ensures { IsTrue result ↔ DifferSomewhere a b }
+{
+    let apart = a ^ b;
+    apart.reduce_or() != 0
 }
 
 // Whether two lines differ: the words' differences, gathered into one word, are not 0. On x86-64 with SSE4.1 that is four

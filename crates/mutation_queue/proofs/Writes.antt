@@ -1,6 +1,6 @@
 -- Having a list of words in a cell: the first is written, and each other that differs.
-use Rattle.std.proofs.Common.{◌≡◌, ◌≢◌, ◌+◌, ◌-◌, ◌<◌, ◌≤◌, ◌⊎◌, ◌==◌, inl, inr, ℕ, zero, suc, min, Bool, true, false, cond, List, [], ◌∷◌, ◌++◌, length, get_or, set, take, drop, slice_index, refl, sym, ap, subst, ◌∙◌, arith, None}
-use Rattle.std.proofs.lemmas.Bool.{eq-eqb, ne_eqb}
+use Rattle.std.proofs.Common.{◌≡◌, ◌≢◌, ◌+◌, ◌-◌, ◌<◌, ◌≤◌, ◌⊎◌, ◌==◌, inl, inr, ℕ, zero, suc, min, Bool, true, false, cond, List, [], ◌∷◌, ◌++◌, length, get_or, set, take, drop, slice_index, refl, sym, ap, subst, ◌∙◌, arith, add-one, None}
+use Rattle.std.proofs.lemmas.Bool.{cases_eq, eq-eqb, ne_eqb}
 use Rattle.std.proofs.lemmas.List.{append-nil, drop_all, get_or-set_other, get_or-set_same, length-drop, set-set, take_all}
 use Rattle.std.proofs.lemmas.Option.{slice_get-get_or}
 use Rattle.cx_core.specs.declared.kinds.Kind.TheVariants.{WriteCell}
@@ -13,7 +13,7 @@ use Rattle.cx_core.specs.Layout.{max_word}
 use Rattle.cx_rule.specs.declared.rule.Noted.{Noted}
 use Rattle.cx_table.specs.Seats.{HasCells, IsAtLimit, IsWithinLimit, Seated, stepped}
 use Rattle.cx_table.specs.Steps.{Steps}
-use Rattle.mutation_queue.specs.Cells.{Announces, HaltsIn, IsAnnounced, WritesDiffering, differing}
+use Rattle.mutation_queue.specs.Cells.{Announces, HaltsIn, IsAnnounced, differing}
 
 -- one word more put over a list
 put_next : (ws old : List ℕ) (n : ℕ) → n < length ws → length old ≡ length ws → set (take n ws ++ drop n old) n (get_or ws n 0) ≡ take (suc n) ws ++ drop (suc n) old
@@ -152,25 +152,34 @@ module _ (s : Seated) (j : ℕ) (ws : List ℕ) (cells : HasCells s.known.local)
         within = made.within;
       }
 
-  -- one word more was written, or stood there already
-  pub has_more : {O : Type 0} (r : Running O) (step : O → List ℕ → List ℕ → List ℕ × List ℕ) (reads : O → List ℕ → Bool) (n v : ℕ) (t u : Seated) → n < 144 → v ≡ slice_index ws (suc n) → HasTo j ws n s t →
-      WritesDiffering r step reads j (suc n) v t u → HasTo j ws (suc n) s u
-  has_more r step reads n v t u below value to (inl same) =
+  -- one word more stands there already
+  one_more_same : (n : ℕ) (t : Seated) → n < 144 → HasTo j ws n s t → slice_index (cell_of t.known.local j).words (n + 1) ≡ slice_index ws (suc n) → HasTo j ws (suc n) s t
+  one_more_same n t below to same =
       let l = s.known.local in
       let old = (cell_of l j).words in
-      let e : get_or old (suc n) 0 ≡ get_or ws (suc n) 0 = sym (next_is n t below to) ∙ same.0 ∙ value in
+      let e : get_or old (suc n) 0 ≡ get_or ws (suc n) 0 = sym (next_is n t below to) ∙ ap (λ i. get_or (cell_of t.known.local j).words i 0) (sym (add-one n)) ∙ same in
       let words = keep_next ws old (suc n) (omega (arith, long)) words_long e in
-      let of_t : HasTo j ws (suc n) s t = record {
+      record {
         is = to.is ∙ ap (λ x. wrote s (set l.cells j (record (cell_of l j) { words = x; ticket = None })) t.known.local.steps s.known.noted) words;
         count = to.count ∙ ap (λ m. min (l.steps + (1 + m)) max_word) (sym (same_more (drop 1 old) (drop 1 ws) n (omega (arith, rest_long, rest_count)) rest_long (behind old n ∙ e ∙ sym (behind ws n))));
         allowed = to.allowed;
         within = to.within;
-      } in
-      subst (HasTo j ws (suc n) s) (sym same.1) of_t
-  has_more r step reads n v t u below value to (inr new) =
+      }
+
+  -- the words up to a further place stand there already
+  pub has_run : (n m : ℕ) (t : Seated) → n ≤ m → m ≤ 144 → HasTo j ws n s t → ((k : ℕ) → n ≤ k → k < m → slice_index (cell_of t.known.local j).words (k + 1) ≡ slice_index ws (suc k)) → HasTo j ws m s t
+  has_run n zero t least most to same = subst (λ k. HasTo j ws k s t) (let e : n ≡ 0 = omega arith in e) to
+  has_run n (suc m) t least most to same = elim (cases_eq n (suc m)) [
+    | inl e ↦ subst (λ k. HasTo j ws k s t) e to
+    | inr ne ↦ one_more_same m t (omega arith) (has_run n m t (omega arith) (omega arith) to (λ k from below. same k from (omega arith))) (same m (omega arith) (omega arith))
+  ]
+
+  -- one word more was written
+  pub has_new : {O : Type 0} (r : Running O) (step : O → List ℕ → List ℕ → List ℕ × List ℕ) (reads : O → List ℕ → Bool) (n v : ℕ) (t u : Seated) → n < 144 → v ≡ slice_index ws (suc n) → HasTo j ws n s t →
+      slice_index (cell_of t.known.local j).words (suc n) ≢ v → Steps r step reads (WriteCell j (suc n) v) 0 t u → HasTo j ws (suc n) s u
+  has_new r step reads n v t u below value to differs made =
       let l = s.known.local in
       let old = (cell_of l j).words in
-      let made = new.1 in
       let cell = cell_with l j ws (suc n) in
       let cells' = set l.cells j cell in
       let steps = t.known.local.steps in
@@ -185,7 +194,7 @@ module _ (s : Seated) (j : ℕ) (ws : List ℕ) (cells : HasCells s.known.local)
       ∙ ap (λ x. stepped (instance_at r step reads) (WriteCell j (suc n) v) x 0) to.is
       ∙ write_one (instance_at r step reads) s j (suc n) v cells' (set l.cells j (cell_with l j ws (suc (suc n)))) steps to_cells in
       let steps' : u.known.local.steps ≡ one_more steps = ap (λ (x : Seated). x.known.local.steps) e in
-      let ne : get_or (drop 1 old) n 0 ≢ get_or (drop 1 ws) n 0 = λ same. new.0 (next_is n t below to ∙ sym (behind old n) ∙ same ∙ behind ws n ∙ sym value) in
+      let ne : get_or (drop 1 old) n 0 ≢ get_or (drop 1 ws) n 0 = λ same. differs (next_is n t below to ∙ sym (behind old n) ∙ same ∙ behind ws n ∙ sym value) in
       let more = differ_more (drop 1 old) (drop 1 ws) n (omega (arith, rest_long, rest_count)) rest_long ne in
       let count = to.count in
       record {

@@ -1,13 +1,11 @@
 -- Cells of a caller, and what is announced in one.
-use Rattle.std.specs.Prelude.{◌≡◌, ◌≢◌, ◌+◌, ◌<◌, ◌≤◌, ◌⊎◌, ◌==◌, ℕ, min, Bool, false, if◌then◌else◌, List, [], ◌∷◌, drop, slice_index, Option, Some, None}
+use Rattle.std.specs.Prelude.{◌≡◌, ◌≢◌, ◌+◌, ◌<◌, ◌≤◌, ◌⊎◌, ◌==◌, ℕ, min, false, if◌then◌else◌, List, [], ◌∷◌, drop, slice_index, Option, Some, None}
 use Rattle.cx_core.specs.declared.entry.Base.{Base}
-use Rattle.cx_core.specs.declared.kinds.Kind.TheVariants.{WriteCell}
 use Rattle.cx_core.specs.declared.local.Local.{Local}
 use Rattle.cx_core.specs.QueueEvents.{IsIdle, cell_of, next_number}
 use Rattle.cx_core.specs.Layout.{max_word}
 use Rattle.cx_table.specs.Running.{IsSeatOf, Running}
 use Rattle.cx_table.specs.Seats.{IsAtLimit, IsWithinLimit, Seated}
-use Rattle.cx_table.specs.Steps.{Steps}
 
 -- a cell holds a ticket at or above the greatest FREE found
 abbrev pub IsInUseAt : ℕ → Option ℕ → Type 0
@@ -33,12 +31,6 @@ differing (x ∷ xs) (y ∷ ys) = (if x == y then 0 else 1) + differing xs ys
 -- from the one there
 abbrev pub writes : Local → ℕ → List ℕ → ℕ
 writes l j words = 1 + differing (drop 1 (cell_of l j).words) (drop 1 words)
-
--- a word that differed from the one in the cell was written by a step, and for one that did not nothing was done
-abbrev pub WritesDiffering : {O : Type 0} → Running O → (O → List ℕ → List ℕ → List ℕ × List ℕ) → (O → List ℕ → Bool) → ℕ → ℕ → ℕ → Seated → Seated → Type 0
-WritesDiffering r step reads j i v before after =
-    ((slice_index (cell_of before.known.local j).words i ≡ v) × (after ≡ before))
-    ⊎ ((slice_index (cell_of before.known.local j).words i ≢ v) × Steps r step reads (WriteCell j i v) 0 before after)
 
 -- The seat is at its limit, which is less than what all the steps need. Some words were written into the cell, which stays
 -- idle, and nothing else is changed but that what was loaded from CUR is then not fresh any more.

@@ -1,11 +1,9 @@
 //! An entry is written into a cell before it is linked.
 
-ghost use Rattle.std.specs.Prelude.{◌≡◌, ◌≢◌, ◌∷◌, OnErr, OnOk, slice_index};
-ghost use Rattle.cx_core.specs.QueueEvents.{cell_of, next_number};
-ghost use Rattle.cx_core.specs.declared.kinds.Kind.TheVariants.{WriteCell};
-ghost use Rattle.cx_table.specs.Calls.{MakesStep, MayStep};
+ghost use Rattle.std.specs.Prelude.{◌≡◌, ◌∷◌, OnErr, OnOk};
+ghost use Rattle.cx_core.specs.QueueEvents.{next_number};
 ghost use Rattle.cx_table.specs.Running.{IsSeatOf};
-ghost use Rattle.mutation_queue.specs.Cells.{Announces, HaltsIn, IsAnnounced, MayAnnounce, WritesDiffering};
+ghost use Rattle.mutation_queue.specs.Cells.{Announces, HaltsIn, IsAnnounced, MayAnnounce};
 
 use cx_base::{Halt, Object};
 use cx_table::{CallerSeat, Shared};
@@ -29,26 +27,10 @@ pub fn announce<O: Object>(
     let j = u64::from(cell);
     let number = seat.next_number();
     shared.write_cell(seat, j, 0, number)?;
-    for i in 0..144 {
-        write_differing(shared, seat, j, i + 1, op[i as usize])?;
+    let mut at = seat.cell_apart(j, op, 0);
+    while at < 144 {
+        shared.write_cell(seat, j, at as u64 + 1, op[at])?;
+        at = seat.cell_apart(j, op, at + 1);
     }
     Ok(())
-}
-
-/// Writes a word into a cell of the caller where it differs from the one there.
-fn write_differing<O: Object>(
-    shared: &Shared<O>,
-    seat: &mut CallerSeat,
-    j: u64,
-    i: u64,
-    v: u64,
-) -> Result<(), Halt>
-    requires { MayStep O.Object shared.now (WriteCell j i v) seat.old }
-    ensures step { MakesStep shared.now seat.old seat.new result (λ _. WritesDiffering shared.now O.step O.only_reads j i v seat.old seat.new) }
-    ensures differs { OnErr result (slice_index (cell_of seat.old.known.local j).words i ≢ v) }
-{
-    if seat.cell_word(j, i) == v {
-        return Ok(());
-    }
-    shared.write_cell(seat, j, i, v)
 }

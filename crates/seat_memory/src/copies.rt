@@ -7,6 +7,7 @@ ghost use Rattle.seat_memory.specs.Copies.{blank_copy};
 
 use crate::marks::Marks;
 use cx_core::Entry;
+use line_lanes::first_apart;
 use std::alloc::{AllocError, Global};
 use std::marker::Model;
 
@@ -110,12 +111,18 @@ impl Copies {
         self.sets[(513 * j + i) as usize]
     }
 
-    /// A word of a cell.
-    pub fn cell_word(&self, j: u64, i: u64) -> u64
-        requires { 145 * j + i < length self.now.cells }
-        ensures { result ≡ slice_index self.now.cells (145 * j + i) }
+    /// The first place from one on at which an operation's words differ from those of a cell behind its first, 144 where that is none.
+    pub fn cell_apart(&self, j: u64, op: &[u64; 144], from: usize) -> usize
+        requires j { j < 16 }
+        requires long { length self.now.cells ≡ 2320 }
+        requires from { from ≤ 144 }
+        ensures least { from ≤ result }
+        ensures most { result ≤ 144 }
+        ensures same { (at : ℕ) → from ≤ at → at < result → slice_index self.now.cells (145 * j + (at + 1)) ≡ slice_index op.now at }
+        ensures apart { result < 144 → slice_index self.now.cells (145 * j + (result + 1)) ≢ slice_index op.now result }
     {
-        self.cells[(145 * j + i) as usize]
+        let first = 145 * (j as usize) + 1;
+        first_apart(&self.cells[first..first + 144], op, from)
     }
 
     /// Makes an entry's number and operation those that stand in a cell.

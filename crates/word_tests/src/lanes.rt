@@ -4,7 +4,7 @@ ghost use Rattle.std.specs.Prelude.{◌*◌, ◌<◌, ◌≤◌, All, length};
 
 use crate::holds::holds;
 use crate::plain;
-use line_lanes::{add_touched, differing, touched};
+use line_lanes::{add_touched, differing, first_apart, touched};
 
 // The most lines that are tried, and some words behind the last of them.
 const LINES: usize = 40;
@@ -37,6 +37,19 @@ fn stay() -> bool {
     out == [true, true, false]
 }
 
+// Whether the first place from one on is found at which words differ, among eights and behind them, and the end where none does.
+fn are_apart() -> bool {
+    let zeros = [0; 21];
+    let mut other = zeros;
+    other[10] = 1;
+    other[20] = 1;
+    first_apart(&zeros, &other, 0) == 10
+        && first_apart(&other, &zeros, 10) == 10
+        && first_apart(&zeros, &other, 11) == 20
+        && first_apart(&zeros, &zeros, 3) == 21
+        && first_apart(&zeros, &other, 21) == 21
+}
+
 // Whether no line at all is marked in none.
 fn is_empty() -> bool {
     let mut out = [true; 0];
@@ -51,6 +64,7 @@ fn worked_rows(rt: HostRuntime) {
     holds(&rt, are_touched());
     holds(&rt, stay());
     holds(&rt, is_empty());
+    holds(&rt, are_apart());
 }
 
 // Numbers that look random.
