@@ -37,7 +37,7 @@ fn stay() -> bool {
     out == [true, true, false]
 }
 
-// Whether the first place from one on is found at which words differ, among eights and behind them, and the end where none does.
+// Whether the first place from one on is found at which words differ, among sixteen and behind them, and the end where none does.
 fn are_apart() -> bool {
     let zeros = [0; 21];
     let mut other = zeros;
