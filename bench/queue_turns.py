@@ -6,11 +6,11 @@
 Build the program first: python3 bench/build.py queue_turns
 
 A queue has 8 callers of a service, or 8 boxes, and all threads together make T pops and pushes (1,000,000) in a run. They do nothing else, so that they are in each
-other's way as much as threads can be; or they make 5,000 steps of arithmetic while a caller is out, some microsecond, as long as a short call. Then there are T / 8 pops
-and pushes, and what the same steps take on as many threads that hold one caller each is taken off: a difference that is unsure by some 100 ns. In each run all forms run
-in turn, and who begins changes from run to run; a figure is the median over runs. The processor time is that of all threads by how often they do both; the time is that of the slowest thread by how often each does.
-Where others load the machine, threads seldom run at once, and are not in each other's way: `chrt -f 10` before the command gives each a processor of its own. The load
-before is printed.
+other's way as much as threads can be; or they make 5,000 steps of arithmetic while a caller is out, some microsecond, as long as a short call. Then there are T / 8
+pops and pushes, and what the same steps take on as many threads that hold one caller each is taken off: a difference that is unsure by some 100 ns. In each run all
+forms run in turn, and who begins changes from run to run; a figure is the median over runs. The processor time is that of all threads by how often they do both; the
+time is that of the slowest thread by how often each does. Where others load the machine, threads seldom run at once, and are not in each other's way: `chrt -f 10`
+before the command gives each a processor of its own. The load before is printed.
 
 Example: chrt -f 10 python3 bench/queue_turns.py --runs 1
 Status 0 where the figures are printed, 1 where the program is not built or moved nothing, 2 where the words are others.
