@@ -1,5 +1,5 @@
 #!/usr/bin/env python3
-"""Tests of the tables, the words and the plot of performance.py, queue_performance.py and aims.py, without a measurement.
+"""Tests of the tables, the words and the plot of performance.py, queue_performance.py, queue_turns.py and aims.py, without a measurement.
 
 Example: python3 bench/test_performance.py
 Status 0 where all passed, else 1.
@@ -17,6 +17,7 @@ import performance
 import performance_plot
 import performance_words
 import queue_performance
+import queue_turns
 from performance import FORMS, OURS, REGION, Ran, Setting
 
 SVG = "{http://www.w3.org/2000/svg}"
@@ -64,6 +65,25 @@ class Measuring(unittest.TestCase):
         lines = performance.markdown(measured(SIZES, [1, 2, 4], lambda form, reads: 1 + form)).split("\n")
         self.assertEqual(2 + 45, len(lines))
         self.assertEqual({9}, {line.count("|") for line in lines})
+
+
+class Turns(unittest.TestCase):
+    def test_what_a_line_says(self):
+        ran = queue_turns.ran_of({"calls": 90, "refused": 10, "cpu": 1800, "last": 400}, 4)
+        self.assertEqual(queue_turns.Ran(18.0, 16.0), ran)
+        with self.assertRaises(SystemExit):
+            queue_turns.ran_of({"calls": 0, "refused": 10, "cpu": 1800, "last": 400}, 4)
+
+    def test_forms_take_turns(self):
+        called = []
+
+        def run(form, threads, turns):
+            called.append(form)
+            return queue_turns.Ran(1000.0 * threads, float(turns))
+
+        runs = queue_turns.runs_of(2, queue_turns.options_of(["--runs", "2", "--turns", "8"]), run)
+        self.assertEqual([*queue_turns.FORMS, *reversed(queue_turns.FORMS)], called)
+        self.assertEqual("| 2 | 2,000 (8) | 2,000 (8) | 2,000 (8) |", queue_turns.row(2, runs))
 
 
 class Queues(unittest.TestCase):
