@@ -27,6 +27,8 @@ pub record IsStoppedIn {O : Type 0} (r : Running O) (before : Seated) (after : S
 -- a reading is answered beside the queue: the caller has one read more, of this operation
 pub record IsReadBeside (op reply : List ℕ) (before after : Seated) : Type 0 where
   pub place : ℕ
+  pub own : after.known.local.own ≡ before.known.local.own
+  pub answered : after.known.local.answered ≡ before.known.local.answered
   pub reads : after.known.local.seen_reads ≡ with_read place op reply (length before.known.local.answered) before.known.local.seen_reads
 
 -- what an operation comes to; one that is told is answered beside the queue, or as an entry of it

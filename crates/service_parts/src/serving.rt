@@ -53,6 +53,7 @@ pub fn closed<O: Object>(
     requires callers { AreSeats service (seats_of callers.items) }
     ensures history { IfOk result (λ r. IsHistory service.base.place r.trail.history (locals_of (seats_of callers.items))) }
     ensures left { IfOk result (IsServed O.Object service.object service.callers service.base) }
+    ensures locals { IfOk result (λ r. r.trail.locals ≡ locals_of (seats_of callers.items)) }
 {
     match service.close(alloc, callers) {
         Ok(remains) => Ok(remains),
