@@ -254,7 +254,8 @@ class Pictures(unittest.TestCase):
         with open(os.path.join(performance.HERE, "..", "docs", "PERFORMANCE.md"), encoding="utf-8") as file:
             text = file.read()
         figures = performance.figures_in(text)
-        self.assertEqual(text.count("\n| 1,024 | 100 | ") + text.count("\n| 16,384 | "), len(figures))
+        rows = text.partition("\n## The figures\n")[2].partition("\n## ")[0]
+        self.assertEqual(rows.count("\n| 1,024 | 100 | ") + rows.count("\n| 16,384 | "), len(figures))
         with open(os.path.join(performance.HERE, "..", "docs", performance.PICTURE), encoding="utf-8") as file:
             self.assertEqual(performance_plot.drawn(performance.panels(figures), FORMS), file.read())
 
