@@ -13,6 +13,8 @@ use Rattle.cx_core.specs.declared.kinds.Kind.{Kind}
 use Rattle.cx_core.specs.declared.kinds.Kind.TheVariants.{ReadSet}
 use Rattle.cx_core.specs.declared.local.Local.{Local}
 use Rattle.cx_core.specs.Events.{Guard, Makes, found_by, local_after, new_word, next, step_word, words_after}
+use Rattle.cx_core.specs.Gaps.{Gap, IsGap}
+use Rattle.core_replica.proofs.GapLaws.{gap_stays}
 use Rattle.cx_core.specs.Lawful.{Lawful, LocalShape, OwnTickets}
 use Rattle.cx_core.specs.Merge.{scene_of}
 use Rattle.cx_core.specs.Shown.{shown}
@@ -73,6 +75,7 @@ event_held instance kind s id known after word new held at learns =
     let grows = still_linked instance instance.base.place law.history law'.history held.locals caller l l' law.tickets.merged law'.tickets.merged mine.of_caller (goes_on instance (scene_of instance state) kind l (found_by instance kind l s.words)) in
     let state' : State = record { words = set s.words word new; locals = locals' } in
     let more = goes_further instance.base.place law.history law'.history grows in
+    let stays : (g : Gap) → IsGap instance law.history g → IsGap instance law'.history g = λ g. gap_stays instance law.history law'.history g (record { more = more.0; is = more.1 }) in
     let event : Event = record { caller = caller; kind = kind } in
     let makes : Makes instance event state state' = record { local = l; of_caller = mine.of_caller; guard = learnt.guard; words = sym put; locals = refl } in
     let moved : (notes : List SetNoted) → SetNotesHold instance state law.history notes → SetNotesHold instance state' law'.history notes =
@@ -89,7 +92,7 @@ event_held instance kind s id known after word new held at learns =
             of_caller = subst (λ n. slice_get locals' n ≡ Some l') (sym number) there;
             shows = learnt.shows;
             only = ap held.place_of number ∙ mine.only;
-            notes = notes_still instance law.history law'.history after.noted grows learnt.notes;
+            notes = notes_still instance law.history law'.history after.noted grows stays learnt.notes;
             traced = traced_longer instance law.history law'.history after.accesses l' grows learnt.traced;
           } in
           subst (λ n. IsKnown instance law'.history locals' held.place_of seat n k) (sym only.0)
@@ -103,7 +106,7 @@ event_held instance kind s id known after word new held at learns =
             of_caller = slice_get-set_other held.locals caller k.local.number l' apart ∙ was.of_caller;
             shows = was.shows;
             only = was.only;
-            notes = notes_still instance law.history law'.history k.noted grows was.notes;
+            notes = notes_still instance law.history law'.history k.noted grows stays was.notes;
             traced = traced_longer instance law.history law'.history k.accesses was.local grows was.traced;
           }))
           (at_set s.views id seat (after ∷ []) view view_at);

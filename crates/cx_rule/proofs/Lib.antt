@@ -15,3 +15,6 @@ pub mod Raising
 pub mod Offering
 pub mod Having
 pub mod HasMore
+pub mod GapCopies
+pub mod Listing
+pub mod GapNoting

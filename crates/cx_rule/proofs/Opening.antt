@@ -112,7 +112,7 @@ opening_held instance limits one few place at_place full =
             of_caller = all.done i at.0;
             shows = refl;
             only = refl;
-            notes = λ n noted there from. absurd (none-some noted there);
+            notes = λ n noted there. absurd (none-some noted there);
             traced = record { first = instance.base.words; now = instance.base.words; origin = base_origin instance all.law.history at_place; leads = refl; held = λ h has. absurd (none-some h has) };
           } in
           subst (IsKnown instance all.law.history all.locals (λ c. (0, c)) seat i) (sym at.1) (subst (λ n. IsKnown instance all.law.history all.locals (λ c. (0, c)) n i (f i)) (sym first.0) here));

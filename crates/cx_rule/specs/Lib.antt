@@ -9,3 +9,4 @@ pub mod Raises
 pub mod Ending
 pub mod Offers
 pub mod Having
+pub mod Listed

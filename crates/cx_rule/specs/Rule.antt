@@ -14,6 +14,7 @@ use Rattle.cx_core.specs.declared.local.HeldExclusive.{HeldExclusive}
 use Rattle.cx_core.specs.declared.local.HeldShared.{HeldShared}
 use Rattle.cx_core.specs.declared.local.Local.{Local}
 use Rattle.cx_core.specs.declared.local.SeenRead.{SeenRead}
+use Rattle.cx_core.specs.Gaps.{IsGap, gap_of}
 use Rattle.cx_core.specs.History.{full_image}
 use Rattle.cx_core.specs.Lawful.{Lawful, LocalShape, OwnTickets}
 use Rattle.cx_core.specs.LawfulLocks.{FewRights}
@@ -34,8 +35,13 @@ pub record IsOfEntry (instance : Instance) (history : List Entry) (noted : Noted
   pub caller : entry.caller ≡ noted.caller
   pub word : slice_index (entry.number ∷ entry.op) noted.index ≡ noted.word
 
+-- what was noted is so: words 0 to 144 are those of an entry; any other is a word of the ring of gaps, with the slot as its ticket
+pub record IsTrueNote (instance : Instance) (history : List Entry) (noted : Noted) : Type 0 where
+  pub entry : noted.index < 145 → instance.base.place ≤ noted.ticket → IsOfEntry instance history noted
+  pub gap : 145 ≤ noted.index → IsGap instance history (gap_of instance.callers noted.ticket noted.word)
+
 abbrev pub NotesHold : Instance → List Entry → List Noted → Type 0
-NotesHold instance history notes = (n : ℕ) (noted : Noted) → slice_get notes n ≡ Some noted → instance.base.place ≤ noted.ticket → IsOfEntry instance history noted
+NotesHold instance history notes = (n : ℕ) (noted : Noted) → slice_get notes n ≡ Some noted → IsTrueNote instance history noted
 
 -- a region has the words of the full image after its place, which is between the base's and the end of the history
 pub record IsOrigin (instance : Instance) (history : List Entry) (region : List ℕ) : Type 0 where

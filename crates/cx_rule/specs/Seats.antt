@@ -6,13 +6,13 @@ use Rattle.atomic_table.specs.Seated.{TableId}
 use Rattle.cx_core.specs.declared.kinds.Kind.{Kind}
 use Rattle.cx_base.specs.Codes.{root_place_of}
 use Rattle.cx_base.specs.Noted.{Note}
-use Rattle.cx_core.specs.declared.kinds.Kind.TheVariants.{WriteCell, ReadCell, TryExclusive, Downgrade, ReleaseExclusive, LoadWord, StoreWord, Persist, Raise, Offer, ReadSet, WriteSet}
+use Rattle.cx_core.specs.declared.kinds.Kind.TheVariants.{WriteCell, ReadCell, TryExclusive, Downgrade, ReleaseExclusive, LoadWord, StoreWord, Persist, Raise, Offer, ReadSet, WriteSet, NoteGap, LoadGap}
 use Rattle.cx_core.specs.declared.local.Cell.{Cell}
 use Rattle.cx_core.specs.declared.local.Linked.{Linked}
 use Rattle.cx_core.specs.declared.local.Local.{Local}
 use Rattle.cx_core.specs.Events.{Guard, next}
 use Rattle.cx_core.specs.Lawful.{CellShape}
-use Rattle.cx_core.specs.Layout.{max_word}
+use Rattle.cx_core.specs.Layout.{gap_slots, max_word}
 use Rattle.cx_core.specs.LockEvents.{IsClean, is_fresh_on}
 use Rattle.cx_core.specs.RegionEvents.{CanLoad}
 use Rattle.cx_core.specs.Rights.{exclusive_on, is_at, shared_on}
@@ -37,6 +37,7 @@ IsByShown (Persist r i) = ⊥
 IsByShown (LoadWord r i true) = ⊥
 IsByShown (Raise code read) = ⊥
 IsByShown (Offer j) = ⊥
+IsByShown (NoteGap s i v) = ⊥
 IsByShown _ = Unit {0}
 
 -- the guard as far as a seat sees it: not that words are a full image, nor what a load will find
@@ -45,6 +46,7 @@ SeenGuard instance (Downgrade r) l = IsClean instance.callers r l
 SeenGuard instance (ReleaseExclusive r) l = IsClean instance.callers r l
 SeenGuard instance (LoadWord r i refused) l = CanLoad instance.callers (length instance.base.words) r i l
 SeenGuard instance (Offer j) l = CanWriteSet l j
+SeenGuard instance (NoteGap s i v) l = (s < gap_slots instance.callers) × (i < 16) × (v < 2 ^ 64)
 SeenGuard instance kind l = Guard instance unseen kind l
 
 -- what the rule asks of a kind beside its guard: a word that a step stores has 64 bits
@@ -52,6 +54,7 @@ abbrev pub WordFits : Kind → Type 0
 WordFits (WriteCell j i v) = v < 2 ^ 64
 WordFits (StoreWord r i v) = v < 2 ^ 64
 WordFits (WriteSet j i v) = v < 2 ^ 64
+WordFits (NoteGap s i v) = v < 2 ^ 64
 WordFits _ = Unit {0}
 
 -- what a seat shows of its caller's local state after a step that found this word
@@ -77,6 +80,7 @@ known_of (k ∷ ks) = k
 -- the words of entries that a step notes, given the word found: a cell is of the caller whose 16 cells it is among
 abbrev pub noted_by : Kind → ℕ → List Noted
 noted_by (ReadCell t k i) found = record { ticket = t; caller = k / 16; index = i; word = found } ∷ []
+noted_by (LoadGap s i) found = record { ticket = s; caller = 0; index = 145; word = found } ∷ []
 noted_by _ found = []
 
 -- the accesses of the replica held exclusively after a step that found this word. They begin anew with each exclusive try.
