@@ -1,5 +1,5 @@
 -- Each event of the core keeps the rule of the table.
-use Rattle.std.proofs.Common.{length, arith, ◌≡◌, ◌≢◌, ◌<◌, ⊎_elim, ℕ, Bool, zero, suc, List, [], ◌∷◌, set, slice_index, refl, ap, sym, subst, ◌∙◌, Some}
+use Rattle.std.proofs.Common.{length, arith, ◌≡◌, ◌≢◌, ◌<◌, ⊎_elim, ℕ, Bool, zero, suc, List, [], ◌∷◌, ◌++◌, set, slice_index, refl, ap, sym, subst, ◌∙◌, Some}
 use Rattle.std.proofs.lemmas.Option.{same_Some, none-some, slice_get_within}
 use Rattle.std.specs.List.{slice_get}
 use mathlib.Core.Option.{some, some-ne-none}
@@ -28,7 +28,7 @@ use Rattle.core_queue.proofs.QueueFrames.{queue_of}
 use Rattle.core_queue.proofs.SetNotes.{notes_event, notes_read}
 use Rattle.cx_rule.specs.declared.rule.Known.{Known}
 use Rattle.cx_rule.specs.Learns.{Learns, LearnsAnyway, LearnsBy}
-use Rattle.cx_rule.specs.Rule.{RuleHolds, IsBehindNotes, IsKnown, IsLawfulLocal, IsTraced, NotesHold}
+use Rattle.cx_rule.specs.Rule.{RuleHolds, IsBehindNotes, IsKnown, IsLawfulLocal, IsTraced, NotesHold, opening_limited}
 use Rattle.cx_rule.specs.Running.{Running, instance_at}
 use Rattle.cx_rule.specs.Seats.{IsByShown, WordFits, accesses_after, known_after, known_local, known_of, noted_by, sets_after, unseen}
 use Rattle.core_runs.proofs.Keeps.{bounds_of, kind_kept}
@@ -38,6 +38,7 @@ use Rattle.cx_rule.specs.Steps.{IsCopyLearned, IsEventOn, IsStore, Puts, Teaches
 use Rattle.cx_rule.specs.Told.{Told}
 use Rattle.cx_rule.proofs.Telling.{told_holds}
 use Rattle.cx_rule.proofs.Behind.{behind_notes}
+use Rattle.cx_rule.proofs.Reached.{run_push}
 use Rattle.cx_rule.proofs.Traced.{traced_longer, traced_next}
 use Rattle.cx_rule.proofs.Traced.{goes_on as goes_further}
 
@@ -52,10 +53,11 @@ pub only_item : (x : Known) (i : ℕ) (y : Known) → slice_get (x ∷ []) i ≡
 only_item x zero y at = (refl, same_Some x y at)
 only_item x (suc i) y at = absurd (none-some y at)
 
--- an event of a caller, made by its seat, keeps the rule
-pub event_held : (instance : Instance) (kind : Kind) (s : atomic.State ℕ (List Known)) (id : ℕ) (known after : Known) (word new : ℕ) → RuleHolds instance s → get_elem? s.views id ≡ some (known ∷ []) →
-    LearnsAnyway instance s.words kind known word new after → RuleHolds instance (atomic.stepped s word new id [] (after ∷ []) atomic.keeps)
-event_held instance kind s id known after word new held at learns =
+-- an event of a caller, made by its seat, keeps the rule, and stands then at the end of the list of steps
+pub event_recorded : (instance : Instance) (kind : Kind) (s : atomic.State ℕ (List Known)) (id : ℕ) (known after : Known) (word new : ℕ) (held : RuleHolds instance s) → get_elem? s.views id ≡ some (known ∷ []) →
+    LearnsAnyway instance s.words kind known word new after →
+    (then_ : RuleHolds instance (atomic.stepped s word new id [] (after ∷ []) atomic.keeps)) × (then_.reached.events ≡ held.reached.events ++ record { caller = known.local.number; kind = kind } ∷ [])
+event_recorded instance kind s id known after word new held at learns =
     let mine = held.each id 0 (known ∷ []) known at refl in
     let l = mine.local in
     let caller = known.local.number in
@@ -79,46 +81,54 @@ event_held instance kind s id known after word new held at learns =
     let event : Event = record { caller = caller; kind = kind } in
     let makes : Makes instance event state state' = record { local = l; of_caller = mine.of_caller; guard = learnt.guard; words = sym put; locals = refl } in
     let moved : (notes : List SetNoted) → SetNotesHold instance state law.history notes → SetNotesHold instance state' law'.history notes =
-    λ notes hold. subst (λ h. SetNotesHold instance state' h notes) (sym more.1) (notes_event instance law.history more.0 state state' event notes (queue_of law) makes hold) in
-    record {
-      locals = locals';
-      place_of = held.place_of;
-      law = law';
-      each = λ seat i view k view_at item. ⊎_elim
-          (λ (e : (seat ≡ id) × (after ∷ [] ≡ view)). (
-          let only = only_item after i k (ap (λ v. slice_get v i) e.1 ∙ item) in
-          let here : IsKnown instance law'.history locals' held.place_of id 0 after = record {
-            local = l';
-            of_caller = subst (λ n. slice_get locals' n ≡ Some l') (sym number) there;
-            shows = learnt.shows;
-            only = ap held.place_of number ∙ mine.only;
-            notes = notes_still instance law.history law'.history after.noted grows stays learnt.notes;
-            traced = traced_longer instance law.history law'.history after.accesses l' grows learnt.traced;
-          } in
-          subst (λ n. IsKnown instance law'.history locals' held.place_of seat n k) (sym only.0)
-          (subst (λ n. IsKnown instance law'.history locals' held.place_of n 0 k) (sym e.0)
-          (subst (IsKnown instance law'.history locals' held.place_of id 0) only.1 here))))
-          (λ (e : (seat ≢ id) × (get_elem? s.views seat ≡ some view)). (
-          let was = held.each seat i view k e.1 item in
-          let apart : k.local.number ≢ caller = λ same. e.0 (ap (λ (p : ℕ × ℕ). p.0) (sym was.only ∙ ap held.place_of same ∙ mine.only)) in
-          record {
-            local = was.local;
-            of_caller = slice_get-set_other held.locals caller k.local.number l' apart ∙ was.of_caller;
-            shows = was.shows;
-            only = was.only;
-            notes = notes_still instance law.history law'.history k.noted grows stays was.notes;
-            traced = traced_longer instance law.history law'.history k.accesses was.local grows was.traced;
-          }))
-          (at_set s.views id seat (after ∷ []) view view_at);
-      own = subst (λ h. EachLocal locals' (λ _ x. OwnSetsHold instance h x.cells)) (sym more.1) (own_event instance law.history more.0 state state' event (queue_of law) makes held.own);
-      sets = λ seat i view k view_at item. ⊎_elim
-          (λ (e : (seat ≡ id) × (after ∷ [] ≡ view)). (
-          let only = only_item after i k (ap (λ v. slice_get v i) e.1 ∙ item) in
-          subst (λ (x : Known). SetNotesHold instance state' law'.history x.sets) only.1 (moved after.sets learnt.sets)))
-          (λ (e : (seat ≢ id) × (get_elem? s.views seat ≡ some view)). moved k.sets (held.sets seat i view k e.1 item))
-          (at_set s.views id seat (after ∷ []) view view_at);
-      some = held.some;
-    }
+    λ notes hold. subst (λ h. SetNotesHold instance state' h notes) (sym more.1) (notes_event instance law.history more.0 state state' event notes (queue_of law) makes hold) in (
+      record {
+        locals = locals';
+        place_of = held.place_of;
+        law = law';
+        reached = record { limits = held.reached.limits; events = held.reached.events ++ event ∷ []; ran = run_push instance (opening_limited instance held.reached.limits) held.reached.events event state state' held.reached.ran makes };
+        each = λ seat i view k view_at item. ⊎_elim
+            (λ (e : (seat ≡ id) × (after ∷ [] ≡ view)). (
+            let only = only_item after i k (ap (λ v. slice_get v i) e.1 ∙ item) in
+            let here : IsKnown instance law'.history locals' held.place_of id 0 after = record {
+              local = l';
+              of_caller = subst (λ n. slice_get locals' n ≡ Some l') (sym number) there;
+              shows = learnt.shows;
+              only = ap held.place_of number ∙ mine.only;
+              notes = notes_still instance law.history law'.history after.noted grows stays learnt.notes;
+              traced = traced_longer instance law.history law'.history after.accesses l' grows learnt.traced;
+            } in
+            subst (λ n. IsKnown instance law'.history locals' held.place_of seat n k) (sym only.0)
+            (subst (λ n. IsKnown instance law'.history locals' held.place_of n 0 k) (sym e.0)
+            (subst (IsKnown instance law'.history locals' held.place_of id 0) only.1 here))))
+            (λ (e : (seat ≢ id) × (get_elem? s.views seat ≡ some view)). (
+            let was = held.each seat i view k e.1 item in
+            let apart : k.local.number ≢ caller = λ same. e.0 (ap (λ (p : ℕ × ℕ). p.0) (sym was.only ∙ ap held.place_of same ∙ mine.only)) in
+            record {
+              local = was.local;
+              of_caller = slice_get-set_other held.locals caller k.local.number l' apart ∙ was.of_caller;
+              shows = was.shows;
+              only = was.only;
+              notes = notes_still instance law.history law'.history k.noted grows stays was.notes;
+              traced = traced_longer instance law.history law'.history k.accesses was.local grows was.traced;
+            }))
+            (at_set s.views id seat (after ∷ []) view view_at);
+        own = subst (λ h. EachLocal locals' (λ _ x. OwnSetsHold instance h x.cells)) (sym more.1) (own_event instance law.history more.0 state state' event (queue_of law) makes held.own);
+        sets = λ seat i view k view_at item. ⊎_elim
+            (λ (e : (seat ≡ id) × (after ∷ [] ≡ view)). (
+            let only = only_item after i k (ap (λ v. slice_get v i) e.1 ∙ item) in
+            subst (λ (x : Known). SetNotesHold instance state' law'.history x.sets) only.1 (moved after.sets learnt.sets)))
+            (λ (e : (seat ≢ id) × (get_elem? s.views seat ≡ some view)). moved k.sets (held.sets seat i view k e.1 item))
+            (at_set s.views id seat (after ∷ []) view view_at);
+        some = held.some;
+      },
+      refl,
+    )
+
+-- so the rule holds
+pub event_held : (instance : Instance) (kind : Kind) (s : atomic.State ℕ (List Known)) (id : ℕ) (known after : Known) (word new : ℕ) → RuleHolds instance s → get_elem? s.views id ≡ some (known ∷ []) →
+    LearnsAnyway instance s.words kind known word new after → RuleHolds instance (atomic.stepped s word new id [] (after ∷ []) atomic.keeps)
+event_held instance kind s id known after word new held at learns = (event_recorded instance kind s id known after word new held at learns).0
 
 -- what a caller noted of sets, with what its own step notes
 sets_next : (instance : Instance) (s : State) (law : Lawful instance s) (caller : ℕ) (l : Local) → slice_get s.locals caller ≡ Some l → (known : Known) (kind : Kind) → Guard instance (scene_of instance s) kind l → SetNotesHold instance s law.history known.sets →

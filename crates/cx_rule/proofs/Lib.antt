@@ -2,6 +2,7 @@ pub mod ShownLaws
 pub mod Telling
 pub mod Notes
 pub mod Entries
+pub mod Reached
 pub mod Traced
 pub mod Behind
 pub mod Keeps

@@ -33,6 +33,7 @@ moved_held instance s views moved held came = record {
   locals = held.locals;
   place_of = λ caller. moved (held.place_of caller);
   law = held.law;
+  reached = held.reached;
   each = λ seat i view known at here. (
       let c = came seat i view known at here in
       let old = held.each c.from c.index c.view known c.at c.here in

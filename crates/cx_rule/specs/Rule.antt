@@ -1,6 +1,6 @@
 -- The rule of the table, which holds between any two steps of any callers: there is a lawful state of the core whose words
 -- are the table's and whose local states are what the seats show.
-use Rattle.std.specs.Prelude.{◌≡◌, ◌+◌, ◌*◌, ◌^◌, ◌<◌, ◌≤◌, ℕ, List, ◌∷◌, Some, length, slice_get, slice_index}
+use Rattle.std.specs.Prelude.{◌≡◌, ◌+◌, ◌*◌, ◌^◌, ◌<◌, ◌≤◌, ℕ, List, ◌∷◌, Some, length, map, slice_get, slice_index}
 use mathlib.Core.Option.{some}
 use lib.ListN.{get_elem?}
 use Rattle.atomic_table.specs.Table as atomic
@@ -8,12 +8,14 @@ use Rattle.cx_base.specs.Codes.{root_place_of}
 use Rattle.cx_base.specs.Memory.{Words}
 use Rattle.cx_base.specs.Noted.{Note, NotesLead}
 use Rattle.cx_core.specs.declared.entry.Entry.{Entry}
+use Rattle.cx_core.specs.declared.kinds.Event.{Event}
 use Rattle.cx_core.specs.declared.local.Answer.{Answer}
 use Rattle.cx_core.specs.declared.local.HeldDowngraded.{HeldDowngraded}
 use Rattle.cx_core.specs.declared.local.HeldExclusive.{HeldExclusive}
 use Rattle.cx_core.specs.declared.local.HeldShared.{HeldShared}
 use Rattle.cx_core.specs.declared.local.Local.{Local}
 use Rattle.cx_core.specs.declared.local.SeenRead.{SeenRead}
+use Rattle.cx_core.specs.Events.{Run}
 use Rattle.cx_core.specs.Gaps.{IsGap, gap_of}
 use Rattle.cx_core.specs.History.{full_image}
 use Rattle.cx_core.specs.Lawful.{Lawful, LocalShape, OwnTickets}
@@ -21,12 +23,13 @@ use Rattle.cx_core.specs.LawfulLocks.{FewRights}
 use Rattle.cx_core.specs.Merge.{IsLinked}
 use Rattle.cx_core.specs.Region.{place_of, slot_number}
 use Rattle.cx_core.specs.Shown.{shown}
-use Rattle.cx_core.specs.State.{EachLocal, Instance}
+use Rattle.cx_core.specs.State.{EachLocal, Instance, State, opening_words}
 use Rattle.core_queue.specs.NotedSets.{OwnSetsHold, SetNotesHold}
 use Rattle.cx_rule.specs.declared.rule.Known.{Known}
 use Rattle.cx_rule.specs.declared.rule.Noted.{Noted}
 use Rattle.cx_rule.specs.Fitting.{has_of, loads_of}
 use Rattle.cx_rule.specs.Having.{IsOfHistory}
+use Rattle.cx_rule.specs.Seats.{opening_view}
 
 -- a noted word is the history's. With a ticket below the base's place, which no entry has, it says nothing.
 pub record IsOfEntry (instance : Instance) (history : List Entry) (noted : Noted) : Type 0 where
@@ -109,11 +112,22 @@ pub record IsBehindNotes (instance : Instance) (known : Known) : Type 0 where
   pub leads : NotesLead known.accesses first now
   pub shared : (h : HeldShared) → known.local.shared ≡ Some h → (words : List ℕ) × IsOrigin instance history words × NotesLead (loads_of h.loaded) words words
 
+-- the state with which a table opens whose callers have these limits of steps
+abbrev pub opening_limited : Instance → List ℕ → State
+opening_limited instance limits = record { words = opening_words instance.callers instance.base; locals = map (λ (k : Known). k.local) (opening_view instance.callers instance.base.place limits) }
+
+-- the steps that all callers made, in the order in which they made them: a run of the core from the opening to these words and local states
+pub record IsReached (instance : Instance) (words : List ℕ) (locals : List Local) : Type 0 where
+  pub limits : List ℕ
+  pub events : List Event
+  pub ran : Run instance (opening_limited instance limits) events (record { words = words; locals = locals })
+
 pub record RuleHolds (instance : Instance) (s : atomic.State ℕ (List Known)) : Type 0 where
   pub locals : List Local
   -- the seat, and the place in its view, that have a caller's local state
   pub place_of : ℕ → ℕ × ℕ
   pub law : Lawful instance (record { words = s.words; locals = locals })
+  pub reached : IsReached instance s.words locals
   pub each : (seat i : ℕ) (view : List Known) (known : Known) → get_elem? s.views seat ≡ some view → slice_get view i ≡ Some known → IsKnown instance law.history locals place_of seat i known
   -- each cell that is offered with the ticket that it still has has a write set of it
   pub own : EachLocal locals (λ _ l. OwnSetsHold instance law.history l.cells)

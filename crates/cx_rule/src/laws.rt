@@ -1,6 +1,6 @@
 //! The laws of the rule.
 
-ghost use Rattle.std.specs.Prelude.{◌≡◌, ◌*◌, ◌^◌, ◌<◌, ℕ, List, length, Some, [], ◌∷◌, slice_get};
+ghost use Rattle.std.specs.Prelude.{◌≡◌, ◌++◌, ◌*◌, ◌^◌, ◌<◌, ℕ, List, length, Some, [], ◌∷◌, slice_get};
 ghost use mathlib.Core.Option.{some};
 ghost use lib.ListN.{get_elem?};
 ghost use Rattle.atomic_table.specs.Table.{State, keeps, stepped};
@@ -28,6 +28,13 @@ use cx_core::Base;
 /// state that the seat may stand before, and there the seat has to show afterwards what the event makes.
 pub fn events_keep_the_rule()
     ensures { (instance : _) (kind : _) (s : State ℕ _) (seat : ℕ) (known after : Known) (word new : ℕ) → RuleHolds instance s → get_elem? s.views seat ≡ some (known ∷ []) → LearnsAnyway instance s.words kind known word new after → RuleHolds instance (stepped s word new seat [] (after ∷ []) keeps) }
+{}
+
+/// The event stands then at the end of the list of the steps that all callers made, and the others stand as they stood: so the list that the rule
+/// keeps has the steps in the order in which they were made.
+pub fn events_are_recorded()
+    ensures { (instance : _) (kind : _) (s : State ℕ _) (seat : ℕ) (known after : Known) (word new : ℕ) → (rule : RuleHolds instance s) → get_elem? s.views seat ≡ some (known ∷ []) → LearnsAnyway instance s.words kind known word new after →
+        (then_ : RuleHolds instance (stepped s word new seat [] (after ∷ []) keeps)) × (then_.reached.events ≡ rule.reached.events ++ record { caller = known.local.number; kind = kind } ∷ []) }
 {}
 
 /// What is really there fits what a seat knows, and it stays lawful through each entry and each write set that the seat has: those that it

@@ -33,5 +33,7 @@
 mod laws;
 mod rule;
 
-pub use laws::{events_keep_the_rule, told_sets_may_be_offered, what_is_there_fits};
+pub use laws::{
+    events_are_recorded, events_keep_the_rule, told_sets_may_be_offered, what_is_there_fits,
+};
 pub use rule::{CoreRule, Key, Known, Noted, View};

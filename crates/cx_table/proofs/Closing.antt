@@ -181,6 +181,7 @@ leaves t instance seats r s id callers base are held me h =
       whole = held.locals;
       shows = locals;
       state = law;
+      reached = held.reached;
       history = is;
       merged = subst (λ (p : ℕ). IsHistory p r.trail.history (locals_of seats)) place (subst (λ (es : List Entry). IsHistory instance.base.place es (locals_of seats)) is
           (subst (IsHistory instance.base.place law.history) locals (merged_shown instance.base.place law.history held.locals law.tickets.merged)));

@@ -14,7 +14,7 @@ use Rattle.cx_rule.specs.declared.rule.Known.{Known}
 use Rattle.cx_table.specs.declared.remains.Remains.{Remains}
 use Rattle.cx_core.specs.Chain.{IsCodeChain}
 use Rattle.cx_rule.specs.Ending.{locals_known}
-use Rattle.cx_rule.specs.Rule.{NotesHold}
+use Rattle.cx_rule.specs.Rule.{IsReached, NotesHold}
 use Rattle.cx_rule.specs.Running.{IsSeatOf, Running}
 use Rattle.cx_rule.specs.Seats.{Seated, opening_known}
 
@@ -83,6 +83,8 @@ pub record Leaves {O : Type 0} (table : Running O) (instance : Instance) (seats 
   pub whole : List Local
   pub shows : map shown whole ≡ locals_of seats
   pub state : Lawful instance (record { words = words; locals = whole })
+  -- the steps that all callers made, in the order in which they made them
+  pub reached : IsReached instance words whole
   pub history : state.history ≡ r.trail.history
   pub merged : IsHistory table.base.place r.trail.history (locals_of seats)
   pub chain : IsCodeChain words (locals_of seats) r.trail.chain
