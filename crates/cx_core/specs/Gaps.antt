@@ -57,7 +57,6 @@ pub record IsGap (instance : Instance) (history : List Entry) (g : Gap) : Type 0
   pub below : g.from + 1 < g.to → g.ticket + 1 ≤ instance.base.place + length history
   pub quiet : IsQuiet (images instance history) g
 
-
 -- Gaps: each word of the ring names a gap of the history
 pub record Gaps (instance : Instance) (history : List Entry) (words : List ℕ) : Type 0 where
   pub each : (slot i : ℕ) → slot < gap_slots instance.callers → i < 16 →

@@ -87,4 +87,3 @@ sets_tell_gaps instance history g set_ is within off = record {
         | inr more ↦ (let e : 8 * n + k ≡ slice_index set_ (2 * m + 1) = same in omega (arith, e, more, under, small))
       ]));
 }
-

@@ -52,18 +52,21 @@ read_noted instance s law caller l t k i at guard n noted there =
     let new : Noted = record { ticket = t; caller = k / 16; index = i; word = slice_index s.words (cell_at instance.callers k i) } in
     let is : new ≡ noted = first_of new n noted there in
     let behind = law.fronts.each caller l at in
-    record { entry = λ small from. (
-    let ticket : instance.base.place ≤ t = subst (λ (x : Noted). instance.base.place ≤ x.ticket) (sym is) from in
-    let free = guard_live instance s law caller l t k i at guard in
-    let below = guard.0 in
-    let to = behind.to in
-    let linked = linked_below instance.base.place law.history t ticket (omega arith) in
-    subst (IsOfEntry instance law.history) is (record {
-      entry = linked.0;
-      linked = linked.1;
-      caller = cell_of_entry instance s law caller l t k i at guard free linked.0 linked.1;
-      word = sym (read_gives instance s law caller l t k i at guard free linked.0 linked.1);
-    })); gap = λ large. absurd (let index : i ≡ noted.index = ap (λ (x : Noted). x.index) is in let small = guard.1 in omega (arith, index, large, small)) }
+    record {
+      entry = λ small from. (
+          let ticket : instance.base.place ≤ t = subst (λ (x : Noted). instance.base.place ≤ x.ticket) (sym is) from in
+          let free = guard_live instance s law caller l t k i at guard in
+          let below = guard.0 in
+          let to = behind.to in
+          let linked = linked_below instance.base.place law.history t ticket (omega arith) in
+          subst (IsOfEntry instance law.history) is (record {
+            entry = linked.0;
+            linked = linked.1;
+            caller = cell_of_entry instance s law caller l t k i at guard free linked.0 linked.1;
+            word = sym (read_gives instance s law caller l t k i at guard free linked.0 linked.1);
+          }));
+      gap = λ large. absurd (let index : i ≡ noted.index = ap (λ (x : Noted). x.index) is in let small = guard.1 in omega (arith, index, large, small));
+    }
   where
     first_of : (x : Noted) (n : ℕ) (y : Noted) → slice_get (x ∷ []) n ≡ Some y → x ≡ y
     first_of x zero y at = same_Some x y at
