@@ -1,10 +1,11 @@
 -- When a caller's operations began and were answered: a moment of the run of all callers, by how many steps the caller had made.
-use Rattle.std.specs.Prelude.{◌≡◌, ◌+◌, ◌⊎◌, true, false, ℕ, List, [], ◌∷◌, ◌++◌, Some, length, slice_get}
+use Rattle.std.specs.Prelude.{◌≡◌, ◌+◌, ◌≤◌, ◌⊎◌, true, false, ℕ, min, List, [], ◌∷◌, ◌++◌, Some, length, slice_get}
 use Rattle.core_order.specs.RealTime.{IsAhead, IsAnswered, Operation}
 use Rattle.core_order.specs.RealTime.Operation.{Update, Read}
 use Rattle.cx_core.specs.declared.kinds.Event.{Event}
 use Rattle.cx_core.specs.declared.local.Local.{Local}
 use Rattle.cx_core.specs.Events.{Run}
+use Rattle.cx_core.specs.Layout.{max_word}
 use Rattle.cx_core.specs.State.{Instance, State}
 use Rattle.cx_rule.specs.declared.rule.Times.{Times}
 
@@ -47,3 +48,29 @@ pub record AddTimes (l l' : Local) (t t' : Times) : Type 0 where
   pub loaded : l'.fresh ≡ true → (length l'.seen_reads ≡ length l.seen_reads) × (((l.fresh ≡ true) × (t'.loaded ≡ t.loaded)) ⊎ ((l.fresh ≡ false) × (t'.loaded ≡ l.steps)))
   pub reads : ((length l'.seen_reads ≡ length l.seen_reads) × (t'.reads ≡ t.reads))
       ⊎ ((l.fresh ≡ true) × (length l'.seen_reads ≡ length l.seen_reads + 1) × (t'.reads ≡ t.reads ++ (t.loaded, l'.steps) ∷ []))
+
+-- An entry was linked behind so many steps of its caller, or one was answered before the caller had made more than so many: the list of
+-- counts has one more. A count stays at the end of its type.
+pub record BeginsIn (first : ℕ) (old new : List ℕ) : Type 0 where
+  pub at : ℕ
+  pub from : min first max_word ≤ at
+  pub is : new ≡ old ++ at ∷ []
+
+pub record EndsIn (last : ℕ) (old new : List ℕ) : Type 0 where
+  pub at : ℕ
+  pub to : at ≤ last
+  pub is : new ≡ old ++ at ∷ []
+
+-- the same of a read that began behind so many steps and was answered in so many
+pub record ReadsIn (first last : ℕ) (old new : List (ℕ × ℕ)) : Type 0 where
+  pub begun : ℕ
+  pub ended : ℕ
+  pub from : min first max_word ≤ begun
+  pub to : ended ≤ last
+  pub is : new ≡ old ++ (begun, ended) ∷ []
+
+-- what is known of the times of a caller's entries, answers and reads is as it was
+pub record KeepsTimes (before after : Times) : Type 0 where
+  pub linked : after.linked ≡ before.linked
+  pub answered : after.answered ≡ before.answered
+  pub reads : after.reads ≡ before.reads
