@@ -16,11 +16,17 @@ use Rattle.cx_rule.specs.Raises.{AnswersOf, TellsAnswers, known_answered}
 use Rattle.cx_rule.specs.Running.{IsSeatOf, Running, instance_at}
 use Rattle.cx_rule.specs.Seats.{IsAtLimit, Seated, stepped}
 use Rattle.cx_service.specs.Callers.{IsCallerOf}
-use Rattle.cx_service.specs.CatchUps.{CatchUpKeeps, HasSeen, SeesCurrent}
+use Rattle.cx_service.specs.CatchUps.{CatchUpKeeps, CatchUpSees, CatchesUp, HasSeen, ReadSees, SeesCurrent, UpdateSees}
+use Rattle.cx_service.specs.declared.catch_up.CaughtUp.{CaughtUp}
+use Rattle.cx_service.specs.declared.catch_up.CaughtUp.TheVariants.{Caught, Behind, Halted}
+use Rattle.cx_service.specs.declared.update.ReadDone.{ReadDone}
+use Rattle.cx_service.specs.declared.update.ReadDone.TheVariants.{Read, Queued, Full as FullRead, Worn as WornRead, Halted as HaltedRead}
+use Rattle.cx_service.specs.declared.update.Updated.{Updated}
+use Rattle.cx_service.specs.declared.update.Updated.TheVariants.{Done as UpdatedDone, Full as UpdatedFull, Worn as UpdatedWorn, Halted as UpdatedHalted}
 use Rattle.cx_service.specs.Drives.{DriveDone}
 use Rattle.cx_service.specs.Lookups.{ReadAnswered, ReadKeeps}
 use Rattle.cx_service.specs.Submits.{SubmitKeeps, SubmitLinked, entry_at}
-use Rattle.cx_service.specs.Updates.{UpdateDone}
+use Rattle.cx_service.specs.Updates.{KeepsLists, ReadQueues, ReadsInAll, UpdateDone, Updates}
 use Rattle.cx_service.proofs.Cells.{own_kept}
 use Rattle.cx_turns.specs.declared.lookup.Seen.{Seen}
 
@@ -84,6 +90,39 @@ submit_seen r most place before after caller was keeps = still_seen r place befo
 
 pub read_seen : {O : Type 0} (r : Running O) (place : ℕ) (before after : Seated) → IsCallerOf r before → HasSeen r.callers place before.known.local → ReadKeeps before after → HasSeen r.callers place after.known.local
 read_seen r place before after caller was keeps = still_seen r place before after caller was keeps.front keeps.cur keeps.answered
+
+-- where nothing was linked or answered
+lists_seen : {O : Type 0} (r : Running O) (place : ℕ) (before after : Seated) → IsCallerOf r before → HasSeen r.callers place before.known.local → KeepsLists before after → HasSeen r.callers place after.known.local
+lists_seen r place before after caller was keeps = still_seen r place before after caller was keeps.front keeps.cur keeps.answered
+
+catch_up_seen : {O : Type 0} (r : Running O) (place : ℕ) (before after : Seated) → IsCallerOf r before → HasSeen r.callers place before.known.local → CatchUpKeeps before after → HasSeen r.callers place after.known.local
+catch_up_seen r place before after caller was keeps = still_seen r place before after caller was keeps.front keeps.cur keeps.answered
+
+pub update_sees : {O : Type 0} (r : Running O) (op : List ℕ) (place : ℕ) (before : Seated) (updated : Updated) → IsCallerOf r before → HasSeen r.callers place before.known.local → Updates r op before updated →
+    UpdateSees r.callers place updated
+update_sees r op place before (UpdatedDone after answer) caller was done = update_behind r op before after place answer was done
+update_sees r op place before (UpdatedFull after note) caller was full = lists_seen r place before after caller was full.keeps
+update_sees r op place before (UpdatedWorn after) caller was worn = lists_seen r place before after caller was worn.keeps
+update_sees r op place before (UpdatedHalted after) caller was halted = tt
+
+pub queued_sees : {O : Type 0} (r : Running O) (op : List ℕ) (place : ℕ) (before : Seated) (updated : Updated) → IsCallerOf r before → HasSeen r.callers place before.known.local → ReadQueues r op before updated →
+    UpdateSees r.callers place updated
+queued_sees r op place before updated caller was queues =
+    update_sees r op place queues.refused updated queues.pending.caller (still_seen r place before queues.refused caller was queues.pending.keeps.front queues.pending.keeps.cur queues.pending.keeps.answered) queues.entered
+
+pub read_sees : {O : Type 0} (r : Running O) (op : List ℕ) (place : ℕ) (before : Seated) (done : ReadDone) → IsCallerOf r before → HasSeen r.callers place before.known.local → ReadsInAll r op before done →
+    ReadSees r.callers place done
+read_sees r op place before (Read after seen) caller was read = read_behind r op before after place seen was read.0
+read_sees r op place before (Queued after answer) caller was queues = queued_sees r op place before (UpdatedDone after answer) caller was queues
+read_sees r op place before (FullRead after note) caller was queues = queued_sees r op place before (UpdatedFull after note) caller was queues
+read_sees r op place before (WornRead after) caller was queues = queued_sees r op place before (UpdatedWorn after) caller was queues
+read_sees r op place before (HaltedRead after) caller was stops = tt
+
+pub catch_up_sees : {O : Type 0} (r : Running O) (other place : ℕ) (before : Seated) (caught : CaughtUp) → IsCallerOf r before → HasSeen r.callers place before.known.local → CatchesUp r other before caught →
+    CatchUpSees r.callers place caught
+catch_up_sees r other place before (Caught after) caller was caught = catch_up_seen r place before after caller was caught.keeps
+catch_up_sees r other place before (Behind after found) caller was behind = catch_up_seen r place before after caller was behind.keeps
+catch_up_sees r other place before (Halted after) caller was halted = tt
 
 -- an unanswered entry is an own one
 own_unanswered : (own : List Linked) (n ticket : ℕ) → option_map (λ (x : Linked). x.ticket) (slice_get own n) ≡ Some ticket → (x : Linked) × (slice_get own n ≡ Some x) × (x.ticket ≡ ticket)
