@@ -32,7 +32,7 @@ use Rattle.cx_turns.specs.declared.lookup.Seen.{Seen}
 
 module _ {O : Type 0} (r : Running O) (op : List ℕ) (before after : Seated) where
   -- an own entry that was answered is below the front
-  done_front : (answer : Answer) → UpdateDone r op before after answer → answer.ticket < after.known.local.front
+  pub done_front : (answer : Answer) → UpdateDone r op before after answer → answer.ticket < after.known.local.front
   done_front answer done =
       let l = before.known.local in
       let x : Linked = entry_at r l op answer.ticket in
@@ -68,6 +68,9 @@ module _ {O : Type 0} (r : Running O) (op : List ℕ) (before after : Seated) wh
       ] in
       (above, record { front = (let a = was.front in let b = read.keeps.front in omega (arith, a, b)); read = inl (omega (arith, above, at)) })
 
+  pub answered_read_seen : (seen : Seen) → ReadAnswered r op before after seen → HasSeen r.callers seen.place after.known.local
+  answered_read_seen seen read = record { front = read.reached; read = inl (let at = read.place in omega (arith, at)) }
+
 -- what was seen has been seen still where neither the front nor the code found in CUR fell and the answers are as they were
 still_seen : {O : Type 0} (r : Running O) (place : ℕ) (before after : Seated) → IsCallerOf r before → HasSeen r.callers place before.known.local → before.known.local.front ≤ after.known.local.front →
     before.known.local.seen_cur ≤ after.known.local.seen_cur → after.known.local.answered ≡ before.known.local.answered → HasSeen r.callers place after.known.local
@@ -92,10 +95,10 @@ pub read_seen : {O : Type 0} (r : Running O) (place : ℕ) (before after : Seate
 read_seen r place before after caller was keeps = still_seen r place before after caller was keeps.front keeps.cur keeps.answered
 
 -- where nothing was linked or answered
-lists_seen : {O : Type 0} (r : Running O) (place : ℕ) (before after : Seated) → IsCallerOf r before → HasSeen r.callers place before.known.local → KeepsLists before after → HasSeen r.callers place after.known.local
+pub lists_seen : {O : Type 0} (r : Running O) (place : ℕ) (before after : Seated) → IsCallerOf r before → HasSeen r.callers place before.known.local → KeepsLists before after → HasSeen r.callers place after.known.local
 lists_seen r place before after caller was keeps = still_seen r place before after caller was keeps.front keeps.cur keeps.answered
 
-catch_up_seen : {O : Type 0} (r : Running O) (place : ℕ) (before after : Seated) → IsCallerOf r before → HasSeen r.callers place before.known.local → CatchUpKeeps before after → HasSeen r.callers place after.known.local
+pub catch_up_seen : {O : Type 0} (r : Running O) (place : ℕ) (before after : Seated) → IsCallerOf r before → HasSeen r.callers place before.known.local → CatchUpKeeps before after → HasSeen r.callers place after.known.local
 catch_up_seen r place before after caller was keeps = still_seen r place before after caller was keeps.front keeps.cur keeps.answered
 
 pub update_sees : {O : Type 0} (r : Running O) (op : List ℕ) (place : ℕ) (before : Seated) (updated : Updated) → IsCallerOf r before → HasSeen r.callers place before.known.local → Updates r op before updated →
@@ -127,6 +130,14 @@ catch_up_sees r other place before (Halted after) caller was halted = tt
 -- an unanswered entry is an own one
 own_unanswered : (own : List Linked) (n ticket : ℕ) → option_map (λ (x : Linked). x.ticket) (slice_get own n) ≡ Some ticket → (x : Linked) × (slice_get own n ≡ Some x) × (x.ticket ≡ ticket)
 own_unanswered own n ticket is = (let m = mapped (λ (x : Linked). x.ticket) (slice_get own n) ticket is in (m.0, m.1, m.2))
+
+-- so is one that was driven to its answer
+pub driven_front : {O : Type 0} (r : Running O) (before after : Seated) (answer : Answer) → DriveDone r before after answer → answer.ticket < after.known.local.front
+driven_front r before after answer done =
+    let x = own_unanswered before.known.local.own (length before.known.local.answered) answer.ticket done.ticket in
+    let below = done.caller.cells.to (length before.known.local.answered) x.0 (ap (λ (xs : List Linked). slice_get xs (length before.known.local.answered)) done.keeps.own ∙ x.1) in
+    let same = x.2 in
+    omega (arith, below, same)
 
 pub driven_seen : {O : Type 0} (r : Running O) (place : ℕ) (before after : Seated) (answer : Answer) → place ≤ answer.ticket + 1 → DriveDone r before after answer → HasSeen r.callers place after.known.local
 driven_seen r place before after answer low done =

@@ -35,6 +35,11 @@ pub fn answered_updates_are_seen<O: Object>()
     ensures { (r : Running O) (op : List ℕ) (before after : Seated) (answer : Answer) → UpdateDone r op before after answer → HasSeen r.callers (answer.ticket + 1) after.known.local }
 {}
 
+/// What it read it has seen: the read's place.
+pub fn answered_reads_are_seen<O: Object>()
+    ensures { (r : Running O) (op : List ℕ) (before after : Seated) (seen : Seen) → ReadAnswered r op before after seen → HasSeen r.callers seen.place after.known.local }
+{}
+
 /// Whatever a submit comes to, what was seen before has been seen still, and an entry that it linked has a ticket at or above it.
 pub fn submits_stand_behind_what_was_seen<O: Object>()
     ensures linked { (r : Running O) (op : List ℕ) (most place : ℕ) (before after : Seated) → HasSeen r.callers place before.known.local → (links : SubmitLinked r op most before after) → place ≤ links.ticket }
