@@ -224,6 +224,7 @@ module _ {O : Type 0} (r : Running O) (step : O → List ℕ → List ℕ → Li
             cells = own_kept s.known.local v.known.local caller.cells own_still rises (λ j t at. sym (still_cell j) ∙ at);
           };
           allowed = allowed;
+          made = (let second = ap (λ (x : Seated). x.known.local.steps) raised in let first = ap (λ (x : Seated). x.known.local.steps) loaded in omega (arith, first, second));
           is = placed;
           seen = record { front = omega (arith, front, is); read = inl (omega (arith, placed)) };
         }

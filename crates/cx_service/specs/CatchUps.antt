@@ -1,8 +1,9 @@
 -- What it comes to that a caller catches up with a place that another one told.
-use Rattle.std.specs.Prelude.{◌≡◌, ◌+◌, ◌<◌, ◌≤◌, ◌⊎◌, ℕ, slice_get, None, Some}
+use Rattle.std.specs.Prelude.{◌≡◌, ◌+◌, ◌<◌, ◌≤◌, ◌⊎◌, ℕ, min, slice_get, None, Some}
 use Rattle.cx_base.specs.Codes.{root_place_of}
 use Rattle.cx_core.specs.declared.local.Answer.{Answer}
 use Rattle.cx_core.specs.declared.local.Local.{Local}
+use Rattle.cx_core.specs.Layout.{max_word}
 use Rattle.cx_rule.specs.Running.{Running}
 use Rattle.cx_rule.specs.Seats.{IsAtLimit, Seated}
 use Rattle.cx_service.specs.declared.catch_up.CaughtUp.{CaughtUp}
@@ -32,10 +33,15 @@ pub record CatchUpKeeps (before after : Seated) : Type 0 where
   pub front : before.known.local.front ≤ after.known.local.front
   pub steps : after.known.local.steps ≤ before.known.local.steps + 2
 
+-- two steps were made, where their count is not at its end: the load of CUR, and the raise of DUR
+abbrev pub MakesTwoSteps : Seated → Seated → Type 0
+MakesTwoSteps before after = after.known.local.steps ≡ min (before.known.local.steps + 2) max_word
+
 -- The code in CUR was loaded, and DUR raised by it. This is its place, which the caller has seen.
 pub record SeesCurrent {O : Type 0} (r : Running O) (before after : Seated) (found : ℕ) : Type 0 where
   pub caller : IsCallerOf r after
   pub allowed : ¬ IsAtLimit before.known.local
+  pub made : MakesTwoSteps before after
   pub is : found ≡ root_place_of r.callers after.known.local.seen_cur
   pub seen : HasSeen r.callers found after.known.local
 
@@ -44,6 +50,7 @@ pub record CatchUpCaught {O : Type 0} (r : Running O) (place : ℕ) (before afte
   pub caller : IsCallerOf r after
   pub keeps : CatchUpKeeps before after
   pub allowed : ¬ IsAtLimit before.known.local
+  pub made : MakesTwoSteps before after
   pub seen : HasSeen r.callers place after.known.local
 
 -- The place found in CUR is below it.
@@ -51,6 +58,7 @@ pub record CatchUpBehind {O : Type 0} (r : Running O) (place found : ℕ) (befor
   pub caller : IsCallerOf r after
   pub keeps : CatchUpKeeps before after
   pub allowed : ¬ IsAtLimit before.known.local
+  pub made : MakesTwoSteps before after
   pub is : found ≡ root_place_of r.callers after.known.local.seen_cur
   pub below : found < place
 
