@@ -46,6 +46,7 @@ import told
 from build_tests import Builds
 from end_tests import Ends
 from help_tests import Helps
+from history_tests import Histories
 from image_tests import ImageExplanations, ProgramOnImages, ReadImages, usage
 from picture_tests import Pictures
 from plain_core import Core

@@ -28,6 +28,7 @@ fn part_clients(
         let Client {
             number,
             floor,
+            caught_up: _,
             answers,
             lent,
             closing: _,
@@ -64,6 +65,7 @@ impl<O: Object> Pool<O> {
         let Client {
             number,
             floor,
+            caught_up: _,
             answers,
             lent,
             closing,

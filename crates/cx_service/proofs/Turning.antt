@@ -239,14 +239,15 @@ module _ {O : Type 0} (r : Running O) (op : List ℕ) (s v : Seated) (caller : I
       between_after r 0 0 s v caller (ap (λ (x : Seated). x.known.local.own) rest) (ap (λ (x : Seated). map but_set x.known.local.cells) rest) front of at
       (ap (λ (x : Seated). length x.known.local.answered + 0) rest)
 
-  pub read_done : (seen : Seen) → ¬ IsAtLimit s.known.local → AnswersRead op seen.place seen.reply s v → seen.place ≡ root_place_of r.callers v.known.local.seen_cur → ReadAnswered r op s v seen
-  read_done seen allowed answers placed = record {
+  pub read_done : (seen : Seen) → ¬ IsAtLimit s.known.local → AnswersRead op seen.place seen.reply s v → seen.place ≡ root_place_of r.callers v.known.local.seen_cur → seen.place ≤ v.known.local.front → ReadAnswered r op s v seen
+  read_done seen allowed answers placed reached = record {
     caller = still answers.rest;
     keeps = read_keeps;
     allowed = allowed;
     met = (let same = answers.met in omega (arith, same));
     reads = answers.reads;
     place = placed;
+    reached = reached;
     above = answers.above;
     from = answers.from;
   }
@@ -303,6 +304,7 @@ module _ {O : Type 0} (r : Running O) (op : List ℕ) (n : ℕ) (s u : Seated) (
     met = omega (arith, before.rises, d.met);
     reads = d.reads ∙ more_reads seen.place seen.reply;
     place = d.place;
+    reached = d.reached;
     above = λ i x at. d.above i x (ap (λ (xs : List Answer). slice_get xs i) before.keeps.answered ∙ at);
     from = λ i x at. d.from i x (ap (λ (xs : List SeenRead). slice_get xs i) before.reads ∙ at);
   }

@@ -11,7 +11,7 @@ use Rattle.cx_rule.specs.Seats.{IsAtLimit, Seated}
 use Rattle.cx_core.specs.declared.local.FullNote.{FullNote}
 use Rattle.cx_service.specs.Callers.{StoppedSeat}
 use Rattle.cx_service.specs.Drives.{DriveDone, DriveHalted}
-use Rattle.cx_service.specs.Submits.{SubmitAgain, SubmitFull, SubmitHalted, SubmitLinked, SubmitWorn, entry_at}
+use Rattle.cx_service.specs.Submits.{SubmitAgain, SubmitFull, SubmitHalted, SubmitKeeps, SubmitLinked, SubmitWorn, entry_at}
 use Rattle.cx_service.specs.Lookups.{ReadPending}
 use Rattle.cx_service.specs.declared.update.ReadDone.{ReadDone}
 use Rattle.cx_service.specs.declared.update.ReadDone.TheVariants.{Read, Queued, Full as FullRead, Worn as WornRead, Halted as HaltedRead}
@@ -19,7 +19,7 @@ use Rattle.cx_service.specs.Updates.{KeepsLists, LinksEntry, QueuesRead, ReadsIn
 use Rattle.cx_turns.specs.Answering.{with_answer}
 
 pub keeps_all : (s : Seated) → KeepsLists s s
-keeps_all s = record { number = refl; limit = refl; own = refl; answered = refl; reads = refl }
+keeps_all s = record { number = refl; limit = refl; own = refl; answered = refl; reads = refl; front = omega arith; cur = omega arith }
 
 module _ {O : Type 0} (r : Running O) (op : List ℕ) (s u : Seated) (same : KeepsLists s u) (stood : IsAtLimit s.known.local → u ≡ s) where
   -- what is allowed after the tries so far was so before them
@@ -32,14 +32,20 @@ module _ {O : Type 0} (r : Running O) (op : List ℕ) (s u : Seated) (same : Kee
       ap (λ (n : ℕ). (let e : OwnEntry = record { ticket = ticket; entry = record { caller = n; number = slot_number n r.base.words + length u.known.local.own + 1; op = op } } in e)) same.number
       ∙ ap (λ (xs : List OwnEntry). (let e : OwnEntry = record { ticket = ticket; entry = record { caller = s.known.local.number; number = slot_number s.known.local.number r.base.words + length xs + 1; op = op } } in e)) same.own
 
-  pub again_keeps : (tries most : ℕ) (v : Seated) → SubmitAgain r tries most u v → KeepsLists s v
-  again_keeps tries most v a = record {
-    number = a.keeps.number ∙ same.number;
-    limit = a.keeps.limit ∙ same.limit;
-    own = a.own ∙ same.own;
-    answered = a.keeps.answered ∙ same.answered;
-    reads = a.keeps.reads ∙ same.reads;
+  -- what a further submit keeps, which linked nothing
+  keeps_on : (most : ℕ) (v : Seated) → v.known.local.own ≡ u.known.local.own → SubmitKeeps most u v → KeepsLists s v
+  keeps_on most v own keeps = record {
+    number = keeps.number ∙ same.number;
+    limit = keeps.limit ∙ same.limit;
+    own = own ∙ same.own;
+    answered = keeps.answered ∙ same.answered;
+    reads = keeps.reads ∙ same.reads;
+    front = (let first = same.front in let more = keeps.front in omega (arith, first, more));
+    cur = (let first = same.cur in let more = keeps.cur in omega (arith, first, more));
   }
+
+  pub again_keeps : (tries most : ℕ) (v : Seated) → SubmitAgain r tries most u v → KeepsLists s v
+  again_keeps tries most v a = keeps_on most v a.own a.keeps
 
   pub again_stood : (tries most : ℕ) (v : Seated) → SubmitAgain r tries most u v → IsAtLimit s.known.local → v ≡ s
   again_stood tries most v a at = absurd (allowed_first a.allowed at)
@@ -48,7 +54,7 @@ module _ {O : Type 0} (r : Running O) (op : List ℕ) (s u : Seated) (same : Kee
   update_full most v note rise f = record {
     caller = f.caller;
     allowed = allowed_first f.allowed;
-    keeps = record { number = f.keeps.number ∙ same.number; limit = f.keeps.limit ∙ same.limit; own = f.own ∙ same.own; answered = f.keeps.answered ∙ same.answered; reads = f.keeps.reads ∙ same.reads };
+    keeps = keeps_on most v f.own f.keeps;
     full = (let e = ap (λ (xs : List OwnEntry). length xs) same.own in omega (arith, e, f.full));
     scans = elim (cases_lt (u.known.local.scans + 1) max_word) [
       | inl below ↦ inl (let e = f.scans in omega (arith, e, below, rise))
@@ -61,7 +67,7 @@ module _ {O : Type 0} (r : Running O) (op : List ℕ) (s u : Seated) (same : Kee
   update_worn most v w = record {
     caller = w.caller;
     allowed = allowed_first w.allowed;
-    keeps = record { number = w.keeps.number ∙ same.number; limit = w.keeps.limit ∙ same.limit; own = w.own ∙ same.own; answered = w.keeps.answered ∙ same.answered; reads = w.keeps.reads ∙ same.reads };
+    keeps = keeps_on most v w.own w.keeps;
     front = w.front;
     idle = w.idle;
   }
@@ -72,7 +78,7 @@ module _ {O : Type 0} (r : Running O) (op : List ℕ) (s u : Seated) (same : Kee
     number = h.keeps.number ∙ same.number;
     lists = inl (record {
       none = h.linked;
-      keeps = record { number = h.keeps.number ∙ same.number; limit = h.keeps.limit ∙ same.limit; own = h.own ∙ same.own; answered = h.keeps.answered ∙ same.answered; reads = h.keeps.reads ∙ same.reads };
+      keeps = keeps_on most v.seat h.own h.keeps;
     });
   }
 

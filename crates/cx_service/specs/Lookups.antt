@@ -27,7 +27,7 @@ pub record ReadKeeps (before after : Seated) : Type 0 where
   pub cur : before.known.local.seen_cur ≤ after.known.local.seen_cur
 
 -- The read is answered, and nothing else: the caller has one read more, of this operation. Its place is that of the code last found in CUR,
--- above each ticket and not below any place that the caller was answered before. The limit allowed a step.
+-- above each ticket and not below any place that the caller was answered before, and not above the caller's front. The limit allowed a step.
 pub record ReadAnswered {O : Type 0} (r : Running O) (op : List ℕ) (before after : Seated) (seen : Seen) : Type 0 where
   pub caller : IsCallerOf r after
   pub keeps : ReadKeeps before after
@@ -35,6 +35,7 @@ pub record ReadAnswered {O : Type 0} (r : Running O) (op : List ℕ) (before aft
   pub met : before.known.local.met ≤ after.known.local.met
   pub reads : after.known.local.seen_reads ≡ with_read seen.place op seen.reply (length before.known.local.answered) before.known.local.seen_reads
   pub place : seen.place ≡ root_place_of r.callers after.known.local.seen_cur
+  pub reached : seen.place ≤ after.known.local.front
   pub above : (i : ℕ) (x : Answer) → slice_get before.known.local.answered i ≡ Some x → x.ticket < seen.place
   pub from : (i : ℕ) (x : SeenRead) → slice_get before.known.local.seen_reads i ≡ Some x → x.place ≤ seen.place
 

@@ -16,13 +16,15 @@ use Rattle.cx_service.specs.Lookups.{ReadAnswered, ReadDue, ReadHalted, ReadPend
 use Rattle.cx_service.specs.Submits.{NamesHolder, entry_at}
 use Rattle.cx_turns.specs.Answering.{with_answer}
 
--- the caller's number, its limit and its lists are as they were
+-- the caller's number, its limit and its lists are as they were, and its front and what it found in CUR do not fall
 pub record KeepsLists (before after : Seated) : Type 0 where
   pub number : after.known.local.number ≡ before.known.local.number
   pub limit : after.known.local.limit ≡ before.known.local.limit
   pub own : after.known.local.own ≡ before.known.local.own
   pub answered : after.known.local.answered ≡ before.known.local.answered
   pub reads : after.known.local.seen_reads ≡ before.known.local.seen_reads
+  pub front : before.known.local.front ≤ after.known.local.front
+  pub cur : before.known.local.seen_cur ≤ after.known.local.seen_cur
 
 -- an entry of this operation was linked at a ticket, and no other
 pub record LinksEntry {O : Type 0} (r : Running O) (op : List ℕ) (ticket : ℕ) (before after : Seated) : Type 0 where
