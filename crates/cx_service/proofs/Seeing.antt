@@ -192,6 +192,11 @@ module _ {O : Type 0} (r : Running O) (step : O → List ℕ → List ℕ → Li
       cur = (let is = cur_is in omega (arith, is, most));
       front = (let is = front_is in omega (arith, is));
       steps = (let second = ap (λ (x : Seated). x.known.local.steps) raised in let first = ap (λ (x : Seated). x.known.local.steps) loaded in omega (arith, first, second));
+      times = record {
+        linked = ap (λ (x : Seated). x.known.times.linked) raised ∙ ap (λ (x : Seated). x.known.times.linked) loaded;
+        answered = ap (λ (x : Seated). x.known.times.answered) raised ∙ append-nil mid.known.times.answered ∙ ap (λ (x : Seated). x.known.times.answered) loaded;
+        reads = ap (λ (x : Seated). x.known.times.reads) raised ∙ append-nil mid.known.times.reads ∙ ap (λ (x : Seated). x.known.times.reads) loaded;
+      };
     }
 
     pub current_sets : v.known.sets ≡ s.known.sets

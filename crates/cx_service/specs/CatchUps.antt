@@ -6,6 +6,7 @@ use Rattle.cx_core.specs.declared.local.Local.{Local}
 use Rattle.cx_core.specs.Layout.{max_word}
 use Rattle.cx_rule.specs.Running.{Running}
 use Rattle.cx_rule.specs.Seats.{IsAtLimit, Seated}
+use Rattle.cx_rule.specs.Timing.{KeepsTimes}
 use Rattle.cx_service.specs.declared.catch_up.CaughtUp.{CaughtUp}
 use Rattle.cx_service.specs.declared.catch_up.CaughtUp.TheVariants.{Caught, Behind, Halted}
 use Rattle.cx_service.specs.declared.update.ReadDone.{ReadDone}
@@ -32,6 +33,7 @@ pub record CatchUpKeeps (before after : Seated) : Type 0 where
   pub cur : before.known.local.seen_cur ≤ after.known.local.seen_cur
   pub front : before.known.local.front ≤ after.known.local.front
   pub steps : after.known.local.steps ≤ before.known.local.steps + 2
+  pub times : KeepsTimes before.known.times after.known.times
 
 -- two steps were made, where their count is not at its end: the load of CUR, and the raise of DUR
 abbrev pub MakesTwoSteps : Seated → Seated → Type 0
