@@ -25,7 +25,7 @@ use Rattle.seat_pool.specs.declared.hand.Hand.{Hand}
 use Rattle.seat_pool.specs.declared.hand.Told.{Told}
 use Rattle.seat_pool.specs.declared.lent.Lent.{Lent}
 use Rattle.seat_pool.proofs.Poolings.{total_both}
-use Rattle.seat_pool.proofs.Telling.{are_kept, are_shown, are_told, same_calls}
+use Rattle.seat_pool.proofs.Telling.{are_caught, are_kept, are_shown, are_told, same_calls}
 use Rattle.client_pool.specs.Lending.{ComesTo, HaltsReading, HoldsIdle, HoldsKept, IsGivenBack, IsLentTo, IsOut, IsPart, IsSettled, KeepsFull, KeepsStopped, KeepsWorn, ShowsRead, TellsEntry, TellsSame}
 
 module _ {O : Type 0} (r : Running O) where
@@ -80,25 +80,6 @@ module _ {O : Type 0} (r : Running O) where
     calls = same_calls y x.known.local.number x.known.local.own x.known.local.answered keeps.number keeps.own keeps.answered;
     more = [];
     reads = still x y keeps.reads;
-  }
-
-  -- a caller that was stopped while it caught up linked nothing
-  caught_halted : (op : List ℕ) (x : Seated) (s : StoppedSeat) → CatchUpHalted r x s → UpdateHalted r op x s
-  caught_halted op x s halted = record {
-    caller = halted.caller;
-    number = halted.keeps.number;
-    lists = inl (record {
-      none = halted.linked;
-      keeps = record {
-        number = halted.keeps.number;
-        limit = halted.keeps.limit;
-        own = halted.keeps.own;
-        answered = halted.keeps.answered;
-        reads = halted.keeps.reads;
-        front = halted.keeps.front;
-        cur = halted.keeps.cur;
-      };
-    });
   }
 
   -- its new entry is below its front
@@ -254,7 +235,8 @@ module _ {O : Type 0} (r : Running O) where
           stopped_kept s x out (are_kept r op out.holds.taken x s out.holds.idle halted) (limit_of (view before.pass) x s.seat out.holds same.0 same.1) keeps
 
       pub caught_stopped : (s : StoppedSeat) (x : Seated) → IsOut r table before x → CatchUpHalted r x s → after.kept ≡ Some (Stopped s) → KeepsStopped r table before after s.linked
-      caught_stopped s x out halted keeps = settled_stopped [] s x out (inl (caught_halted [] x s halted)) keeps
+      caught_stopped s x out halted keeps =
+          stopped_kept s x out (are_caught r out.holds.taken x s out.holds.idle halted) (limit_of (view before.pass) x s.seat out.holds halted.keeps.number halted.keeps.limit) keeps
 
     -- it may be given back
     pub done_back : (op : List ℕ) (lent : Lent) (x y : Seated) (answer : Answer) → IsOut r table lent x → UpdateDone r op x y answer → IsCallerOf r y × HasLimit (limits_at (view lent.pass).home) y × IsFirstOf (view lent.pass).held y
