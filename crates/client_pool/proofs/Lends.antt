@@ -25,7 +25,7 @@ use Rattle.seat_pool.specs.declared.hand.Hand.{Hand}
 use Rattle.seat_pool.specs.declared.hand.Told.{Told}
 use Rattle.seat_pool.specs.declared.lent.Lent.{Lent}
 use Rattle.seat_pool.proofs.Poolings.{total_both}
-use Rattle.seat_pool.proofs.Telling.{are_caught, are_kept, are_shown, are_told, same_calls}
+use Rattle.seat_pool.proofs.Telling.{are_kept, are_shown, are_told, same_calls}
 use Rattle.client_pool.specs.Lending.{ComesTo, HaltsReading, HoldsIdle, HoldsKept, IsGivenBack, IsLentTo, IsOut, IsPart, IsSettled, KeepsFull, KeepsStopped, KeepsWorn, ShowsRead, TellsEntry, TellsSame}
 
 module _ {O : Type 0} (r : Running O) where
@@ -81,6 +81,28 @@ module _ {O : Type 0} (r : Running O) where
     more = [];
     reads = still x y keeps.reads;
   }
+
+  -- a caller that was stopped while it caught up is as one that was stopped in a read and answered nothing
+  caught_halted : (op : List ℕ) (x : Seated) (s : StoppedSeat) → CatchUpHalted r x s → ReadHalted r op x s
+  caught_halted op x s halted =
+      let keeps = halted.keeps in
+      record {
+        caller = halted.caller;
+        linked = halted.linked;
+        keeps = record {
+          number = keeps.number;
+          limit = keeps.limit;
+          own = keeps.own;
+          answered = keeps.answered;
+          scans = keeps.scans;
+          front = keeps.front;
+          cur = keeps.cur;
+          linked = keeps.times.linked;
+          ended = keeps.times.answered;
+        };
+        reads = inl keeps.reads;
+        times = inl keeps.times.reads;
+      }
 
   -- its new entry is below its front
   own_below : (op : List ℕ) (x y : Seated) (answer : Answer) → UpdateDone r op x y answer → answer.ticket < y.known.local.front
@@ -235,8 +257,7 @@ module _ {O : Type 0} (r : Running O) where
           stopped_kept s x out (are_kept r op out.holds.taken x s out.holds.idle halted) (limit_of (view before.pass) x s.seat out.holds same.0 same.1) keeps
 
       pub caught_stopped : (s : StoppedSeat) (x : Seated) → IsOut r table before x → CatchUpHalted r x s → after.kept ≡ Some (Stopped s) → KeepsStopped r table before after s.linked
-      caught_stopped s x out halted keeps =
-          stopped_kept s x out (are_caught r out.holds.taken x s out.holds.idle halted) (limit_of (view before.pass) x s.seat out.holds halted.keeps.number halted.keeps.limit) keeps
+      caught_stopped s x out halted keeps = settled_stopped [] s x out (inr (caught_halted [] x s halted)) keeps
 
     -- it may be given back
     pub done_back : (op : List ℕ) (lent : Lent) (x y : Seated) (answer : Answer) → IsOut r table lent x → UpdateDone r op x y answer → IsCallerOf r y × HasLimit (limits_at (view lent.pass).home) y × IsFirstOf (view lent.pass).held y

@@ -11,7 +11,6 @@ use Rattle.cx_rule.specs.Seats.{Seated}
 use Rattle.cx_service.specs.Callers.{IsCallerOf, IsStoppedOf, StoppedSeat}
 use Rattle.cx_service.specs.Lookups.{ReadHalted}
 use Rattle.cx_service.specs.Submits.{entry_at}
-use Rattle.cx_service.specs.CatchUps.{CatchUpHalted}
 use Rattle.cx_service.specs.Updates.{HaltsLinked, HaltsUnlinked, UpdateDone, UpdateHalted}
 use Rattle.cx_service.specs.declared.close.Handed.TheVariants.{Idle, Stopped}
 use Rattle.seat_pool.specs.Gathering.{Gathers, IsHandedOf, StaysIdle}
@@ -123,9 +122,6 @@ module _ {O : Type 0} (r : Running O) where
     unlinked_ : UpdateHalted r op before s → HaltsUnlinked r op before s → Gathers r (taken ∷ []) (Stopped s ∷ [])
     unlinked_ halted u = none [] halted.caller halted.number (same_calls s.seat n before.known.local.own before.known.local.answered halted.number u.keeps.own u.keeps.answered) (still u.keeps.reads)
 
-    caught_ : CatchUpHalted r before s → Gathers r (taken ∷ []) (Stopped s ∷ [])
-    caught_ halted = none [] halted.caller halted.keeps.number (same_calls s.seat n before.known.local.own before.known.local.answered halted.keeps.number halted.keeps.own halted.keeps.answered) (still halted.keeps.reads)
-
     linked_ : UpdateHalted r op before s → HaltsLinked r op before s → Gathers r (taken ∷ []) (Stopped s ∷ [])
     linked_ halted l =
         let e = entry_at r before.known.local op l.ticket in
@@ -148,10 +144,6 @@ module _ {O : Type 0} (r : Running O) where
         (λ a. none [] halted.caller halted.keeps.number calls (still a))
         (λ a. none (record { place = a.0; op = op; reply = a.1; before = length before.known.local.answered } ∷ []) halted.caller halted.keeps.number calls a.2)
         halted.reads
-
-  -- a caller that was stopped while it caught up is kept as it was
-  pub are_caught : (taken before : Seated) (s : StoppedSeat) → StaysIdle r taken before → CatchUpHalted r before s → Gathers r (taken ∷ []) (Stopped s ∷ [])
-  are_caught taken before s idle halted = caught_ [] taken before s idle halted
 
   pub are_kept : (op : List ℕ) (taken before : Seated) (s : StoppedSeat) → StaysIdle r taken before → UpdateHalted r op before s ⊎ ReadHalted r op before s → Gathers r (taken ∷ []) (Stopped s ∷ [])
   are_kept op taken before s idle (inl halted) = ⊎_elim (unlinked_ op taken before s idle halted) (linked_ op taken before s idle halted) halted.lists
