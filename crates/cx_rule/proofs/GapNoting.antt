@@ -1,9 +1,8 @@
 -- A gap of an entry's ticket is noted by what its caller noted of a replica.
-use Rattle.std.proofs.Common.{◌≡◌, ◌+◌, ◌*◌, ◌^◌, ◌<◌, ◌≤◌, ◌⊎◌, ℕ, List, refl, ap, sym, subst, ◌∙◌, arith, Some, length, slice_index}
+use Rattle.std.proofs.Common.{◌≡◌, ◌+◌, ◌^◌, ◌<◌, ℕ, List, refl, ap, sym, subst, ◌∙◌, arith, Some, slice_index}
 use Rattle.std.proofs.Math.Logic.{∥∥₁_elim}
 use Rattle.std.proofs.Props.{props}
 use Rattle.std.specs.List.{slice_get}
-use Rattle.cx_core.specs.declared.entry.Entry.{Entry}
 use Rattle.cx_core.specs.declared.kinds.Kind.TheVariants.{NoteGap}
 use Rattle.cx_core.specs.declared.local.Local.{Local}
 use Rattle.cx_core.specs.Base.{LawfulBase}
@@ -21,7 +20,6 @@ use Rattle.cx_rule.specs.declared.rule.Known.{Known}
 use Rattle.cx_rule.specs.Fitting.{has_of}
 use Rattle.cx_rule.specs.Learns.{LearnsBy}
 use Rattle.cx_rule.specs.Listed.{TellsGap}
-use Rattle.cx_rule.specs.Offers.{TellsSet}
 use Rattle.cx_rule.specs.Rule.{IsTraced, NotesHold}
 use Rattle.cx_rule.specs.Seats.{unseen}
 use Rattle.cx_rule.proofs.Entries.{entries_from}
@@ -63,4 +61,5 @@ module _ (lines : ℕ) (lawful : List ℕ → Type 0) (instance : Instance) (law
         guard = subst (λ h. CanNoteGap instance h slot i v) (sym same) (slot_is, small, fits, is);
         new_is = refl;
         shows = ap (λ (x : Local). next instance unseen (NoteGap slot i v) x (slice_index words word)) shows;
+        timed = tt;
       })

@@ -3,6 +3,7 @@ pub mod Telling
 pub mod Notes
 pub mod Entries
 pub mod Reached
+pub mod Timing
 pub mod Traced
 pub mod Behind
 pub mod Keeps

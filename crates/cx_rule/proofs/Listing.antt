@@ -1,6 +1,5 @@
 -- The release of a shared right whose listed lines were copied.
-use Rattle.std.proofs.Common.{◌≡◌, ◌+◌, ◌*◌, ◌^◌, ◌<◌, ◌≤◌, ◌⊎◌, inl, inr, ℕ, List, length, slice_index, refl, ap, sym, subst, ◌∙◌, arith, Option, Some, None}
-use Rattle.std.specs.List.{Contains}
+use Rattle.std.proofs.Common.{◌≡◌, ◌+◌, ◌*◌, ◌<◌, inl, inr, ℕ, List, length, slice_index, refl, ap, sym, subst, ◌∙◌, arith, Option, Some}
 use Rattle.cx_base.specs.Noted.{NotesLead}
 use Rattle.cx_core.specs.declared.entry.Entry.{Entry}
 use Rattle.cx_core.specs.declared.kinds.Kind.TheVariants.{BackOff}
@@ -16,7 +15,7 @@ use Rattle.cx_rule.specs.Rule.{IsOrigin}
 use Rattle.cx_rule.proofs.Behind.{shared_there}
 use Rattle.cx_rule.proofs.Copying.{leads_length, noted_tells}
 use Rattle.cx_rule.proofs.Keeps.{learns_shown}
-use Rattle.cx_core.specs.Gaps.{Gap, IsGap, IsOfPlace, images}
+use Rattle.cx_core.specs.Gaps.{IsGap, IsOfPlace, images}
 use Rattle.cx_rule.proofs.GapCopies.{listed_copies_are_the_source}
 use Rattle.cx_rule.specs.Listed.{AgreeListed, HasGap}
 use Rattle.cx_rule.specs.Rule.{NotesHold}
@@ -71,5 +70,7 @@ learns_listed instance r known word lines from to lists small on at long agree w
       notes = plain.notes;
       traced = record { first = there.0; now = there.0; origin = there.1; leads = leads; held = λ x has. sym now ∙ t.held x has };
       sets = plain.sets;
+      timed = plain.timed;
+      imaged = plain.imaged;
       fits = plain.fits;
     }

@@ -2,7 +2,7 @@
 use Rattle.std.proofs.Common.{◌≡◌, ◌≢◌, ◌^◌, ◌<◌, ◌≤◌, inl, inr, ℕ, zero, suc, List, [], ◌∷◌, length, map, set, slice_index, refl, ap, sym, subst, ◌∙◌, arith, Some}
 use Rattle.std.proofs.lemmas.List.{length-map}
 use Rattle.std.proofs.lemmas.List.FromFn.{length-map-range_with_len, get_or-map-range_with_len}
-use Rattle.std.proofs.lemmas.Bool.{cases_eq}
+use Rattle.std.proofs.lemmas.Bool.{cases_eq, false≢true}
 use Rattle.std.proofs.lemmas.Option.{same_Some, slice_get_within, slice_get-get_or, get_or_from_slice_get, none-some}
 use Rattle.std.specs.List.{range_with_len, slice_get}
 use mathlib.Core.Option.{some, some-injective, some-ne-none}
@@ -20,8 +20,9 @@ use Rattle.cx_core.proofs.ListLemmas.{slice_get-set_same, slice_get-set_other}
 use Rattle.core_queue.specs.NotedSets.{SetNotesHold}
 use Rattle.core_queue.proofs.Opening.{cell_blank}
 use Rattle.cx_rule.specs.declared.rule.Known.{Known}
-use Rattle.cx_rule.specs.Rule.{RuleHolds, IsKnown, IsOrigin, opening_limited}
+use Rattle.cx_rule.specs.Rule.{AreImages, RuleHolds, IsKnown, IsOrigin, opening_limited}
 use Rattle.cx_rule.specs.Seats.{opening_known, opening_view}
+use Rattle.cx_rule.specs.Timing.{AreTimes}
 use Rattle.core_runs.proofs.Keeps.{lawful_local, opening_lawful}
 use Rattle.cx_rule.proofs.Moves.{same_items}
 
@@ -141,6 +142,23 @@ opening_held instance limits one few place at_place full =
             traced = record { first = instance.base.words; now = instance.base.words; origin = base_origin instance all.law.history at_place; leads = refl; held = λ h has. absurd (none-some h has) };
           } in
           subst (IsKnown instance all.law.history all.locals (λ c. (0, c)) seat i) (sym at.1) (subst (λ n. IsKnown instance all.law.history all.locals (λ c. (0, c)) n i (f i)) (sym first.0) here));
+      times = λ seat i v known view_at item. (
+          let first = only_view view v seat view_at in
+          let at = mapped_at f instance.callers i known (ap (λ (w : List Known). slice_get w i) first.1 ∙ item) in
+          subst (λ (x : Known). AreTimes instance (opening_limited instance limits) [] x.local.number x.local x.times) (sym at.1) (record {
+            all_linked = refl;
+            linked = λ k n there. absurd (none-some n there);
+            all_answered = refl;
+            answered = λ k n there. absurd (none-some n there);
+            loaded = λ fresh. absurd (false≢true fresh);
+            all_reads = refl;
+            begun = λ k x there. absurd (none-some x there);
+            read = λ k x there. absurd (none-some x there);
+          }));
+      images = λ seat i v known view_at item. (
+          let first = only_view view v seat view_at in
+          let at = mapped_at f instance.callers i known (ap (λ (w : List Known). slice_get w i) first.1 ∙ item) in
+          subst (λ (x : Known). AreImages instance all.law.history x.images) (sym at.1) (λ k words there. absurd (none-some words there)));
       own = λ c x there_c j cell t there named offer. (
           let within = slice_get_within all.locals c x there_c in
           let mine : (f c).local ≡ x = same_Some (f c).local x (sym (all.done c (omega (arith, within, all.law.shape.count))) ∙ there_c) in

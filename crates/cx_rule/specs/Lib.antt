@@ -5,6 +5,7 @@ pub mod Fitting
 pub mod Rule
 pub mod Learns
 pub mod Steps
+pub mod Timing
 pub mod Raises
 pub mod Ending
 pub mod Offers

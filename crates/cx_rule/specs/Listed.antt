@@ -1,6 +1,5 @@
 -- A replica held shared of which only the listed lines were copied over one held exclusively, and what its release then teaches.
-use Rattle.std.specs.Prelude.{◌≡◌, ◌+◌, ◌*◌, ◌^◌, ◌<◌, ◌≤◌, ◌⊎◌, ℕ, List, length, slice_get, slice_index, Some, None}
-use Rattle.std.specs.List.{Contains}
+use Rattle.std.specs.Prelude.{◌≡◌, ◌+◌, ◌*◌, ◌<◌, ◌≤◌, ◌⊎◌, ℕ, List, slice_get, slice_index, Some, None}
 use Rattle.cx_base.specs.Noted.{NotesLead}
 use Rattle.cx_core.specs.declared.entry.Base.{Base}
 use Rattle.cx_core.specs.Gaps.{AreWalked, Gap, IsUnlisted, gap_of}

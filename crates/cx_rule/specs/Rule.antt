@@ -1,6 +1,6 @@
 -- The rule of the table, which holds between any two steps of any callers: there is a lawful state of the core whose words
 -- are the table's and whose local states are what the seats show.
-use Rattle.std.specs.Prelude.{◌≡◌, ◌+◌, ◌*◌, ◌^◌, ◌<◌, ◌≤◌, ℕ, List, ◌∷◌, Some, length, map, slice_get, slice_index}
+use Rattle.std.specs.Prelude.{◌≡◌, ◌+◌, ◌*◌, ◌^◌, ◌<◌, ◌≤◌, ◌⊎◌, ℕ, List, [], ◌∷◌, ◌++◌, Some, length, map, slice_get, slice_index}
 use mathlib.Core.Option.{some}
 use lib.ListN.{get_elem?}
 use Rattle.atomic_table.specs.Table as atomic
@@ -30,6 +30,7 @@ use Rattle.cx_rule.specs.declared.rule.Noted.{Noted}
 use Rattle.cx_rule.specs.Fitting.{has_of, loads_of}
 use Rattle.cx_rule.specs.Having.{IsOfHistory}
 use Rattle.cx_rule.specs.Seats.{opening_view}
+use Rattle.cx_rule.specs.Timing.{AreTimes}
 
 -- a noted word is the history's. With a ticket below the base's place, which no entry has, it says nothing.
 pub record IsOfEntry (instance : Instance) (history : List Entry) (noted : Noted) : Type 0 where
@@ -52,6 +53,14 @@ pub record IsOrigin (instance : Instance) (history : List Entry) (region : List 
   pub to : place_of region ≤ instance.base.place + length history
   pub long : length region ≡ length instance.base.words
   pub words : (i : ℕ) → i < length instance.base.words → slice_index region i ≡ slice_index (full_image instance.step instance.base history (place_of region)) i
+
+-- images are those of the history after their places
+abbrev pub AreImages : Instance → List Entry → List (List ℕ) → Type 0
+AreImages instance history images = (i : ℕ) (words : List ℕ) → slice_get images i ≡ Some words → IsOrigin instance history words
+
+-- no image is added to them, or one
+abbrev pub AddsImage : Instance → List Entry → List (List ℕ) → List (List ℕ) → Type 0
+AddsImage instance history before after = (after ≡ before) ⊎ ((words : List ℕ) × (after ≡ before ++ words ∷ []) × IsOrigin instance history words)
 
 -- accesses lead on from a full image, and where a replica is held exclusively, to its words
 pub record IsTraced (instance : Instance) (history : List Entry) (accesses : List Note) (l : Local) : Type 0 where
@@ -129,6 +138,11 @@ pub record RuleHolds (instance : Instance) (s : atomic.State ℕ (List Known)) :
   pub law : Lawful instance (record { words = s.words; locals = locals })
   pub reached : IsReached instance s.words locals
   pub each : (seat i : ℕ) (view : List Known) (known : Known) → get_elem? s.views seat ≡ some view → slice_get view i ≡ Some known → IsKnown instance law.history locals place_of seat i known
+  -- when operations began and were answered is so
+  pub times : (seat i : ℕ) (view : List Known) (known : Known) → get_elem? s.views seat ≡ some view → slice_get view i ≡ Some known →
+      AreTimes instance (opening_limited instance reached.limits) reached.events known.local.number known.local known.times
+  -- and the images that were taken are the history's
+  pub images : (seat i : ℕ) (view : List Known) (known : Known) → get_elem? s.views seat ≡ some view → slice_get view i ≡ Some known → AreImages instance law.history known.images
   -- each cell that is offered with the ticket that it still has has a write set of it
   pub own : EachLocal locals (λ _ l. OwnSetsHold instance law.history l.cells)
   -- what is noted of write sets is so

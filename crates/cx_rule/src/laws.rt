@@ -19,7 +19,8 @@ ghost use Rattle.cx_rule.specs.Learns.{LearnsAnyway, LearnsBy};
 ghost use Rattle.cx_rule.specs.Listed.{AgreeListed, TellsGap};
 ghost use Rattle.cx_rule.specs.Offers.{TellsOffer};
 ghost use Rattle.cx_rule.specs.Rule.{RuleHolds};
-ghost use Rattle.cx_rule.specs.Steps.{IsCopyLearned};
+ghost use Rattle.cx_rule.specs.Fitting.{TellsWords};
+ghost use Rattle.cx_rule.specs.Steps.{IsCopyLearned, IsImageLearned};
 
 use cx_base::Object;
 use cx_core::Base;
@@ -70,4 +71,12 @@ pub fn listed_copies_are_learned()
     ensures { (instance : Instance) (r : ℕ) (known : Known) (lines from to : ℕ) (lists : ℕ → List ℕ) →
         r < 2 * instance.callers → shared_on known.local ≡ Some r → length instance.base.words ≡ 8 * lines → AgreeListed instance known lines from to lists →
         IsCopyLearned instance (BackOff r) known (step_word instance (BackOff r) known.local) (λ x. new_word instance (BackOff r) known.local x) }
+{}
+
+/// The release of a shared right on a replica all of whose words were loaded makes these one image more that the caller took: they are the full
+/// image after their place.
+pub fn loaded_images_are_learned()
+    ensures { (instance : Instance) (r : ℕ) (image : List ℕ) (known : Known) →
+        r < 2 * instance.callers → shared_on known.local ≡ Some r → TellsWords known (length instance.base.words) image →
+        IsImageLearned instance (BackOff r) image known (step_word instance (BackOff r) known.local) (λ x. new_word instance (BackOff r) known.local x) }
 {}

@@ -37,7 +37,7 @@ pub fn read_turn<O: Object>(
     requires reads { IsTrue (O.only_reads shared.now.object op.now) }
     ensures allowed { OnOk result (¬ IsAtLimit seat.old.known.local) }
     ensures turned { IfOk result (λ place. LooksUp op.now seat.old seat.new (seen_at reply.new place)) }
-    ensures halted { OnErr result (HaltsLookup op.now seat.old seat.new) }
+    ensures halted { OnErr result (HaltsLookup seat.old.known.local.steps op.now seat.old seat.new) }
     ensures turns { Turns shared.now beside_lookup seat.old seat.new }
     ensures rises { seat.old.known.local.seen_cur ≤ seat.new.known.local.seen_cur }
     ensures place { IfOk result (λ found. IfSome found (λ place. place ≡ root_place_of shared.now.callers seat.new.known.local.seen_cur)) }
@@ -61,8 +61,8 @@ fn settle_read<O: Object>(
 ) -> Result<(), Halt>
     requires read { IsLookedUp O.Object shared.now op.now reply.now seat.old hold }
     requires reads { IsTrue (O.only_reads shared.now.object op.now) }
-    ensures answered { OnOk result (AnswersRead op.now (root_place_of shared.now.callers seat.old.known.local.seen_cur) reply.now seat.old seat.new) }
-    ensures halted { OnErr result (HaltsLookup op.now seat.old seat.new) }
+    ensures answered { OnOk result (AnswersRead seat.old.known.times.loaded op.now (root_place_of shared.now.callers seat.old.known.local.seen_cur) reply.now seat.old seat.new) }
+    ensures halted { OnErr result (HaltsLookup seat.old.known.times.loaded op.now seat.old seat.new) }
     ensures turns { TurnsIn shared.now beside_lookup 2 seat.old seat.new }
     ensures same { seat.new.known.local.seen_cur ≡ seat.old.known.local.seen_cur }
 {
