@@ -25,7 +25,7 @@ from told import asked_words
 
 PROGRAM = built()
 MOST_SECONDS = 120
-ENDS = [0, 1, 15, 16, 144, 145, 512, 513, 1679, 1680, 2**40, 2**40 + 1, WORD - 1]
+ENDS = [0, 1, 15, 16, 144, 145, 511, 512, 513, 1679, 1680, 2**40, 2**40 + 1, WORD - 1]
 # What stands in front of an event: nothing; a caller that holds a replica alone; one that shares it; an entry of its own, that it may read
 FRONTS = {
     "nothing": [],
