@@ -14,6 +14,8 @@ LIBRARY_CRATE = CRATES / "githoppu_c"
 LIBRARY = LIBRARY_CRATE / "out" / "libgithoppu_c.a"
 UNPROVED_LIBRARY = LIBRARY_CRATE / "out" / "unproved" / "libgithoppu_c.a"
 HOW_TO_BUILD = "build it: tools/build"
+# the word of tools/test_tools.py by which the gate asks for the proved program
+FOR_THE_GATE = "--with-program"
 
 
 def built():
@@ -31,6 +33,8 @@ def needed(program=None):
     return path.resolve()
 
 
-def is_proved(program):
-    """Whether a program is there and is the proved one: the tests run no other, since they hold its threads and refuse it memory."""
-    return program == PROVED and program.exists()
+def is_tested(program):
+    """Whether a program is there that the tests run: the proved one, and, but not for the gate, one that was built without a proof for speed."""
+    if program == PROVED:
+        return program.exists()
+    return program == UNPROVED and program.exists() and not SLOW.exists() and FOR_THE_GATE not in sys.argv

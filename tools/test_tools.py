@@ -1,8 +1,9 @@
 #!/usr/bin/env python3
 """Tests of the tools, and of the built program: python3 tools/test_tools.py [--with-program]
 
-No network is needed. The program is the one that the gate or `tools/build --proved` leaves. Where there is none, the tests that run it are skipped; with
---with-program, as the gate has it, they fail there. A class or a test alone is named by further words.
+No network is needed. The program is the one that tools/build takes. Where there is none, the tests that run it are skipped; with --with-program, as the
+gate has it, it is the proved one alone, and they fail where there is none. A class or a test alone is named by further words. It takes two minutes
+with the program, half a minute without it.
 
 Example: python3 tools/test_tools.py Pictures
 Status 0 where all passed, else 1.
@@ -24,8 +25,6 @@ TESTS = TOOLS / "tests"
 ROOT = TOOLS.parent
 PICTURES = ROOT / "docs" / "pictures"
 EXAMPLES = ROOT / "examples"
-WITH_PROGRAM = "--with-program"
-MUST_RUN = WITH_PROGRAM in sys.argv
 sys.path[:0] = [str(TOOLS), str(TESTS)]
 
 import check_documents
@@ -43,7 +42,7 @@ import random_queues
 import record_trace
 import stopped_clients
 import told
-from build_tests import Builds
+from build_tests import Builds, Unproved
 from end_tests import Ends
 from help_tests import Helps
 from image_tests import ImageExplanations, ProgramOnImages, ReadImages, usage
@@ -51,7 +50,7 @@ from picture_tests import Pictures
 from plain_core import Core
 from pool_tests import PoolTexts, ProgramOnPools, pool_rows
 from pool_text import read_pool_script
-from program import is_proved
+from program import FOR_THE_GATE, is_tested
 from queue_tests import ProgramOnQueues, QueueTexts
 from queue_text import read_queue_script
 from report_text import Fault, read_report, split_reply
@@ -59,6 +58,8 @@ from row_files import ROWS, legal_rows, row
 from script_text import Refusal, TooLong, read_script
 from trace_tests import PlainTraces, ProgramOnTraces
 from wrong_reports import WRONG
+
+MUST_RUN = FOR_THE_GATE in sys.argv
 
 HEAD = b"lines 64\nlife 1 power 0\n"
 # rows whose report is one of many: clients that are stopped or give up, and reads whose places are free
@@ -525,10 +526,10 @@ class Program(unittest.TestCase):
     """The built program: statuses, and what is written."""
 
     def setUp(self):
-        if not is_proved(random_lives.PROGRAM):
+        if not is_tested(random_lives.PROGRAM):
             if MUST_RUN:
                 self.fail(f"there is no proved program, or a newer one without a proof: {random_lives.PROGRAM}")
-            self.skipTest("the program is not built and proved")
+            self.skipTest("the program is not built")
 
     def ran(self, words, script):
         """The status, what is written, and how many bytes of the script are read."""
@@ -751,6 +752,6 @@ class TracesTest(unittest.TestCase):
 if __name__ == "__main__":
     if told.helped(__doc__, sys.argv[1:]):
         sys.exit(0)
-    if not (MUST_RUN or is_proved(random_lives.PROGRAM)):
-        print("there is no proved program (tools/build --proved): the tests that run it are skipped", file=sys.stderr)
-    unittest.main(argv=[word for word in sys.argv if word != WITH_PROGRAM])
+    if not (MUST_RUN or is_tested(random_lives.PROGRAM)):
+        print("there is no program (tools/build): the tests that run it are skipped", file=sys.stderr)
+    unittest.main(argv=[word for word in sys.argv if word != FOR_THE_GATE])
