@@ -42,7 +42,7 @@ import random_queues
 import record_trace
 import stopped_clients
 import told
-from build_tests import Builds, Unproved
+from build_tests import Builds, Runs, Unproved
 from end_tests import Ends
 from help_tests import Helps
 from image_tests import ImageExplanations, ProgramOnImages, ReadImages, usage
@@ -497,12 +497,29 @@ class Explanations(unittest.TestCase):
         shown, carets = said.split("\n")[2:4]
         return shown[carets.index("^") : carets.rindex("^") + 1]
 
+    def test_a_number_that_is_out_of_bounds(self):
+        rows = [
+            (explain.explained, b"lines 63\n", 1, "header", "63 is below 64, the least that a lines line may have.", explain.LINES_ROW),
+            (explain.explained_queue, b"lines 16385\n", 1, "header", "16385 is above 16384, the most that a lines line may have.", explain.LINES_ROW),
+            (explain.explained, b"lines 64\nlife 9 power 0\n", 2, "life", "9 is above 8, the most that a life line may have.", explain.LIFE_ROW),
+            (explain.explained_pool, b"lines 64\nlife 0 power 0\n", 2, "life", "0 is below 1, the least that a life line may have.", explain.POOL_LIFE_ROW),
+            (explain.explained_pool, b"lines 64\nlife 65 power 0\n", 2, "life", "65 is above 64, the most that a life line may have.", explain.POOL_LIFE_ROW),
+        ]
+        for explained, script, line, reason, told, grammar in rows:
+            said, status = explained("a", script, 3, f"refused line {line}: {reason}\n".encode())
+            with self.subTest(told):
+                self.assertEqual((1, "  " + grammar), (status, said.split("\n")[-1]))
+                self.assertIn(f"{explain.SENTENCES[reason]}\n{told}\n", said)
+        self.assertEqual("", explain.out_of_bounds("header", "lines 064x"))
+        self.assertEqual("", explain.out_of_bounds("life", "life 8 power 1"))
+
     def test_another_fault(self):
         said, _ = explain.explained("a.script", HEAD, 3, b"refused line 2: cut\n")
         self.assertIn("The place is a guess", said)
 
     def test_other_ends(self):
         self.assertEqual(("a: accepted, 2 lines of report", 0), explain.explained("a", HEAD, 0, b"life\npower\n"))
+        self.assertEqual(("a: accepted, 0 lines of report: the script has no lives", 0), explain.explained("a", b"", 0, b""))
         for status, ended in ((8, 1), (2, 2), (6, 2), (-11, 2), (3, 2)):
             self.assertEqual(ended, explain.explained("a", HEAD, status, b"")[1])
         self.assertEqual(("a: the program ended with status 3", 2), explain.explained("a", HEAD, 3, b"refused line 9: key\n"))

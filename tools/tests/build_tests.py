@@ -196,3 +196,67 @@ class Unproved(unittest.TestCase):
             with contextlib.redirect_stderr(io.StringIO()) as told:
                 self.assertEqual(2, build_library.build(name))
             self.assertTrue(told.getvalue().startswith("usage: build_library.py CRATE"), told.getvalue())
+
+
+class Runs(unittest.TestCase):
+    """What tools/run says beside what the program writes: here with a program that ends as it is told."""
+
+    PROGRAM = "#!/bin/sh\n[ $1 = load ] || cat >/dev/null\n[ -z \"$WRITES\" ] || echo $WRITES\nexit $STATUS\n"
+
+    def setUp(self):
+        self.root = Path(self.enterContext(tempfile.TemporaryDirectory()))
+        (self.root / "tools").mkdir()
+        for name in ("run", "explain.py"):
+            shutil.copy(TOOLS / name, self.root / "tools")
+        self.script = self.root / "a.script"
+        self.script.write_text("lines 64\n")
+        self.program = self.root / "crates" / "cx_tool" / "out" / "unproved" / "cx_tool"
+
+    def put_program(self):
+        self.program.parent.mkdir(parents=True)
+        self.program.write_text(self.PROGRAM)
+        self.program.chmod(0o755)
+
+    def said(self, *words, status=0, writes="text", source=None):
+        """The status, what is written, and what is said on standard error."""
+        with open(source or os.devnull, "rb") as data:
+            ran = subprocess.run(
+                [self.root / "tools" / "run", *words], stdin=data, capture_output=True, text=True, check=False,
+                env={**os.environ, "STATUS": str(status), "WRITES": writes},
+            )
+        return ran.returncode, ran.stdout, ran.stderr
+
+    def test_a_refused_input(self):
+        self.put_program()
+        for word, tool in (("run", "explain.py"), ("image", "explain.py"), ("fifo", "explain.py --fifo"), ("pool", "explain.py --pool"),
+                           ("recover", "explain.py --image"), ("trace", "record_trace.py 1 64 1 --check")):
+            told = f"tools/run: the input is refused; this tells more: python3 tools/{tool}"
+            self.assertEqual((3, "text\n", f"{told} {self.script}\n"), self.said(word, status=3, source=self.script))
+            self.assertEqual((3, "text\n", f"{told} FILE\n"), self.said(word, status=3))
+
+    def test_a_file_in_place_of_standard_input(self):
+        self.put_program()
+        told = f"tools/run: {self.script} is a file: the program reads standard input, as in: tools/run run < {self.script}\n"
+        self.assertEqual((2, "text\n", told), self.said("run", self.script, status=2))
+        self.assertEqual((2, "text\n", ""), self.said("runs", status=2))
+
+    @unittest.skipUnless(Path("/proc/self/io").exists(), "the system does not tell how much was written")
+    def test_a_script_without_lives(self):
+        self.put_program()
+        for word in ("run", "image", "fifo", "pool"):
+            self.assertEqual((0, "", "tools/run: the script has no lives, so nothing is written\n"), self.said(word, writes=""))
+            self.assertEqual((0, "text\n", ""), self.said(word))
+        self.assertEqual((0, "", ""), self.said("load", writes=""))
+
+    def test_a_program_is_built_first(self):
+        build = self.root / "tools" / "build"
+        first = "tools/run: there is no program yet: tools/build builds one first\n"
+        build.write_text("#!/bin/sh\necho no program\nexit 1\n")
+        build.chmod(0o755)
+        self.assertEqual((127, "", first + "no program\n"), self.said("run"))
+        made = self.root / "made"
+        made.write_text(self.PROGRAM)
+        made.chmod(0o755)
+        build.write_text(f"#!/bin/sh\nmkdir -p {self.program.parent}\ncp {made} {self.program}\necho built\n")
+        self.assertEqual((0, "text\n", first + "built\n"), self.said("run"))
+        self.assertEqual((0, "text\n", ""), self.said("run"))
