@@ -2,9 +2,9 @@
 """Builds a proved static library over the libraries that stand built in this checkout: python3 tools/build_library.py CRATE
 
 `rt ci` proves a static library and leaves none, and `rt lib` after it would prove all that stands below once more. So this calls the compiler,
-`rattle build`, which proves the crate itself, in some two minutes, and loads what `rt ci` proved below it. Where a library below is not built it says
-so at once and ends with 2: then `rt lib` in the crate's folder proves all, in an hour of processor time, and `tools/build --library` builds the library
-without a proof, in one minute.
+`rattle build`, which proves the crate itself and loads what `rt ci` proved below it; that takes some two minutes. Where a library below is not built it
+says so at once and ends with 2: then `rt lib` in the crate's folder proves all, in an hour of processor time, and `tools/build --library` builds the
+library without a proof, in one minute.
 
 Example: python3 tools/build_library.py githoppu_c
 Status 0 where the library is built, 1 where it is not proved, 2 where a library below it is not built or the words are others.

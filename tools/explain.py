@@ -7,7 +7,7 @@
     explain.py [--program PATH] --image IMAGE_TEXT
     explain.py --status NUMBER
 
-The program is the one given, or the one that tools/build sees to. What it refuses is shown with its line, the column, which
+The program is the one given, or the one that tools/build takes. What it refuses is shown with its line, the column, which
 counts characters from 1, and the row of the grammar of docs/FORMATS.md that it breaks. Of an image that does not pass a check it is
 said at which word, what was found there, and what was wanted. The last form says what a status of the program means. It takes a second; of an image
 of the largest size, some ten.
