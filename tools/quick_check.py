@@ -151,7 +151,7 @@ def hostile():
     import hostile_images
     import random_lives
 
-    wrong, count = hostile_images.first_wrong(random_lives.PROGRAM, hostile_images.every_image(), 1)
+    wrong, count = hostile_images.first_wrong(random_lives.PROGRAM, hostile_images.every_image(), 2)
     return count, [str(wrong)] if wrong else []
 
 
