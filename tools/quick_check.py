@@ -13,6 +13,7 @@ does, in 50 minutes on four processors.
 Example: tools/check
 Status 0 where all passed, 1 where something failed, which is shown below its line, 2 where there is no program or the words are others.
 """
+import multiprocessing
 import re
 import subprocess
 import sys
@@ -229,7 +230,7 @@ def main(words):
         return 2
     print(f"tools/check: the program is {found[1]}", flush=True)
     passed = failed = 0
-    with ProcessPoolExecutor(processors()) as pool:
+    with ProcessPoolExecutor(processors(), multiprocessing.get_context("fork")) as pool:
         under_way = {pool.submit(timed, name): name for name in PARTS}
         for done in as_completed(under_way):
             result, seconds = done.result()

@@ -43,6 +43,7 @@ import record_trace
 import stopped_clients
 import told
 from build_tests import Builds, Runs, Unproved
+from check_tests import QuickChecks
 from end_tests import Ends
 from help_tests import Helps
 from image_tests import ImageExplanations, ProgramOnImages, ReadImages, usage
