@@ -9,6 +9,7 @@ afterwards: a line left out or doubled, an event swapped with the next of anothe
 low. With `--steps N` it has so many lines behind the first, 300 if nothing is said. With `--check FILE` the trace is
 read from that file instead, and where a line fails it is shown with what its caller knew, or with the codes that a loss of power may leave.
 
+It takes a second for a trace of 10,000 lines.
 Example: record_trace.py 3 64 5 --wrong 1
 Status 0, whatever is found of the trace; 1 where a file cannot be read, 2 where the words are others.
 """

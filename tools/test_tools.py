@@ -1,8 +1,9 @@
 #!/usr/bin/env python3
 """Tests of the tools, and of the built program: python3 tools/test_tools.py [--with-program]
 
-No network is needed. The program is the one that the gate or `tools/build --proved` leaves. Where there is none, the tests that run it are skipped; with
---with-program, as the gate has it, they fail there. A class or a test alone is named by further words.
+No network is needed. The program is the one that tools/build takes. Where there is none, the tests that run it are skipped; with --with-program, as the
+gate has it, it is the proved one alone, and they fail where there is none. A class or a test alone is named by further words. It takes two minutes
+with the program, half a minute without it.
 
 Example: python3 tools/test_tools.py Pictures
 Status 0 where all passed, else 1.
@@ -24,8 +25,6 @@ TESTS = TOOLS / "tests"
 ROOT = TOOLS.parent
 PICTURES = ROOT / "docs" / "pictures"
 EXAMPLES = ROOT / "examples"
-WITH_PROGRAM = "--with-program"
-MUST_RUN = WITH_PROGRAM in sys.argv
 sys.path[:0] = [str(TOOLS), str(TESTS)]
 
 import check_documents
@@ -43,7 +42,8 @@ import random_queues
 import record_trace
 import stopped_clients
 import told
-from build_tests import Builds
+from build_tests import Builds, Runs, Unproved
+from check_tests import QuickChecks
 from end_tests import Ends
 from help_tests import Helps
 from history_tests import Histories
@@ -52,7 +52,7 @@ from picture_tests import Pictures
 from plain_core import Core
 from pool_tests import PoolTexts, ProgramOnPools, pool_rows
 from pool_text import read_pool_script
-from program import is_proved
+from program import FOR_THE_GATE, PROVED, is_tested
 from queue_tests import ProgramOnQueues, QueueTexts
 from queue_text import read_queue_script
 from report_text import Fault, read_report, split_reply
@@ -60,6 +60,8 @@ from row_files import ROWS, legal_rows, row
 from script_text import Refusal, TooLong, read_script
 from trace_tests import PlainTraces, ProgramOnTraces
 from wrong_reports import WRONG
+
+MUST_RUN = FOR_THE_GATE in sys.argv
 
 HEAD = b"lines 64\nlife 1 power 0\n"
 # rows whose report is one of many: clients that are stopped or give up, and reads whose places are free
@@ -497,12 +499,29 @@ class Explanations(unittest.TestCase):
         shown, carets = said.split("\n")[2:4]
         return shown[carets.index("^") : carets.rindex("^") + 1]
 
+    def test_a_number_that_is_out_of_bounds(self):
+        rows = [
+            (explain.explained, b"lines 63\n", 1, "header", "63 is below 64, the least that a lines line may have.", explain.LINES_ROW),
+            (explain.explained_queue, b"lines 16385\n", 1, "header", "16385 is above 16384, the most that a lines line may have.", explain.LINES_ROW),
+            (explain.explained, b"lines 64\nlife 9 power 0\n", 2, "life", "9 is above 8, the most that a life line may have.", explain.LIFE_ROW),
+            (explain.explained_pool, b"lines 64\nlife 0 power 0\n", 2, "life", "0 is below 1, the least that a life line may have.", explain.POOL_LIFE_ROW),
+            (explain.explained_pool, b"lines 64\nlife 65 power 0\n", 2, "life", "65 is above 64, the most that a life line may have.", explain.POOL_LIFE_ROW),
+        ]
+        for explained, script, line, reason, told, grammar in rows:
+            said, status = explained("a", script, 3, f"refused line {line}: {reason}\n".encode())
+            with self.subTest(told):
+                self.assertEqual((1, "  " + grammar), (status, said.split("\n")[-1]))
+                self.assertIn(f"{explain.SENTENCES[reason]}\n{told}\n", said)
+        self.assertEqual("", explain.out_of_bounds("header", "lines 064x"))
+        self.assertEqual("", explain.out_of_bounds("life", "life 8 power 1"))
+
     def test_another_fault(self):
         said, _ = explain.explained("a.script", HEAD, 3, b"refused line 2: cut\n")
         self.assertIn("The place is a guess", said)
 
     def test_other_ends(self):
         self.assertEqual(("a: accepted, 2 lines of report", 0), explain.explained("a", HEAD, 0, b"life\npower\n"))
+        self.assertEqual(("a: accepted, 0 lines of report: the script has no lives", 0), explain.explained("a", b"", 0, b""))
         for status, ended in ((8, 1), (2, 2), (6, 2), (-11, 2), (3, 2)):
             self.assertEqual(ended, explain.explained("a", HEAD, status, b"")[1])
         self.assertEqual(("a: the program ended with status 3", 2), explain.explained("a", HEAD, 3, b"refused line 9: key\n"))
@@ -526,10 +545,10 @@ class Program(unittest.TestCase):
     """The built program: statuses, and what is written."""
 
     def setUp(self):
-        if not is_proved(random_lives.PROGRAM):
+        if not is_tested(random_lives.PROGRAM):
             if MUST_RUN:
                 self.fail(f"there is no proved program, or a newer one without a proof: {random_lives.PROGRAM}")
-            self.skipTest("the program is not built and proved")
+            self.skipTest("the program is not built")
 
     def ran(self, words, script):
         """The status, what is written, and how many bytes of the script are read."""
@@ -602,6 +621,8 @@ class Program(unittest.TestCase):
         self.assertIsNone(random_lives.compare(100, random_lives.Seen()))
 
     def test_a_held_reader_enters_the_queue(self):
+        if random_lives.PROGRAM != PROVED:
+            self.skipTest("of the programs the proved one alone is fast enough beside a reader that is held")
         not_held = []
         for _ in range(8):
             try:
@@ -752,6 +773,6 @@ class TracesTest(unittest.TestCase):
 if __name__ == "__main__":
     if told.helped(__doc__, sys.argv[1:]):
         sys.exit(0)
-    if not (MUST_RUN or is_proved(random_lives.PROGRAM)):
-        print("there is no proved program (tools/build --proved): the tests that run it are skipped", file=sys.stderr)
-    unittest.main(argv=[word for word in sys.argv if word != WITH_PROGRAM])
+    if not (MUST_RUN or is_tested(random_lives.PROGRAM)):
+        print("there is no program (tools/build): the tests that run it are skipped", file=sys.stderr)
+    unittest.main(argv=[word for word in sys.argv if word != FOR_THE_GATE])

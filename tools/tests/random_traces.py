@@ -5,7 +5,8 @@
                                          changes; what the program writes must be what the plain model of the core finds
     random_traces.py arguments           the same, of each kind of event with each argument at its ends
 
-The program is the one given, or the one that tools/build sees to.
+The program is the one given, or the one that tools/build takes.
+2,000 traces take half a minute.
 Example: random_traces.py 2000
 Status 0 where both agree, 1 at the first trace on which they do not, 2 where the words are others.
 """
