@@ -16,7 +16,7 @@ from pathlib import Path
 
 from told import asked_words
 
-PAGES = ("README.md", "docs/*.md", "tools/README.md", "crates/*/src/lib.rt")
+PAGES = ("README.md", "CONTRIBUTING.md", "docs/*.md", "crates/README.md", "examples/README.md", "tools/README.md", "crates/*/src/lib.rt")
 HEAD = re.compile(r"^//!.*$", re.M)
 SOURCE = re.compile(r"/(crates/.*\.(rt|antt|edit)|crates\.txt|(tools|bench)/.*\.(py|txt|rs|json)|examples/.*|\.ci/run)")
 WORD = re.compile(r"[^\W\d]\w*")
