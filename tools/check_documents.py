@@ -1,7 +1,7 @@
 #!/usr/bin/env python3
 """Says what is wrong with the pages, and which names in them are none of this repository: python3 tools/check_documents.py [ROOT]
 
-The pages are README.md, CONTRIBUTING.md, those of docs/, and the README of crates/, examples/ and tools/. Names are looked up in them and in
+The pages are README.md, CHANGELOG.md, CONTRIBUTING.md, those of docs/, and the README of crates/, examples/ and tools/. Names are looked up in them and in
 the heads of crates: the comment that a src/lib.rt begins with. What stands between backticks is looked up: a path has to exist; a name, with its parts
 apart at `::` and `.`, has to stand as a whole word in a source, as an item, a clause's label, a crate or a word that a format fixes. Links of pages have
 to lead to a file. Each that is found nowhere is a line `FILE:LINE: NAME`. A word in capitals stands for what a reader puts there, but in the name of a page;
@@ -22,7 +22,7 @@ from pathlib import Path
 import page_rules
 from told import asked_words
 
-PAGES = ("README.md", "CONTRIBUTING.md", "docs/*.md", "crates/README.md", "examples/README.md", "tools/README.md")
+PAGES = ("README.md", "CHANGELOG.md", "CONTRIBUTING.md", "docs/*.md", "crates/README.md", "examples/README.md", "tools/README.md")
 HEADS = "crates/*/src/lib.rt"
 # pages that are gone, which heads of crates still name: a head is mended when its crate is proved anew
 GONE = {"docs/CALLING.md"}
