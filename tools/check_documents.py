@@ -27,7 +27,7 @@ HEADS = "crates/*/src/lib.rt"
 # pages that are gone, which heads of crates still name: a head is mended when its crate is proved anew
 GONE = {"docs/CALLING.md"}
 HEAD = re.compile(r"^//!.*$", re.M)
-SOURCE = re.compile(r"/(crates/.*\.(rt|antt|edit)|crates\.txt|(tools|bench)/.*\.(py|txt|rs|json)|examples/.*|\.ci/run)")
+SOURCE = re.compile(r"/(crates/.*\.(rt|antt|edit)|crates\.txt|(tools|bench|bindings)/.*\.(py|txt|rs|json|c|h|toml)|include/.*\.h|examples/.*|\.ci/run)")
 WORD = re.compile(r"[^\W\d]\w*")
 TICKED = re.compile(r"`([^`\n]+)`")
 LINK = re.compile(r"\]\(([^)#\s]+)\)")
@@ -42,7 +42,7 @@ def paths_of(root):
     """Each file and folder but what a build makes, with a `/` before it."""
     found = []
     for folder, folders, files in os.walk(root):
-        folders[:] = [name for name in folders if name not in (".git", "out", "__pycache__")]
+        folders[:] = [name for name in folders if name not in (".git", "out", "target", "__pycache__")]
         found += [f"/{Path(folder, name).relative_to(root)}" for name in folders + files]
     return found
 

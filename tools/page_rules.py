@@ -12,7 +12,7 @@ LENGTHS = {
     "docs/ARCHITECTURE.md": 150,
     "docs/CONTRACTS.md": 180,
     "docs/DECISIONS.md": 120,
-    "docs/FAQ.md": 50,
+    "docs/FAQ.md": 55,
     "docs/FORMATS.md": 600,
     GLOSSARY: 80,
     "docs/REFERENCE.md": 300,
@@ -120,16 +120,18 @@ def unknown_terms(pages):
 
 
 def same_tables(pages):
-    """Tables of which half of the rows, and two at least, stand in an earlier one, or whose first cells do, five words at least."""
+    """Tables of which half of the rows, and two at least, stand in an earlier one; or four fifths of the first cells, five at least, in one of another page."""
     seen = []
     for page, text in pages.items():
         for first, _, rows in tables(text):
             whole = {tuple(row) for row in rows}
             firsts = {row[0] for row in rows if re.search(r"[A-Za-z]{2}", row[0])}
-            for place, other, others in seen:
-                if 2 * len(whole & other) >= max(4, min(len(whole), len(other))) or 5 * len(firsts & others) >= max(25, 4 * min(len(firsts), len(others))):
-                    yield f"{page}:{first}: the table of {place}, once more"
-            seen.append((f"{page}:{first}", whole, firsts))
+            for before, place, other, others in seen:
+                same_rows = 2 * len(whole & other) >= max(4, min(len(whole), len(other)))
+                same_firsts = 5 * len(firsts & others) >= max(25, 4 * min(len(firsts), len(others)))
+                if same_rows or (same_firsts and page != before):
+                    yield f"{page}:{first}: the table of {before}:{place}, once more"
+            seen.append((page, first, whole, firsts))
 
 
 def unlinked(pages):

@@ -98,6 +98,8 @@ class PageRules(unittest.TestCase):
         for first, second, count in ((one, one, 1), (one, reworded, 1), (one, half, 1), (one, other, 0), (*numbers, 0)):
             found = list(page_rules.same_tables({"docs/A.md": first, "docs/B.md": f"text\n\n{second}\n"}))
             self.assertEqual(["docs/B.md:3: the table of docs/A.md:1, once more"] * count, found, second)
+        self.assertEqual([], list(page_rules.same_tables({"docs/A.md": f"{one}\n\n{reworded}"})))
+        self.assertEqual(["docs/A.md:9: the table of docs/A.md:1, once more"], list(page_rules.same_tables({"docs/A.md": f"{one}\n\n{one}"})))
 
     def test_a_page_that_no_other_names(self):
         pages = {"README.md": "`docs/A.md`", "docs/A.md": "`B.md`, `C.md`", "docs/B.md": "", "docs/D.md": "`D.md`", "tools/README.md": ""}
