@@ -51,7 +51,7 @@ def words_of(root, paths):
     """All words of the sources but for the heads of crates, and those of the names of files and folders."""
     words = set(WORD.findall(" ".join(paths)))
     for path in paths:
-        if SOURCE.fullmatch(path):
+        if SOURCE.fullmatch(path) and (root / path[1:]).is_file():
             words.update(WORD.findall(HEAD.sub("", (root / path[1:]).read_text(encoding="utf-8", errors="replace"))))
     return words
 
