@@ -214,7 +214,8 @@ def shown_in_documents():
 
 
 def shown_runs(page):
-    """The runs that a document shows: a block with a report beside its script, or one with the report of the example named last."""
+    """The runs that a document shows: a block with a report beside its script, or one with the report of the example named last. What stands
+    behind two spaces in a line of a report is a note on it."""
     for found in re.finditer(r"(?m)^(?: {4}.*\n)+", page):
         lines = found[0].splitlines()
         column = lines[0].find("life 0 clients ")
@@ -223,7 +224,7 @@ def shown_runs(page):
         script = "".join(line[4:column].rstrip() + "\n" for line in lines).rstrip("\n")
         if column == 4:
             script = (EXAMPLES / re.findall(r"examples/(\w+\.script)", page[: found.start()])[-1]).read_text("utf-8")
-        yield script.encode(), "".join(line[column:] + "\n" for line in lines if line[column:]).encode()
+        yield script.encode(), "".join(line[column:].split("  ")[0] + "\n" for line in lines if line[column:]).encode()
 
 
 def said_by(main, words):
