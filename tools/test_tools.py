@@ -28,7 +28,6 @@ WITH_PROGRAM = "--with-program"
 MUST_RUN = WITH_PROGRAM in sys.argv
 sys.path[:0] = [str(TOOLS), str(TESTS)]
 
-import check_documents
 import check_report
 import clauses
 import draw_life
@@ -44,6 +43,7 @@ import record_trace
 import stopped_clients
 import told
 from build_tests import Builds
+from document_tests import Documents, PageRules
 from end_tests import Ends
 from help_tests import Helps
 from image_tests import ImageExplanations, ProgramOnImages, ReadImages, usage
@@ -215,7 +215,8 @@ def shown_in_documents():
 
 
 def shown_runs(page):
-    """The runs that a document shows: a block with a report beside its script, or one with the report of the example named last."""
+    """The runs that a document shows: a block with a report beside its script, or one with the report of the example named last. What stands
+    behind two spaces in a line of a report is a note on it."""
     for found in re.finditer(r"(?m)^(?: {4}.*\n)+", page):
         lines = found[0].splitlines()
         column = lines[0].find("life 0 clients ")
@@ -224,7 +225,7 @@ def shown_runs(page):
         script = "".join(line[4:column].rstrip() + "\n" for line in lines).rstrip("\n")
         if column == 4:
             script = (EXAMPLES / re.findall(r"examples/(\w+\.script)", page[: found.start()])[-1]).read_text("utf-8")
-        yield script.encode(), "".join(line[column:] + "\n" for line in lines if line[column:]).encode()
+        yield script.encode(), "".join(line[column:].split("  ")[0] + "\n" for line in lines if line[column:]).encode()
 
 
 def said_by(main, words):
@@ -642,34 +643,6 @@ class ClausesTest(unittest.TestCase):
         with tempfile.TemporaryDirectory() as folder:
             Path(folder, "lib.rt").write_text(source, encoding="utf-8")
             self.assertEqual(13, clauses.lines_under(Path(folder)))
-
-
-class DocumentsTest(unittest.TestCase):
-    """The pages name what there is."""
-
-    def test_the_pages_name_nothing_that_is_not_there(self):
-        self.assertEqual(check_documents.faults_of(ROOT), [])
-
-    def test_what_is_not_there_is_found(self):
-        with tempfile.TemporaryDirectory() as folder:
-            root = Path(folder)
-            source = root / "crates" / "one" / "src" / "lib.rt"
-            source.parent.mkdir(parents=True)
-            source.write_text("pub fn made() -> Made\n    ensures whole { true }\n")
-            page = root / "README.md"
-            rows = [
-                ("`made` (`whole`), `crates/one/src/lib.rt`, `lib.rt`, `one/src/*.rt`, `crates/NAME/out/NAME`", []),
-                ("`made_anew`", ["README.md:1: made_anew"]),
-                ("`Made::other`", ["README.md:1: other"]),
-                ("`crates/two/src/lib.rt`", ["README.md:1: crates/two/src/lib.rt"]),
-                ("a line\n[page](docs/PAGE.md)", []),
-                ("a line\n[page](docs/page.md)", ["README.md:2: docs/page.md"]),
-            ]
-            (root / "docs").mkdir()
-            (root / "docs" / "Other.md").write_text("")
-            for text, want in rows:
-                page.write_text(text)
-                self.assertEqual(check_documents.faults_of(root), want, text)
 
 
 class GateMinutesTest(unittest.TestCase):
