@@ -226,7 +226,7 @@ def page(measured, options, where, left_out, found):
         "",
         "## Steps by part",
         "",
-        "The steps of a caller alone at 1,024 lines and 100 keys, on average over its first 16 updates and 64 reads behind them. Over many updates one "
+        "The steps of a caller alone at 1,024 lines and 100 keys, on average over its first 16 updates and the 64 reads after them. Over many updates one "
         "makes a few more (`bench/service.py` has the times).",
         "",
         steps_by_part(found, "an update", PARTS, "retire"),

@@ -58,6 +58,7 @@ from report_text import Fault, read_report, split_reply
 from row_files import ROWS, legal_rows, row
 from script_text import Refusal, TooLong, read_script
 from trace_tests import PlainTraces, ProgramOnTraces
+from tutorial_tests import Tutorial
 from wrong_reports import WRONG
 
 HEAD = b"lines 64\nlife 1 power 0\n"
