@@ -27,7 +27,6 @@ PICTURES = ROOT / "docs" / "pictures"
 EXAMPLES = ROOT / "examples"
 sys.path[:0] = [str(TOOLS), str(TESTS)]
 
-import check_documents
 import check_report
 import clauses
 import draw_life
@@ -44,6 +43,7 @@ import stopped_clients
 import told
 from build_tests import Builds, Runs, Unproved
 from check_tests import QuickChecks
+from document_tests import Documents, PageRules
 from end_tests import Ends
 from help_tests import Helps
 from history_tests import Histories
@@ -59,6 +59,7 @@ from report_text import Fault, read_report, split_reply
 from row_files import ROWS, legal_rows, row
 from script_text import Refusal, TooLong, read_script
 from trace_tests import PlainTraces, ProgramOnTraces
+from tutorial_tests import Tutorial
 from wrong_reports import WRONG
 
 MUST_RUN = FOR_THE_GATE in sys.argv
@@ -217,7 +218,8 @@ def shown_in_documents():
 
 
 def shown_runs(page):
-    """The runs that a document shows: a block with a report beside its script, or one with the report of the example named last."""
+    """The runs that a document shows: a block with a report beside its script, or one with the report of the example named last. What stands
+    behind two spaces in a line of a report is a note on it."""
     for found in re.finditer(r"(?m)^(?: {4}.*\n)+", page):
         lines = found[0].splitlines()
         column = lines[0].find("life 0 clients ")
@@ -226,7 +228,7 @@ def shown_runs(page):
         script = "".join(line[4:column].rstrip() + "\n" for line in lines).rstrip("\n")
         if column == 4:
             script = (EXAMPLES / re.findall(r"examples/(\w+\.script)", page[: found.start()])[-1]).read_text("utf-8")
-        yield script.encode(), "".join(line[column:] + "\n" for line in lines if line[column:]).encode()
+        yield script.encode(), "".join(line[column:].split("  ")[0] + "\n" for line in lines if line[column:]).encode()
 
 
 def said_by(main, words):
@@ -663,34 +665,6 @@ class ClausesTest(unittest.TestCase):
         with tempfile.TemporaryDirectory() as folder:
             Path(folder, "lib.rt").write_text(source, encoding="utf-8")
             self.assertEqual(13, clauses.lines_under(Path(folder)))
-
-
-class DocumentsTest(unittest.TestCase):
-    """The pages name what there is."""
-
-    def test_the_pages_name_nothing_that_is_not_there(self):
-        self.assertEqual(check_documents.faults_of(ROOT), [])
-
-    def test_what_is_not_there_is_found(self):
-        with tempfile.TemporaryDirectory() as folder:
-            root = Path(folder)
-            source = root / "crates" / "one" / "src" / "lib.rt"
-            source.parent.mkdir(parents=True)
-            source.write_text("pub fn made() -> Made\n    ensures whole { true }\n")
-            page = root / "README.md"
-            rows = [
-                ("`made` (`whole`), `crates/one/src/lib.rt`, `lib.rt`, `one/src/*.rt`, `crates/NAME/out/NAME`", []),
-                ("`made_anew`", ["README.md:1: made_anew"]),
-                ("`Made::other`", ["README.md:1: other"]),
-                ("`crates/two/src/lib.rt`", ["README.md:1: crates/two/src/lib.rt"]),
-                ("a line\n[page](docs/PAGE.md)", []),
-                ("a line\n[page](docs/page.md)", ["README.md:2: docs/page.md"]),
-            ]
-            (root / "docs").mkdir()
-            (root / "docs" / "Other.md").write_text("")
-            for text, want in rows:
-                page.write_text(text)
-                self.assertEqual(check_documents.faults_of(root), want, text)
 
 
 class GateMinutesTest(unittest.TestCase):
