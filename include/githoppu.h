@@ -1,7 +1,7 @@
 /* Githoppu for C99, C11 and C++: a document store and a bounded queue that 1 to 8 sessions share, without a lock; what a loss of power leaves
  * of them, as words; and recovery from words.
  *
- * Link the program with libgithoppu_c.a and with liblibc_c.a of the toolchain, in that order (docs/FROM_C.md).
+ * Link the program with libgithoppu_c.a and with liblibc_c.a of the toolchain, in that order (docs/REFERENCE.md).
  *
  * THE THREE RULES, which a caller keeps and no code checks:
  *   1. A session is a pointer that an open, a recovery or a call of a session gave, and so is a closed store. It goes to no other library; and
