@@ -10,8 +10,8 @@ use crate::callers::{Caller, Desk, Linked, Stopped};
 use crate::service::Service;
 use cx_base::Object;
 use cx_table::{CallerSeat, Remains};
-use table_order::closing::closed_tables_are_linearizable;
 use std::alloc::Global;
+use table_order::closing::closed_tables_are_linearizable;
 
 /// A caller that is handed in, in whatever state it is.
 #[derive(Drop)]

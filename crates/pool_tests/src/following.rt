@@ -84,7 +84,14 @@ fn follows<R: Wait>(
     }
     let seen = other.caught_up();
     let (at, told) = read(rt, pool, other)?;
-    Some(current == place && before < place && caught == place && seen == place && at >= place && told == sum)
+    Some(
+        current == place
+            && before < place
+            && caught == place
+            && seen == place
+            && at >= place
+            && told == sum,
+    )
 }
 
 // Two clients follow each other so by turns, over one caller or two.

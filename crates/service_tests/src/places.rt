@@ -163,7 +163,9 @@ fn stops(service: &Service<Tally>, caller: Caller, limit: u64) -> bool
     requires { IsCallerOf service.now caller }
 {
     match service.catch_up(caller, 0) {
-        CaughtUp::Halted(stopped) => limit < 2 && stopped.steps() == limit && stopped.linked().is_none(),
+        CaughtUp::Halted(stopped) => limit < 2
+            && stopped.steps() == limit
+            && stopped.linked().is_none(),
         CaughtUp::Caught(back) => limit >= 2 && back.steps() == 2,
         CaughtUp::Behind(_, _) => false,
     }
