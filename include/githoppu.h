@@ -64,7 +64,7 @@ enum githoppu_status {
     GITHOPPU_IMAGE_PLACE = 18,   /* the place in the replica that the root names is not the root's */
     GITHOPPU_IMAGE_BODY = 19,    /* the results in that replica, or its documents or texts, are none that the library writes */
     GITHOPPU_IMAGE_NUMBERS = 20, /* a result there has a number above the place */
-    GITHOPPU_BEHIND = 24         /* catching up: the current place is below the one asked for, so no session of this store was answered at it */
+    GITHOPPU_BEHIND = 23         /* catching up: the current place is below the one asked for, so no session of this store was answered at it */
 };
 
 /* ---- The library's own functions. The functions further below are made of these, and easier to use. ---- */
