@@ -14,6 +14,7 @@ mod content;
 mod handle;
 mod images;
 mod opening;
+mod outcomes;
 mod raw_box;
 mod recovering;
 
@@ -21,13 +22,18 @@ use crate::codes::{DONE, LOST, OTHERS, code_of};
 use crate::content::Content;
 use crate::handle::Handle;
 use crate::opening::{hand_out, open_documents, open_queue};
+use crate::outcomes::outcome_in;
 use crate::recovering::{recover_documents, recover_queue};
 use c_sessions::Tries;
+use recovery::Outcome;
 use std::alloc::Global;
 use std::{mem, ptr};
 
 /// The most tries of a call.
 const MOST: u64 = 1 << 20;
+
+/// The version of the library: a million times the first number, a thousand times the second, and the third. Here 0.2.0.
+const VERSION: u64 = 2000;
 
 /// As many tries as are asked for, but at least one and not too many.
 fn tries_of(asked: u64) -> Tries
@@ -168,6 +174,44 @@ pub extern "C" fn githoppu_recover_queue(
         }
         Err(code) => code,
     }
+}
+
+/// What became of the last operation of a session, as the words of an image of a store or a queue say: its number among the session's operations and its
+/// reply, or number 0 and no reply where it had none. Where it is refused, nothing is written.
+#[unsafe(no_mangle)]
+pub extern "C" fn githoppu_outcome(
+    alloc: Global,
+    words: &[u64],
+    session: u64,
+    number: &mut u64,
+    reply: &mut [u64; 144],
+) -> i32
+    ensures { TellsOutcome words.now session number.old number.new reply.old reply.new result }
+{
+    match outcome_in(alloc, words, session) {
+        Ok(Outcome::Never) => {
+            *number = 0;
+            *reply = [0; 144];
+            DONE
+        }
+        Ok(Outcome::Applied {
+            number: last,
+            reply: answer,
+        }) => {
+            *number = last;
+            *reply = answer;
+            DONE
+        }
+        Err(code) => code,
+    }
+}
+
+/// The version of the library.
+#[unsafe(no_mangle)]
+pub extern "C" fn githoppu_version() -> u64
+    ensures { result ≡ 2000 }
+{
+    VERSION
 }
 
 /// Gives up what C holds. The last session of a store or a queue gives that up.
