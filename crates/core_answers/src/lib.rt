@@ -2,7 +2,7 @@
 //! law is the contract of a function that does nothing.
 //!
 //! Each part of the lawful state is owned by this crate or a neighbour (`core_queue`, `core_replica`, `core_root`, `core_answers`). For each there
-//! is a law that the opening state has it, one that each of the 27 kinds of step keeps it, whichever caller makes the step, and one that a step
+//! is a law that the opening state has it, one that each of the 29 kinds of step keeps it, whichever caller makes the step, and one that a step
 //! elsewhere keeps it.
 //!
 //! - Answers: `opening_has_the_answers`, `events_keep_the_answers`; `answers_framed`, `answers_of_a_longer_history`.

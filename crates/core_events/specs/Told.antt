@@ -1,13 +1,14 @@
 -- What a step is told of the history before it is made.
-use Rattle.std.specs.Prelude.{◌≡◌, ◌+◌, ℕ, List, Option, None, Some, length}
+use Rattle.std.specs.Prelude.{◌≡◌, ◌+◌, ◌↔◌, ℕ, Bool, IsTrue, List, Option, None, Some, length}
 use Rattle.std.specs.Option.{option_to_list}
 use Rattle.core_events.specs.declared.replies.Acknowledged.{Acknowledged}
 use Rattle.core_events.specs.declared.events.Told.{Told}
 use Rattle.cx_base.specs.Codes.{root_place_of}
 use Rattle.cx_core.specs.declared.kinds.Kind.{Kind}
-use Rattle.cx_core.specs.declared.kinds.Kind.TheVariants.{Downgrade, ReleaseExclusive, Raise, Offer}
+use Rattle.cx_core.specs.declared.kinds.Kind.TheVariants.{Downgrade, ReleaseExclusive, Raise, Offer, NoteGap}
 use Rattle.cx_core.specs.declared.local.Local.{Local}
 use Rattle.cx_core.specs.Events.{TellsFull}
+use Rattle.cx_core.specs.Gaps.{CanNoteGap}
 use Rattle.cx_core.specs.QueueEvents.{cell_of}
 use Rattle.cx_core.specs.RootEvents.{CanRaise, answers_below, reads_at, unanswered}
 use Rattle.cx_core.specs.SetEvents.{CanOffer, offer_of}
@@ -27,10 +28,15 @@ abbrev pub TellsOfferWord : Option ℕ → Instance → Scene → ℕ → Local 
 TellsOfferWord None instance scene j l = ¬ CanOffer instance scene.history l j
 TellsOfferWord (Some word) instance scene j l = CanOffer instance scene.history l j × (word ≡ offer_of (cell_of l j).ticket (cell_of l j).offer)
 
+-- of a note of a gap, whether it is allowed
+abbrev pub TellsGap : Bool → Instance → Scene → ℕ → ℕ → ℕ → Type 0
+TellsGap gap instance scene s i v = IsTrue gap ↔ CanNoteGap instance scene.history s i v
+
 -- of a kind that gives an exclusive right up, whether the words held are the full image after their place
 abbrev pub Tells : Told → Instance → Scene → Kind → Local → Type 0
 Tells told instance scene (Downgrade r) l = TellsFull told.full instance scene (Downgrade r) l
 Tells told instance scene (ReleaseExclusive r) l = TellsFull told.full instance scene (ReleaseExclusive r) l
 Tells told instance scene (Raise code read) l = TellsAnswers told.answers instance scene code read l
 Tells told instance scene (Offer j) l = TellsOfferWord told.offer instance scene j l
+Tells told instance scene (NoteGap s i v) l = TellsGap told.gap instance scene s i v
 Tells told instance scene _ l = Unit {0}

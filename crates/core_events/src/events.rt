@@ -1,10 +1,10 @@
 //! One step of the core, executable: the guard of each kind, its step on one word, and the change of its caller's
 //! local state.
 
-ghost use Rattle.std.specs.Prelude.{◌≡◌, ◌<◌, ◌↔◌, length, slice_get, IsTrue, IfOk, OnErr, None, Some};
+ghost use Rattle.std.specs.Prelude.{◌≡◌, ◌<◌, ◌↔◌, length, slice_get, false, IsTrue, IfOk, OnErr, None, Some};
 ghost use Rattle.core_events.specs.Tables.{HasRegions};
 ghost use Rattle.core_events.specs.Codes.{HasCode};
-ghost use Rattle.core_events.specs.Told.{Tells, TellsAnswers, TellsOfferWord};
+ghost use Rattle.core_events.specs.Told.{Tells, TellsAnswers, TellsGap, TellsOfferWord};
 ghost use Rattle.cx_core.specs.Base.{LawfulBase};
 ghost use Rattle.core_events.specs.Tries.{Tries};
 ghost use Rattle.cx_core.specs.Events.{Applied, Did};
@@ -13,11 +13,14 @@ ghost use Rattle.cx_core.specs.Merge.{scene_of};
 ghost use Rattle.cx_core.specs.Rights.{held_words};
 ghost use Rattle.cx_core.specs.State.{EachScene, instance_of};
 
+use crate::gaps::is_gap_of;
 use crate::images::is_full;
 use crate::replies::{Acknowledged, replies_of};
 use crate::sets::offered_word;
 use crate::state::CoreState;
-use crate::{lock_events, queue_events, region_events, ring_events, root_events, set_events};
+use crate::{
+    gap_events, lock_events, queue_events, region_events, ring_events, root_events, set_events,
+};
 use core_guards::callers::Callers;
 use cx_base::Object;
 use cx_core::{Base, Event, Kind, Local, OBJECT_START};
@@ -25,8 +28,8 @@ use std::alloc::{AllocError, Global};
 
 /// Makes an event of the core: one step of its caller. Ok(false) comes exactly where the event's guard fails, and the
 /// state is as it was. `Err` is want of memory, and leaves the state as it was. The time grows with the history only where
-/// an exclusive right is given up, a raise answers or a set is offered, since the object's steps are then made from the base
-/// on, and with the lists that a step appends to or looks through.
+/// an exclusive right is given up, a raise answers, a set is offered or a gap is noted, since the object's steps are then made
+/// from the base on, and with the lists that a step appends to or looks through.
 pub fn apply<O: Object>(
     alloc: Global,
     object: &O,
@@ -56,12 +59,14 @@ pub fn apply<O: Object>(
 }
 
 /// What a step is told of the history: of a kind that gives an exclusive right up, whether the words held are the full image
-/// after their place; of a raise what it answers, and of an offer the offer word, where these are allowed.
+/// after their place; of a raise what it answers, and of an offer the offer word, where these are allowed; of a note of a gap
+/// whether it is allowed.
 #[derive(Drop)]
 pub(crate) struct Told {
     full: bool,
     answers: Option<Acknowledged>,
     offer: Option<u64>,
+    gap: bool,
 }
 
 /// A step of a caller with this local state, which is told what it has to know of the history. `Ok(false)` comes exactly
@@ -122,6 +127,10 @@ fn step(
         Kind::Offer { j } => Ok(set_events::offer(callers, words, local, j, told.offer)),
         Kind::LoadOffer { k, t } => Ok(set_events::load_offer(callers, words, local, k, t)),
         Kind::ReadSet { k, t, i } => Ok(set_events::read_set(callers, words, local, k, t, i)),
+        Kind::NoteGap { s, i, v } => {
+            Ok(gap_events::note_gap(callers, words, local, s, i, v, told.gap))
+        }
+        Kind::LoadGap { s, i } => Ok(gap_events::load_gap(callers, words, local, s, i)),
     }
 }
 
@@ -146,11 +155,19 @@ fn tells<O: Object>(
             full: false,
             answers: answers_of(alloc, object, state, caller, code, &read)?,
             offer: None,
+            gap: false,
         }),
         Kind::Offer { j } => Ok(Told {
             full: false,
             answers: None,
             offer: offer_of(alloc, object, state, caller, j)?,
+            gap: false,
+        }),
+        Kind::NoteGap { s, i, v } => Ok(Told {
+            full: false,
+            answers: None,
+            offer: None,
+            gap: names_gap(alloc, object, state, s, i, v)?,
         }),
         _ => Ok(only_full(false)),
     }
@@ -158,12 +175,13 @@ fn tells<O: Object>(
 
 /// What a step is told that answers nothing.
 fn only_full(full: bool) -> Told
-    ensures { result ≡ record { full = full; answers = None; offer = None } }
+    ensures { result ≡ record { full = full; answers = None; offer = None; gap = false } }
 {
     Told {
         full,
         answers: None,
         offer: None,
+        gap: false,
     }
 }
 
@@ -207,6 +225,30 @@ fn offer_of<O: Object>(
 {
     let local = &state.locals[caller];
     offered_word(alloc, object, &state.base, &state.locals, local, j)
+}
+
+/// Whether a word may be noted as word `i` of slot `s` of the ring of gaps. `Err` is want of memory.
+fn names_gap<O: Object>(
+    alloc: Global,
+    object: &O,
+    state: &CoreState,
+    s: u64,
+    i: u64,
+    v: u64,
+) -> Result<bool, AllocError>
+    requires base { LawfulBase (O.line_count object.now) (O.lawful object.now) state.now.base }
+    ensures { let instance = instance_of state.now (O.step object.now) (O.only_reads object.now) in IfOk result (λ gap. TellsGap gap instance (scene_of instance state.now.state) s i v) }
+{
+    is_gap_of(
+        alloc,
+        object,
+        state.callers,
+        &state.base,
+        &state.locals,
+        s,
+        i,
+        v,
+    )
 }
 
 /// Whether the words that a caller holds exclusively are the full image after their place. `Err` is want of memory.

@@ -3,8 +3,8 @@
 //! - `CoreState::opening` is the opening state, and `opening_words` its words alone.
 //! - `apply` answers Ok(true) exactly with the event of its definition made, and Ok(false) exactly where the guard fails, with the state as it
 //!   was, for the five kinds of the queue, the eight on locks and regions, the four on the root, the six of the ring, in which cells come round
-//!   again, and the four on write sets. Whether the words offered are a write set of the entry's ticket is decided by the full image at the
-//!   ticket and the next: `leads`.
+//!   again, the four on write sets, and the two on the ring of gaps. Whether the words offered are a write set of the entry's ticket, and whether
+//!   a word noted names a gap of the history, is decided by the full image at the ticket and the next: `leads`, `is_quiet`.
 //!
 //! Tested (`event_tests`): each argument one out of range and each guard failing for one reason alone; a script of 300 events of three callers
 //! over 6 replicas, with its end written out by hand; each right begun and ended in each order that is allowed, and the other orders refused;
@@ -17,6 +17,8 @@
 #![tactic(auto)]
 
 mod events;
+mod gap_events;
+mod gaps;
 mod images;
 mod lock_events;
 mod queue_events;

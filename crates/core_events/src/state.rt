@@ -3,10 +3,11 @@
 ghost use Rattle.std.specs.Prelude.{◌≡◌, ◌+◌, ◌*◌, ◌^◌, ◌<◌, ◌≤◌, ◌++◌, length, replicate, IfOk, OnOk, slice_index, slice_range};
 ghost use Rattle.cx_base.specs.Callers.{AreCallers};
 ghost use Rattle.cx_core.specs.Base.{LawfulBase};
-ghost use Rattle.cx_core.specs.Layout.{cell_count, cur_at, dur_at, low_at, free_at, link_at, lock_at, need_at, cell_at, offer_at, set_at, vol_at, per_at, word_count};
+ghost use Rattle.cx_core.specs.Layout.{cell_count, cur_at, dur_at, low_at, free_at, link_at, lock_at, need_at, cell_at, offer_at, set_at, vol_at, per_at, word_count, gap_at, gap_slots};
 ghost use Rattle.cx_core.specs.State.{copies, opening_locals, opening_words, opening_state};
 
 use core_guards::callers::Callers;
+use core_guards::gaps::{GAP_WORDS, gap_at, gap_slots};
 use cx_base::{Items, Object, root_code};
 use cx_core::layout::{
     CUR_AT, DUR_AT, FREE_AT, LOW_AT, MAX_WORD, QUEUE_WORDS, cell_at, cell_count, link_at, lock_at,
@@ -98,7 +99,7 @@ impl CoreState {
         &self.locals
     }
 
-    /// All shared words, in the order of the table: CUR, DUR, LOW, FREE, NEED, LOCK, LINK, CELL, OFFER, SET, VOL, PER.
+    /// All shared words, in the order of the table: CUR, DUR, LOW, FREE, NEED, LOCK, LINK, CELL, OFFER, SET, GAP, VOL, PER.
     pub fn words(&self) -> &[u64]
         ensures value { result.now ≡ self.now.state.words }
         ensures count { length result.now ≡ word_count self.now.callers (length self.now.base.words) }
@@ -181,6 +182,14 @@ impl CoreState {
         &self.words[set_at(n, 0, 0)..set_at(n, cell_count(n), 0)]
     }
 
+    /// GAP, 16 words of each slot of the ring of gaps.
+    pub fn gap(&self) -> &[u64]
+        ensures { let n = self.now.callers in result.now ≡ slice_range self.now.state.words (gap_at n 0 0) (gap_at n (gap_slots n) 0) }
+    {
+        let n = self.callers.number;
+        &self.words[gap_at(n, 0, 0)..gap_at(n, gap_slots(n), 0)]
+    }
+
     /// VOL, the words of each replica as a load gives them.
     pub fn vol(&self) -> &[u64]
         ensures { let n = self.now.callers in let r = length self.now.base.words in result.now ≡ slice_range self.now.state.words (vol_at n r 0 0) (vol_at n r (2 * n) 0) }
@@ -220,7 +229,7 @@ pub fn opening_words(alloc: Global, callers: Callers, base: &Base) -> Result<Vec
     push_many(&mut words, n, MAX_WORD)?;
     words.push(1)?;
     push_many(&mut words, 2 * n - 1, 0)?;
-    push_many(&mut words, QUEUE_WORDS * n, 0)?;
+    push_many(&mut words, (QUEUE_WORDS + GAP_WORDS) * n, 0)?;
     push_copies(&mut words, 4 * n, base.words.as_slice())?;
     Ok(words)
 }
@@ -230,7 +239,7 @@ fn room_for(callers: u32, region: usize) -> usize {
     let n = callers as usize;
     region
         .saturating_mul(4)
-        .saturating_add(QUEUE_WORDS as usize + 3)
+        .saturating_add((QUEUE_WORDS + GAP_WORDS) as usize + 3)
         .saturating_mul(n)
         .saturating_add(4)
 }

@@ -20,18 +20,18 @@ use Rattle.cx_core.proofs.StateLemmas.{length-opening, opening_at}
 use Rattle.core_queue.specs.Queue.{QueueLawful}
 
 -- the words of links, cells, offers and sets are 0
-zeros : (callers : ℕ) (base : Base) (at : ℕ) → 1 ≤ callers → 4 + 3 * callers ≤ at → at < 4 + 10563 * callers → slice_index (opening_words callers base) at ≡ 0
+pub zeros : (callers : ℕ) (base : Base) (at : ℕ) → 1 ≤ callers → 4 + 3 * callers ≤ at → at < 4 + 18755 * callers → slice_index (opening_words callers base) at ≡ 0
 unfolding opening_words
 zeros callers base at some from to =
     let head = (opening_code callers base.place ∷ opening_code callers base.place ∷ base.place ∷ base.place ∷ []) ++ replicate callers max_word ++ (1 ∷ []) ++ replicate (2 * callers - 1) 0 in
-    let middle : List ℕ = replicate (10560 * callers) 0 in
+    let middle : List ℕ = replicate (18752 * callers) 0 in
     let head_long : length head ≡ 4 + 3 * callers = simp (length-append {A = ℕ}, length-replicate {A = ℕ}) (omega arith) in
-    let front_long : length (head ++ middle) ≡ 4 + 10563 * callers = length-append head middle ∙ omega (arith, head_long, length-replicate {A = ℕ} (10560 * callers) 0) in
+    let front_long : length (head ++ middle) ≡ 4 + 18755 * callers = length-append head middle ∙ omega (arith, head_long, length-replicate {A = ℕ} (18752 * callers) 0) in
     let in_front : at < length (head ++ middle) = omega arith in
-    let in_middle : at - (4 + 3 * callers) < 10560 * callers = omega arith in
+    let in_middle : at - (4 + 3 * callers) < 18752 * callers = omega arith in
     get_or_append_left (head ++ middle) (copies (4 * callers) base.words) 0 at in_front
     ∙ get_or-append_right head middle (4 + 3 * callers) at 0 head_long from
-    ∙ get_or-replicate {A = ℕ} (10560 * callers) (at - (4 + 3 * callers)) 0 0 in_middle
+    ∙ get_or-replicate {A = ℕ} (18752 * callers) (at - (4 + 3 * callers)) 0 0 in_middle
 
 -- no caller needs a ticket
 needs : (callers : ℕ) (base : Base) (caller : ℕ) → caller < callers → slice_index (opening_words callers base) (need_at caller) ≡ max_word
@@ -41,16 +41,16 @@ needs callers base caller below =
     let middle : List ℕ = replicate callers max_word in
     let pinned = head ++ middle ++ (1 ∷ []) in
     let locks = pinned ++ replicate (2 * callers - 1) 0 in
-    let front = locks ++ replicate (10560 * callers) 0 in
+    let front = locks ++ replicate (18752 * callers) 0 in
     let at = need_at caller in
     let long : length (head ++ middle) ≡ 4 + callers = omega (arith, length-replicate {A = ℕ} callers max_word) in
     let in_needs : at < length (head ++ middle) = omega arith in
     let in_pinned : at < length pinned = omega (arith, length-append (head ++ middle) (1 ∷ [])) in
     let in_locks : at < length locks = omega (arith, length-append pinned (replicate (2 * callers - 1) 0)) in
-    let in_front : at < length front = omega (arith, length-append locks (replicate (10560 * callers) 0)) in
+    let in_front : at < length front = omega (arith, length-append locks (replicate (18752 * callers) 0)) in
     let inside : at - 4 < callers = omega arith in
     get_or_append_left front (copies (4 * callers) base.words) 0 at in_front
-    ∙ get_or_append_left locks (replicate (10560 * callers) 0) 0 at in_locks
+    ∙ get_or_append_left locks (replicate (18752 * callers) 0) 0 at in_locks
     ∙ get_or_append_left pinned (replicate (2 * callers - 1) 0) 0 at in_pinned
     ∙ get_or_append_left (head ++ middle) (1 ∷ []) 0 at in_needs
     ∙ get_or-append_right head middle 4 at 0 refl (omega arith)

@@ -8,7 +8,7 @@ use Rattle.cx_core.specs.declared.local.HeldExclusive.{HeldExclusive}
 use Rattle.cx_core.specs.declared.local.HeldShared.{HeldShared}
 use Rattle.cx_core.specs.declared.local.Local.{Local}
 use Rattle.cx_core.specs.declared.local.SeenLock.{SeenLock}
-use Rattle.cx_core.specs.Layout.{lock_at, replicas_at}
+use Rattle.cx_core.specs.Layout.{lock_at, gaps_at}
 use Rattle.cx_core.specs.Lawful.{Cells, Fronts, IsBehind, Lawful, LocalShape, Tickets}
 use Rattle.cx_core.specs.LawfulRing.{Ring}
 use Rattle.cx_core.specs.State.{Instance, State}
@@ -36,7 +36,7 @@ off_fronts instance at off = (let from = off.0 in inl (omega arith))
 pub off_lock : (instance : Instance) (r : ℕ) → r < 2 * instance.callers → OffQueue instance (lock_at instance.callers r)
 off_lock instance r below = (omega arith, inl (omega arith))
 
-pub off_region : (instance : Instance) (at : ℕ) → replicas_at instance.callers ≤ at → OffQueue instance at
+pub off_region : (instance : Instance) (at : ℕ) → gaps_at instance.callers ≤ at → OffQueue instance at
 off_region instance at behind = (omega arith, inr behind)
 
 -- the fields that steps on locks, on replicas and on the root change beside what tickets and fronts name
@@ -112,7 +112,7 @@ queue_of law = record { shape = law.shape; tickets = law.tickets; links = law.li
 pub queue_local : (instance : Instance) (history : List Entry) (words : List ℕ) (locals : List Local) (caller : ℕ) (l l' : Local) → QueueLawful instance history words locals →
     slice_get locals caller ≡ Some l → SameQueue l l' → QueueLawful instance history words (set locals caller l')
 queue_local instance history words locals caller l l' law there same =
-    let far = replicas_at instance.callers in
+    let far = gaps_at instance.callers in
     no_word (λ ws. QueueLawful instance history ws (set locals caller l')) words far
     (queue_put instance history words locals far (slice_index words far) caller l l' law there (off_region instance far (omega arith)) same)
 

@@ -10,12 +10,12 @@ use Rattle.cx_base.specs.Codes.{link_code_of}
 use Rattle.cx_core.specs.declared.entry.Entry.{Entry}
 use Rattle.cx_core.specs.declared.kinds.Event.{Event}
 use Rattle.cx_core.specs.declared.kinds.Kind.{Kind}
-use Rattle.cx_core.specs.declared.kinds.Kind.TheVariants.{WriteCell, Link, TryExclusive, TryShared, BackOff, Downgrade, ReleaseExclusive, LoadWord, StoreWord, Persist, Publish, Raise, Retire, Protect, Unprotect, CloseLow, OpenFree, WriteSet, Offer}
+use Rattle.cx_core.specs.declared.kinds.Kind.TheVariants.{WriteCell, Link, TryExclusive, TryShared, BackOff, Downgrade, ReleaseExclusive, LoadWord, StoreWord, Persist, Publish, Raise, Retire, Protect, Unprotect, CloseLow, OpenFree, WriteSet, Offer, NoteGap}
 use Rattle.cx_core.specs.declared.local.Cell.{Cell}
 use Rattle.cx_core.specs.declared.local.Local.{Local}
 use Rattle.cx_core.specs.Events.{Guard, Makes, words_after}
 use Rattle.cx_core.specs.Frames.{IsOff}
-use Rattle.cx_core.specs.Layout.{cell_at, cell_count, free_at, link_at, need_at, offer_at, replicas_at, set_at}
+use Rattle.cx_core.specs.Layout.{cell_at, cell_count, free_at, link_at, need_at, offer_at, gaps_at, set_at}
 use Rattle.cx_core.specs.Lawful.{IsLive, NamesCell}
 use Rattle.cx_core.specs.Merge.{IsLinked, scene_of}
 use Rattle.cx_core.specs.QueueEvents.{IsIdle, cell_of, seen_word}
@@ -65,7 +65,7 @@ module _ (instance : Instance) (s : State) (history : List Entry) (law : QueueLa
   slot_small = mod_below ticket (cell_count instance.callers) (omega (arith, law.shape.some))
 
   -- they lie between the words of links and the replicas
-  between : (a : ℕ) → IsWordOf instance s ticket a → (link_at instance.callers 0 ≤ a) × (a < replicas_at instance.callers)
+  between : (a : ℕ) → IsWordOf instance s ticket a → (link_at instance.callers 0 ≤ a) × (a < gaps_at instance.callers)
   between a (In_slot e) = (let slot = slot_small in (omega (arith, e), omega (arith, e, slot)))
   between a (In_cell i below e) = (let cell = cell_small in (omega (arith, e), omega (arith, e, cell, below)))
   between a (In_offer offered e) = (let cell = cell_small in (omega (arith, e), omega (arith, e, cell)))
@@ -76,7 +76,7 @@ module _ (instance : Instance) (s : State) (history : List Entry) (law : QueueLa
   stay_other at v apart a word = get_or-set_other s.words at a v 0 (apart a word)
 
   -- a step on no word of links, cells, offers and sets
-  stay_off : (at v : ℕ) → IsOff (link_at instance.callers 0) (replicas_at instance.callers) at → Stay (set s.words at v)
+  stay_off : (at v : ℕ) → IsOff (link_at instance.callers 0) (gaps_at instance.callers) at → Stay (set s.words at v)
   stay_off at v off = stay_other at v (λ a word same. (let within = between a word in elim off [ inl x ↦ omega (arith, x, within.0, same) | inr x ↦ omega (arith, x, within.1, same) ]))
 
   -- a load
@@ -170,7 +170,7 @@ module _ (instance : Instance) (s : State) (history : List Entry) (law : QueueLa
         apart slot small ne a (In_set offered m below e) = λ same. omega (arith, e, same, small)
 
     -- the caller's own need is in front of the links
-    need_off : IsOff (link_at instance.callers 0) (replicas_at instance.callers) (need_at l.number)
+    need_off : IsOff (link_at instance.callers 0) (gaps_at instance.callers) (need_at l.number)
     need_off =
         let some = law.shape.some in
         let within = slice_get_within s.locals caller l at in
@@ -199,6 +199,7 @@ module _ (instance : Instance) (s : State) (history : List Entry) (law : QueueLa
     stay_kind OpenFree guard = stay_off _ _ (inl (omega arith))
     stay_kind (WriteSet j i v) guard = stay_set j i v guard.0 guard.1
     stay_kind (Offer j) guard = stay_offer j _ guard.0
+    stay_kind (NoteGap s i v) guard = stay_off _ _ (inr (omega arith))
     stay_kind kind guard = stay_loaded _
 
 -- an event

@@ -2,7 +2,7 @@
 use Rattle.std.specs.Prelude.{◌≡◌, ◌≢◌, ◌≤◌, ◌⊎◌, ℕ}
 use Rattle.cx_core.specs.declared.local.Local.{Local}
 use Rattle.cx_core.specs.Frames.{IsOff}
-use Rattle.cx_core.specs.Layout.{cell_count, cur_at, dur_at, free_at, link_at, lock_at, need_at, replicas_at}
+use Rattle.cx_core.specs.Layout.{cell_count, cur_at, dur_at, free_at, link_at, lock_at, need_at, gaps_at}
 use Rattle.cx_core.specs.State.{Instance}
 
 -- no link word
@@ -11,7 +11,7 @@ OffLinks instance at = IsOff (link_at instance.callers 0) (link_at instance.call
 
 -- neither FREE nor a word of links, cells, offers and sets
 abbrev pub OffCells : Instance → ℕ → Type 0
-OffCells instance at = (at ≢ free_at) × IsOff (link_at instance.callers 0) (replicas_at instance.callers) at
+OffCells instance at = (at ≢ free_at) × IsOff (link_at instance.callers 0) (gaps_at instance.callers) at
 
 -- neither DUR, LOW nor FREE, which stand between CUR and the first NEED
 abbrev pub OffFronts : ℕ → Type 0
@@ -49,7 +49,7 @@ pub record SameRing (l l' : Local) : Type 0 where
 
 -- a word that none of these parts names
 abbrev pub OffQueue : Instance → ℕ → Type 0
-OffQueue instance at = (lock_at instance.callers 0 ≤ at) × IsOff (link_at instance.callers 0) (replicas_at instance.callers) at
+OffQueue instance at = (lock_at instance.callers 0 ≤ at) × IsOff (link_at instance.callers 0) (gaps_at instance.callers) at
 
 -- the fields that these parts and the shape name
 pub record SameQueue (l l' : Local) : Type 0 where

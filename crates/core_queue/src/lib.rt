@@ -3,7 +3,7 @@
 //! state has them, its history's entries are lawful, and what is offered of write sets stays. Each law is the contract of a function that does nothing.
 //!
 //! Each part of the lawful state is owned by this crate or a neighbour (`core_queue`, `core_replica`, `core_root`, `core_answers`). For each there
-//! is a law that the opening state has it, one that each of the 27 kinds of step keeps it, whichever caller makes the step, and one that a step
+//! is a law that the opening state has it, one that each of the 29 kinds of step keeps it, whichever caller makes the step, and one that a step
 //! elsewhere keeps it.
 //!
 //! - Tickets, links, cells, fronts and the ring: `opening_has_the_queue`, `events_keep_the_queue`; `tickets_framed`, `links_framed`,

@@ -1,3 +1,4 @@
+pub mod GapLaws
 pub mod LockKinds
 pub mod LockLaws
 pub mod Opening

@@ -28,7 +28,7 @@ abbrev locks_and_front : ℕ → Base → List ℕ
 locks_and_front callers base = front callers base ++ (1 ∷ []) ++ replicate (2 * callers - 1) 0
 
 abbrev head : ℕ → Base → List ℕ
-head callers base = locks_and_front callers base ++ replicate (10560 * callers) 0
+head callers base = locks_and_front callers base ++ replicate (18752 * callers) 0
 
 front_long : (callers : ℕ) (base : Base) → length (front callers base) ≡ 4 + callers
 front_long callers base = simp (length-replicate {A = ℕ}) (omega arith)
@@ -38,7 +38,7 @@ locks_long callers base some = simp (length-append {A = ℕ}, length-replicate {
 
 head_long : (callers : ℕ) (base : Base) → 1 ≤ callers → length (head callers base) ≡ replicas_at callers
 head_long callers base some =
-    length-append (locks_and_front callers base) (replicate (10560 * callers) 0) ∙ omega (arith, locks_long callers base some, length-replicate {A = ℕ} (10560 * callers) 0)
+    length-append (locks_and_front callers base) (replicate (18752 * callers) 0) ∙ omega (arith, locks_long callers base some, length-replicate {A = ℕ} (18752 * callers) 0)
 
 -- CUR is the opening code
 code_there : (callers : ℕ) (base : Base) → slice_index (opening_words callers base) cur_at ≡ opening_code callers base.place
@@ -56,7 +56,7 @@ lock_words callers r base some small =
     let in_head : at < length (head callers base) = omega (arith, head_long callers base some) in
     let in_locks : at < length (locks_and_front callers base) = omega (arith, locks_long callers base some) in
     get_or_append_left (head callers base) (copies (4 * callers) base.words) 0 at in_head
-    ∙ get_or_append_left (locks_and_front callers base) (replicate (10560 * callers) 0) 0 at in_locks
+    ∙ get_or_append_left (locks_and_front callers base) (replicate (18752 * callers) 0) 0 at in_locks
     ∙ elim (cases_eq r 0) [
       | inl e ↦ (
           let here : at < length (front callers base ++ one) = omega arith in

@@ -20,7 +20,7 @@ head callers base =
     ++ replicate callers max_word
     ++ (1 ∷ [])
     ++ replicate (2 * callers - 1) 0
-    ++ replicate (10560 * callers) 0
+    ++ replicate (18752 * callers) 0
 
 head_long : (callers : ℕ) (base : Base) → 1 ≤ callers → length (head callers base) ≡ replicas_at callers
 head_long callers base some = simp (length-append {A = ℕ}, length-replicate {A = ℕ}) (omega arith)

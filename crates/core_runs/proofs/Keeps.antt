@@ -21,6 +21,7 @@ use Rattle.core_answers.proofs.Places.{durable_within}
 use Rattle.core_queue.proofs.Keeps.{queue_kept}
 use Rattle.core_queue.proofs.Opening as queue
 use Rattle.core_queue.proofs.QueueFrames.{queue_local, queue_of}
+use Rattle.core_replica.proofs.GapLaws.{gaps_blank, gaps_kept, gaps_longer}
 use Rattle.core_replica.proofs.LockLaws.{locks_local}
 use Rattle.core_replica.proofs.Opening.{opening_locks, opening_regions}
 use Rattle.core_replica.proofs.RegionLaws.{regions_longer, regions_shared}
@@ -52,6 +53,7 @@ lawful_local instance s caller l l' law at same =
       ring = q.ring;
       answers = no_word (λ ws. Answers instance law.history ws locals') s.words low_at
           (answers_framed instance law.history s.words s.locals low_at low caller l l' law.answers at (omega arith) same.answers);
+      gaps = law.gaps;
     }
 
 -- what the part on fronts needs of the root
@@ -70,6 +72,7 @@ kind_kept instance s caller l kind law at guard =
     let r = replicas_kept instance law.history s caller l kind law.shape law.tickets.merged (record { locks = law.locks; regions = law.regions }) at guard in
     let root' = root_kept instance law.history s caller l kind law.shape law.locks law.regions law.fronts law.root at guard in
     let answers' = answers_kept instance law.history s caller l kind law.shape law.tickets law.fronts law.locks law.regions law.answers at guard in
+    let gaps' = gaps_kept instance law.history scene s.locals caller l law.shape at kind (history_is instance.base.place law.history s.locals law.tickets.merged) guard law.gaps in
     let bounds' = root_bounds instance law.history words' locals' q.lawful.shape r.locks r.regions root' in
     record {
       history = q.after;
@@ -83,6 +86,7 @@ kind_kept instance s caller l kind law at guard =
       root = root';
       ring = q.lawful.ring;
       answers = answers_longer instance law.history q.after q.continues.more words' locals' q.continues.is (durable_within instance law.history words' locals' law.shape.some bounds') answers';
+      gaps = gaps_longer instance law.history q.after words' q.continues gaps';
     }
 
 -- an event
@@ -115,4 +119,5 @@ opening_lawful instance some few within placed =
       root = opening_root instance some placed;
       ring = q.ring;
       answers = opening_answers instance;
+      gaps = gaps_blank instance [] (opening_state instance.callers instance.base).words (λ at from to. queue.zeros instance.callers instance.base at some (omega (arith, from)) to);
     }

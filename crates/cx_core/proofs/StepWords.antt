@@ -4,7 +4,7 @@ use Rattle.std.proofs.lemmas.Nat.{mod_below}
 use Rattle.std.proofs.lemmas.Option.{slice_get_within}
 use Rattle.std.specs.List.{slice_get}
 use Rattle.cx_core.specs.declared.kinds.Kind.{Kind}
-use Rattle.cx_core.specs.declared.kinds.Kind.TheVariants.{WriteCell, Link, Look, ReadCell, TryExclusive, TryShared, BackOff, Downgrade, ReleaseExclusive, LoadWord, StoreWord, Persist, Retire, Protect, Unprotect, Scan, WriteSet, Offer, LoadOffer, ReadSet}
+use Rattle.cx_core.specs.declared.kinds.Kind.TheVariants.{WriteCell, Link, Look, ReadCell, TryExclusive, TryShared, BackOff, Downgrade, ReleaseExclusive, LoadWord, StoreWord, Persist, Retire, Protect, Unprotect, Scan, WriteSet, Offer, LoadOffer, ReadSet, NoteGap, LoadGap}
 use Rattle.cx_core.specs.declared.local.Local.{Local}
 use Rattle.cx_core.specs.declared.local.SeenSlot.{SeenSlot}
 use Rattle.cx_core.specs.Events.{Guard, step_word}
@@ -21,7 +21,7 @@ IsLow instance (Persist r i) l = Unit {0}
 IsLow instance kind l = step_word instance kind l < replicas_at instance.callers
 
 -- a slot that was seen names one of the cells
-shown_cell : (callers : ℕ) (o : Option SeenSlot) (t k : ℕ) → 1 ≤ callers → ShowsTicket callers o t k → k < cell_count callers
+pub shown_cell : (callers : ℕ) (o : Option SeenSlot) (t k : ℕ) → 1 ≤ callers → ShowsTicket callers o t k → k < cell_count callers
 shown_cell callers None t k some shows = absurd shows
 shown_cell callers (Some seen) t k some shows = subst (λ n. n < cell_count callers) shows.3 (mod_below _ (cell_count callers) (omega (arith, some)))
 
@@ -53,4 +53,6 @@ module _ (instance : Instance) (scene : Scene) (words : List ℕ) (locals : List
   step_low (Offer j) guard = omega (arith, own_small, guard.0.0)
   step_low (LoadOffer k t) guard = omega (arith, shown_cell callers l.seen_slot t k shape.some guard.1)
   step_low (ReadSet k t i) guard = omega (arith, guard.1, shown_cell callers l.seen_slot t k shape.some guard.2)
+  step_low (NoteGap s i v) guard = omega (arith, guard.0, guard.1)
+  step_low (LoadGap s i) guard = omega (arith, guard.0, guard.1)
   step_low kind guard = omega arith

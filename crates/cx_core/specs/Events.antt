@@ -4,12 +4,13 @@ use Rattle.std.specs.Prelude.{◌≡◌, ◌+◌, ◌-◌, ◌*◌, ◌%◌, ◌
 use Rattle.std.specs.Option.{option_map}
 use Rattle.cx_core.specs.declared.kinds.Event.{Event}
 use Rattle.cx_core.specs.declared.kinds.Kind.{Kind}
-use Rattle.cx_core.specs.declared.kinds.Kind.TheVariants.{WriteCell, Link, Look, ReadCell, LoadFree, TryExclusive, TryShared, BackOff, Downgrade, ReleaseExclusive, LoadWord, StoreWord, Persist, LoadCur, Publish, Raise, Retire, Protect, Confirm, Unprotect, CloseLow, Scan, OpenFree, WriteSet, Offer, LoadOffer, ReadSet}
+use Rattle.cx_core.specs.declared.kinds.Kind.TheVariants.{WriteCell, Link, Look, ReadCell, LoadFree, TryExclusive, TryShared, BackOff, Downgrade, ReleaseExclusive, LoadWord, StoreWord, Persist, LoadCur, Publish, Raise, Retire, Protect, Confirm, Unprotect, CloseLow, Scan, OpenFree, WriteSet, Offer, LoadOffer, ReadSet, NoteGap, LoadGap}
 use Rattle.cx_core.specs.declared.local.Local.{Local}
 use Rattle.cx_core.specs.declared.local.Protection.TheVariants.{Unprotected}
+use Rattle.cx_core.specs.Gaps.{CanNoteGap}
 use Rattle.cx_core.specs.History.{IsFull}
 use Rattle.cx_base.specs.Codes.{root_replica_of}
-use Rattle.cx_core.specs.Layout.{cell_count, cell_at, cur_at, dur_at, free_at, link_at, lock_at, low_at, max_word, need_at, offer_at, per_at, set_at, vol_at}
+use Rattle.cx_core.specs.Layout.{cell_count, cell_at, cur_at, dur_at, free_at, gap_at, gap_slots, link_at, lock_at, low_at, max_word, need_at, offer_at, per_at, set_at, vol_at}
 use Rattle.cx_core.specs.LockEvents.{CanBackOff, CanGiveUp, CanTryExclusive, CanTryShared, backed_off, downgraded_to, exclusive_mark, minus, passing, plus, refused_by, shared_by, taken}
 use Rattle.cx_core.specs.Merge.{scene_of}
 use Rattle.cx_core.specs.QueueEvents.{CanLink, IsIdle, ShowsTicket, cell_of, exchanged, linked, lost, raised_front, seen_word, written}
@@ -49,6 +50,8 @@ Guard instance scene (WriteSet j i v) l = CanWriteSet l j × (i < 513) × (v < 2
 Guard instance scene (Offer j) l = CanOffer instance scene.history l j
 Guard instance scene (LoadOffer k t) l = (t < l.front) × ShowsTicket instance.callers l.seen_slot t k × Protects t l.protection
 Guard instance scene (ReadSet k t i) l = (t < l.front) × (i < 513) × ShowsTicket instance.callers l.seen_slot t k × Protects t l.protection × ShowsOffer l.seen_offer k t
+Guard instance scene (NoteGap s i v) l = CanNoteGap instance scene.history s i v
+Guard instance scene (LoadGap s i) l = (s < gap_slots instance.callers) × (i < 16)
 
 -- the word that a step is on
 abbrev pub step_word : Instance → Kind → Local → ℕ
@@ -79,6 +82,8 @@ step_word instance (WriteSet j i v) l = set_at instance.callers (16 * l.number +
 step_word instance (Offer j) l = offer_at instance.callers (16 * l.number + j)
 step_word instance (LoadOffer k t) l = offer_at instance.callers k
 step_word instance (ReadSet k t i) l = set_at instance.callers k i
+step_word instance (NoteGap s i v) l = gap_at instance.callers s i
+step_word instance (LoadGap s i) l = gap_at instance.callers s i
 
 -- what the word becomes, given the word found
 abbrev pub new_word : Instance → Kind → Local → ℕ → ℕ
@@ -109,6 +114,8 @@ new_word instance (WriteSet j i v) l found = v
 new_word instance (Offer j) l found = offer_of (cell_of l j).ticket (cell_of l j).offer
 new_word instance (LoadOffer k t) l found = found
 new_word instance (ReadSet k t i) l found = found
+new_word instance (NoteGap s i v) l found = v
+new_word instance (LoadGap s i) l found = found
 
 -- the caller's local state afterwards, given the word found
 abbrev pub next : Instance → Scene → Kind → Local → ℕ → Local
@@ -143,6 +150,8 @@ next instance scene (WriteSet j i v) l found = record l { cells = with_set l j i
 next instance scene (Offer j) l found = record l { cells = with_offer l j; steps = one_more l.steps }
 next instance scene (LoadOffer k t) l found = record l { seen_offer = Some (record { cell = k; ticket = t; word = found }); steps = one_more l.steps }
 next instance scene (ReadSet k t i) l found = record l { steps = one_more l.steps }
+next instance scene (NoteGap s i v) l found = record l { steps = one_more l.steps }
+next instance scene (LoadGap s i) l found = record l { steps = one_more l.steps }
 
 -- the word that a step of a caller with this local state finds, and the words after it
 abbrev pub found_by : Instance → Kind → Local → List ℕ → ℕ

@@ -10,6 +10,7 @@ use Rattle.cx_core.specs.declared.local.Local.{Local}
 use Rattle.cx_core.specs.declared.local.SeenOffer.{SeenOffer}
 use Rattle.cx_core.specs.declared.local.SeenSlot.{SeenSlot}
 use Rattle.cx_core.specs.declared.local.WonCode.{WonCode}
+use Rattle.cx_core.specs.Gaps.{Gaps}
 use Rattle.cx_core.specs.LawfulAnswers.{Answers}
 use Rattle.cx_core.specs.LawfulLocks.{Locks}
 use Rattle.cx_core.specs.LawfulRegions.{Regions}
@@ -168,3 +169,4 @@ pub record Lawful (instance : Instance) (s : State) : Type 0 where
   pub root : Root instance s.words s.locals
   pub ring : Ring instance s.words s.locals
   pub answers : Answers instance history s.words s.locals
+  pub gaps : Gaps instance history s.words

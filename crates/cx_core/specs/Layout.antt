@@ -37,13 +37,24 @@ offer_at callers cell = 4 + 2339 * callers + cell
 abbrev pub set_at : ℕ → ℕ → ℕ → ℕ
 set_at callers cell i = 4 + 2355 * callers + 513 * cell + i
 
+-- the ring of gaps: for each caller 512 slots of 16 words
+abbrev pub gap_slots : ℕ → ℕ
+gap_slots callers = 512 * callers
+
+abbrev pub gaps_at : ℕ → ℕ
+gaps_at callers = 4 + 10563 * callers
+
+-- word i of a slot
+abbrev pub gap_at : ℕ → ℕ → ℕ → ℕ
+gap_at callers slot i = 4 + 10563 * callers + 16 * slot + i
+
 -- where the words of replicas begin
 abbrev pub replicas_at : ℕ → ℕ
-replicas_at callers = 4 + 10563 * callers
+replicas_at callers = 4 + 18755 * callers
 
 -- word i of a replica as a load gives it, where a region has so many words
 abbrev pub vol_at : ℕ → ℕ → ℕ → ℕ → ℕ
-vol_at callers region replica i = 4 + 10563 * callers + region * replica + i
+vol_at callers region replica i = 4 + 18755 * callers + region * replica + i
 
 -- the words of a replica as loads give them
 abbrev pub replica_words : ℕ → ℕ → List ℕ → ℕ → List ℕ
@@ -51,11 +62,11 @@ replica_words callers region words replica = take region (drop (vol_at callers r
 
 -- word i of a replica as the medium holds it
 abbrev pub per_at : ℕ → ℕ → ℕ → ℕ → ℕ
-per_at callers region replica i = 4 + 10563 * callers + region * (2 * callers) + region * replica + i
+per_at callers region replica i = 4 + 18755 * callers + region * (2 * callers) + region * replica + i
 
 -- the words of the whole table
 abbrev pub word_count : ℕ → ℕ → ℕ
-word_count callers region = 4 + 10563 * callers + region * (4 * callers)
+word_count callers region = 4 + 18755 * callers + region * (4 * callers)
 
 -- the protection word of a caller without one, and the limit that is none
 abbrev pub max_word : ℕ

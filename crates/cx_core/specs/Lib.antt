@@ -4,6 +4,7 @@ pub mod Crash
 pub mod Events
 pub mod Frames
 pub mod Free
+pub mod Gaps
 pub mod History
 pub mod Inside
 pub mod Lawful

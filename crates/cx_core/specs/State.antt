@@ -132,7 +132,7 @@ opening_words callers base =
     ++ replicate callers max_word
     ++ (1 ∷ [])
     ++ replicate (2 * callers - 1) 0
-    ++ replicate (10560 * callers) 0
+    ++ replicate (18752 * callers) 0
     ++ copies (4 * callers) base.words
 
 abbrev pub opening_state : ℕ → Base → State

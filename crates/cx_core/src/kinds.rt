@@ -58,6 +58,10 @@ pub enum Kind {
     LoadOffer { k: u64, t: u64 },
     /// Loads word `i` of the write set of cell `k`, which is offered with ticket `t`.
     ReadSet { k: u64, t: u64, i: u64 },
+    /// Notes `v` as word `i` of slot `s` of the ring of gaps.
+    NoteGap { s: u64, i: u64, v: u64 },
+    /// Loads word `i` of slot `s` of the ring of gaps.
+    LoadGap { s: u64, i: u64 },
 }
 
 /// A step of a caller.

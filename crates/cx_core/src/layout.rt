@@ -93,7 +93,7 @@ pub fn set_at(callers: u32, cell: u64, i: u64) -> usize
 pub fn replicas_at(callers: u32) -> usize
     ensures { result ≡ replicas_at callers }
 {
-    4 + 10563 * callers as usize
+    4 + 18755 * callers as usize
 }
 
 /// Word `i` of a replica as a load gives it, where a region has so many words.

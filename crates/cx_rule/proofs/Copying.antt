@@ -14,9 +14,10 @@ use Rattle.cx_core.specs.Rights.{shared_on}
 use Rattle.cx_core.specs.State.{Instance, State}
 use Rattle.cx_core.proofs.HeldLists.{mapped}
 use Rattle.cx_rule.specs.declared.rule.Known.{Known}
-use Rattle.cx_rule.specs.Fitting.{AgreeTo, AreEqual, TellsWord, loaded_of, loads_of, word_noted}
+use Rattle.cx_rule.specs.Fitting.{AgreeTo, AreEqual, TellsWord, TellsWords, loaded_of, loads_of, word_noted}
+use Rattle.cx_rule.specs.Rule.{IsOrigin}
 use Rattle.cx_rule.specs.Seats.{place_noted}
-use Rattle.cx_rule.specs.Steps.{IsCopyLearned}
+use Rattle.cx_rule.specs.Steps.{IsCopyLearned, IsImageLearned}
 use Rattle.cx_rule.proofs.Behind.{shared_there}
 use Rattle.cx_rule.proofs.Keeps.{learns_shown}
 
@@ -102,5 +103,33 @@ learns_copied instance r known word small on at agree words within locals law l 
       notes = plain.notes;
       traced = record { first = there.0; now = there.0; origin = there.1; leads = leads; held = λ x has. sym now ∙ t.held x has };
       sets = plain.sets;
+      timed = plain.timed;
+      imaged = plain.imaged;
+      fits = plain.fits;
+    }
+
+-- The release of a shared right all of whose words were loaded makes these one image more that the caller took: they are a full image.
+pub learns_taking : (instance : Instance) (r : ℕ) (image : List ℕ) (known : Known) (word : ℕ) → r < 2 * instance.callers → shared_on known.local ≡ Some r → word ≡ step_word instance (BackOff r) known.local →
+    TellsWords known (length instance.base.words) image → IsImageLearned instance (BackOff r) image known word (λ x. new_word instance (BackOff r) known.local x)
+learns_taking instance r image known word small on at tells words within locals law l of_caller shows noted traced sets own some =
+    let state : State = record { words = words; locals = locals } in
+    let plain = learns_shown instance (BackOff r) known words word (new_word instance (BackOff r) known.local (slice_index words word)) tt tt (small, inl on) at refl locals law l of_caller shows noted traced sets own some in
+    let held = mapped (λ (x : HeldShared). x.replica) known.local.shared r on in
+    let there = shared_there instance state law some known.local.number l of_caller held.0 (ap (λ (x : Local). x.shared) (sym shows) ∙ held.1) in
+    let leads = subst (λ (o : Option HeldShared). NotesLead (loads_of (loaded_of o)) there.0 there.0) (sym held.1) there.2 in
+    let n = length instance.base.words in
+    let same : there.0 ≡ image = ext_get_or 0 there.0 image (there.1.long ∙ sym tells.long) (λ i below. (
+    let within : i < n = subst (λ m. i < m) there.1.long below in
+    noted_tells n (loads_of (loaded_of known.local.shared)) i (slice_index image i) within (tells.each i within) there.0 there.0 there.1.long leads)) in
+    record {
+      guard = plain.guard;
+      word_is = plain.word_is;
+      new_is = plain.new_is;
+      shows = plain.shows;
+      notes = plain.notes;
+      traced = plain.traced;
+      sets = plain.sets;
+      timed = plain.timed;
+      imaged = inr (image, refl, subst (IsOrigin instance law.history) same there.1);
       fits = plain.fits;
     }

@@ -35,12 +35,12 @@ pub noted_linked : (instance : Instance) (history : List Entry) → ((i : ℕ) (
     (notes : List Noted) (ticket : ℕ) (e : Entry) → NotesHold instance history notes → instance.base.place ≤ ticket → IsNoted notes ticket e → IsLinked instance.base.place history ticket e
 noted_linked instance history entries notes ticket e hold from noted =
     let first = noted.each 0 (omega arith) in
-    let is = hold first.0 _ first.1 from in
+    let is = (hold first.0 _ first.1).entry (omega arith) from in
     let x = is.entry in
     let op = (entries _ x is.linked.at).op in
     let words : (i : ℕ) → i < 145 → slice_index (x.number ∷ x.op) i ≡ slice_index (e.number ∷ e.op) i = λ i below. (
     let at = noted.each i below in
-    let here = hold at.0 _ at.1 from in
+    let here = (hold at.0 _ at.1).entry below from in
     let same : here.entry ≡ x = same_Some here.entry x (sym here.linked.at ∙ is.linked.at) in
     ap (λ (y : Entry). slice_index (y.number ∷ y.op) i) (sym same) ∙ here.word) in
     let l = op.long in

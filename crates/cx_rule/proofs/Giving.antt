@@ -69,6 +69,7 @@ learns_persist instance r i known word new may at tells words _ =
       guard = ((may.0.0, may.0.1, on ∙ may.0.2), subst (λ xs. Contains xs i) (sym (dirty_on known l shows)) may.1);
       new_is = sym (tells traced.first traced.now traced.origin.long traced.leads) ∙ ap (λ ws. slice_index ws i) (traced.held held.0 held.1 ∙ sym (ap held_words held.1));
       shows = persisted_shown instance r i known l (slice_index words word) shows;
+      timed = tt;
     }))
   where
     persisted_shown : (instance : Instance) (r i : ℕ) (known : Known) (l : Local) (found : ℕ) → known.local ≡ shown l → known_local instance (Persist r i) known found ≡ shown (next instance unseen (Persist r i) l found)
@@ -108,6 +109,7 @@ module _ (lines : ℕ) (lawful : List ℕ → Type 0) (instance : Instance) (law
         guard = (clean_on instance.callers r known l shows clean, full_now state law l held.0 held.1 full.0);
         new_is = refl;
         shows = ap (λ (x : Local). next instance unseen (ReleaseExclusive r) x (slice_index words word)) shows;
+        timed = tt;
       })
 
   -- and turned into a shared one, at the place that was noted
@@ -125,6 +127,7 @@ module _ (lines : ℕ) (lawful : List ℕ → Type 0) (instance : Instance) (law
         new_is = refl;
         shows = ap (λ (x : Local). known_local instance (Downgrade r) (record known { local = x }) 0) shows
             ∙ ap (λ (p : ℕ). record l { exclusive = None; downgraded = Some (record { replica = r; place = p }); steps = one_more l.steps }) (sym is);
+        timed = tt;
       })
 
 -- a load, whose mark as a refusal depends on the word found
@@ -165,6 +168,7 @@ learns_load instance r i mark known word can at words _ =
       );
       new_is = refl;
       shows = ap (λ (x : Local). next instance unseen kind x found) shows;
+      timed = tt;
     }))
   where
     second : (a b : Bool) → IsTrue (a && b) → b ≡ true

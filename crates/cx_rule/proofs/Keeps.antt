@@ -1,5 +1,5 @@
 -- Each event of the core keeps the rule of the table.
-use Rattle.std.proofs.Common.{length, arith, ◌≡◌, ◌≢◌, ◌<◌, ⊎_elim, ℕ, Bool, zero, suc, List, [], ◌∷◌, set, slice_index, refl, ap, sym, subst, ◌∙◌, Some}
+use Rattle.std.proofs.Common.{length, arith, ◌≡◌, ◌≢◌, ◌<◌, inl, ⊎_elim, ℕ, Bool, zero, suc, List, [], ◌∷◌, ◌++◌, set, slice_index, refl, ap, sym, subst, ◌∙◌, Some}
 use Rattle.std.proofs.lemmas.Option.{same_Some, none-some, slice_get_within}
 use Rattle.std.specs.List.{slice_get}
 use mathlib.Core.Option.{some, some-ne-none}
@@ -10,9 +10,11 @@ use Rattle.atomic_table.proofs.Lists.{at_set, set_here}
 use Rattle.cx_core.specs.declared.entry.Base.{Base}
 use Rattle.cx_core.specs.declared.kinds.Event.{Event}
 use Rattle.cx_core.specs.declared.kinds.Kind.{Kind}
-use Rattle.cx_core.specs.declared.kinds.Kind.TheVariants.{ReadSet}
+use Rattle.cx_core.specs.declared.kinds.Kind.TheVariants.{Raise, ReadSet}
 use Rattle.cx_core.specs.declared.local.Local.{Local}
 use Rattle.cx_core.specs.Events.{Guard, Makes, found_by, local_after, new_word, next, step_word, words_after}
+use Rattle.cx_core.specs.Gaps.{Gap, IsGap}
+use Rattle.core_replica.proofs.GapLaws.{gap_stays}
 use Rattle.cx_core.specs.Lawful.{Lawful, LocalShape, OwnTickets}
 use Rattle.cx_core.specs.Merge.{scene_of}
 use Rattle.cx_core.specs.Shown.{shown}
@@ -26,17 +28,20 @@ use Rattle.core_queue.proofs.QueueFrames.{queue_of}
 use Rattle.core_queue.proofs.SetNotes.{notes_event, notes_read}
 use Rattle.cx_rule.specs.declared.rule.Known.{Known}
 use Rattle.cx_rule.specs.Learns.{Learns, LearnsAnyway, LearnsBy}
-use Rattle.cx_rule.specs.Rule.{RuleHolds, IsBehindNotes, IsKnown, IsLawfulLocal, IsTraced, NotesHold}
+use Rattle.cx_rule.specs.Rule.{RuleHolds, AreImages, IsBehindNotes, IsKnown, IsLawfulLocal, IsTraced, NotesHold, opening_limited}
 use Rattle.cx_rule.specs.Running.{Running, instance_at}
-use Rattle.cx_rule.specs.Seats.{IsByShown, WordFits, accesses_after, known_after, known_local, known_of, noted_by, sets_after, unseen}
+use Rattle.cx_rule.specs.Seats.{IsByShown, WordFits, accesses_after, known_after, known_local, known_of, noted_by, sets_after, times_by, unseen}
 use Rattle.core_runs.proofs.Keeps.{bounds_of, kind_kept}
 use Rattle.cx_rule.proofs.ShownLaws.{guard_shown, known_shown, lawful_shown, put_shown, told_shown, word_shown}
 use Rattle.cx_rule.proofs.Notes.{noted_hold, notes-append, notes_still}
-use Rattle.cx_rule.specs.Steps.{IsCopyLearned, IsEventOn, IsStore, Puts, Teaches, TeachesCopied, known_copied}
+use Rattle.cx_rule.specs.Steps.{IsCopyLearned, IsEventOn, IsImageLearned, IsStore, Puts, Teaches, TeachesCopied, TeachesImage, known_copied, known_taken}
+use Rattle.cx_rule.specs.Timing.{AddTimes, AreTimes}
 use Rattle.cx_rule.specs.Told.{Told}
 use Rattle.cx_rule.proofs.Telling.{told_holds}
 use Rattle.cx_rule.proofs.Behind.{behind_notes}
-use Rattle.cx_rule.proofs.Traced.{traced_longer, traced_next}
+use Rattle.cx_rule.proofs.Reached.{run_push}
+use Rattle.cx_rule.proofs.Timing.{IsTimed, times_added, times_longer, times_next}
+use Rattle.cx_rule.proofs.Traced.{images_added, images_longer, traced_longer, traced_next}
 use Rattle.cx_rule.proofs.Traced.{goes_on as goes_further}
 
 -- an event is allowed, puts that word, and its caller's seat then shows the local state after it
@@ -44,16 +49,18 @@ pub record Sees (instance : Instance) (scene : Scene) (kind : Kind) (known : Kno
   pub guard : Guard instance scene kind l
   pub new_is : new ≡ new_word instance kind l found
   pub shows : known_local instance kind known found ≡ shown (next instance scene kind l found)
+  pub timed : IsTimed kind
 
 -- the only item of a view of one
 pub only_item : (x : Known) (i : ℕ) (y : Known) → slice_get (x ∷ []) i ≡ Some y → (i ≡ 0) × (x ≡ y)
 only_item x zero y at = (refl, same_Some x y at)
 only_item x (suc i) y at = absurd (none-some y at)
 
--- an event of a caller, made by its seat, keeps the rule
-pub event_held : (instance : Instance) (kind : Kind) (s : atomic.State ℕ (List Known)) (id : ℕ) (known after : Known) (word new : ℕ) → RuleHolds instance s → get_elem? s.views id ≡ some (known ∷ []) →
-    LearnsAnyway instance s.words kind known word new after → RuleHolds instance (atomic.stepped s word new id [] (after ∷ []) atomic.keeps)
-event_held instance kind s id known after word new held at learns =
+-- an event of a caller, made by its seat, keeps the rule, and stands then at the end of the list of steps
+pub event_recorded : (instance : Instance) (kind : Kind) (s : atomic.State ℕ (List Known)) (id : ℕ) (known after : Known) (word new : ℕ) (held : RuleHolds instance s) → get_elem? s.views id ≡ some (known ∷ []) →
+    LearnsAnyway instance s.words kind known word new after →
+    (then_ : RuleHolds instance (atomic.stepped s word new id [] (after ∷ []) atomic.keeps)) × (then_.reached.events ≡ held.reached.events ++ record { caller = known.local.number; kind = kind } ∷ [])
+event_recorded instance kind s id known after word new held at learns =
     let mine = held.each id 0 (known ∷ []) known at refl in
     let l = mine.local in
     let caller = known.local.number in
@@ -73,49 +80,77 @@ event_held instance kind s id known after word new held at learns =
     let grows = still_linked instance instance.base.place law.history law'.history held.locals caller l l' law.tickets.merged law'.tickets.merged mine.of_caller (goes_on instance (scene_of instance state) kind l (found_by instance kind l s.words)) in
     let state' : State = record { words = set s.words word new; locals = locals' } in
     let more = goes_further instance.base.place law.history law'.history grows in
+    let stays : (g : Gap) → IsGap instance law.history g → IsGap instance law'.history g = λ g. gap_stays instance law.history law'.history g (record { more = more.0; is = more.1 }) in
     let event : Event = record { caller = caller; kind = kind } in
     let makes : Makes instance event state state' = record { local = l; of_caller = mine.of_caller; guard = learnt.guard; words = sym put; locals = refl } in
+    let opening = opening_limited instance held.reached.limits in
+    let events = held.reached.events in
+    let ran = run_push instance opening events event state state' held.reached.ran makes in
     let moved : (notes : List SetNoted) → SetNotesHold instance state law.history notes → SetNotesHold instance state' law'.history notes =
-    λ notes hold. subst (λ h. SetNotesHold instance state' h notes) (sym more.1) (notes_event instance law.history more.0 state state' event notes (queue_of law) makes hold) in
-    record {
-      locals = locals';
-      place_of = held.place_of;
-      law = law';
-      each = λ seat i view k view_at item. ⊎_elim
-          (λ (e : (seat ≡ id) × (after ∷ [] ≡ view)). (
-          let only = only_item after i k (ap (λ v. slice_get v i) e.1 ∙ item) in
-          let here : IsKnown instance law'.history locals' held.place_of id 0 after = record {
-            local = l';
-            of_caller = subst (λ n. slice_get locals' n ≡ Some l') (sym number) there;
-            shows = learnt.shows;
-            only = ap held.place_of number ∙ mine.only;
-            notes = notes_still instance law.history law'.history after.noted grows learnt.notes;
-            traced = traced_longer instance law.history law'.history after.accesses l' grows learnt.traced;
-          } in
-          subst (λ n. IsKnown instance law'.history locals' held.place_of seat n k) (sym only.0)
-          (subst (λ n. IsKnown instance law'.history locals' held.place_of n 0 k) (sym e.0)
-          (subst (IsKnown instance law'.history locals' held.place_of id 0) only.1 here))))
-          (λ (e : (seat ≢ id) × (get_elem? s.views seat ≡ some view)). (
-          let was = held.each seat i view k e.1 item in
-          let apart : k.local.number ≢ caller = λ same. e.0 (ap (λ (p : ℕ × ℕ). p.0) (sym was.only ∙ ap held.place_of same ∙ mine.only)) in
-          record {
-            local = was.local;
-            of_caller = slice_get-set_other held.locals caller k.local.number l' apart ∙ was.of_caller;
-            shows = was.shows;
-            only = was.only;
-            notes = notes_still instance law.history law'.history k.noted grows was.notes;
-            traced = traced_longer instance law.history law'.history k.accesses was.local grows was.traced;
-          }))
-          (at_set s.views id seat (after ∷ []) view view_at);
-      own = subst (λ h. EachLocal locals' (λ _ x. OwnSetsHold instance h x.cells)) (sym more.1) (own_event instance law.history more.0 state state' event (queue_of law) makes held.own);
-      sets = λ seat i view k view_at item. ⊎_elim
-          (λ (e : (seat ≡ id) × (after ∷ [] ≡ view)). (
-          let only = only_item after i k (ap (λ v. slice_get v i) e.1 ∙ item) in
-          subst (λ (x : Known). SetNotesHold instance state' law'.history x.sets) only.1 (moved after.sets learnt.sets)))
-          (λ (e : (seat ≢ id) × (get_elem? s.views seat ≡ some view)). moved k.sets (held.sets seat i view k e.1 item))
-          (at_set s.views id seat (after ∷ []) view view_at);
-      some = held.some;
-    }
+    λ notes hold. subst (λ h. SetNotesHold instance state' h notes) (sym more.1) (notes_event instance law.history more.0 state state' event notes (queue_of law) makes hold) in (
+      record {
+        locals = locals';
+        place_of = held.place_of;
+        law = law';
+        reached = record { limits = held.reached.limits; events = events ++ event ∷ []; ran = ran };
+        each = λ seat i view k view_at item. ⊎_elim
+            (λ (e : (seat ≡ id) × (after ∷ [] ≡ view)). (
+            let only = only_item after i k (ap (λ v. slice_get v i) e.1 ∙ item) in
+            let here : IsKnown instance law'.history locals' held.place_of id 0 after = record {
+              local = l';
+              of_caller = subst (λ n. slice_get locals' n ≡ Some l') (sym number) there;
+              shows = learnt.shows;
+              only = ap held.place_of number ∙ mine.only;
+              notes = notes_still instance law.history law'.history after.noted grows stays learnt.notes;
+              traced = traced_longer instance law.history law'.history after.accesses l' grows learnt.traced;
+            } in
+            subst (λ n. IsKnown instance law'.history locals' held.place_of seat n k) (sym only.0)
+            (subst (λ n. IsKnown instance law'.history locals' held.place_of n 0 k) (sym e.0)
+            (subst (IsKnown instance law'.history locals' held.place_of id 0) only.1 here))))
+            (λ (e : (seat ≢ id) × (get_elem? s.views seat ≡ some view)). (
+            let was = held.each seat i view k e.1 item in
+            let apart : k.local.number ≢ caller = λ same. e.0 (ap (λ (p : ℕ × ℕ). p.0) (sym was.only ∙ ap held.place_of same ∙ mine.only)) in
+            record {
+              local = was.local;
+              of_caller = slice_get-set_other held.locals caller k.local.number l' apart ∙ was.of_caller;
+              shows = was.shows;
+              only = was.only;
+              notes = notes_still instance law.history law'.history k.noted grows stays was.notes;
+              traced = traced_longer instance law.history law'.history k.accesses was.local grows was.traced;
+            }))
+            (at_set s.views id seat (after ∷ []) view view_at);
+        times = λ seat i view k view_at item. ⊎_elim
+            (λ (e : (seat ≡ id) × (after ∷ [] ≡ view)). (
+            let only = only_item after i k (ap (λ v. slice_get v i) e.1 ∙ item) in
+            let was = subst (λ (x : Local). AreTimes instance opening events caller x known.times) mine.shows (held.times id 0 (known ∷ []) known at refl) in
+            let now = times_added instance opening events event state state' caller l l' held.reached.ran ran mine.of_caller there known.times after.times was learnt.timed in
+            subst (λ (x : Known). AreTimes instance opening (events ++ event ∷ []) x.local.number x.local x.times) only.1
+            (subst (λ n. AreTimes instance opening (events ++ event ∷ []) n after.local after.times) (sym number) (subst (λ (x : Local). AreTimes instance opening (events ++ event ∷ []) caller x after.times) (sym learnt.shows) now))))
+            (λ (e : (seat ≢ id) × (get_elem? s.views seat ≡ some view)). times_longer instance opening events (event ∷ []) k.local.number k.local k.times (held.times seat i view k e.1 item))
+            (at_set s.views id seat (after ∷ []) view view_at);
+        images = λ seat i view k view_at item. ⊎_elim
+            (λ (e : (seat ≡ id) × (after ∷ [] ≡ view)). (
+            let only = only_item after i k (ap (λ v. slice_get v i) e.1 ∙ item) in
+            let was = images_longer instance law.history law'.history known.images grows (held.images id 0 (known ∷ []) known at refl) in
+            subst (λ (x : Known). AreImages instance law'.history x.images) only.1 (images_added instance law.history law'.history known.images after.images grows was learnt.imaged)))
+            (λ (e : (seat ≢ id) × (get_elem? s.views seat ≡ some view)). images_longer instance law.history law'.history k.images grows (held.images seat i view k e.1 item))
+            (at_set s.views id seat (after ∷ []) view view_at);
+        own = subst (λ h. EachLocal locals' (λ _ x. OwnSetsHold instance h x.cells)) (sym more.1) (own_event instance law.history more.0 state state' event (queue_of law) makes held.own);
+        sets = λ seat i view k view_at item. ⊎_elim
+            (λ (e : (seat ≡ id) × (after ∷ [] ≡ view)). (
+            let only = only_item after i k (ap (λ v. slice_get v i) e.1 ∙ item) in
+            subst (λ (x : Known). SetNotesHold instance state' law'.history x.sets) only.1 (moved after.sets learnt.sets)))
+            (λ (e : (seat ≢ id) × (get_elem? s.views seat ≡ some view)). moved k.sets (held.sets seat i view k e.1 item))
+            (at_set s.views id seat (after ∷ []) view view_at);
+        some = held.some;
+      },
+      refl,
+    )
+
+-- so the rule holds
+pub event_held : (instance : Instance) (kind : Kind) (s : atomic.State ℕ (List Known)) (id : ℕ) (known after : Known) (word new : ℕ) → RuleHolds instance s → get_elem? s.views id ≡ some (known ∷ []) →
+    LearnsAnyway instance s.words kind known word new after → RuleHolds instance (atomic.stepped s word new id [] (after ∷ []) atomic.keeps)
+event_held instance kind s id known after word new held at learns = (event_recorded instance kind s id known after word new held at learns).0
 
 -- what a caller noted of sets, with what its own step notes
 sets_next : (instance : Instance) (s : State) (law : Lawful instance s) (caller : ℕ) (l : Local) → slice_get s.locals caller ≡ Some l → (known : Known) (kind : Kind) → Guard instance (scene_of instance s) kind l → SetNotesHold instance s law.history known.sets →
@@ -128,7 +163,7 @@ pub learns_there : (instance : Instance) (kind : Kind) (known : Known) (words : 
     (locals : List Local) (law : Lawful instance (record { words = words; locals = locals })) (l : Local) → slice_get locals known.local.number ≡ Some l → known.local ≡ shown l → NotesHold instance law.history known.noted →
     IsTraced instance law.history known.accesses l → SetNotesHold instance (record { words = words; locals = locals }) law.history known.sets → 0 < length instance.base.words →
     Sees instance (scene_of instance (record { words = words; locals = locals })) kind known l new (slice_index words word) →
-    Learns instance (record { words = words; locals = locals }) law.history kind l word new (known_after instance kind known (slice_index words word))
+    Learns instance (record { words = words; locals = locals }) law.history kind l known word new (known_after instance kind known (slice_index words word))
 learns_there instance kind known words word new fits at locals law l of_caller shows noted traced sets full seen =
     let state : State = record { words = words; locals = locals } in
     let scene = scene_of instance state in
@@ -146,8 +181,16 @@ learns_there instance kind known words word new fits at locals law l of_caller s
       traced = subst (λ (n : ℕ). IsTraced instance law.history (accesses_after kind known n) (local_after instance scene kind l)) same
           (traced_next instance state law caller l of_caller known shows traced full kind seen.guard fits);
       sets = subst (λ (n : ℕ). SetNotesHold instance state law.history (sets_after kind known n)) same (sets_next instance state law caller l of_caller known kind seen.guard sets);
+      timed = subst (λ (x : Local). AddTimes l (local_after instance scene kind l) known.times (times_by kind x known.times found)) (sym shows)
+          (subst (λ (n : ℕ). AddTimes l (local_after instance scene kind l) known.times (times_by kind (shown l) known.times n)) same (times_next instance scene kind l (found_by instance kind l words) known.times seen.timed));
+      imaged = inl refl;
       fits = fits;
     }
+
+-- a kind whose guard looks at no word of a region is no raise
+timed_shown : (kind : Kind) → IsByShown kind → IsTimed kind
+timed_shown (Raise code read) by = by
+timed_shown kind by = tt
 
 -- and where they are known in each state, it does so in each
 pub learns_of : (instance : Instance) (kind : Kind) (known : Known) (words : List ℕ) (word new : ℕ) → WordFits kind → word ≡ step_word instance kind known.local →
@@ -168,6 +211,7 @@ learns_shown instance kind known words word new by fits may at puts =
       guard = guard_shown instance scene kind l by (subst (Guard instance unseen kind) shows may);
       new_is = puts ∙ ap (λ (x : Local). new_word instance kind x found) shows ∙ put_shown instance kind l found by;
       shows = known_shown instance scene kind known l found by shows;
+      timed = timed_shown kind by;
     }))
 
 -- what the lawful state says of a caller's local state by itself
@@ -265,6 +309,25 @@ allows_copied instance kind known slots id word me f one learn copied =
     (let found = slice_index s.words word in
     let known' = known_copied instance kind known found in
     let learns = copied s.words fits in (
+      known' ∷ [],
+      atomic.keeps,
+      tt,
+      event_held instance kind s id known known' word (f found) held view learns,
+      record {
+        knows = refl;
+        event = event_teaches instance kind s id known word (f found) held view (learn s.words fits);
+        behind = (event_leaves instance kind s id known known' word (f found) held view learns).1;
+      },
+    )))
+
+-- the same of one all of whose words were loaded
+pub allows_taking : (instance : Instance) (kind : Kind) (image : List ℕ) (known : Known) (slots id word : ℕ) (me : atomic.Me ℕ (List Known)) (f : ℕ → ℕ) → me ≡ (known ∷ [], []) → LearnsBy instance (λ _. kind) known word f →
+    IsImageLearned instance kind image known word f → atomic.Allows (RuleHolds instance) slots id me word f (TeachesImage instance kind image known)
+allows_taking instance kind image known slots id word me f one learn taking =
+    subst (λ m. atomic.Allows (RuleHolds instance) slots id m word f (TeachesImage instance kind image known)) (sym one) (λ s held homes view fits.
+    (let found = slice_index s.words word in
+    let known' = known_taken instance kind image known found in
+    let learns = taking s.words fits in (
       known' ∷ [],
       atomic.keeps,
       tt,

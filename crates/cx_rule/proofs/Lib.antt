@@ -2,6 +2,8 @@ pub mod ShownLaws
 pub mod Telling
 pub mod Notes
 pub mod Entries
+pub mod Reached
+pub mod Timing
 pub mod Traced
 pub mod Behind
 pub mod Keeps
@@ -15,3 +17,6 @@ pub mod Raising
 pub mod Offering
 pub mod Having
 pub mod HasMore
+pub mod GapCopies
+pub mod Listing
+pub mod GapNoting

@@ -33,10 +33,13 @@ moved_held instance s views moved held came = record {
   locals = held.locals;
   place_of = λ caller. moved (held.place_of caller);
   law = held.law;
+  reached = held.reached;
   each = λ seat i view known at here. (
       let c = came seat i view known at here in
       let old = held.each c.from c.index c.view known c.at c.here in
       record { local = old.local; of_caller = old.of_caller; shows = old.shows; only = ap moved old.only ∙ c.now; notes = old.notes; traced = old.traced });
+  times = λ seat i view known at here. (let c = came seat i view known at here in held.times c.from c.index c.view known c.at c.here);
+  images = λ seat i view known at here. (let c = came seat i view known at here in held.images c.from c.index c.view known c.at c.here);
   own = held.own;
   sets = λ seat i view known at here. (let c = came seat i view known at here in held.sets c.from c.index c.view known c.at c.here);
   some = held.some;

@@ -1,7 +1,8 @@
 -- A raise of DUR answers what its caller knows by what it noted: the reply in its slot of an image above its entry's ticket, and
 -- the reply to a read on the image that it holds shared.
-use Rattle.std.proofs.Common.{◌≡◌, ◌+◌, ◌<◌, ◌≤◌, inl, inr, ℕ, max, Bool, cond, List, [], ◌∷◌, length, slice_index, refl, ap, sym, subst, ◌∙◌, Option, Some, None}
-use Rattle.std.proofs.lemmas.Bool.{le-ltb, lt-ltb}
+use Rattle.std.proofs.Common.{◌≡◌, ◌+◌, ◌<◌, ◌≤◌, ◌⊎◌, inl, inr, ℕ, max, nat_lt, Bool, true, false, cond, List, [], ◌∷◌, ◌++◌, length, map, slice_index, refl, ap, sym, subst, ◌∙◌, Option, Some, None}
+use Rattle.std.proofs.lemmas.Bool.{false≢true, le-ltb, lt-ltb}
+use Rattle.std.proofs.lemmas.List.{append-nil, append_cancel_left, length-append}
 use Rattle.std.proofs.lemmas.List.Elements.{All-cons, All-contains, All-nil}
 use Rattle.std.specs.List.{All, slice_get}
 use Rattle.atomic_table.specs.Table as atomic
@@ -21,17 +22,18 @@ use Rattle.cx_core.specs.Lawful.{Lawful}
 use Rattle.cx_core.specs.Layout.{dur_at}
 use Rattle.cx_core.specs.Merge.{scene_of}
 use Rattle.cx_core.specs.Region.{object_part, place_of, slot_reply}
-use Rattle.cx_core.specs.RootEvents.{CanRaise, ShowsPlace, answers_below, reads_at, reply_after, unanswered}
+use Rattle.cx_core.specs.RootEvents.{CanRaise, ShowsPlace, answers_below, raised_by, reads_at, reply_after, unanswered}
 use Rattle.cx_core.specs.Shown.{shown}
-use Rattle.cx_core.specs.State.{Instance, State}
+use Rattle.cx_core.specs.State.{Instance, Scene, State, one_more}
 use Rattle.cx_core.proofs.HistoryLemmas.{ObjectLaws}
 use Rattle.cx_core.proofs.MergeLemmas.{history_is}
 use Rattle.core_queue.specs.NotedSets.{OwnSetsHold, SetNotesHold}
 use Rattle.cx_rule.specs.declared.rule.Known.{Known}
 use Rattle.cx_rule.specs.Fitting.{FitsKnown, FitsOn, Has, ReadFits, ReplayedTo, has_of, loaded_of, loads_of}
-use Rattle.cx_rule.specs.Raises.{AnswersOf, IsRaiseLearned, TeachesRaised, TellsAnswers, TellsReads, TellsReply, answered_local, known_answered, op_in, read_at}
+use Rattle.cx_rule.specs.Raises.{AnswersOf, IsRaiseLearned, TeachesRaised, TellsAnswers, TellsReads, TellsReply, answered_local, known_answered, op_in, read_at, times_raised}
 use Rattle.cx_rule.specs.Rule.{IsTraced, NotesHold, RuleHolds}
 use Rattle.cx_rule.specs.Seats.{place_noted}
+use Rattle.cx_rule.specs.Timing.{AddTimes}
 use Rattle.cx_rule.proofs.Behind.{shared_there}
 use Rattle.cx_rule.proofs.Entries.{entries_from}
 use Rattle.cx_rule.proofs.Fitting.{chain_full, entries_lawful, origin_full, traced_fits}
@@ -48,6 +50,43 @@ loads_there (x ∷ xs) first now leads = All-cons (λ (y : ℕ × ℕ). slice_in
 can_raise : (instance : Instance) (code : ℕ) (read : Option (List ℕ)) (l : Local) → CanRaise instance code read (shown l) → CanRaise instance code read l
 can_raise instance code None l can = can
 can_raise instance code (Some op) l can = can
+
+-- what a raise answers of an entry is one answer or none
+answers_are : (instance : Instance) (history : List Entry) (place : ℕ) (o : Option Linked) → (answers_below instance history place o ≡ []) ⊎ ((a : Answer) × (answers_below instance history place o ≡ a ∷ []))
+answers_are instance history place None = inl refl
+answers_are instance history place (Some x) = one_or_none (record { ticket = x.ticket; reply = reply_after instance history x.ticket x.entry.op }) (nat_lt x.ticket place)
+  where
+    one_or_none : (a : Answer) (b : Bool) → (cond b (a ∷ []) [] ≡ []) ⊎ ((y : Answer) × (cond b (a ∷ []) [] ≡ y ∷ []))
+    one_or_none a true = inr (a, refl)
+    one_or_none a false = inl refl
+
+answered_adds : (olds news answers : List Answer) (ts : List ℕ) (n m : ℕ) → n ≡ m → answers ≡ news → (news ≡ []) ⊎ ((a : Answer) × (news ≡ a ∷ [])) →
+    ((length (olds ++ news) ≡ length olds) × (ts ++ map (λ (_ : Answer). n) answers ≡ ts)) ⊎ ((length (olds ++ news) ≡ length olds + 1) × (ts ++ map (λ (_ : Answer). n) answers ≡ ts ++ m ∷ []))
+answered_adds olds news answers ts n m same given (inl none) =
+    inl (ap (λ (xs : List Answer). length (olds ++ xs)) none ∙ ap length (append-nil olds), ap (λ (xs : List Answer). ts ++ map (λ (_ : Answer). n) xs) (given ∙ none) ∙ append-nil ts)
+answered_adds olds news answers ts n m same given (inr one) =
+    inr (ap (λ (xs : List Answer). length (olds ++ xs)) one.1 ∙ length-append olds (one.0 ∷ []), ap (λ (xs : List Answer). ts ++ map (λ (_ : Answer). n) xs) (given ∙ one.1) ∙ ap (λ k. ts ++ k ∷ []) same)
+
+-- its time, and that of a read that it answers
+raise_adds : (instance : Instance) (scene : Scene) (code : ℕ) (known : Known) (l : Local) → known.local ≡ shown l → (answers : List Answer) → answers ≡ answers_below instance scene.history (root_place_of instance.callers code) (unanswered l) →
+    (count : ℕ) (read : Option (List ℕ × List ℕ)) → CanRaise instance code (op_in read) known.local →
+    AddTimes l (raised_by instance scene code (op_in read) l) known.times (times_raised answers (read_at (root_place_of instance.callers code) count read) known)
+raise_adds instance scene code known l shows answers given count read can = record {
+  linked = inl (refl, refl);
+  answered = answered_adds l.answered _ answers known.times.answered (one_more known.local.steps) (one_more l.steps) steps given (answers_are instance scene.history (root_place_of instance.callers code) (unanswered l));
+  loaded = λ is. absurd (false≢true is);
+  reads = by read can;
+}
+  where
+    steps : one_more known.local.steps ≡ one_more l.steps
+    steps = ap (λ (x : Local). one_more x.steps) shows
+
+    by : (r : Option (List ℕ × List ℕ)) → CanRaise instance code (op_in r) known.local →
+        ((length (raised_by instance scene code (op_in r) l).seen_reads ≡ length l.seen_reads) × ((times_raised answers (read_at (root_place_of instance.callers code) count r) known).reads ≡ known.times.reads))
+        ⊎ ((l.fresh ≡ true) × (length (raised_by instance scene code (op_in r) l).seen_reads ≡ length l.seen_reads + 1)
+        × ((times_raised answers (read_at (root_place_of instance.callers code) count r) known).reads ≡ known.times.reads ++ (known.times.loaded, one_more l.steps) ∷ []))
+    by None can = inl (ap length (append-nil l.seen_reads), append-nil known.times.reads)
+    by (Some op) can = inr (ap (λ (x : Local). x.fresh) (sym shows) ∙ can.1.2, length-append l.seen_reads _, ap (λ n. known.times.reads ++ (known.times.loaded, n) ∷ []) steps)
 
 module _ (lines : ℕ) (lawful : List ℕ → Type 0) (instance : Instance) (laws : ObjectLaws lines lawful instance.step) (base : LawfulBase lines lawful instance.base) where
   module _ (words : List ℕ) (locals : List Local) (law : Lawful instance (record { words = words; locals = locals })) (known : Known) (l : Local) (of_caller : slice_get locals known.local.number ≡ Some l) (shows : known.local ≡ shown l)
@@ -139,6 +178,8 @@ module _ (lines : ℕ) (lawful : List ℕ → Type 0) (instance : Instance) (law
         notes = noted;
         traced = record { first = traced.first; now = traced.now; origin = traced.origin; leads = traced.leads; held = λ h has. traced.held h has };
         sets = sets;
+        imaged = inl refl;
+        timed = raise_adds instance scene code known l shows answers given (length known.local.answered + length answers) read can;
         fits = tt;
       }
 
@@ -189,7 +230,7 @@ allows_raised instance code answers read known slots id word me one learn =
           ∙ sym (learnt s.words held.locals held.law mine.local mine.of_caller mine.shows mine.notes mine.traced (held.sets id 0 (known ∷ []) known view refl) (held.own known.local.number mine.local mine.of_caller) held.some).shows in
           let leaves = event_leaves instance kind s id known then word put held view (learnt s.words) in
           record {
-            knows = ap (λ (x : Local). the_me (record known { local = x })) is;
+            knows = ap (λ (xs : List Answer). the_me (known_answered instance code xs read known)) (append_cancel_left known.local.answered answers told (ap (λ (x : Local). x.answered) is));
             lawful = seat_lawful instance s id known held view;
             lawful_after = leaves.0;
             behind = leaves.1;

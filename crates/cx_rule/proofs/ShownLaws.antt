@@ -5,7 +5,7 @@ use Rattle.std.proofs.lemmas.Bool.{false≢true}
 use Rattle.std.specs.Prelude.{nat_lt}
 use Rattle.std.specs.Option.{option_map}
 use Rattle.cx_core.specs.declared.kinds.Kind.{Kind}
-use Rattle.cx_core.specs.declared.kinds.Kind.TheVariants.{Link, Look, TryExclusive, TryShared, BackOff, Downgrade, ReleaseExclusive, LoadWord, StoreWord, Persist, LoadCur, Publish, Raise, Offer}
+use Rattle.cx_core.specs.declared.kinds.Kind.TheVariants.{Link, Look, TryExclusive, TryShared, BackOff, Downgrade, ReleaseExclusive, LoadWord, StoreWord, Persist, LoadCur, Publish, Raise, Offer, NoteGap}
 use Rattle.cx_core.specs.declared.local.HeldExclusive.{HeldExclusive}
 use Rattle.cx_core.specs.declared.local.Local.{Local}
 use Rattle.cx_core.specs.Events.{Guard, new_word, next, step_word}
@@ -106,6 +106,7 @@ guard_seen instance scene (ReleaseExclusive r) l by g = absurd by
 guard_seen instance scene (Persist r i) l by g = absurd by
 guard_seen instance scene (Raise code read) l by g = absurd by
 guard_seen instance scene (Offer j) l by g = absurd by
+guard_seen instance scene (NoteGap s i v) l by g = absurd by
 guard_seen instance scene kind l by g = g
 
 -- a guard over what is shown is the guard

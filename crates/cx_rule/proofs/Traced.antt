@@ -26,12 +26,13 @@ use Rattle.cx_core.specs.Rights.{exclusive_on, holds, is_at, shared_on}
 use Rattle.cx_core.specs.Shown.{shown}
 use Rattle.cx_core.specs.State.{Instance, State, one_more}
 use Rattle.cx_core.proofs.HistoryLemmas.{full_stays}
+use Rattle.cx_core.proofs.Locals.{slice_get-push}
 use Rattle.cx_core.proofs.HeldLists.{at_true, is_none, mapped}
 use Rattle.cx_core.proofs.Claims.{unheld_none}
 use Rattle.cx_core.proofs.ReplicaWords.{length-replica, replica_at}
 use Rattle.cx_core.proofs.Sums.{total_parts}
 use Rattle.cx_rule.specs.declared.rule.Known.{Known}
-use Rattle.cx_rule.specs.Rule.{IsOrigin, IsTraced}
+use Rattle.cx_rule.specs.Rule.{AddsImage, AreImages, IsOrigin, IsTraced}
 use Rattle.cx_rule.specs.Seats.{WordFits, accesses_after}
 
 -- a list whose items another has at the same places is a front of it
@@ -69,6 +70,20 @@ pub traced_longer : (instance : Instance) (history history' : List Entry) (acces
     IsTraced instance history accesses l → IsTraced instance history' accesses l
 traced_longer instance history history' accesses l grows t =
     record { first = t.first; now = t.now; origin = origin_longer instance history history' t.first grows t.origin; leads = t.leads; held = t.held }
+
+-- images that were taken are those of a longer history
+pub images_longer : (instance : Instance) (history history' : List Entry) (images : List (List ℕ)) → ((ticket : ℕ) (entry : Entry) → IsLinked instance.base.place history ticket entry → IsLinked instance.base.place history' ticket entry) →
+    AreImages instance history images → AreImages instance history' images
+images_longer instance history history' images grows are = λ i words at. origin_longer instance history history' words grows (are i words at)
+
+-- and with one more they are too
+pub images_added : (instance : Instance) (history history' : List Entry) (images images' : List (List ℕ)) → ((ticket : ℕ) (entry : Entry) → IsLinked instance.base.place history ticket entry → IsLinked instance.base.place history' ticket entry) →
+    AreImages instance history' images → AddsImage instance history images images' → AreImages instance history' images'
+images_added instance history history' images images' grows are (inl same) = subst (AreImages instance history') (sym same) are
+images_added instance history history' images images' grows are (inr one) = λ i words at. elim (slice_get-push images one.0 i words (ap (λ (xs : List (List ℕ)). slice_get xs i) (sym one.1) ∙ at)) [
+  | inl was ↦ are i words was
+  | inr new ↦ subst (IsOrigin instance history') new.1 (origin_longer instance history history' one.0 grows one.2)
+]
 
 -- a replica that is an image, as a list
 pub image_origin : (instance : Instance) (s : State) (law : Lawful instance s) (r : ℕ) → r < 2 * instance.callers → 0 < length instance.base.words → IsImage instance law.history s.words r →

@@ -64,6 +64,11 @@ word_noted word i ((stores, at, v) ∷ accesses) = word_noted (if at == i then S
 abbrev pub AgreeTo : Known → ℕ → Type 0
 AgreeTo known n = (i : ℕ) → i < n → (word : ℕ) × (word_noted None i known.accesses ≡ Some word) × (word_noted None i (loads_of (loaded_of known.local.shared)) ≡ Some word)
 
+-- Each of the n words of the replica held shared was loaded, and these are they.
+pub record TellsWords (known : Known) (n : ℕ) (words : List ℕ) : Type 0 where
+  pub long : length words ≡ n
+  pub each : (i : ℕ) → i < n → word_noted None i (loads_of (loaded_of known.local.shared)) ≡ Some (slice_index words i)
+
 -- The words now are those first after noted entries and write sets, of the tickets from the place first on to below a place,
 -- in order.
 pub data Chain (step : List ℕ → List ℕ → List ℕ × List ℕ) (has_entry : ℕ → Entry → Type 0) (has_set : ℕ → List ℕ → Type 0) (first : List ℕ) : ℕ → List ℕ → Type 0 where

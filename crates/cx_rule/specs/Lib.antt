@@ -5,7 +5,9 @@ pub mod Fitting
 pub mod Rule
 pub mod Learns
 pub mod Steps
+pub mod Timing
 pub mod Raises
 pub mod Ending
 pub mod Offers
 pub mod Having
+pub mod Listed

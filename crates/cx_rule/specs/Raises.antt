@@ -1,5 +1,5 @@
 -- What a raise of DUR answers, as its caller knows it by what it noted, and what the raise leaves of the caller's seat.
-use Rattle.std.specs.Prelude.{false, ◌≡◌, ◌+◌, ◌<◌, ◌≤◌, ◌⊎◌, ℕ, max, Bool, List, [], ◌∷◌, ◌++◌, length, slice_index, Option, Some, None}
+use Rattle.std.specs.Prelude.{false, ◌≡◌, ◌+◌, ◌<◌, ◌≤◌, ◌⊎◌, ℕ, max, Bool, List, [], ◌∷◌, ◌++◌, length, map, slice_index, Option, Some, None}
 use Rattle.std.specs.Option.{option_map}
 use Rattle.atomic_table.specs.Table.{Me}
 use Rattle.cx_base.specs.Codes.{root_place_of}
@@ -13,6 +13,7 @@ use Rattle.cx_core.specs.Region.{object_part, slot_reply}
 use Rattle.cx_core.specs.RootEvents.{CanRaise, raised_floor, unanswered}
 use Rattle.cx_core.specs.State.{Instance, one_more}
 use Rattle.cx_rule.specs.declared.rule.Known.{Known}
+use Rattle.cx_rule.specs.declared.rule.Times.{Times}
 use Rattle.cx_rule.specs.Fitting.{FitsKnown, IsReplayedToPlace, ReadFits, loaded_of}
 use Rattle.cx_rule.specs.Learns.{LearnsAnyway}
 use Rattle.cx_rule.specs.Rule.{IsBehindNotes, IsLawfulLocal}
@@ -70,9 +71,16 @@ answered_local instance code answers reads l = record l {
   steps = one_more l.steps;
 }
 
+-- the times of a caller's operations after a raise that answers these entries and reads
+abbrev pub times_raised : List Answer → List SeenRead → Known → Times
+times_raised answers reads known = record known.times {
+  answered = known.times.answered ++ map (λ (_ : Answer). one_more known.local.steps) answers;
+  reads = known.times.reads ++ map (λ (_ : SeenRead). (known.times.loaded, one_more known.local.steps)) reads;
+}
+
 -- what its caller then knows: nothing is noted, and no replica is accessed
 abbrev pub known_raised : Instance → ℕ → List Answer → List SeenRead → Known → Known
-known_raised instance code answers reads known = record known { local = answered_local instance code answers reads known.local }
+known_raised instance code answers reads known = record known { local = answered_local instance code answers reads known.local; times = times_raised answers reads known }
 
 -- the same where the reads are of a read that is given or not
 abbrev pub known_answered : Instance → ℕ → List Answer → Option (List ℕ × List ℕ) → Known → Known

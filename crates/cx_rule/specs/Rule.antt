@@ -1,6 +1,6 @@
 -- The rule of the table, which holds between any two steps of any callers: there is a lawful state of the core whose words
 -- are the table's and whose local states are what the seats show.
-use Rattle.std.specs.Prelude.{◌≡◌, ◌+◌, ◌*◌, ◌^◌, ◌<◌, ◌≤◌, ℕ, List, ◌∷◌, Some, length, slice_get, slice_index}
+use Rattle.std.specs.Prelude.{◌≡◌, ◌+◌, ◌*◌, ◌^◌, ◌<◌, ◌≤◌, ◌⊎◌, ℕ, List, [], ◌∷◌, ◌++◌, Some, length, map, slice_get, slice_index}
 use mathlib.Core.Option.{some}
 use lib.ListN.{get_elem?}
 use Rattle.atomic_table.specs.Table as atomic
@@ -8,24 +8,29 @@ use Rattle.cx_base.specs.Codes.{root_place_of}
 use Rattle.cx_base.specs.Memory.{Words}
 use Rattle.cx_base.specs.Noted.{Note, NotesLead}
 use Rattle.cx_core.specs.declared.entry.Entry.{Entry}
+use Rattle.cx_core.specs.declared.kinds.Event.{Event}
 use Rattle.cx_core.specs.declared.local.Answer.{Answer}
 use Rattle.cx_core.specs.declared.local.HeldDowngraded.{HeldDowngraded}
 use Rattle.cx_core.specs.declared.local.HeldExclusive.{HeldExclusive}
 use Rattle.cx_core.specs.declared.local.HeldShared.{HeldShared}
 use Rattle.cx_core.specs.declared.local.Local.{Local}
 use Rattle.cx_core.specs.declared.local.SeenRead.{SeenRead}
+use Rattle.cx_core.specs.Events.{Run}
+use Rattle.cx_core.specs.Gaps.{IsGap, gap_of}
 use Rattle.cx_core.specs.History.{full_image}
 use Rattle.cx_core.specs.Lawful.{Lawful, LocalShape, OwnTickets}
 use Rattle.cx_core.specs.LawfulLocks.{FewRights}
 use Rattle.cx_core.specs.Merge.{IsLinked}
 use Rattle.cx_core.specs.Region.{place_of, slot_number}
 use Rattle.cx_core.specs.Shown.{shown}
-use Rattle.cx_core.specs.State.{EachLocal, Instance}
+use Rattle.cx_core.specs.State.{EachLocal, Instance, State, opening_words}
 use Rattle.core_queue.specs.NotedSets.{OwnSetsHold, SetNotesHold}
 use Rattle.cx_rule.specs.declared.rule.Known.{Known}
 use Rattle.cx_rule.specs.declared.rule.Noted.{Noted}
 use Rattle.cx_rule.specs.Fitting.{has_of, loads_of}
 use Rattle.cx_rule.specs.Having.{IsOfHistory}
+use Rattle.cx_rule.specs.Seats.{opening_view}
+use Rattle.cx_rule.specs.Timing.{AreTimes}
 
 -- a noted word is the history's. With a ticket below the base's place, which no entry has, it says nothing.
 pub record IsOfEntry (instance : Instance) (history : List Entry) (noted : Noted) : Type 0 where
@@ -34,8 +39,13 @@ pub record IsOfEntry (instance : Instance) (history : List Entry) (noted : Noted
   pub caller : entry.caller ≡ noted.caller
   pub word : slice_index (entry.number ∷ entry.op) noted.index ≡ noted.word
 
+-- what was noted is so: words 0 to 144 are those of an entry; any other is a word of the ring of gaps, with the slot as its ticket
+pub record IsTrueNote (instance : Instance) (history : List Entry) (noted : Noted) : Type 0 where
+  pub entry : noted.index < 145 → instance.base.place ≤ noted.ticket → IsOfEntry instance history noted
+  pub gap : 145 ≤ noted.index → IsGap instance history (gap_of instance.callers noted.ticket noted.word)
+
 abbrev pub NotesHold : Instance → List Entry → List Noted → Type 0
-NotesHold instance history notes = (n : ℕ) (noted : Noted) → slice_get notes n ≡ Some noted → instance.base.place ≤ noted.ticket → IsOfEntry instance history noted
+NotesHold instance history notes = (n : ℕ) (noted : Noted) → slice_get notes n ≡ Some noted → IsTrueNote instance history noted
 
 -- a region has the words of the full image after its place, which is between the base's and the end of the history
 pub record IsOrigin (instance : Instance) (history : List Entry) (region : List ℕ) : Type 0 where
@@ -43,6 +53,14 @@ pub record IsOrigin (instance : Instance) (history : List Entry) (region : List 
   pub to : place_of region ≤ instance.base.place + length history
   pub long : length region ≡ length instance.base.words
   pub words : (i : ℕ) → i < length instance.base.words → slice_index region i ≡ slice_index (full_image instance.step instance.base history (place_of region)) i
+
+-- images are those of the history after their places
+abbrev pub AreImages : Instance → List Entry → List (List ℕ) → Type 0
+AreImages instance history images = (i : ℕ) (words : List ℕ) → slice_get images i ≡ Some words → IsOrigin instance history words
+
+-- no image is added to them, or one
+abbrev pub AddsImage : Instance → List Entry → List (List ℕ) → List (List ℕ) → Type 0
+AddsImage instance history before after = (after ≡ before) ⊎ ((words : List ℕ) × (after ≡ before ++ words ∷ []) × IsOrigin instance history words)
 
 -- accesses lead on from a full image, and where a replica is held exclusively, to its words
 pub record IsTraced (instance : Instance) (history : List Entry) (accesses : List Note) (l : Local) : Type 0 where
@@ -103,12 +121,28 @@ pub record IsBehindNotes (instance : Instance) (known : Known) : Type 0 where
   pub leads : NotesLead known.accesses first now
   pub shared : (h : HeldShared) → known.local.shared ≡ Some h → (words : List ℕ) × IsOrigin instance history words × NotesLead (loads_of h.loaded) words words
 
+-- the state with which a table opens whose callers have these limits of steps
+abbrev pub opening_limited : Instance → List ℕ → State
+opening_limited instance limits = record { words = opening_words instance.callers instance.base; locals = map (λ (k : Known). k.local) (opening_view instance.callers instance.base.place limits) }
+
+-- the steps that all callers made, in the order in which they made them: a run of the core from the opening to these words and local states
+pub record IsReached (instance : Instance) (words : List ℕ) (locals : List Local) : Type 0 where
+  pub limits : List ℕ
+  pub events : List Event
+  pub ran : Run instance (opening_limited instance limits) events (record { words = words; locals = locals })
+
 pub record RuleHolds (instance : Instance) (s : atomic.State ℕ (List Known)) : Type 0 where
   pub locals : List Local
   -- the seat, and the place in its view, that have a caller's local state
   pub place_of : ℕ → ℕ × ℕ
   pub law : Lawful instance (record { words = s.words; locals = locals })
+  pub reached : IsReached instance s.words locals
   pub each : (seat i : ℕ) (view : List Known) (known : Known) → get_elem? s.views seat ≡ some view → slice_get view i ≡ Some known → IsKnown instance law.history locals place_of seat i known
+  -- when operations began and were answered is so
+  pub times : (seat i : ℕ) (view : List Known) (known : Known) → get_elem? s.views seat ≡ some view → slice_get view i ≡ Some known →
+      AreTimes instance (opening_limited instance reached.limits) reached.events known.local.number known.local known.times
+  -- and the images that were taken are the history's
+  pub images : (seat i : ℕ) (view : List Known) (known : Known) → get_elem? s.views seat ≡ some view → slice_get view i ≡ Some known → AreImages instance law.history known.images
   -- each cell that is offered with the ticket that it still has has a write set of it
   pub own : EachLocal locals (λ _ l. OwnSetsHold instance law.history l.cells)
   -- what is noted of write sets is so

@@ -6,14 +6,15 @@ use Rattle.atomic_table.specs.Seated.{TableId}
 use Rattle.cx_core.specs.declared.kinds.Kind.{Kind}
 use Rattle.cx_base.specs.Codes.{root_place_of}
 use Rattle.cx_base.specs.Noted.{Note}
-use Rattle.cx_core.specs.declared.kinds.Kind.TheVariants.{WriteCell, ReadCell, TryExclusive, Downgrade, ReleaseExclusive, LoadWord, StoreWord, Persist, Raise, Offer, ReadSet, WriteSet}
+use Rattle.cx_core.specs.declared.kinds.Kind.TheVariants.{WriteCell, Link, ReadCell, LoadCur, TryExclusive, Downgrade, ReleaseExclusive, LoadWord, StoreWord, Persist, Raise, Offer, ReadSet, WriteSet, NoteGap, LoadGap}
 use Rattle.cx_core.specs.declared.local.Cell.{Cell}
 use Rattle.cx_core.specs.declared.local.Linked.{Linked}
 use Rattle.cx_core.specs.declared.local.Local.{Local}
 use Rattle.cx_core.specs.Events.{Guard, next}
 use Rattle.cx_core.specs.Lawful.{CellShape}
-use Rattle.cx_core.specs.Layout.{max_word}
+use Rattle.cx_core.specs.Layout.{gap_slots, max_word}
 use Rattle.cx_core.specs.LockEvents.{IsClean, is_fresh_on}
+use Rattle.cx_core.specs.QueueEvents.{seen_word}
 use Rattle.cx_core.specs.RegionEvents.{CanLoad}
 use Rattle.cx_core.specs.Rights.{exclusive_on, is_at, shared_on}
 use Rattle.cx_core.specs.SetEvents.{CanWriteSet}
@@ -21,6 +22,7 @@ use Rattle.core_queue.specs.declared.notes.SetNoted.{SetNoted}
 use Rattle.cx_core.specs.State.{Instance, Scene, one_more, opening_local}
 use Rattle.cx_rule.specs.declared.rule.Known.{Known}
 use Rattle.cx_rule.specs.declared.rule.Noted.{Noted}
+use Rattle.cx_rule.specs.declared.rule.Times.{Times}
 
 -- The scene that is not seen: a seat knows neither the history nor the words. For most kinds neither the guard, nor what is
 -- shown of the local state afterwards, depends on them.
@@ -37,6 +39,7 @@ IsByShown (Persist r i) = ⊥
 IsByShown (LoadWord r i true) = ⊥
 IsByShown (Raise code read) = ⊥
 IsByShown (Offer j) = ⊥
+IsByShown (NoteGap s i v) = ⊥
 IsByShown _ = Unit {0}
 
 -- the guard as far as a seat sees it: not that words are a full image, nor what a load will find
@@ -45,6 +48,7 @@ SeenGuard instance (Downgrade r) l = IsClean instance.callers r l
 SeenGuard instance (ReleaseExclusive r) l = IsClean instance.callers r l
 SeenGuard instance (LoadWord r i refused) l = CanLoad instance.callers (length instance.base.words) r i l
 SeenGuard instance (Offer j) l = CanWriteSet l j
+SeenGuard instance (NoteGap s i v) l = (s < gap_slots instance.callers) × (i < 16) × (v < 2 ^ 64)
 SeenGuard instance kind l = Guard instance unseen kind l
 
 -- what the rule asks of a kind beside its guard: a word that a step stores has 64 bits
@@ -52,15 +56,20 @@ abbrev pub WordFits : Kind → Type 0
 WordFits (WriteCell j i v) = v < 2 ^ 64
 WordFits (StoreWord r i v) = v < 2 ^ 64
 WordFits (WriteSet j i v) = v < 2 ^ 64
+WordFits (NoteGap s i v) = v < 2 ^ 64
 WordFits _ = Unit {0}
 
 -- what a seat shows of its caller's local state after a step that found this word
 abbrev pub shown_next : Instance → Kind → Local → ℕ → Local
 shown_next instance kind l found = next instance unseen kind l found
 
+-- the times of a caller without operations
+abbrev pub no_times : Times
+no_times = record { linked = []; answered = []; loaded = 0; reads = [] }
+
 -- what a caller knows that made no step: its opening local state, with its limit of steps
 abbrev pub opening_known : ℕ → ℕ → List ℕ → ℕ → Known
-opening_known callers place limits caller = record { local = record (opening_local callers place caller) { limit = slice_index limits caller }; noted = []; accesses = []; sets = [] }
+opening_known callers place limits caller = record { local = record (opening_local callers place caller) { limit = slice_index limits caller }; noted = []; accesses = []; sets = []; times = no_times; images = [] }
 
 -- what the first seat knows: the openings of all callers, in order
 abbrev pub opening_view : ℕ → ℕ → List ℕ → List Known
@@ -68,7 +77,7 @@ opening_view callers place limits = map (opening_known callers place limits) (ra
 
 -- the caller of a seat with one caller
 abbrev pub nobody : Known
-nobody = record { local = opening_local 1 0 0; noted = []; accesses = []; sets = [] }
+nobody = record { local = opening_local 1 0 0; noted = []; accesses = []; sets = []; times = no_times; images = [] }
 
 abbrev pub known_of : List Known → Known
 known_of [] = nobody
@@ -77,6 +86,7 @@ known_of (k ∷ ks) = k
 -- the words of entries that a step notes, given the word found: a cell is of the caller whose 16 cells it is among
 abbrev pub noted_by : Kind → ℕ → List Noted
 noted_by (ReadCell t k i) found = record { ticket = t; caller = k / 16; index = i; word = found } ∷ []
+noted_by (LoadGap s i) found = record { ticket = s; caller = 0; index = 145; word = found } ∷ []
 noted_by _ found = []
 
 -- the accesses of the replica held exclusively after a step that found this word. They begin anew with each exclusive try.
@@ -90,6 +100,13 @@ accesses_after _ k found = k.accesses
 abbrev pub sets_after : Kind → Known → ℕ → List SetNoted
 sets_after (ReadSet k t i) known found = known.sets ++ record { ticket = t; index = i; word = found } ∷ []
 sets_after _ known found = known.sets
+
+-- the times of a caller's operations after a step that found this word: a link that won has its time, and so has a load of CUR behind which
+-- what was seen of CUR may answer a read, where nothing seen before could. A raise has its answers' (`times_raised`).
+abbrev pub times_by : Kind → Local → Times → ℕ → Times
+times_by (Link j) l t found = record t { linked = t.linked ++ (if found == seen_word l.seen_slot then l.steps ∷ [] else []) }
+times_by LoadCur l t found = record t { loaded = if l.fresh then t.loaded else l.steps }
+times_by _ l t found = t
 
 -- the last word that was loaded from the place of a replica or stored there, where this one was known before
 abbrev pub place_noted : ℕ → List Note → ℕ
@@ -112,6 +129,8 @@ known_after instance kind k found = record {
   noted = k.noted ++ noted_by kind found;
   accesses = accesses_after kind k found;
   sets = sets_after kind k found;
+  times = times_by kind k.local k.times found;
+  images = k.images;
 }
 
 -- whether the place word of a replica held shared, which the code last loaded from CUR names, was found to be another place

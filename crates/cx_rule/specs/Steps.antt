@@ -1,5 +1,5 @@
 -- What a step leaves of its caller's seat.
-use Rattle.std.specs.Prelude.{◌≡◌, ◌^◌, ◌<◌, ℕ, Bool, List, [], ◌∷◌, slice_index}
+use Rattle.std.specs.Prelude.{◌≡◌, ◌^◌, ◌<◌, ℕ, Bool, List, [], ◌∷◌, ◌++◌, slice_index}
 use Rattle.atomic_table.specs.Seated.{TableId}
 use Rattle.atomic_table.specs.Table.{Me}
 use Rattle.cx_core.specs.Events.{Guard, new_word, step_word}
@@ -87,6 +87,29 @@ pub record TeachesCopied (instance : Instance) (kind : Kind) (known : Known) (fo
 pub record StepsCopied {O : Type 0} (r : Running O) (step : O → List ℕ → List ℕ → List ℕ × List ℕ) (reads : O → List ℕ → Bool) (replica found : ℕ) (before after : Seated) : Type 0 where
   pub event : Steps r step reads (BackOff replica) found before (stepped (instance_at r step reads) (BackOff replica) before found)
   pub made : after ≡ record before { known = known_copied (instance_at r step reads) (BackOff replica) before.known found }
+  pub seat : IsSeatOf r after
+
+-- What a caller knows after it released a shared right on a replica of which it had loaded all words: these are one image more that it took.
+abbrev pub known_taken : Instance → Kind → List ℕ → Known → ℕ → Known
+known_taken instance kind image known found = record (known_after instance kind known found) { images = known.images ++ image ∷ [] }
+
+-- what that event teaches is known by what the caller noted
+abbrev pub IsImageLearned : Instance → Kind → List ℕ → Known → ℕ → (ℕ → ℕ) → Type 0
+IsImageLearned instance kind image known word put =
+    (words : List ℕ) → slice_index words word < 2 ^ 64 →
+    LearnsAnyway instance words kind known word (put (slice_index words word)) (known_taken instance kind image known (slice_index words word))
+
+-- what it teaches: what the release of a shared right does, and what is behind the notes then
+pub record TeachesImage (instance : Instance) (kind : Kind) (image : List ℕ) (known : Known) (found : ℕ) (after : Me ℕ (List Known)) : Type 0 where
+  pub knows : after ≡ (known_taken instance kind image known found ∷ [], [])
+  pub event : Teaches instance kind known found (known_after instance kind known found ∷ [], [])
+  pub behind : IsBehindNotes instance (known_taken instance kind image known found)
+
+-- The shared right on a replica was released, all of whose words had been loaded: the event's step was made, and beside it they are one
+-- image more that the caller took.
+pub record StepsTaking {O : Type 0} (r : Running O) (step : O → List ℕ → List ℕ → List ℕ × List ℕ) (reads : O → List ℕ → Bool) (replica found : ℕ) (image : List ℕ) (before after : Seated) : Type 0 where
+  pub event : Steps r step reads (BackOff replica) found before (stepped (instance_at r step reads) (BackOff replica) before found)
+  pub made : after ≡ record before { known = known_taken (instance_at r step reads) (BackOff replica) image before.known found }
   pub seat : IsSeatOf r after
 
 -- No step was made, since the steps equal the limit: nothing is changed.

@@ -1,20 +1,26 @@
 //! The laws of the rule.
 
-ghost use Rattle.std.specs.Prelude.{◌≡◌, ℕ, List, Some, [], ◌∷◌, slice_get};
+ghost use Rattle.std.specs.Prelude.{◌≡◌, ◌++◌, ◌*◌, ◌^◌, ◌<◌, ℕ, List, length, Some, [], ◌∷◌, slice_get};
 ghost use mathlib.Core.Option.{some};
 ghost use lib.ListN.{get_elem?};
 ghost use Rattle.atomic_table.specs.Table.{State, keeps, stepped};
 ghost use Rattle.cx_core.specs.Base.{LawfulBase};
-ghost use Rattle.cx_core.specs.Events.{step_word};
+ghost use Rattle.cx_core.specs.Events.{new_word, step_word};
+ghost use Rattle.cx_core.specs.Gaps.{gap_of};
+ghost use Rattle.cx_core.specs.Layout.{gap_slots};
 ghost use Rattle.cx_core.specs.QueueEvents.{cell_of};
+ghost use Rattle.cx_core.specs.Rights.{shared_on};
 ghost use Rattle.cx_core.specs.SetEvents.{CanWriteSet, offer_of};
 ghost use Rattle.cx_core.specs.State.{Instance};
-ghost use Rattle.cx_core.specs.declared.kinds.Kind.TheVariants.{Offer};
+ghost use Rattle.cx_core.specs.declared.kinds.Kind.TheVariants.{BackOff, NoteGap, Offer};
 ghost use Rattle.cx_rule.specs.declared.rule.Known.{Known};
 ghost use Rattle.cx_rule.specs.Having.{FitsThere};
 ghost use Rattle.cx_rule.specs.Learns.{LearnsAnyway, LearnsBy};
+ghost use Rattle.cx_rule.specs.Listed.{AgreeListed, TellsGap};
 ghost use Rattle.cx_rule.specs.Offers.{TellsOffer};
 ghost use Rattle.cx_rule.specs.Rule.{RuleHolds};
+ghost use Rattle.cx_rule.specs.Fitting.{TellsWords};
+ghost use Rattle.cx_rule.specs.Steps.{IsCopyLearned, IsImageLearned};
 
 use cx_base::Object;
 use cx_core::Base;
@@ -23,6 +29,13 @@ use cx_core::Base;
 /// state that the seat may stand before, and there the seat has to show afterwards what the event makes.
 pub fn events_keep_the_rule()
     ensures { (instance : _) (kind : _) (s : State ℕ _) (seat : ℕ) (known after : Known) (word new : ℕ) → RuleHolds instance s → get_elem? s.views seat ≡ some (known ∷ []) → LearnsAnyway instance s.words kind known word new after → RuleHolds instance (stepped s word new seat [] (after ∷ []) keeps) }
+{}
+
+/// The event stands then at the end of the list of the steps that all callers made, and the others stand as they stood: so the list that the rule
+/// keeps has the steps in the order in which they were made.
+pub fn events_are_recorded()
+    ensures { (instance : _) (kind : _) (s : State ℕ _) (seat : ℕ) (known after : Known) (word new : ℕ) → (rule : RuleHolds instance s) → get_elem? s.views seat ≡ some (known ∷ []) → LearnsAnyway instance s.words kind known word new after →
+        (then_ : RuleHolds instance (stepped s word new seat [] (after ∷ []) keeps)) × (then_.reached.events ≡ rule.reached.events ++ record { caller = known.local.number; kind = kind } ∷ []) }
 {}
 
 /// What is really there fits what a seat knows, and it stays lawful through each entry and each write set that the seat has: those that it
@@ -41,4 +54,29 @@ pub fn told_sets_may_be_offered<O: Object>(object: &O, base: &Base)
     ensures { (callers j : ℕ) (known : Known) → let instance : Instance = record { callers = callers; base = base.now; step = O.step object.now; reads = O.only_reads object.now } in
         CanWriteSet known.local j → TellsOffer (O.line_count object.now) (O.lawful object.now) base.now (O.step object.now) known j →
         LearnsBy instance (λ _. Offer j) known (step_word instance (Offer j) known.local) (λ _. offer_of (cell_of known.local j).ticket (cell_of known.local j).offer) }
+{}
+
+/// A gap of a ticket may be noted in the ring, where whatever fits what a caller's seat knows tells a write set of the ticket that has no address
+/// in the gap.
+pub fn told_gaps_may_be_noted<O: Object>(object: &O, base: &Base)
+    requires { LawfulBase (O.line_count object.now) (O.lawful object.now) base.now }
+    ensures { (callers s i v : ℕ) (known : Known) (set : List ℕ) → let instance : Instance = record { callers = callers; base = base.now; step = O.step object.now; reads = O.only_reads object.now } in
+        s < gap_slots callers → i < 16 → v < 2 ^ 64 → TellsGap (O.line_count object.now) (O.lawful object.now) base.now (O.step object.now) known (gap_of callers s v) set →
+        LearnsBy instance (λ _. NoteGap s i v) known (step_word instance (NoteGap s i v) known.local) (λ _. v) }
+{}
+
+/// The release of a shared right of which the listed lines alone were copied makes the words loaded those that are noted of the replica held
+/// exclusively, as the release of one that was copied whole does: gaps that were loaded lead over each line that was not copied.
+pub fn listed_copies_are_learned()
+    ensures { (instance : Instance) (r : ℕ) (known : Known) (lines from to : ℕ) (lists : ℕ → List ℕ) →
+        r < 2 * instance.callers → shared_on known.local ≡ Some r → length instance.base.words ≡ 8 * lines → AgreeListed instance known lines from to lists →
+        IsCopyLearned instance (BackOff r) known (step_word instance (BackOff r) known.local) (λ x. new_word instance (BackOff r) known.local x) }
+{}
+
+/// The release of a shared right on a replica all of whose words were loaded makes these one image more that the caller took: they are the full
+/// image after their place.
+pub fn loaded_images_are_learned()
+    ensures { (instance : Instance) (r : ℕ) (image : List ℕ) (known : Known) →
+        r < 2 * instance.callers → shared_on known.local ≡ Some r → TellsWords known (length instance.base.words) image →
+        IsImageLearned instance (BackOff r) image known (step_word instance (BackOff r) known.local) (λ x. new_word instance (BackOff r) known.local x) }
 {}

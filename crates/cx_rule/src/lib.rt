@@ -33,5 +33,9 @@
 mod laws;
 mod rule;
 
-pub use laws::{events_keep_the_rule, told_sets_may_be_offered, what_is_there_fits};
-pub use rule::{CoreRule, Key, Known, Noted, View};
+pub use laws::{
+    events_are_recorded, events_keep_the_rule, listed_copies_are_learned,
+    loaded_images_are_learned, told_gaps_may_be_noted, told_sets_may_be_offered,
+    what_is_there_fits,
+};
+pub use rule::{CoreRule, Key, Known, Noted, Times, View};

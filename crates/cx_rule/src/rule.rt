@@ -16,14 +16,30 @@ pub struct Noted {
     pub word: u64,
 }
 
+/// When the operations of a caller began and were answered, by how many steps the caller had made. It exists in proofs alone.
+#[derive(Drop)]
+pub struct Times {
+    /// For each own entry, the steps made before the one that linked it.
+    pub linked: Items<u64>,
+    /// For each answer to an own entry, the steps made with the one that answered it.
+    pub answered: Items<u64>,
+    /// The steps made before the load of CUR since which what was seen of CUR may answer a read.
+    pub loaded: u64,
+    /// For each read that was answered, the steps made before that load, and those made with the step that answered it.
+    pub reads: Items<(u64, u64)>,
+}
+
 /// What a seat knows of one caller: its local state, the words of entries that it read, in order the loads (false) and stores
-/// (true) of words of the replica that it holds exclusively, and the words of write sets that it read. It exists in proofs alone.
+/// (true) of words of the replica that it holds exclusively, the words of write sets that it read, when its operations began and were answered,
+/// and the images that it took: all words of a replica that it held shared. It exists in proofs alone.
 #[derive(Drop)]
 pub struct Known {
     pub local: Local,
     pub noted: Items<Noted>,
     pub accesses: Items<(bool, u64, u64)>,
     pub sets: Items<SetNoted>,
+    pub times: Times,
+    pub images: Items<Items<u64>>,
 }
 
 /// What a seat of the table knows: one item for each caller whose seat it is. A caller's seat has one item, the first

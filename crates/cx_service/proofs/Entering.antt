@@ -36,14 +36,15 @@ module _ {O : Type 0} (r : Running O) (s v : Seated) (kept : beside_submit v ≡
   number_kept : v.known.local.number ≡ s.known.local.number
   number_kept = ap (λ (x : Seated). x.known.local.number) kept
 
-  pub keeps : (most : ℕ) → s.known.local.front ≤ v.known.local.front → v.known.local.steps ≤ s.known.local.steps + most → ((j : ℕ) → j < 16 → IsIdle s.known.local j → LooksForNothing s v) → SubmitKeeps most s v
-  keeps most front steps idle = record {
+  pub keeps : (most : ℕ) → s.known.local.front ≤ v.known.local.front → s.known.local.seen_cur ≤ v.known.local.seen_cur → v.known.local.steps ≤ s.known.local.steps + most → ((j : ℕ) → j < 16 → IsIdle s.known.local j → LooksForNothing s v) → SubmitKeeps most s v
+  keeps most front cur steps idle = record {
     number = number_kept;
     limit = ap (λ (x : Seated). x.known.local.limit) kept;
     answered = ap (λ (x : Seated). x.known.local.answered) kept;
     reads = ap (λ (x : Seated). x.known.local.seen_reads) kept;
     met = ap (λ (x : Seated). x.known.local.met) kept;
     front = front;
+    cur = cur;
     steps = steps;
     idle = idle;
   }
@@ -82,12 +83,12 @@ module _ {O : Type 0} (r : Running O) (s v : Seated) (kept : beside_submit v ≡
   none_unanswered : (xs : List Linked) (n : ℕ) → length xs ≤ n → option_map (λ (x : Linked). x.ticket) (slice_get xs n) ≡ None
   none_unanswered xs n past = ap (option_map (λ (x : Linked). x.ticket)) (slice_get_past xs n past)
 
-  pub halts : (most : ℕ) → IsCallerOf r s → v.known.local.own ≡ s.known.local.own → s.known.local.front ≤ v.known.local.front → v.known.local.steps ≤ s.known.local.steps + most → ((j : ℕ) → j < 16 → IsIdle s.known.local j → LooksForNothing s v) →
+  pub halts : (most : ℕ) → IsCallerOf r s → v.known.local.own ≡ s.known.local.own → s.known.local.front ≤ v.known.local.front → s.known.local.seen_cur ≤ v.known.local.seen_cur → v.known.local.steps ≤ s.known.local.steps + most → ((j : ℕ) → j < 16 → IsIdle s.known.local j → LooksForNothing s v) →
       IsAtLimit v.known.local → SubmitHalted r most s (unlinked v)
-  halts most caller own front steps idle limit = record {
+  halts most caller own front cur steps idle limit = record {
     caller = record { of = of_kept caller.of; limit = limit };
     linked = refl;
-    keeps = keeps most front steps idle;
+    keeps = keeps most front cur steps idle;
     own = own;
     none = none_unanswered v.known.local.own (length v.known.local.answered)
         (let long = ap (λ (x : Seated). length x.known.local.answered) kept in let same = ap (λ (xs : List Linked). length xs) own in omega (arith, long, same, caller.count));
@@ -158,6 +159,9 @@ module _ {O : Type 0} (r : Running O) (j : ℕ) (op : List ℕ) (s t : Seated) (
         (own_kept s.known.local v.known.local caller.cells none_own (omega (arith, none.front, same_front))
         (λ k n at. no_more_tickets k n (ap (λ (x : Seated). (cell_of x.known.local k).ticket) (sym none.same) ∙ at)))
 
+    none_cur : s.known.local.seen_cur ≤ v.known.local.seen_cur
+    none_cur = (let e = ap (λ (x : Seated). x.known.local.seen_cur) none.same in let f = ap (λ (x : Seated). x.known.local.seen_cur) rest in omega (arith, e, f))
+
     none_scans : s.known.local.scans ≤ v.known.local.scans
     none_scans = (let e = ap (λ (x : Seated). x.known.local.scans) none.same in omega (arith, e, same_scans))
 
@@ -165,7 +169,7 @@ module _ {O : Type 0} (r : Running O) (j : ℕ) (op : List ℕ) (s t : Seated) (
     none_looked = not_looked v (ap (λ (x : Seated). x.known.local.seen_free) none.same) (ap (λ (x : Seated). x.known.local.scans) none.same)
 
     pub halts_linking : (most : ℕ) → v.known.local.steps ≤ s.known.local.steps + most → IsAtLimit v.known.local → SubmitHalted r most s (unlinked v)
-    halts_linking most steps limit = halts r s v none_kept most caller none_own (omega (arith, none.front, same_front)) steps none_looked limit
+    halts_linking most steps limit = halts r s v none_kept most caller none_own (omega (arith, none.front, same_front)) none_cur steps none_looked limit
 
   -- tries were made then
   pub tries_of : (come_to : Seated → Seated → Type 0) (v : Seated) → min (s.known.local.steps + writes s.known.local j (next_number r.base s.known.local ∷ op)) max_word ≤ t.known.local.steps → come_to t v → TriesOf r 0 come_to s v
@@ -181,7 +185,7 @@ module _ {O : Type 0} (r : Running O) (j : ℕ) (op : List ℕ) (s t : Seated) (
   pub again : (tries most : ℕ) (v : Seated) → LinksAgain r.callers tries t v → ¬ IsAtLimit s.known.local → v.known.local.steps ≤ s.known.local.steps + most → SubmitAgain r tries most s v
   again tries most v links allowed steps = record {
     caller = none_caller v links.none;
-    keeps = keeps r s v (none_kept v links.none) most (omega (arith, links.none.front, same_front)) steps (none_looked v links.none);
+    keeps = keeps r s v (none_kept v links.none) most (omega (arith, links.none.front, same_front)) (none_cur v links.none) steps (none_looked v links.none);
     allowed = allowed;
     scans = none_scans v links.none;
     own = none_own v links.none;
@@ -193,7 +197,7 @@ module _ {O : Type 0} (r : Running O) (j : ℕ) (op : List ℕ) (s t : Seated) (
   pub worn : (most : ℕ) (v : Seated) → IsWorn t v → ¬ IsAtLimit s.known.local → v.known.local.steps ≤ s.known.local.steps + most → SubmitWorn r most s v
   worn most v links allowed steps = record {
     caller = none_caller v links.none;
-    keeps = keeps r s v (none_kept v links.none) most (omega (arith, links.none.front, same_front)) steps (none_looked v links.none);
+    keeps = keeps r s v (none_kept v links.none) most (omega (arith, links.none.front, same_front)) (none_cur v links.none) steps (none_looked v links.none);
     allowed = allowed;
     scans = none_scans v links.none;
     own = none_own v links.none;
@@ -266,7 +270,7 @@ module _ {O : Type 0} (r : Running O) (j : ℕ) (op : List ℕ) (s t : Seated) (
   pub linked_at : (ticket most : ℕ) (v : Seated) → LinksAt j ticket t v → ¬ IsAtLimit s.known.local → v.known.local.steps ≤ s.known.local.steps + most → SubmitLinked r op most s v
   linked_at ticket most v at allowed steps = record {
     caller = at_caller ticket v at;
-    keeps = keeps r s v (at_kept ticket v at) most (omega (arith, at.from, at.front, same_front)) steps (not_looked v (ap (λ (x : Seated). x.known.local.seen_free) at.same) (ap (λ (x : Seated). x.known.local.scans) at.same));
+    keeps = keeps r s v (at_kept ticket v at) most (omega (arith, at.from, at.front, same_front)) (let e = ap (λ (x : Seated). x.known.local.seen_cur) at.same in let f = ap (λ (x : Seated). x.known.local.seen_cur) rest in omega (arith, e, f)) steps (not_looked v (ap (λ (x : Seated). x.known.local.seen_free) at.same) (ap (λ (x : Seated). x.known.local.scans) at.same));
     allowed = allowed;
     scans = (let e = ap (λ (x : Seated). x.known.local.scans) at.same in omega (arith, e, same_scans));
     ticket = ticket;

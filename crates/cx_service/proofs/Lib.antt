@@ -6,3 +6,4 @@ pub mod Starting
 pub mod Tickets
 pub mod Turning
 pub mod Updating
+pub mod Seeing

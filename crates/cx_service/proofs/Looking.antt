@@ -35,6 +35,7 @@ pub record Precedes (more : ℕ) (s t : Seated) : Type 0 where
   pub own : t.known.local.own ≡ s.known.local.own
   pub cells : t.known.local.cells ≡ s.known.local.cells
   pub front : s.known.local.front ≤ t.known.local.front
+  pub cur : s.known.local.seen_cur ≤ t.known.local.seen_cur
   pub scans : s.known.local.scans ≤ t.known.local.scans
   pub steps : t.known.local.steps ≤ s.known.local.steps + more
   pub idle : (j : ℕ) → j < 16 → IsIdle s.known.local j → LooksForNothing s t
@@ -64,8 +65,11 @@ module _ (most : ℕ) (s t : Seated) (looked : LooksForCell most s t) where
   pub looked_front : t.known.local.front ≡ s.known.local.front
   looked_front = ap (λ (x : Seated). x.known.local.front) looked.same
 
+  pub looked_cur : s.known.local.seen_cur ≤ t.known.local.seen_cur
+  looked_cur = (let e = ap (λ (x : Seated). x.known.local.seen_cur) looked.same in omega (arith, e))
+
   pub looked_first : EndsLooking s t → AreInUse s.known.local ⊎ (t ≡ s) → (IsAtLimit s.known.local → t ≡ s) → Precedes most s t
-  looked_first ends used stood = record { kept = looked_kept; own = looked_own; cells = looked_cells; front = omega (arith, looked_front); scans = ends.scans; steps = looked.steps; idle = looked_idle s t used; stood = stood }
+  looked_first ends used stood = record { kept = looked_kept; own = looked_own; cells = looked_cells; front = omega (arith, looked_front); cur = looked_cur; scans = ends.scans; steps = looked.steps; idle = looked_idle s t used; stood = stood }
 
 -- a cell was looked for by so many steps, and no scan came after
 looks_on : (callers n : ℕ) (s t v : Seated) → v.known.local.scans ≡ t.known.local.scans → LooksBy callers n s t → LooksBy callers n s v
@@ -97,6 +101,7 @@ module _ {O : Type 0} (r : Running O) (more : ℕ) (s t : Seated) (first : Prece
     reads = after.reads ∙ ap (λ (x : Seated). x.known.local.seen_reads) first.kept;
     met = after.met ∙ ap (λ (x : Seated). x.known.local.met) first.kept;
     front = omega (arith, after.front, first.front);
+    cur = omega (arith, after.cur, first.cur);
     steps = omega (arith, after.steps, first.steps, most);
     idle = λ j within idle. (
         let none = first.idle j within idle in
@@ -217,8 +222,8 @@ module _ {O : Type 0} (r : Running O) (more : ℕ) (s t : Seated) (first : Prece
   )
 
 -- CUR was loaded
-pub cur_loaded : (instance : Instance) (s t : Seated) (found : ℕ) → t ≡ stepped instance LoadCur s found → ¬ IsAtLimit s.known.local → Precedes 1 s (stale t)
-cur_loaded instance s t found made allowed =
+pub cur_loaded : (instance : Instance) (s t : Seated) (found : ℕ) → t ≡ stepped instance LoadCur s found → s.known.local.seen_cur ≤ found → ¬ IsAtLimit s.known.local → Precedes 1 s (stale t)
+cur_loaded instance s t found made rises allowed =
     let b = beside_submit s in
     let front = ap (λ (x : Seated). x.known.local.front) made in
     let steps = ap (λ (x : Seated). x.known.local.steps) made in record {
@@ -226,6 +231,7 @@ cur_loaded instance s t found made allowed =
       own = ap (λ (x : Seated). x.known.local.own) made;
       cells = ap (λ (x : Seated). x.known.local.cells) made;
       front = omega (arith, front);
+      cur = (let e = ap (λ (x : Seated). x.known.local.seen_cur) made in omega (arith, e, rises));
       scans = (let e = ap (λ (x : Seated). x.known.local.scans) made in omega (arith, e));
       steps = omega (arith, steps);
       idle = λ j within idle. record { free = ap (λ (x : Seated). x.known.local.seen_free) made; scans = ap (λ (x : Seated). x.known.local.scans) made };
@@ -233,8 +239,8 @@ cur_loaded instance s t found made allowed =
     }
 
 -- and its caller is in no call then
-pub cur_caller : {O : Type 0} (r : Running O) (instance : Instance) (s t : Seated) (found : ℕ) → t ≡ stepped instance LoadCur s found → ¬ IsAtLimit s.known.local → IsCallerOf r s → IsCallerOf r (stale t)
-cur_caller r instance s t found made allowed caller = caller_then r 1 s (stale t) (cur_loaded instance s t found made allowed) caller refl (ap (λ (x : Seated). x.known.local.scan) made ∙ caller.rest.scan)
+pub cur_caller : {O : Type 0} (r : Running O) (instance : Instance) (s t : Seated) (found : ℕ) → t ≡ stepped instance LoadCur s found → s.known.local.seen_cur ≤ found → ¬ IsAtLimit s.known.local → IsCallerOf r s → IsCallerOf r (stale t)
+cur_caller r instance s t found made rises allowed caller = caller_then r 1 s (stale t) (cur_loaded instance s t found made rises allowed) caller refl (ap (λ (x : Seated). x.known.local.scan) made ∙ caller.rest.scan)
 
 -- FREE was loaded
 pub free_loaded : (instance : Instance) (s t : Seated) (found : ℕ) → t ≡ stepped instance LoadFree s found → LooksForCell 1 s t
@@ -368,7 +374,7 @@ collect_ends callers target s v found small collects = record { scan = collects.
 pub halts_looking : {O : Type 0} (r : Running O) (most n : ℕ) (s t : Seated) → IsCallerOf r s → LooksForCell n s t → n ≤ most → (op : List ℕ) (tries : ℕ) → HaltsLooking (r.callers + 3) s t → HaltsEntering r op tries most s (unlinked t)
 halts_looking r most n s t caller looked few op tries halted =
     let front = looked_front n s t looked in
-    (halts r s t (looked_kept n s t looked) most caller (looked_own n s t looked) (omega (arith, front)) (omega (arith, looked.steps, few)) (looked_idle s t (inl halted.used)) halted.limit, inl halted.looking)
+    (halts r s t (looked_kept n s t looked) most caller (looked_own n s t looked) (omega (arith, front)) (looked_cur n s t looked) (omega (arith, looked.steps, few)) (looked_idle s t (inl halted.used)) halted.limit, inl halted.looking)
 
 -- no cell is idle
 pub full_there : {O : Type 0} (r : Running O) (most n : ℕ) (s t : Seated) (note : FullNote) → LooksForCell n s t → IsCallerOf r s → FindsNone r.callers s t note → n ≤ most → SubmitFull r most s t note
@@ -376,7 +382,7 @@ full_there r most n s t note looked caller none few =
     let first = looked_first n s t looked none.ends (inl none.used) (λ at. absurd (none.allowed at)) in
     let now = caller_then r n s t first caller none.ends.fresh none.ends.scan in record {
       caller = now;
-      keeps = keeps r s t first.kept most first.front (omega (arith, first.steps, few)) first.idle;
+      keeps = keeps r s t first.kept most first.front first.cur (omega (arith, first.steps, few)) first.idle;
       allowed = none.allowed;
       own = first.own;
       scans = none.scans;

@@ -6,6 +6,7 @@ use Rattle.std.proofs.lemmas.Option.{slice_get_past}
 use Rattle.std.specs.List.{slice_get}
 use Rattle.std.specs.Prelude.{slice_index_or}
 use Rattle.std.specs.Option.{option_map}
+use Rattle.cx_base.specs.Codes.{root_place_of}
 use Rattle.cx_core.specs.declared.local.Answer.{Answer}
 use Rattle.cx_core.specs.declared.local.Cell.{Cell}
 use Rattle.cx_core.specs.declared.local.Linked.{Linked}
@@ -221,7 +222,7 @@ pub again_halted : {O : Type 0} (r : Running O) (s u : Seated) (v : StoppedSeat)
 again_halted r s u v again h = halted_on r again.turns s u again.on v h
 
 -- the same of turns for a read
-module _ {O : Type 0} (r : Running O) (op : List ℕ) (s v : Seated) (caller : IsCallerOf r s) (rest : beside_lookup v ≡ beside_lookup s) (front : s.known.local.front ≤ v.known.local.front) (of : IsSeatOf r v) where
+module _ {O : Type 0} (r : Running O) (op : List ℕ) (s v : Seated) (caller : IsCallerOf r s) (rest : beside_lookup v ≡ beside_lookup s) (front : s.known.local.front ≤ v.known.local.front) (of : IsSeatOf r v) (rises : s.known.local.seen_cur ≤ v.known.local.seen_cur) where
   read_keeps : ReadKeeps s v
   read_keeps = record {
     number = ap (λ (x : Seated). x.known.local.number) rest;
@@ -230,6 +231,7 @@ module _ {O : Type 0} (r : Running O) (op : List ℕ) (s v : Seated) (caller : I
     answered = ap (λ (x : Seated). x.known.local.answered) rest;
     scans = ap (λ (x : Seated). x.known.local.scans) rest;
     front = front;
+    cur = rises;
   }
 
   still : IsAtRest v.known.local → IsCallerOf r v
@@ -237,13 +239,14 @@ module _ {O : Type 0} (r : Running O) (op : List ℕ) (s v : Seated) (caller : I
       between_after r 0 0 s v caller (ap (λ (x : Seated). x.known.local.own) rest) (ap (λ (x : Seated). map but_set x.known.local.cells) rest) front of at
       (ap (λ (x : Seated). length x.known.local.answered + 0) rest)
 
-  pub read_done : (seen : Seen) → ¬ IsAtLimit s.known.local → AnswersRead op seen.place seen.reply s v → ReadAnswered r op s v seen
-  read_done seen allowed answers = record {
+  pub read_done : (seen : Seen) → ¬ IsAtLimit s.known.local → AnswersRead op seen.place seen.reply s v → seen.place ≡ root_place_of r.callers v.known.local.seen_cur → ReadAnswered r op s v seen
+  read_done seen allowed answers placed = record {
     caller = still answers.rest;
     keeps = read_keeps;
     allowed = allowed;
     met = (let same = answers.met in omega (arith, same));
     reads = answers.reads;
+    place = placed;
     above = answers.above;
     from = answers.from;
   }
@@ -272,7 +275,7 @@ all_answered r s caller = ap (option_map (λ (x : Linked). x.ticket)) (slice_get
 
 module _ {O : Type 0} (r : Running O) (op : List ℕ) (n : ℕ) (s u : Seated) (before : ReadPending r n s u) where
   read_keeps_then : (v : Seated) → ReadKeeps u v → ReadKeeps s v
-  read_keeps_then v k = record { number = k.number ∙ before.keeps.number; limit = k.limit ∙ before.keeps.limit; own = k.own ∙ before.keeps.own; answered = k.answered ∙ before.keeps.answered; scans = k.scans ∙ before.keeps.scans; front = omega (arith, before.keeps.front, k.front) }
+  read_keeps_then v k = record { number = k.number ∙ before.keeps.number; limit = k.limit ∙ before.keeps.limit; own = k.own ∙ before.keeps.own; answered = k.answered ∙ before.keeps.answered; scans = k.scans ∙ before.keeps.scans; front = omega (arith, before.keeps.front, k.front); cur = omega (arith, before.keeps.cur, k.cur) }
 
   -- reads with one more, in terms of the first seat
   more_reads : (place : ℕ) (reply : List ℕ) → with_read place op reply (length u.known.local.answered) u.known.local.seen_reads ≡ with_read place op reply (length s.known.local.answered) s.known.local.seen_reads
@@ -299,6 +302,7 @@ module _ {O : Type 0} (r : Running O) (op : List ℕ) (n : ℕ) (s u : Seated) (
     allowed = before.allowed;
     met = omega (arith, before.rises, d.met);
     reads = d.reads ∙ more_reads seen.place seen.reply;
+    place = d.place;
     above = λ i x at. d.above i x (ap (λ (xs : List Answer). slice_get xs i) before.keeps.answered ∙ at);
     from = λ i x at. d.from i x (ap (λ (xs : List SeenRead). slice_get xs i) before.reads ∙ at);
   }

@@ -12,10 +12,10 @@ use Rattle.cx_core.specs.declared.local.FullNote.{FullNote}
 use Rattle.cx_service.specs.Callers.{StoppedSeat}
 use Rattle.cx_service.specs.Drives.{DriveDone, DriveHalted}
 use Rattle.cx_service.specs.Submits.{SubmitAgain, SubmitFull, SubmitHalted, SubmitLinked, SubmitWorn, entry_at}
-use Rattle.cx_service.specs.Lookups.{ReadHalted, ReadPending}
+use Rattle.cx_service.specs.Lookups.{ReadPending}
 use Rattle.cx_service.specs.declared.update.ReadDone.{ReadDone}
 use Rattle.cx_service.specs.declared.update.ReadDone.TheVariants.{Read, Queued, Full as FullRead, Worn as WornRead, Halted as HaltedRead}
-use Rattle.cx_service.specs.Updates.{KeepsLists, LinksEntry, QueuesRead, ReadStops, ReadsInAll, UpdateDone, UpdateFull, UpdateHalted, UpdateWorn}
+use Rattle.cx_service.specs.Updates.{KeepsLists, LinksEntry, QueuesRead, ReadsInAll, UpdateDone, UpdateFull, UpdateHalted, UpdateWorn}
 use Rattle.cx_turns.specs.Answering.{with_answer}
 
 pub keeps_all : (s : Seated) → KeepsLists s s

@@ -1,4 +1,5 @@
 pub mod Callers
+pub mod CatchUps
 pub mod Closes
 pub mod Starts
 pub mod Submits

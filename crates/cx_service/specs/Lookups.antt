@@ -1,5 +1,6 @@
 -- What a read beside the queue comes to.
-use Rattle.std.specs.Prelude.{◌≡◌, ◌≢◌, ◌+◌, ◌*◌, ◌<◌, ◌≤◌, ◌⊎◌, ℕ, List, length, slice_get, Some, None}
+use Rattle.std.specs.Prelude.{◌≡◌, ◌≢◌, ◌*◌, ◌<◌, ◌≤◌, ◌⊎◌, ℕ, List, length, slice_get, Some, None}
+use Rattle.cx_base.specs.Codes.{root_place_of}
 use Rattle.cx_core.specs.declared.local.Answer.{Answer}
 use Rattle.cx_core.specs.declared.local.SeenRead.{SeenRead}
 use Rattle.cx_rule.specs.Running.{Running}
@@ -15,7 +16,7 @@ use Rattle.cx_turns.specs.Answering.{with_read}
 use Rattle.cx_turns.specs.Turns.{StepsAtMost}
 use Rattle.strong_trylock.specs.Held.{all_rights, no_rights}
 
--- what each answer of a read leaves as it was, and a front that does not fall
+-- what each answer of a read leaves as it was, and a front and a code found in CUR that do not fall
 pub record ReadKeeps (before after : Seated) : Type 0 where
   pub number : after.known.local.number ≡ before.known.local.number
   pub limit : after.known.local.limit ≡ before.known.local.limit
@@ -23,15 +24,17 @@ pub record ReadKeeps (before after : Seated) : Type 0 where
   pub answered : after.known.local.answered ≡ before.known.local.answered
   pub scans : after.known.local.scans ≡ before.known.local.scans
   pub front : before.known.local.front ≤ after.known.local.front
+  pub cur : before.known.local.seen_cur ≤ after.known.local.seen_cur
 
--- The read is answered, and nothing else: the caller has one read more, of this operation. Its place is above each ticket and not below
--- any place that the caller was answered before. The limit allowed a step.
+-- The read is answered, and nothing else: the caller has one read more, of this operation. Its place is that of the code last found in CUR,
+-- above each ticket and not below any place that the caller was answered before. The limit allowed a step.
 pub record ReadAnswered {O : Type 0} (r : Running O) (op : List ℕ) (before after : Seated) (seen : Seen) : Type 0 where
   pub caller : IsCallerOf r after
   pub keeps : ReadKeeps before after
   pub allowed : ¬ IsAtLimit before.known.local
   pub met : before.known.local.met ≤ after.known.local.met
   pub reads : after.known.local.seen_reads ≡ with_read seen.place op seen.reply (length before.known.local.answered) before.known.local.seen_reads
+  pub place : seen.place ≡ root_place_of r.callers after.known.local.seen_cur
   pub above : (i : ℕ) (x : Answer) → slice_get before.known.local.answered i ≡ Some x → x.ticket < seen.place
   pub from : (i : ℕ) (x : SeenRead) → slice_get before.known.local.seen_reads i ≡ Some x → x.place ≤ seen.place
 

@@ -27,8 +27,8 @@ pub record LooksForNothing (before after : Seated) : Type 0 where
   pub free : after.known.local.seen_free ≡ before.known.local.seen_free
   pub scans : after.known.local.scans ≡ before.known.local.scans
 
--- what each answer of a submit leaves as it was, a front that does not fall, and at most so many steps; where a cell was idle, none was
--- looked for
+-- what each answer of a submit leaves as it was, a front and a code found in CUR that do not fall, and at most so many steps; where a cell was
+-- idle, none was looked for
 pub record SubmitKeeps (most : ℕ) (before after : Seated) : Type 0 where
   pub number : after.known.local.number ≡ before.known.local.number
   pub limit : after.known.local.limit ≡ before.known.local.limit
@@ -36,6 +36,7 @@ pub record SubmitKeeps (most : ℕ) (before after : Seated) : Type 0 where
   pub reads : after.known.local.seen_reads ≡ before.known.local.seen_reads
   pub met : after.known.local.met ≡ before.known.local.met
   pub front : before.known.local.front ≤ after.known.local.front
+  pub cur : before.known.local.seen_cur ≤ after.known.local.seen_cur
   pub steps : after.known.local.steps ≤ before.known.local.steps + most
   pub idle : (j : ℕ) → j < 16 → IsIdle before.known.local j → LooksForNothing before after
 

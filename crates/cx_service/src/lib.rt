@@ -6,9 +6,11 @@
 #![tactic(auto)]
 
 mod callers;
+mod catch_up;
 mod close;
 mod drive;
 mod lookup;
+pub mod seen;
 mod service;
 mod start;
 mod submit;
@@ -16,6 +18,7 @@ mod threads;
 mod update;
 
 pub use callers::{Caller, Linked, Stopped};
+pub use catch_up::CaughtUp;
 pub use close::{Handed, Kept};
 pub use cx_core::Answer;
 pub use cx_turns::Seen;

@@ -25,9 +25,10 @@ use Rattle.cx_core.specs.LawfulRoot.{Root}
 use Rattle.seat_memory.specs.Wins.{IsWayBy, wins_of}
 use Rattle.seat_memory.proofs.Chaining.{leads_shown, way_up, wins_append, wins_shown}
 use Rattle.cx_table.specs.Remains.{AreSeats, Leaves, MarksDirty, known_by, locals_of, opening_seat}
-use Rattle.cx_rule.specs.Rule.{RuleHolds, NotesHold}
+use Rattle.cx_rule.specs.Rule.{AreImages, RuleHolds, NotesHold, opening_limited}
 use Rattle.cx_rule.specs.Running.{IsSeatOf, Running}
 use Rattle.cx_rule.specs.Seats.{Seated}
+use Rattle.cx_rule.specs.Timing.{AreTimes}
 use Rattle.cx_core.proofs.MergeLemmas.{history_is}
 use Rattle.cx_rule.proofs.Moves.{same_items}
 
@@ -101,14 +102,17 @@ merged_shown place history ls merged = record {
   of_callers = λ i entry at. subst (λ n. entry.caller < n) (sym (length-map ls shown)) (merged.of_callers i entry at);
 }
 
+-- what is so of what a view knows is so of each of its seats
+known_are : (seats : List Seated) (P : Known → Type 0) → ((i : ℕ) (k : Known) → slice_get (known_by seats) i ≡ Some k → P k) → All (λ (x : Seated). P x.known) seats
+known_are seats P are i d below =
+    let seat = get_or seats i d in
+    are i seat.known (slice_get-get_or (known_by seats) i seat.known (omega (arith, length-map seats (λ (x : Seated). x.known))) ∙ ap Some (get_or-map (λ (x : Seated). x.known) seats i d seat.known below))
+
 -- what the seats noted is the history's
 pub notes_are : (instance : Instance) (seats : List Seated) (s : State ℕ (List Known)) (id : ℕ) (history : List Entry) → (held : RuleHolds instance s) → get_elem? s.views id ≡ some (known_by seats) →
     held.law.history ≡ history → All (λ (x : Seated). NotesHold instance history x.known.noted) seats
-notes_are instance seats s id history held me same i d below =
-    let seat = get_or seats i d in
-    let at : slice_get (known_by seats) i ≡ Some seat.known =
-    slice_get-get_or (known_by seats) i seat.known (omega (arith, length-map seats (λ (x : Seated). x.known))) ∙ ap Some (get_or-map (λ (x : Seated). x.known) seats i d seat.known below) in
-    subst (λ h. NotesHold instance h seat.known.noted) same (held.each id i (known_by seats) seat.known me at).notes
+notes_are instance seats s id history held me same =
+    known_are seats (λ (k : Known). NotesHold instance history k.noted) (λ i k at. subst (λ h. NotesHold instance h k.noted) same (held.each id i (known_by seats) k me at).notes)
 
 -- the words of a list that is read
 read_is : (xs : List ℕ) (i x : ℕ) → get_elem? xs i ≡ some x → slice_index xs i ≡ x
@@ -181,6 +185,7 @@ leaves t instance seats r s id callers base are held me h =
       whole = held.locals;
       shows = locals;
       state = law;
+      reached = held.reached;
       history = is;
       merged = subst (λ (p : ℕ). IsHistory p r.trail.history (locals_of seats)) place (subst (λ (es : List Entry). IsHistory instance.base.place es (locals_of seats)) is
           (subst (IsHistory instance.base.place law.history) locals (merged_shown instance.base.place law.history held.locals law.tickets.merged)));
@@ -189,4 +194,6 @@ leaves t instance seats r s id callers base are held me h =
       durable = h.durable;
       dirty = h.dirty;
       notes = notes_are instance seats s id r.trail.history held me is;
+      times = known_are seats (λ (k : Known). AreTimes instance (opening_limited instance held.reached.limits) held.reached.events k.local.number k.local k.times) (λ i k at. held.times id i (known_by seats) k me at);
+      images = known_are seats (λ (k : Known). AreImages instance r.trail.history k.images) (λ i k at. subst (λ h. AreImages instance h k.images) is (held.images id i (known_by seats) k me at));
     }

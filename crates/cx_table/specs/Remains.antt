@@ -14,9 +14,10 @@ use Rattle.cx_rule.specs.declared.rule.Known.{Known}
 use Rattle.cx_table.specs.declared.remains.Remains.{Remains}
 use Rattle.cx_core.specs.Chain.{IsCodeChain}
 use Rattle.cx_rule.specs.Ending.{locals_known}
-use Rattle.cx_rule.specs.Rule.{NotesHold}
+use Rattle.cx_rule.specs.Rule.{AreImages, IsReached, NotesHold, opening_limited}
 use Rattle.cx_rule.specs.Running.{IsSeatOf, Running}
 use Rattle.cx_rule.specs.Seats.{Seated, opening_known}
+use Rattle.cx_rule.specs.Timing.{AreTimes}
 
 -- what the seats know of their callers
 abbrev pub known_by : List Seated → List Known
@@ -83,6 +84,8 @@ pub record Leaves {O : Type 0} (table : Running O) (instance : Instance) (seats 
   pub whole : List Local
   pub shows : map shown whole ≡ locals_of seats
   pub state : Lawful instance (record { words = words; locals = whole })
+  -- the steps that all callers made, in the order in which they made them
+  pub reached : IsReached instance words whole
   pub history : state.history ≡ r.trail.history
   pub merged : IsHistory table.base.place r.trail.history (locals_of seats)
   pub chain : IsCodeChain words (locals_of seats) r.trail.chain
@@ -91,3 +94,7 @@ pub record Leaves {O : Type 0} (table : Running O) (instance : Instance) (seats 
   pub dirty : MarksDirty (locals_of seats) (2 * table.callers) (length table.base.words) r.dirty.items
   -- what a caller noted of entries is the history's
   pub notes : All (λ (s : Seated). NotesHold instance r.trail.history s.known.noted) seats
+  -- when each caller's operations began and were answered, among those steps
+  pub times : All (λ (s : Seated). AreTimes instance (opening_limited instance reached.limits) reached.events s.known.local.number s.known.local s.known.times) seats
+  -- the images that callers took are the history's
+  pub images : All (λ (s : Seated). AreImages instance r.trail.history s.known.images) seats

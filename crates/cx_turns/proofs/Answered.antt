@@ -1,5 +1,5 @@
 -- What publishing, raising and retiring leave of a turn's seat.
-use Rattle.std.proofs.Common.{◌≡◌, ◌+◌, ◌*◌, ◌<◌, ◌≤◌, inl, inr, ℕ, List, [], ◌∷◌, append-nil, length, refl, ap, sym, subst, ◌∙◌, arith, Option, Some, None, Result, Ok, Err, OnErr, OnOk}
+use Rattle.std.proofs.Common.{◌≡◌, ◌+◌, ◌*◌, ◌<◌, ◌≤◌, inl, inr, ℕ, List, [], ◌∷◌, ◌++◌, append-nil, length, refl, ap, sym, subst, ◌∙◌, arith, Option, Some, None, Result, Ok, Err, OnErr, OnOk}
 use Rattle.std.proofs.Math.Nat.{le-max_right}
 use Rattle.std.proofs.lemmas.Option.{none-some, same_Some}
 use Rattle.std.specs.Option.{option_map}
@@ -18,11 +18,12 @@ use Rattle.cx_rule.specs.Raises.{TellsAnswers, TellsReply}
 use Rattle.cx_rule.specs.Running.{Running}
 use Rattle.cx_rule.specs.Seats.{IsAtLimit, Seated, unanswered_ticket}
 use Rattle.cx_rule.specs.Steps.{Halts, Steps}
+use Rattle.cx_rule.specs.Timing.{EndsIn}
 use Rattle.cx_rule.specs.Fitting.{has_of}
 use Rattle.cx_rule.proofs.Raising.{reply_still, tells_one}
 use Rattle.cx_table.specs.Right.{Right, WonRight}
 use Rattle.cx_table.specs.Tokens.{IsWonOf}
-use Rattle.cx_turns.specs.Answering.{AnswersBy, AnswersEntry, AnswersReadBy, HaltsFor, HaltsLookup, HaltsWon, IsPublishedFor, IsReadyFor, beside_hand_over, beside_settling, with_answer, with_read}
+use Rattle.cx_turns.specs.Answering.{AnswersBy, AnswersEntry, AnswersNone, AnswersOne, AnswersReadBy, HaltsFor, HaltsLookup, HaltsWon, IsPublishedFor, IsReadyFor, beside_hand_over, beside_settling, with_answer, with_read}
 use Rattle.cx_turns.specs.Preparing.{Prepares}
 use Rattle.cx_turns.specs.Turns.{IsAtRest, TurnsIn, beside_prepare, cur_rises}
 use Rattle.mutation_queue.specs.Leaves.{Leaves}
@@ -102,6 +103,18 @@ prepared_ready o r ticket reply before after held same rest last p = record {
   last = ap (λ (s : Seated). unanswered_ticket s.known.local) same ∙ last;
 }
 
+-- what was answered behind what answers nothing
+ended_since : (before mid : Seated) (last : ℕ) (new : List ℕ) → mid.known.times.answered ≡ before.known.times.answered → EndsIn last mid.known.times.answered new → EndsIn last before.known.times.answered new
+ended_since before mid last new same ended = record { at = ended.at; to = ended.to; is = ended.is ∙ ap (λ ts. ts ++ ended.at ∷ []) same }
+
+none_since : (before mid after : Seated) → mid.known.local.answered ≡ before.known.local.answered → mid.known.times.answered ≡ before.known.times.answered → AnswersNone mid after → AnswersNone before after
+none_since before mid after same times none = record { same = none.same ∙ same; times = none.times ∙ times }
+
+one_since : (ticket : ℕ) (reply : List ℕ) (before mid after : Seated) → mid.known.local.answered ≡ before.known.local.answered → mid.known.times.answered ≡ before.known.times.answered → AnswersOne ticket reply mid after →
+    AnswersOne ticket reply before after
+one_since ticket reply before mid after same times one =
+    record { is = one.is ∙ ap (with_answer ticket reply) same; ended = ended_since before mid after.known.local.steps after.known.times.answered times one.ended }
+
 -- what the turn comes to after it, by which no refusal was met
 module _ (ticket : ℕ) (before mid after : Seated) (same : beside_prepare mid ≡ beside_prepare before) (met : mid.known.local.met ≡ before.known.local.met) where
   pub answered_turn : (reply : List ℕ) → AnswersEntry 1 ticket reply mid after → AnswersEntry 1 ticket reply before after
@@ -110,6 +123,7 @@ module _ (ticket : ℕ) (before mid after : Seated) (same : beside_prepare mid �
     met = omega (arith, met, a.met);
     most = omega (arith, met, a.most);
     answered = a.answered ∙ ap (λ (s : Seated). with_answer ticket reply s.known.local.answered) same;
+    ended = ended_since before mid after.known.local.steps after.known.times.answered (ap (λ (s : Seated). s.known.times.answered) same) a.ended;
   }
 
   pub halted_turn : (callers : ℕ) → HaltsFor callers ticket mid after → HaltsFor callers ticket before after
@@ -118,8 +132,8 @@ module _ (ticket : ℕ) (before mid after : Seated) (same : beside_prepare mid �
     most = omega (arith, met, h.most);
     due = λ none. elim (h.due none) [ inl e ↦ inl (e ∙ met) | inr above ↦ inr above ];
     answered = elim h.answered [
-      | inl none ↦ inl (none ∙ ap (λ (s : Seated). s.known.local.answered) same)
-      | inr one ↦ inr (one.0, one.1 ∙ ap (λ (s : Seated). with_answer ticket one.0 s.known.local.answered) same, one.2)
+      | inl none ↦ inl (none_since before mid after (ap (λ (s : Seated). s.known.local.answered) same) (ap (λ (s : Seated). s.known.times.answered) same) none)
+      | inr one ↦ inr (one.0, one_since ticket one.0 before mid after (ap (λ (s : Seated). s.known.local.answered) same) (ap (λ (s : Seated). s.known.times.answered) same) one.1, one.2)
     ];
   }
 
@@ -127,8 +141,15 @@ module _ {O : Type 0} (o : Ghosts O) (r : Running O) (code ticket : ℕ) (reply 
   pub raised_answered : after.known.local.answered ≡ with_answer ticket reply before.known.local.answered
   raised_answered = ap (λ (s : Seated). s.known.local.answered) by.made
 
+  raised_ended : EndsIn after.known.local.steps before.known.times.answered after.known.times.answered
+  raised_ended = record { at = one_more before.known.local.steps; to = (let same = ap (λ (s : Seated). s.known.local.steps) by.made in omega (arith, same)); is = ap (λ (s : Seated). s.known.times.answered) by.made }
+
   raised_rest : beside_settling after ≡ beside_settling before
-  raised_rest = ap beside_settling by.made ∙ ap (λ rs. (let b : Seated = record (beside_settling before) { known = record (beside_settling before).known { local = record (beside_settling before).known.local { seen_reads = rs } } } in b)) (append-nil before.known.local.seen_reads)
+  raised_rest =
+      let b = beside_settling before in
+      ap beside_settling by.made
+      ∙ ap (λ rs. (let s : Seated = record b { known = record b.known { local = record b.known.local { seen_reads = rs }; times = record b.known.times { reads = b.known.times.reads ++ [] } } } in s)) (append-nil before.known.local.seen_reads)
+      ∙ ap (λ rs. (let s : Seated = record b { known = record b.known { times = record b.known.times { reads = rs } } } in s)) (append-nil before.known.times.reads)
 
   -- what it leaves of the seat
   pub raised_leaves : Leaves r beside_settling 1 before after
@@ -164,12 +185,16 @@ module _ {O : Type 0} (o : Ghosts O) (r : Running O) (code ticket : ℕ) (reply 
     steps = (let same = ap (λ (s : Seated). s.known.local.steps) h.same in let one = raised_leaves.steps in omega (arith, same, one));
   }
 
+  -- what comes behind answers nothing
+  ended_until : (mid last : Seated) → last ≡ mid → mid ≡ after → EndsIn last.known.local.steps before.known.times.answered last.known.times.answered
+  ended_until mid last same is = subst (λ (s : Seated). EndsIn s.known.local.steps before.known.times.answered s.known.times.answered) (sym (same ∙ is)) raised_ended
+
   pub retired_halted : (last : Seated) → Halts r after last → HaltsWon ticket before last
   retired_halted last h = record {
     limit = subst (λ (s : Seated). IsAtLimit s.known.local) (sym h.same) h.limit;
     met = ap (λ (s : Seated). s.known.local.met) (h.same ∙ by.made);
     won = ap (λ (s : Seated). s.known.local.won) (h.same ∙ by.made);
-    answered = inr (reply, ap (λ (s : Seated). s.known.local.answered) h.same ∙ raised_answered);
+    answered = inr (reply, record { is = ap (λ (s : Seated). s.known.local.answered) h.same ∙ raised_answered; ended = ended_until after last h.same refl });
   }
 
   -- the win is retired then
@@ -196,10 +221,17 @@ module _ {O : Type 0} (o : Ghosts O) (r : Running O) (code ticket : ℕ) (reply 
       fresh = refl;
     }))
 
+    retired_ended : EndsIn last.known.local.steps before.known.times.answered last.known.times.answered
+    retired_ended = record {
+      at = raised_ended.at;
+      to = (let more = ap (λ (t : Seated). t.known.local.steps) s.made in let one = ap (λ (t : Seated). t.known.local.steps) by.made in omega (arith, more, one, raised_ended.to));
+      is = ap (λ (t : Seated). t.known.times.answered) s.made ∙ raised_ended.is;
+    }
+
     pub retired_answers : IsAtRest (beside_publish before).known.local → before.known.local.downgraded ≡ None → AnswersEntry 0 ticket reply before last
     retired_answers rest ended =
         let met : last.known.local.met ≡ before.known.local.met = ap (λ (t : Seated). t.known.local.met) s.made ∙ ap (λ (t : Seated). t.known.local.met) by.made in
-        record { rest = retired_rests rest ended; met = omega (arith, met); most = omega (arith, met); answered = ap (λ (t : Seated). t.known.local.answered) s.made ∙ raised_answered }
+        record { rest = retired_rests rest ended; met = omega (arith, met); most = omega (arith, met); answered = ap (λ (t : Seated). t.known.local.answered) s.made ∙ raised_answered; ended = retired_ended }
 
 -- what a publication and the few steps behind it leave of the seat
 pub settled_turns : {O : Type 0} (r : Running O) (n : ℕ) (before mid after : Seated) → n ≤ 2 → LeavesRest r 1 before mid → Leaves r beside_settling n mid after → TurnsIn r beside_hand_over (3 + cur_rises before after) before after
@@ -222,6 +254,7 @@ module _ (ticket : ℕ) (before mid after : Seated) (rest : beside_publish mid �
     met = omega (arith, low, a.met);
     most = omega (arith, high, a.most);
     answered = a.answered ∙ ap (λ (s : Seated). with_answer ticket reply s.known.local.answered) rest;
+    ended = ended_since before mid after.known.local.steps after.known.times.answered (ap (λ (s : Seated). s.known.times.answered) rest) a.ended;
   }
 
   -- the limit was come to while the win stood
@@ -232,8 +265,8 @@ module _ (ticket : ℕ) (before mid after : Seated) (rest : beside_publish mid �
         most = (let met = h.met in omega (arith, met, high));
         due = λ none. absurd (none-some code (sym (ap (λ (a : AllRights). a.won) none) ∙ stands));
         answered = elim h.answered [
-          | inl none ↦ inl (none ∙ ap (λ (s : Seated). s.known.local.answered) rest)
-          | inr one ↦ inr (one.0, one.1 ∙ ap (λ (s : Seated). with_answer ticket one.0 s.known.local.answered) rest, λ none. none-some code (sym none ∙ stands))
+          | inl none ↦ inl (none_since before mid after (ap (λ (s : Seated). s.known.local.answered) rest) (ap (λ (s : Seated). s.known.times.answered) rest) none)
+          | inr one ↦ inr (one.0, one_since ticket one.0 before mid after (ap (λ (s : Seated). s.known.local.answered) rest) (ap (λ (s : Seated). s.known.times.answered) rest) one.1, λ none. none-some code (sym none ∙ stands))
         ];
       }
 
@@ -243,7 +276,7 @@ module _ (ticket : ℕ) (before mid after : Seated) (rest : beside_publish mid �
     limit = subst (λ (s : Seated). IsAtLimit s.known.local) (sym h.same) h.limit;
     most = subst (λ (s : Seated). s.known.local.met ≤ before.known.local.met + 1) (sym h.same) high;
     due = λ _. inr (subst (λ (s : Seated). ticket < root_place_of r.callers s.known.local.seen_cur) (sym h.same) (subst (λ n. ticket < root_place_of r.callers n) p.seen p.above));
-    answered = inl (ap (λ (s : Seated). s.known.local.answered) h.same ∙ ap (λ (s : Seated). s.known.local.answered) rest);
+    answered = inl (record { same = ap (λ (s : Seated). s.known.local.answered) (h.same) ∙ ap (λ (s : Seated). s.known.local.answered) rest; times = ap (λ (s : Seated). s.known.times.answered) h.same ∙ ap (λ (s : Seated). s.known.times.answered) rest });
   }
 
   -- what the raise leaves of the seat, whether it was made or not
@@ -256,11 +289,11 @@ module _ (ticket : ℕ) (before mid after : Seated) (rest : beside_publish mid �
   pub passed_answers : {O : Type 0} (o : Ghosts O) (r : Running O) (code : ℕ) (reply : List ℕ) → IsPublishedFor o r code ticket reply mid → mid.known.local.won ≡ None → AnswersBy o r code ticket reply mid after → AnswersEntry 1 ticket reply before after
   passed_answers o r code reply p none by =
       let met : after.known.local.met ≡ mid.known.local.met = ap (λ (s : Seated). s.known.local.met) by.made in
-      answered_later reply (record { rest = raised_rests o r code ticket reply mid after by p.rest p.ended none; met = omega (arith, met); most = omega (arith, met); answered = raised_answered o r code ticket reply mid after by })
+      answered_later reply (record { rest = raised_rests o r code ticket reply mid after by p.rest p.ended none; met = omega (arith, met); most = omega (arith, met); answered = raised_answered o r code ticket reply mid after by; ended = raised_ended o r code ticket reply mid after by })
 
 -- the limit was come to before the shared right was given back under which a read was answered
 pub read_halted : {O : Type 0} (o : Ghosts O) (r : Running O) (code q : ℕ) (op reply : List ℕ) (before after last : Seated) → shared_on before.known.local ≡ Some q →
-    AnswersReadBy o r code op reply before after → Halts r after last → HaltsLookup op before last
+    AnswersReadBy o r code op reply before after → Halts r after last → HaltsLookup before.known.times.loaded op before last
 read_halted o r code q op reply before after last holds by h =
     let same = h.same ∙ by.made in
     let met : last.known.local.met ≡ before.known.local.met = ap (λ (s : Seated). s.known.local.met) same in record {
@@ -269,6 +302,7 @@ read_halted o r code q op reply before after last holds by h =
         root_place_of r.callers code,
         reply,
         ap (λ (s : Seated). s.known.local.seen_reads) same ∙ ap (λ n. with_read (root_place_of r.callers code) op reply n before.known.local.seen_reads) (none_more (length before.known.local.answered)),
+        record { ended = one_more before.known.local.steps; to = (let steps = ap (λ (s : Seated). s.known.local.steps) same in omega (arith, steps)); is = ap (λ (s : Seated). s.known.times.reads) same },
         λ none. none-some q (sym (ap (option_map (λ (x : HeldShared). x.replica)) none) ∙ ap (λ (s : Seated). shared_on s.known.local) same ∙ holds),
       );
     }

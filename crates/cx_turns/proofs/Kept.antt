@@ -36,6 +36,7 @@ turn_refused before after same rest met = record {
     met = met;
     answered = ap (λ (s : Seated). s.known.local.answered) same;
     reads = ap (λ (s : Seated). s.known.local.seen_reads) same;
+    times = record { linked = ap (λ (s : Seated). s.known.times.linked) same; answered = ap (λ (s : Seated). s.known.times.answered) same; reads = ap (λ (s : Seated). s.known.times.reads) same };
   };
   rest = rest;
 }

@@ -9,6 +9,7 @@ use Rattle.cx_rule.specs.Raises.{TellsReply, known_answered}
 use Rattle.cx_rule.specs.Rule.{IsLawfulLocal}
 use Rattle.cx_rule.specs.Running.{IsSeatOf, Running, instance_at}
 use Rattle.cx_rule.specs.Seats.{IsAtLimit, Seated, unanswered_ticket}
+use Rattle.cx_rule.specs.Timing.{EndsIn}
 use Rattle.cx_table.specs.Right.{Right}
 use Rattle.cx_turns.specs.declared.lookup.Seen.{Seen}
 use Rattle.cx_turns.specs.Reads.{IsRead}
@@ -22,7 +23,7 @@ beside_raise s = (let b = beside_turn s in record b { known = record b.known { l
 
 -- what handing a replica over for an entry leaves as it was: all of that but the answered entries
 abbrev pub beside_hand_over : Seated → Seated
-beside_hand_over s = (let b = beside_raise s in record b { known = record b.known { local = record b.known.local { answered = [] } } })
+beside_hand_over s = (let b = beside_raise s in record b { known = record b.known { local = record b.known.local { answered = [] }; times = record b.known.times { answered = [] } } })
 
 -- what a turn for an entry leaves as it was: all of that but what work with write sets changes
 abbrev pub beside_update : Seated → Seated
@@ -30,11 +31,11 @@ beside_update s = but_sets (beside_hand_over s)
 
 -- what a raise that answers an entry, and the retiring of a win behind it, leave as it was
 abbrev pub beside_settling : Seated → Seated
-beside_settling s = record s { known = record s.known { local = record s.known.local { answered = []; raised = 0; floor = 0; fresh = false; won = None; steps = 0 } } }
+beside_settling s = record s { known = record s.known { local = record s.known.local { answered = []; raised = 0; floor = 0; fresh = false; won = None; steps = 0 }; times = record s.known.times { answered = [] } } }
 
 -- what a turn for a read leaves as it was: all of it but the answered reads
 abbrev pub beside_lookup : Seated → Seated
-beside_lookup s = (let b = beside_raise s in record b { known = record b.known { local = record b.known.local { seen_reads = [] } } })
+beside_lookup s = (let b = beside_raise s in record b { known = record b.known { local = record b.known.local { seen_reads = [] }; times = record b.known.times { reads = [] } } })
 
 -- answers with one more, to an entry with a ticket
 abbrev pub with_answer : ℕ → List ℕ → List Answer → List Answer
@@ -69,11 +70,22 @@ pub record AnswersEntry (refusals ticket : ℕ) (reply : List ℕ) (before after
   pub met : before.known.local.met ≤ after.known.local.met
   pub most : after.known.local.met ≤ before.known.local.met + refusals
   pub answered : after.known.local.answered ≡ with_answer ticket reply before.known.local.answered
+  pub ended : EndsIn after.known.local.steps before.known.times.answered after.known.times.answered
 
 -- what a turn for an entry with a ticket comes to; one that answers it meets a refusal where its publication was lost once
 abbrev pub TurnsFor : ℕ → Seated → Seated → Option (List ℕ) → Type 0
 TurnsFor ticket before after (Some reply) = AnswersEntry 1 ticket reply before after
 TurnsFor ticket before after None = TurnRefused before after
+
+-- no entry is answered
+pub record AnswersNone (before after : Seated) : Type 0 where
+  pub same : after.known.local.answered ≡ before.known.local.answered
+  pub times : after.known.times.answered ≡ before.known.times.answered
+
+-- one is
+pub record AnswersOne (ticket : ℕ) (reply : List ℕ) (before after : Seated) : Type 0 where
+  pub is : after.known.local.answered ≡ with_answer ticket reply before.known.local.answered
+  pub ended : EndsIn after.known.local.steps before.known.times.answered after.known.times.answered
 
 -- The limit was come to before a won code's win was retired, with no refusal: before the raise nothing is answered, and behind it the
 -- entry is.
@@ -81,7 +93,7 @@ pub record HaltsWon (ticket : ℕ) (before after : Seated) : Type 0 where
   pub limit : IsAtLimit after.known.local
   pub met : after.known.local.met ≡ before.known.local.met
   pub won : after.known.local.won ≡ before.known.local.won
-  pub answered : (after.known.local.answered ≡ before.known.local.answered) ⊎ ((reply : List ℕ) × (after.known.local.answered ≡ with_answer ticket reply before.known.local.answered))
+  pub answered : AnswersNone before after ⊎ ((reply : List ℕ) × AnswersOne ticket reply before after)
 
 -- The limit was come to, and a further step was due: no refusal was met, a right stands, or a code is found in CUR whose place is above
 -- the ticket, by which DUR is still to be raised. Before that raise nothing is answered, and behind it the entry is, and the win is still
@@ -90,19 +102,30 @@ pub record HaltsFor (callers ticket : ℕ) (before after : Seated) : Type 0 wher
   pub limit : IsAtLimit after.known.local
   pub most : after.known.local.met ≤ before.known.local.met + 1
   pub due : all_rights after ≡ no_rights → (after.known.local.met ≡ before.known.local.met) ⊎ (ticket < root_place_of callers after.known.local.seen_cur)
-  pub answered : (after.known.local.answered ≡ before.known.local.answered)
-      ⊎ ((reply : List ℕ) × (after.known.local.answered ≡ with_answer ticket reply before.known.local.answered) × (after.known.local.won ≢ None))
+  pub answered : AnswersNone before after ⊎ ((reply : List ℕ) × AnswersOne ticket reply before after × (after.known.local.won ≢ None))
 
 -- reads with one more, of an operation at a place, where so many entries of its caller are answered
 abbrev pub with_read : ℕ → List ℕ → List ℕ → ℕ → List SeenRead → List SeenRead
 with_read place op reply answered reads = reads ++ record { place = place; op = op; reply = reply; before = answered } ∷ []
 
+-- one read more has times, of which this is the first
+pub record ReadsFrom (begun : ℕ) (before after : Seated) : Type 0 where
+  pub ended : ℕ
+  pub to : ended ≤ after.known.local.steps
+  pub is : after.known.times.reads ≡ before.known.times.reads ++ (begun, ended) ∷ []
+
+-- no read is answered
+pub record ReadsNone (before after : Seated) : Type 0 where
+  pub same : after.known.local.seen_reads ≡ before.known.local.seen_reads
+  pub times : after.known.times.reads ≡ before.known.times.reads
+
 -- A read is answered at a place that is not below the floor, which rises to it, and so above each ticket and not below any place
--- that the caller was answered before. No refusal is met, and the caller is at rest.
-pub record AnswersRead (op : List ℕ) (place : ℕ) (reply : List ℕ) (before after : Seated) : Type 0 where
+-- that the caller was answered before. It began behind so many steps. No refusal is met, and the caller is at rest.
+pub record AnswersRead (begun : ℕ) (op : List ℕ) (place : ℕ) (reply : List ℕ) (before after : Seated) : Type 0 where
   pub rest : IsAtRest after.known.local
   pub met : after.known.local.met ≡ before.known.local.met
   pub reads : after.known.local.seen_reads ≡ with_read place op reply (length before.known.local.answered) before.known.local.seen_reads
+  pub times : ReadsFrom begun before after
   pub floor : before.known.local.floor ≤ place
   pub above : (i : ℕ) (x : Answer) → slice_get before.known.local.answered i ≡ Some x → x.ticket < place
   pub from : (i : ℕ) (x : SeenRead) → slice_get before.known.local.seen_reads i ≡ Some x → x.place ≤ place
@@ -113,15 +136,15 @@ seen_at reply place = option_map (λ p. record { place = p; reply = reply }) pla
 
 -- what a turn for a read comes to; one that is refused makes at most four steps
 abbrev pub LooksUp : List ℕ → Seated → Seated → Option Seen → Type 0
-LooksUp op before after (Some found) = AnswersRead op found.place found.reply before after
+LooksUp op before after (Some found) = AnswersRead before.known.local.steps op found.place found.reply before after
 LooksUp op before after None = TurnRefused before after × StepsAtMost 4 before after
 
 -- The limit was come to, and a further step was due. Before the raise no read is answered, and behind it this one is, and the shared
 -- right is still to be given back.
-pub record HaltsLookup (op : List ℕ) (before after : Seated) : Type 0 where
+pub record HaltsLookup (begun : ℕ) (op : List ℕ) (before after : Seated) : Type 0 where
   pub halts : HaltsTurn before after
-  pub reads : (after.known.local.seen_reads ≡ before.known.local.seen_reads)
-      ⊎ ((place : ℕ) × (reply : List ℕ) × (after.known.local.seen_reads ≡ with_read place op reply (length before.known.local.answered) before.known.local.seen_reads) × (after.known.local.shared ≢ None))
+  pub reads : ReadsNone before after
+      ⊎ ((place : ℕ) × (reply : List ℕ) × (after.known.local.seen_reads ≡ with_read place op reply (length before.known.local.answered) before.known.local.seen_reads) × ReadsFrom begun before after × (after.known.local.shared ≢ None))
 
 -- DUR was raised by the code last loaded from CUR, which answers the read and nothing else.
 pub record AnswersReadBy {O : Type 0} (o : Ghosts O) (r : Running O) (code : ℕ) (op reply : List ℕ) (before after : Seated) : Type 0 where

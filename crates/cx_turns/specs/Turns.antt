@@ -7,6 +7,7 @@ use Rattle.cx_core.specs.State.{one_more}
 use Rattle.cx_core.specs.Rights.{exclusive_on}
 use Rattle.cx_rule.specs.Running.{IsSeatOf, Running}
 use Rattle.cx_rule.specs.Seats.{IsAtLimit, Seated}
+use Rattle.cx_rule.specs.Timing.{KeepsTimes}
 use Rattle.redo_set.specs.Taking.{sets_read}
 use Rattle.replica_sets.specs.Own.{but_set}
 use Rattle.strong_trylock.specs.Held.{all_rights, no_rights}
@@ -31,6 +32,7 @@ pub record MeetsRefusal (before after : Seated) : Type 0 where
   pub met : after.known.local.met ≡ one_more before.known.local.met
   pub answered : after.known.local.answered ≡ before.known.local.answered
   pub reads : after.known.local.seen_reads ≡ before.known.local.seen_reads
+  pub times : KeepsTimes before.known.times after.known.times
 
 -- a turn in which a refusal was met: its caller is at rest again
 pub record TurnRefused (before after : Seated) : Type 0 where
@@ -38,7 +40,7 @@ pub record TurnRefused (before after : Seated) : Type 0 where
   pub rest : IsAtRest after.known.local
 
 -- what no step of a turn changes before its raise: the seat but for the front, the slot last looked at, the protection and the greatest
--- LOW found, what was seen of CUR, the rights and what was tried and noted of them, and the counts of steps and refusals
+-- LOW found, what was seen of CUR and when, the rights and what was tried and noted of them, and the counts of steps and refusals
 abbrev pub beside_turn : Seated → Seated
 beside_turn s = record s {
   known = record s.known {
@@ -61,6 +63,7 @@ beside_turn s = record s {
     };
     noted = [];
     accesses = [];
+    times = record s.known.times { loaded = 0 };
   };
 }
 

@@ -1,6 +1,6 @@
 //! A turn for a read beside the queue: the current replica is read, and DUR is raised by its code, by which the read is answered.
 
-ghost use Rattle.std.specs.Prelude.{◌≡◌, IfOk, IsTrue, MatchResult, None, OnErr, OnOk, Some};
+ghost use Rattle.std.specs.Prelude.{◌≡◌, ◌≤◌, IfOk, IfSome, IsTrue, MatchResult, None, OnErr, OnOk, Some};
 ghost use Rattle.cx_core.specs.RootEvents.{CanAnswer};
 ghost use Rattle.cx_rule.specs.Raises.{TellsRead};
 ghost use Rattle.cx_base.specs.Codes.{root_place_of};
@@ -37,8 +37,10 @@ pub fn read_turn<O: Object>(
     requires reads { IsTrue (O.only_reads shared.now.object op.now) }
     ensures allowed { OnOk result (¬ IsAtLimit seat.old.known.local) }
     ensures turned { IfOk result (λ place. LooksUp op.now seat.old seat.new (seen_at reply.new place)) }
-    ensures halted { OnErr result (HaltsLookup op.now seat.old seat.new) }
+    ensures halted { OnErr result (HaltsLookup seat.old.known.local.steps op.now seat.old seat.new) }
     ensures turns { Turns shared.now beside_lookup seat.old seat.new }
+    ensures rises { seat.old.known.local.seen_cur ≤ seat.new.known.local.seen_cur }
+    ensures place { IfOk result (λ found. IfSome found (λ place. place ≡ root_place_of shared.now.callers seat.new.known.local.seen_cur)) }
 {
     shared.load_cur(seat)?;
     let Some(hold) = read_current(shared, seat, op, reply)? else {
@@ -59,9 +61,10 @@ fn settle_read<O: Object>(
 ) -> Result<(), Halt>
     requires read { IsLookedUp O.Object shared.now op.now reply.now seat.old hold }
     requires reads { IsTrue (O.only_reads shared.now.object op.now) }
-    ensures answered { OnOk result (AnswersRead op.now (root_place_of shared.now.callers seat.old.known.local.seen_cur) reply.now seat.old seat.new) }
-    ensures halted { OnErr result (HaltsLookup op.now seat.old seat.new) }
+    ensures answered { OnOk result (AnswersRead seat.old.known.times.loaded op.now (root_place_of shared.now.callers seat.old.known.local.seen_cur) reply.now seat.old seat.new) }
+    ensures halted { OnErr result (HaltsLookup seat.old.known.times.loaded op.now seat.old seat.new) }
     ensures turns { TurnsIn shared.now beside_lookup 2 seat.old seat.new }
+    ensures same { seat.new.known.local.seen_cur ≡ seat.old.known.local.seen_cur }
 {
     let code = seat.seen_cur();
     answer_read(shared, seat, code, op, reply)?;

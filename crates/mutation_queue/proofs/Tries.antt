@@ -1,5 +1,5 @@
 -- One try to link.
-use Rattle.std.proofs.Common.{◌≡◌, ◌≢◌, ◌+◌, ◌-◌, ◌%◌, ◌^◌, ◌<◌, ◌≤◌, ◌⊎◌, ℕ, max, cond, List, [], ◌∷◌, ◌++◌, length, slice_index, set, refl, sym, ap, subst, ◌∙◌, inl, inr, arith, Some, None}
+use Rattle.std.proofs.Common.{◌≡◌, ◌≢◌, ◌+◌, ◌-◌, ◌%◌, ◌^◌, ◌<◌, ◌≤◌, ◌⊎◌, ℕ, max, min, Bool, true, false, cond, List, [], ◌∷◌, ◌++◌, length, slice_index, set, refl, sym, ap, subst, ◌∙◌, inl, inr, arith, Some, None}
 use Rattle.std.proofs.lemmas.Bool.{cases_eq, cases_lt, eq-eqb, ne_eqb}
 use Rattle.std.proofs.lemmas.List.{append-nil}
 use Rattle.std.proofs.Math.Nat.{add-mod_right}
@@ -9,9 +9,10 @@ use Rattle.cx_core.specs.declared.kinds.Kind.TheVariants.{Link, Look}
 use Rattle.cx_core.specs.declared.local.Local.{Local}
 use Rattle.cx_core.specs.Events.{Guard}
 use Rattle.cx_core.specs.QueueEvents.{IsIdle, ShowsOpen, cell_of, entry_in, linked, lost, next_number, raised_front, seen_word}
-use Rattle.cx_core.specs.Layout.{cell_count}
+use Rattle.cx_core.specs.Layout.{cell_count, max_word}
 use Rattle.cx_core.specs.State.{Instance}
 use Rattle.cx_rule.specs.declared.rule.Noted.{Noted}
+use Rattle.cx_rule.specs.declared.rule.Times.{Times}
 use Rattle.cx_table.specs.Running.{IsSeatOf, Running}
 use Rattle.cx_table.specs.Seats.{IsAtLimit, Seated, shown_next, stepped, unseen}
 use Rattle.cx_table.specs.Told.{LinkTold, LookTold}
@@ -116,35 +117,36 @@ taken instance s found cur used from =
       none = record {
         same = ap (λ n. record s { known = record s.known { local = record l { front = 0; seen_slot = None; steps = 0 }; noted = n } }) (append-nil s.known.noted);
         front = raised_least instance.callers l.front found;
+        since = omega arith;
       };
       front = omega (arith, raised_some instance.callers l.front found used);
       cur = cur;
     }
 
--- what a link makes of the local state
-link_lost : (instance : Instance) (l : Local) (j found : ℕ) → found ≢ seen_word l.seen_slot → shown_next instance (Link j) l found ≡ lost instance.callers l found
-link_lost instance l j found ne = ap (λ b. cond b (linked l j) (lost instance.callers l found)) (ne_eqb found (seen_word l.seen_slot) ne)
+-- a seat with another local state, other times and other notes
+abbrev seat_with : Seated → Local → Times → List Noted → Seated
+seat_with s l times notes = record s { known = record s.known { local = l; times = times; noted = notes } }
 
-link_won : (instance : Instance) (l : Local) (j found : ℕ) → found ≡ seen_word l.seen_slot → shown_next instance (Link j) l found ≡ linked l j
-link_won instance l j found e = ap (λ b. cond b (linked l j) (lost instance.callers l found)) (eq-eqb found (seen_word l.seen_slot) e)
-
--- a seat with another local state and other notes
-abbrev seat_with : Seated → Local → List Noted → Seated
-seat_with s l notes = record s { known = record s.known { local = l; noted = notes } }
+-- the times behind a link, by whether it was won
+abbrev link_times : Seated → Bool → Times
+link_times s won = record s.known.times { linked = s.known.times.linked ++ cond won (s.known.local.steps ∷ []) [] }
 
 -- what a look at the front's slot, a link that was lost, and one that was won make of the seat
 look_is : (instance : Instance) (s : Seated) (found : ℕ) → stepped instance (Look (s.known.local.front % cell_count instance.callers)) s found ≡ with_front instance.callers found s
-look_is instance s found = ap (seat_with s (with_front instance.callers found s).known.local) (append-nil s.known.noted)
+look_is instance s found = ap (seat_with s (with_front instance.callers found s).known.local s.known.times) (append-nil s.known.noted)
 
 loss_is : (instance : Instance) (s : Seated) (j found : ℕ) → found ≢ seen_word s.known.local.seen_slot → stepped instance (Link j) s found ≡ with_loss instance.callers found s
 loss_is instance s j found ne =
-    ap (λ (x : Local). seat_with s x (s.known.noted ++ [])) (link_lost instance s.known.local j found ne)
-    ∙ ap (seat_with s (lost instance.callers s.known.local found)) (append-nil s.known.noted)
+    let l = s.known.local in
+    ap (λ b. seat_with s (cond b (linked l j) (lost instance.callers l found)) (link_times s b) (s.known.noted ++ [])) (ne_eqb found (seen_word l.seen_slot) ne)
+    ∙ ap (seat_with s (lost instance.callers l found) (link_times s false)) (append-nil s.known.noted)
+    ∙ ap (λ ts. seat_with s (lost instance.callers l found) (record s.known.times { linked = ts }) s.known.noted) (append-nil s.known.times.linked)
 
 win_is : (instance : Instance) (s : Seated) (j found : ℕ) → found ≡ seen_word s.known.local.seen_slot → stepped instance (Link j) s found ≡ with_win j s
 win_is instance s j found e =
-    ap (λ (x : Local). seat_with s x (s.known.noted ++ [])) (link_won instance s.known.local j found e)
-    ∙ ap (seat_with s (linked s.known.local j)) (append-nil s.known.noted)
+    let l = s.known.local in
+    ap (λ b. seat_with s (cond b (linked l j) (lost instance.callers l found)) (link_times s b) (s.known.noted ++ [])) (eq-eqb found (seen_word l.seen_slot) e)
+    ∙ ap (seat_with s (linked l j) (link_times s true)) (append-nil s.known.noted)
 
 -- the slot of the front was found taken, or open
 pub finds_link : (instance : Instance) (s t : Seated) (found : ℕ) → ¬ IsAtLimit s.known.local → t ≡ stepped instance (Look (s.known.local.front % cell_count instance.callers)) s found → 0 < found → s.known.local.front ≤ link_ticket_of instance.callers found →
@@ -162,7 +164,7 @@ finds_open instance s t found allowed is shows = record {
 
 -- a look alone links nothing
 pub none_open : (callers : ℕ) (s t : Seated) → FindsOpen callers s t → LinksNone s t
-none_open callers s t finds = subst (LinksNone s) (sym finds.seat) (record { same = refl; front = raised_least callers s.known.local.front finds.found })
+none_open callers s t finds = subst (LinksNone s) (sym finds.seat) (record { same = refl; front = raised_least callers s.known.local.front finds.found; since = omega arith })
 
 -- the compare-exchange from the word that was seen was lost, or won
 pub finds_loss : (instance : Instance) (s t : Seated) (j seen found : ℕ) → seen_word s.known.local.seen_slot ≡ seen → ¬ IsAtLimit s.known.local → t ≡ stepped instance (Link j) s found → found ≢ seen → 0 < found → s.known.local.front ≤ link_ticket_of instance.callers found →
@@ -186,12 +188,11 @@ lost_to instance s found found2 cell cur stays ne used from =
     let l = s.known.local in
     let s1 = stepped instance (Look (l.front % cell_count instance.callers)) s found in
     let l1 = s1.known.local in
-    let is : stepped instance (Link cell) s1 found2 ≡ seat_with s1 (lost instance.callers l1 found2) s.known.noted =
-    ap (λ (x : Local). seat_with s1 x ((s.known.noted ++ []) ++ [])) (link_lost instance l1 cell found2 ne)
-    ∙ ap (λ n. seat_with s1 (lost instance.callers l1 found2) n) (append-nil (s.known.noted ++ []) ∙ append-nil s.known.noted) in
+    let is : stepped instance (Link cell) s1 found2 ≡ seat_with s1 (lost instance.callers l1 found2) s1.known.times s.known.noted =
+    loss_is instance s1 cell found2 ne ∙ ap (seat_with s1 (lost instance.callers l1 found2) s1.known.times) (append-nil s.known.noted) in
     let rises : raised_front instance.callers l1.front found2 ≡ max l1.front (link_ticket_of instance.callers found2 + 1) = raised_some instance.callers l1.front found2 used in
     subst (LinksPast instance.callers s) (sym is) (record {
-      none = record { same = refl; front = omega (arith, rises) };
+      none = record { same = refl; front = omega (arith, rises); since = omega arith };
       front = omega (arith, rises);
       cur = cur;
     })
@@ -203,15 +204,15 @@ won_at instance s found found2 cell stays e =
     let l = s.known.local in
     let s1 = stepped instance (Look (l.front % cell_count instance.callers)) s found in
     let l1 = s1.known.local in
-    let is : stepped instance (Link cell) s1 found2 ≡ seat_with s1 (linked l1 cell) s.known.noted =
-    ap (λ (x : Local). seat_with s1 x ((s.known.noted ++ []) ++ [])) (link_won instance l1 cell found2 e)
-    ∙ ap (λ n. seat_with s1 (linked l1 cell) n) (append-nil (s.known.noted ++ []) ∙ append-nil s.known.noted) in
+    let is : stepped instance (Link cell) s1 found2 ≡ seat_with s1 (linked l1 cell) (link_times s1 true) s.known.noted =
+    win_is instance s1 cell found2 e ∙ ap (seat_with s1 (linked l1 cell) (link_times s1 true)) (append-nil s.known.noted) in
     subst (LinksAt cell l.front s) (sym is) (record {
       same = refl;
       own = ap (λ t. l.own ++ record { ticket = t; entry = entry_in l cell } ∷ []) stays;
       cells = ap (λ t. set l.cells cell (record (cell_of l cell) { ticket = Some t })) stays;
       front = ap (λ t. t + 1) stays;
       from = omega arith;
+      linked = record { at = l1.steps; from = omega arith; is = refl };
     })
 
 -- what a seat shows but for its front, slot, steps, linked entries and cells tells whose it is
@@ -236,10 +237,10 @@ still_may r cell s t none may =
     record { of = record { table = of'.table; caller = of'.caller; before = of'.before; region = of'.region }; few = now.few; announced = record { idle = now.announced.idle; number = now.announced.number }; answered = now.answered }
 
 pub none_here : (s : Seated) → LinksNone s s
-none_here s = record { same = refl; front = omega arith }
+none_here s = record { same = refl; front = omega arith; since = omega arith }
 
 pub none_then : (s t u : Seated) → LinksNone s t → LinksNone t u → LinksNone s u
-none_then s t u a b = record { same = b.same ∙ a.same; front = omega (arith, a.front, b.front) }
+none_then s t u a b = record { same = b.same ∙ a.same; front = omega (arith, a.front, b.front); since = omega (arith, a.since, b.since) }
 
 pub none_at : (cell ticket : ℕ) (s t u : Seated) → LinksNone s t → LinksAt cell ticket t u → LinksAt cell ticket s u
 none_at cell ticket s t u none at = record {
@@ -248,4 +249,9 @@ none_at cell ticket s t u none at = record {
   cells = at.cells ∙ ap (λ (x : Seated). set x.known.local.cells cell (record (cell_of x.known.local cell) { ticket = Some ticket })) none.same;
   front = at.front;
   from = omega (arith, none.front, at.from);
+  linked = record {
+    at = at.linked.at;
+    from = omega (arith, none.since, at.linked.from);
+    is = at.linked.is ∙ ap (λ (x : Seated). x.known.times.linked ++ at.linked.at ∷ []) none.same;
+  };
 }

@@ -1,10 +1,11 @@
 -- What tries to link an entry come to.
-use Rattle.std.specs.Prelude.{◌≡◌, ◌+◌, ◌%◌, ◌^◌, ◌<◌, ◌≤◌, ◌⊎◌, ℕ, zero, suc, [], ◌∷◌, ◌++◌, length, slice_set, Option, Some, None}
+use Rattle.std.specs.Prelude.{◌≡◌, ◌+◌, ◌%◌, ◌^◌, ◌<◌, ◌≤◌, ◌⊎◌, ℕ, zero, suc, min, [], ◌∷◌, ◌++◌, length, slice_set, Option, Some, None}
 use Rattle.cx_base.specs.Codes.{link_ticket_of, root_place_of}
-use Rattle.cx_core.specs.Layout.{cell_count}
+use Rattle.cx_core.specs.Layout.{cell_count, max_word}
 use Rattle.cx_core.specs.QueueEvents.{ShowsOpen, cell_of, entry_in, linked, lost, raised_front}
 use Rattle.cx_core.specs.State.{one_more}
 use Rattle.cx_table.specs.Running.{IsSeatOf, Running}
+use Rattle.cx_rule.specs.Timing.{BeginsIn}
 use Rattle.cx_table.specs.Seats.{IsAtLimit, Seated}
 use Rattle.mutation_queue.specs.Cells.{IsAnnounced}
 use Rattle.mutation_queue.specs.declared.linking.LinkTried.{LinkTried}
@@ -21,14 +22,15 @@ pub record MayLink {O : Type 0} (r : Running O) (cell : ℕ) (seat : Seated) : T
 abbrev pub but_front : Seated → Seated
 but_front s = record s { known = record s.known { local = record s.known.local { front = 0; seen_slot = None; steps = 0 } } }
 
--- a seat but for these, its linked entries and its cells
+-- a seat but for these, its linked entries, when they were linked, and its cells
 abbrev pub but_linked : Seated → Seated
-but_linked s = record s { known = record s.known { local = record s.known.local { front = 0; seen_slot = None; steps = 0; own = []; cells = [] } } }
+but_linked s = record s { known = record s.known { local = record s.known.local { front = 0; seen_slot = None; steps = 0; own = []; cells = [] }; times = record s.known.times { linked = [] } } }
 
 -- nothing was linked: only the front rose, and steps were made
 pub record LinksNone (before after : Seated) : Type 0 where
   pub same : but_front after ≡ but_front before
   pub front : before.known.local.front ≤ after.known.local.front
+  pub since : min before.known.local.steps max_word ≤ after.known.local.steps
 
 -- the entry in the cell was linked with a ticket, and no other
 pub record LinksAt (cell ticket : ℕ) (before after : Seated) : Type 0 where
@@ -37,6 +39,7 @@ pub record LinksAt (cell ticket : ℕ) (before after : Seated) : Type 0 where
   pub cells : after.known.local.cells ≡ slice_set before.known.local.cells cell (record (cell_of before.known.local cell) { ticket = Some ticket })
   pub front : after.known.local.front ≡ ticket + 1
   pub from : before.known.local.front ≤ ticket
+  pub linked : BeginsIn before.known.local.steps before.known.times.linked after.known.times.linked
 
 -- the seat after a look at the front's slot that found this word
 abbrev pub with_front : ℕ → ℕ → Seated → Seated
@@ -55,7 +58,7 @@ abbrev pub with_loss : ℕ → ℕ → Seated → Seated
 with_loss callers found s = record s { known = record s.known { local = lost callers s.known.local found } }
 
 abbrev pub with_win : ℕ → Seated → Seated
-with_win cell s = record s { known = record s.known { local = linked s.known.local cell } }
+with_win cell s = record s { known = record s.known { local = linked s.known.local cell; times = record s.known.times { linked = s.known.times.linked ++ s.known.local.steps ∷ [] } } }
 
 -- One step, which the limit allowed, found another's link: a word that names a ticket from the front on.
 pub record FindsLink (callers : ℕ) (step : ℕ → Seated → Seated) (before after : Seated) : Type 0 where

@@ -319,7 +319,7 @@ copy_kept instance (BackOff r) k found c guard shape long is = (let b = backed (
 copy_kept instance (Downgrade r) k found c guard shape long is = (refl, still k _ c refl (sym guard.3) (λ j. (refl, refl)) is)
 copy_kept instance (ReleaseExclusive r) k found c guard shape long is = (refl, still k _ c refl (sym guard.3) (λ j. (refl, refl)) is)
 copy_kept instance (LoadWord r i refused) k found c guard shape long is =
-    let known' : Bool → Known = λ b. record { local = known_local instance (LoadWord r i refused) k found; noted = k.noted ++ []; accesses = cond b (k.accesses ++ (false, i, found) ∷ []) k.accesses; sets = k.sets } in
+    let known' : Bool → Known = λ b. record { local = known_local instance (LoadWord r i refused) k found; noted = k.noted ++ []; accesses = cond b (k.accesses ++ (false, i, found) ∷ []) k.accesses; sets = k.sets; times = k.times; images = k.images } in
     let after : Bool → Copied = λ b. cond b (record c { place = cond (i == 0) found c.place }) c in
     elim (is_at r (exclusive_on k.local)) as (λ b. (length (after b).words ≡ length c.words) × IsCopied (known' b) (after b)) [
       | true ↦ (refl, loaded k (known' true) c i found refl refl (λ j. (refl, refl)) is)

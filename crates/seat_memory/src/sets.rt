@@ -4,7 +4,7 @@
 ghost use Rattle.std.specs.Prelude.{◌≡◌, ◌^◌, ◌<◌, ℕ, Some, None, slice_index, slice_index_or};
 ghost use Rattle.cx_core.specs.QueueEvents.{cell_of};
 ghost use Rattle.cx_core.specs.SetEvents.{offer_of};
-ghost use Rattle.cx_core.specs.declared.kinds.Kind.TheVariants.{WriteSet, Offer, LoadOffer, ReadSet};
+ghost use Rattle.cx_core.specs.declared.kinds.Kind.TheVariants.{WriteSet, Offer, LoadOffer, ReadSet, NoteGap, LoadGap};
 ghost use Rattle.seat_memory.specs.Summaries.{Follows, summary_of};
 
 use crate::summary::Summary;
@@ -15,6 +15,8 @@ impl Summary {
     pub fn pass_set(&mut self)
         ensures written { (callers j i v found : ℕ) → Follows callers (WriteSet j i v) found self.old self.new }
         ensures read { (callers k t i found : ℕ) → Follows callers (ReadSet k t i) found self.old self.new }
+        ensures gap_noted { (callers s i v found : ℕ) → Follows callers (NoteGap s i v) found self.old self.new }
+        ensures gap_loaded { (callers s i found : ℕ) → Follows callers (LoadGap s i) found self.old self.new }
     {
         self.steps = self.steps.saturating_add(1);
     }

@@ -19,7 +19,7 @@ returns-in_err-_cur-clause-halted g c =
     let front = ap (λ (x : Seated). x.known.local.front) halted.same in
     let steps = ap (λ (x : Seated). x.known.local.steps) halted.same in
     if_any_err c.from_residual.result (
-      (halts c.args.shared.now s t (ap beside_submit halted.same) (146 + 2 * c.args.tries) c.requires.caller (ap (λ (x : Seated). x.known.local.own) halted.same) (omega (arith, front)) (omega (arith, steps))
+      (halts c.args.shared.now s t (ap beside_submit halted.same) (146 + 2 * c.args.tries) c.requires.caller (ap (λ (x : Seated). x.known.local.own) halted.same) (omega (arith, front)) (let cur = ap (λ (x : Seated). x.known.local.seen_cur) halted.same in omega (arith, cur)) (omega (arith, steps))
           (λ k within idle. record { free = ap (λ (x : Seated). x.known.local.seen_free) halted.same; scans = ap (λ (x : Seated). x.known.local.scans) halted.same })
           (subst (λ (x : Seated). IsAtLimit x.known.local) (sym halted.same) halted.limit)),
       inl (record {
@@ -43,8 +43,8 @@ returns-in_err-announce-clause-halted g c =
     let at = c.load_cur.new.seat in
     let t = c.announce.new.seat in
     let made = c.in_ok-_cur.ensures.made in
-    let first = cur_loaded (instance_at r g.O.Object.step g.O.Object.only_reads) s at c.in_ok-_cur._cur made.made made.allowed in
-    let caller = cur_caller r (instance_at r g.O.Object.step g.O.Object.only_reads) s at c.in_ok-_cur._cur made.made made.allowed c.requires.caller in
+    let first = cur_loaded (instance_at r g.O.Object.step g.O.Object.only_reads) s at c.in_ok-_cur._cur made.made made.told.most made.allowed in
+    let caller = cur_caller r (instance_at r g.O.Object.step g.O.Object.only_reads) s at c.in_ok-_cur._cur made.made made.told.most made.allowed c.requires.caller in
     let halted = halted_in r c.args.cell (145 + 2 * c.args.tries) c.args.op.now at t caller c.requires.cell.0 (omega arith) c.told-op c.in_err-announce.ensures.halted in
     if_any_err c.from_residual-in_err-announce.result (
       halted_then r 1 s (stale at) first (145 + 2 * c.args.tries) (146 + 2 * c.args.tries) (unlinked t) (omega arith) halted.0,
@@ -57,7 +57,7 @@ link-requires-clause-may g c =
     let s = c.args.seat.now in
     let at = c.load_cur.new.seat in
     let made = c.in_ok-_cur.ensures.made in
-    let caller = cur_caller r (instance_at r g.O.Object.step g.O.Object.only_reads) s at c.in_ok-_cur._cur made.made made.allowed c.requires.caller in
+    let caller = cur_caller r (instance_at r g.O.Object.step g.O.Object.only_reads) s at c.in_ok-_cur._cur made.made made.told.most made.allowed c.requires.caller in
     let e = c.in_ok-announce.ensures in
     record { of = e.seat; few = c.requires.cell.0; announced = e.ready; answered = answered_still (stale at) c.announce.new.seat e.announced.rest caller.count }
 
@@ -71,8 +71,8 @@ returns-clause-entered g c =
     let op = c.args.op.now in
     let tries = c.args.tries in
     let made = c.in_ok-_cur.ensures.made in
-    let first = cur_loaded (instance_at r g.O.Object.step g.O.Object.only_reads) s at c.in_ok-_cur._cur made.made made.allowed in
-    let caller = cur_caller r (instance_at r g.O.Object.step g.O.Object.only_reads) s at c.in_ok-_cur._cur made.made made.allowed c.requires.caller in
+    let first = cur_loaded (instance_at r g.O.Object.step g.O.Object.only_reads) s at c.in_ok-_cur._cur made.made made.told.most made.allowed in
+    let caller = cur_caller r (instance_at r g.O.Object.step g.O.Object.only_reads) s at c.in_ok-_cur._cur made.made made.told.most made.allowed c.requires.caller in
     let done = c.in_ok-announce.ensures.announced in
     IfOk-weaker c.link.result (Tried r.callers c.args.cell tries t v) (EntersIn 1 (146 + 2 * tries) r op tries s v)
     (λ tried links. enters_then r 1 s (stale at) first op 0 1 tries (145 + 2 * tries) (146 + 2 * tries) v tried (omega arith) (let one = ap (λ (x : Seated). x.known.local.steps) made.made in omega (arith, one))
@@ -89,8 +89,8 @@ returns-clause-halted g c =
     let op = c.args.op.now in
     let tries = c.args.tries in
     let made = c.in_ok-_cur.ensures.made in
-    let first = cur_loaded (instance_at r g.O.Object.step g.O.Object.only_reads) s at c.in_ok-_cur._cur made.made made.allowed in
-    let caller = cur_caller r (instance_at r g.O.Object.step g.O.Object.only_reads) s at c.in_ok-_cur._cur made.made made.allowed c.requires.caller in
+    let first = cur_loaded (instance_at r g.O.Object.step g.O.Object.only_reads) s at c.in_ok-_cur._cur made.made made.told.most made.allowed in
+    let caller = cur_caller r (instance_at r g.O.Object.step g.O.Object.only_reads) s at c.in_ok-_cur._cur made.made made.told.most made.allowed c.requires.caller in
     let done = c.in_ok-announce.ensures.announced in
     on_err_weaker c.link.result
     (λ halted. (
@@ -110,7 +110,7 @@ returns-clause-sets g c =
     let v = c.link.new.seat in
     let tries = c.args.tries in
     let made = c.in_ok-_cur.ensures.made in
-    let caller = cur_caller r (instance_at r g.O.Object.step g.O.Object.only_reads) s at c.in_ok-_cur._cur made.made made.allowed c.requires.caller in
+    let caller = cur_caller r (instance_at r g.O.Object.step g.O.Object.only_reads) s at c.in_ok-_cur._cur made.made made.told.most made.allowed c.requires.caller in
     let done = c.in_ok-announce.ensures.announced in
     IfOk-weaker c.link.result (Tried r.callers c.args.cell tries t v) (λ _. v.known.sets ≡ s.known.sets)
     (λ tried links. no_sets_read r c.args.cell c.args.op.now (stale at) t caller c.requires.cell.0 c.told-op done.cell done.others done.rest r.callers tries v tried links ∙ ap (λ (x : Seated). x.known.sets) made.made)

@@ -21,22 +21,22 @@ pub copy_words-requires-2-clause-within : goal.copy_words-requires-2-clause-with
 copy_words-requires-2-clause-within g c =
     let running = c.self.invariant.0 in
     let long : length c.self.inside.base.words ≡ 8 * (146 + c.self.inside.lines) = running.base.size.long in
-    let count : slots_len c.close_with-closed.result.words ≡ 4 + 10563 * c.self.inside.callers.number + 8 * (146 + c.self.inside.lines) * (4 * c.self.inside.callers.number) =
-    c.close_with-closed.ensures.counts.0 ∙ running.words ∙ ap (λ n. 4 + 10563 * c.self.inside.callers.number + n * (4 * c.self.inside.callers.number)) long in
+    let count : slots_len c.close_with-closed.result.words ≡ 4 + 18755 * c.self.inside.callers.number + 8 * (146 + c.self.inside.lines) * (4 * c.self.inside.callers.number) =
+    c.close_with-closed.ensures.counts.0 ∙ running.words ∙ ap (λ n. 4 + 18755 * c.self.inside.callers.number + n * (4 * c.self.inside.callers.number)) long in
     omega (arith, twice (8 * (146 + c.self.inside.lines)) c.self.inside.callers.number, count)
 
 -- where the words of the replicas end, and where the medium's end
-vol_end : (n c m d : ℕ) → c ≡ d → n ≡ m → 4 + 10563 * c + n * (2 * c) ≡ vol_at d m (2 * d) 0
-vol_end n c m d e f = ap (λ k. 4 + 10563 * k + n * (2 * k)) e ∙ ap (λ k. 4 + 10563 * d + k * (2 * d)) f ∙ sym (add-zero (4 + 10563 * d + m * (2 * d)))
+vol_end : (n c m d : ℕ) → c ≡ d → n ≡ m → 4 + 18755 * c + n * (2 * c) ≡ vol_at d m (2 * d) 0
+vol_end n c m d e f = ap (λ k. 4 + 18755 * k + n * (2 * k)) e ∙ ap (λ k. 4 + 18755 * d + k * (2 * d)) f ∙ sym (add-zero (4 + 18755 * d + m * (2 * d)))
 
-per_end : (n c m d : ℕ) → c ≡ d → n ≡ m → 4 + 10563 * c + n * (2 * c) + n * (2 * c) ≡ per_at d m (2 * d) 0
-per_end n c m d e f = ap (λ k. 4 + 10563 * k + n * (2 * k) + n * (2 * k)) e ∙ ap (λ k. 4 + 10563 * d + k * (2 * d) + k * (2 * d)) f ∙ sym (add-zero (4 + 10563 * d + m * (2 * d) + m * (2 * d)))
+per_end : (n c m d : ℕ) → c ≡ d → n ≡ m → 4 + 18755 * c + n * (2 * c) + n * (2 * c) ≡ per_at d m (2 * d) 0
+per_end n c m d e f = ap (λ k. 4 + 18755 * k + n * (2 * k) + n * (2 * k)) e ∙ ap (λ k. 4 + 18755 * d + k * (2 * d) + k * (2 * d)) f ∙ sym (add-zero (4 + 18755 * d + m * (2 * d) + m * (2 * d)))
 
 no_row : (a m : ℕ) → a ≡ a + m * 0 + 0
 no_row a m = omega arith
 
-per_start : (n c m d : ℕ) → c ≡ d → n ≡ m → 4 + 10563 * c + n * (2 * c) ≡ per_at d m 0 0
-per_start n c m d e f = ap (λ k. 4 + 10563 * k + n * (2 * k)) e ∙ ap (λ k. 4 + 10563 * d + k * (2 * d)) f ∙ no_row (4 + 10563 * d + m * (2 * d)) m
+per_start : (n c m d : ℕ) → c ≡ d → n ≡ m → 4 + 18755 * c + n * (2 * c) ≡ per_at d m 0 0
+per_start n c m d e f = ap (λ k. 4 + 18755 * k + n * (2 * k)) e ∙ ap (λ k. 4 + 18755 * d + k * (2 * d)) f ∙ no_row (4 + 18755 * d + m * (2 * d)) m
 
 pub returns : goal.returns
 returns g c = λ seats are knows marked won.
@@ -55,7 +55,7 @@ returns g c = λ seats are knows marked won.
     let lines : length t.base.words ≡ region_words t.lines = sym region ∙ ap (λ s. region_words s.lines) view in
     let at = c.replicas_at-from.ensures in
     let count = 8 * (146 + inside.lines) * (2 * inside.callers.number) in
-    let from : c.replicas_at-from.result ≡ vol_at t.callers (length t.base.words) 0 0 = at ∙ ap (λ k. 4 + 10563 * k) callers ∙ no_row (4 + 10563 * t.callers) (length t.base.words) in
+    let from : c.replicas_at-from.result ≡ vol_at t.callers (length t.base.words) 0 0 = at ∙ ap (λ k. 4 + 18755 * k) callers ∙ no_row (4 + 18755 * t.callers) (length t.base.words) in
     let half : c.replicas_at-from.result + count ≡ vol_at t.callers (length t.base.words) (2 * t.callers) 0 = ap (λ n. n + count) at ∙ vol_end _ _ _ _ callers region in
     leaves t instance seats _ end.0 c.args.closing.id refl refl are held (end.1.1 ∙ ap some me) (record {
       callers = callers;

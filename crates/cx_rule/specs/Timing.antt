@@ -1,0 +1,76 @@
+-- When a caller's operations began and were answered: a moment of the run of all callers, by how many steps the caller had made.
+use Rattle.std.specs.Prelude.{◌≡◌, ◌+◌, ◌≤◌, ◌⊎◌, true, false, ℕ, min, List, [], ◌∷◌, ◌++◌, Some, length, slice_get}
+use Rattle.core_order.specs.RealTime.{IsAhead, IsAnswered, Operation}
+use Rattle.core_order.specs.RealTime.Operation.{Update, Read}
+use Rattle.cx_core.specs.declared.kinds.Event.{Event}
+use Rattle.cx_core.specs.declared.local.Local.{Local}
+use Rattle.cx_core.specs.Events.{Run}
+use Rattle.cx_core.specs.Layout.{max_word}
+use Rattle.cx_core.specs.State.{Instance, State}
+use Rattle.cx_rule.specs.declared.rule.Times.{Times}
+
+-- the run of these events comes by a moment at which a caller had made so many steps
+pub record ComesBy (instance : Instance) (from : State) (events : List Event) (caller steps : ℕ) : Type 0 where
+  pub before : List Event
+  pub after : List Event
+  pub are : events ≡ before ++ after
+  pub moment : State
+  pub run : Run instance from before moment
+  pub local : Local
+  pub of_caller : slice_get moment.locals caller ≡ Some local
+  pub count : local.steps ≡ steps
+
+-- at such a moment an operation had not begun
+pub record BeginsAt (instance : Instance) (from : State) (events : List Event) (caller : ℕ) (operation : Operation) (steps : ℕ) : Type 0 where
+  pub by : ComesBy instance from events caller steps
+  pub ahead : IsAhead by.moment operation
+
+-- at such a moment an operation was answered
+pub record EndsAt (instance : Instance) (from : State) (events : List Event) (caller : ℕ) (operation : Operation) (steps : ℕ) : Type 0 where
+  pub by : ComesBy instance from events caller steps
+  pub answered : IsAnswered by.moment operation
+
+-- The times of a caller's operations are so: each entry, answer and read has one.
+pub record AreTimes (instance : Instance) (from : State) (events : List Event) (caller : ℕ) (l : Local) (t : Times) : Type 0 where
+  pub all_linked : length t.linked ≡ length l.own
+  pub linked : (i n : ℕ) → slice_get t.linked i ≡ Some n → BeginsAt instance from events caller (Update caller i) n
+  pub all_answered : length t.answered ≡ length l.answered
+  pub answered : (i n : ℕ) → slice_get t.answered i ≡ Some n → EndsAt instance from events caller (Update caller i) n
+  pub loaded : l.fresh ≡ true → BeginsAt instance from events caller (Read caller (length l.seen_reads)) t.loaded
+  pub all_reads : length t.reads ≡ length l.seen_reads
+  pub begun : (i : ℕ) (x : ℕ × ℕ) → slice_get t.reads i ≡ Some x → BeginsAt instance from events caller (Read caller i) x.0
+  pub read : (i : ℕ) (x : ℕ × ℕ) → slice_get t.reads i ≡ Some x → EndsAt instance from events caller (Read caller i) x.1
+
+-- A caller's step adds to them what it links, answers and loads.
+pub record AddTimes (l l' : Local) (t t' : Times) : Type 0 where
+  pub linked : ((length l'.own ≡ length l.own) × (t'.linked ≡ t.linked)) ⊎ ((length l'.own ≡ length l.own + 1) × (t'.linked ≡ t.linked ++ l.steps ∷ []))
+  pub answered : ((length l'.answered ≡ length l.answered) × (t'.answered ≡ t.answered)) ⊎ ((length l'.answered ≡ length l.answered + 1) × (t'.answered ≡ t.answered ++ l'.steps ∷ []))
+  pub loaded : l'.fresh ≡ true → (length l'.seen_reads ≡ length l.seen_reads) × (((l.fresh ≡ true) × (t'.loaded ≡ t.loaded)) ⊎ ((l.fresh ≡ false) × (t'.loaded ≡ l.steps)))
+  pub reads : ((length l'.seen_reads ≡ length l.seen_reads) × (t'.reads ≡ t.reads))
+      ⊎ ((l.fresh ≡ true) × (length l'.seen_reads ≡ length l.seen_reads + 1) × (t'.reads ≡ t.reads ++ (t.loaded, l'.steps) ∷ []))
+
+-- An entry was linked behind so many steps of its caller, or one was answered before the caller had made more than so many: the list of
+-- counts has one more. A count stays at the end of its type.
+pub record BeginsIn (first : ℕ) (old new : List ℕ) : Type 0 where
+  pub at : ℕ
+  pub from : min first max_word ≤ at
+  pub is : new ≡ old ++ at ∷ []
+
+pub record EndsIn (last : ℕ) (old new : List ℕ) : Type 0 where
+  pub at : ℕ
+  pub to : at ≤ last
+  pub is : new ≡ old ++ at ∷ []
+
+-- the same of a read that began behind so many steps and was answered in so many
+pub record ReadsIn (first last : ℕ) (old new : List (ℕ × ℕ)) : Type 0 where
+  pub begun : ℕ
+  pub ended : ℕ
+  pub from : min first max_word ≤ begun
+  pub to : ended ≤ last
+  pub is : new ≡ old ++ (begun, ended) ∷ []
+
+-- what is known of the times of a caller's entries, answers and reads is as it was
+pub record KeepsTimes (before after : Times) : Type 0 where
+  pub linked : after.linked ≡ before.linked
+  pub answered : after.answered ≡ before.answered
+  pub reads : after.reads ≡ before.reads

@@ -1,0 +1,179 @@
+-- What a caller does that has seen a place.
+use Rattle.std.proofs.Common.{◌≡◌, ◌+◌, ◌<◌, ◌≤◌, inl, inr, ℕ, max, Bool, List, [], Option, None, Some, append-nil, length, refl, ap, sym, subst, ◌∙◌, arith}
+use Rattle.std.proofs.lemmas.Option.{slice_get_past}
+use Rattle.std.specs.List.{slice_get}
+use Rattle.std.specs.Option.{option_map}
+use Rattle.cx_base.specs.Codes.{root_place_of}
+use Rattle.cx_core.specs.declared.local.Answer.{Answer}
+use Rattle.cx_core.specs.declared.local.Linked.{Linked}
+use Rattle.cx_core.specs.declared.kinds.Kind.TheVariants.{LoadCur}
+use Rattle.cx_core.specs.QueueEvents.{cell_of}
+use Rattle.cx_core.specs.RootEvents.{unanswered}
+use Rattle.cx_core.proofs.HeldLists.{mapped}
+use Rattle.cx_core.proofs.Locals.{slice_get-last}
+use Rattle.cx_core.proofs.RootCodes.{place_up}
+use Rattle.cx_rule.specs.Raises.{AnswersOf, TellsAnswers, known_answered}
+use Rattle.cx_rule.specs.Running.{IsSeatOf, Running, instance_at}
+use Rattle.cx_rule.specs.Seats.{IsAtLimit, Seated, stepped}
+use Rattle.cx_service.specs.Callers.{IsCallerOf}
+use Rattle.cx_service.specs.CatchUps.{CatchUpKeeps, HasSeen, SeesCurrent}
+use Rattle.cx_service.specs.Drives.{DriveDone}
+use Rattle.cx_service.specs.Lookups.{ReadAnswered, ReadKeeps}
+use Rattle.cx_service.specs.Submits.{SubmitKeeps, SubmitLinked, entry_at}
+use Rattle.cx_service.specs.Updates.{UpdateDone}
+use Rattle.cx_service.proofs.Cells.{own_kept}
+use Rattle.cx_turns.specs.declared.lookup.Seen.{Seen}
+
+module _ {O : Type 0} (r : Running O) (op : List ℕ) (before after : Seated) where
+  -- an own entry that was answered is below the front
+  done_front : (answer : Answer) → UpdateDone r op before after answer → answer.ticket < after.known.local.front
+  done_front answer done =
+      let l = before.known.local in
+      let x : Linked = entry_at r l op answer.ticket in
+      let at : slice_get after.known.local.own (length l.own) ≡ Some x = ap (λ (xs : List Linked). slice_get xs (length l.own)) done.links.own ∙ slice_get-last l.own x in
+      done.caller.cells.to (length l.own) x at
+
+  done_answer : (answer : Answer) → UpdateDone r op before after answer → slice_get after.known.local.answered (length before.known.local.answered) ≡ Some answer
+  done_answer answer done = ap (λ (xs : List Answer). slice_get xs (length before.known.local.answered)) done.answered ∙ slice_get-last before.known.local.answered answer
+
+  pub answered_seen : (answer : Answer) → UpdateDone r op before after answer → HasSeen r.callers (answer.ticket + 1) after.known.local
+  answered_seen answer done = record {
+    front = (let below = done_front answer done in omega (arith, below));
+    read = inr (length before.known.local.answered, answer, done_answer answer done, omega arith);
+  }
+
+  pub update_behind : (place : ℕ) (answer : Answer) → HasSeen r.callers place before.known.local → UpdateDone r op before after answer → (place ≤ answer.ticket) × HasSeen r.callers place after.known.local
+  update_behind place answer seen done =
+      let front = seen.front in
+      let from = done.from in
+      let below = done_front answer done in (
+        omega (arith, front, from),
+        record { front = omega (arith, front, from, below); read = inr (length before.known.local.answered, answer, done_answer answer done, omega (arith, front, from)) },
+      )
+
+  pub read_behind : (place : ℕ) (seen : Seen) → HasSeen r.callers place before.known.local → ReadAnswered r op before after seen → (place ≤ seen.place) × HasSeen r.callers place after.known.local
+  read_behind place seen was read =
+      let caller = read.caller.of.caller in
+      let rises = place_up r.callers before.known.local.seen_cur after.known.local.seen_cur (omega (arith, caller)) read.keeps.cur in
+      let at = read.place in
+      let above : place ≤ seen.place = elim was.read [
+        | inl cur ↦ omega (arith, cur, rises, at)
+        | inr one ↦ (let lower = read.above one.0 one.1 one.2 in let behind = one.3 in omega (arith, lower, behind))
+      ] in
+      (above, record { front = (let a = was.front in let b = read.keeps.front in omega (arith, a, b)); read = inl (omega (arith, above, at)) })
+
+-- what was seen has been seen still where neither the front nor the code found in CUR fell and the answers are as they were
+still_seen : {O : Type 0} (r : Running O) (place : ℕ) (before after : Seated) → IsCallerOf r before → HasSeen r.callers place before.known.local → before.known.local.front ≤ after.known.local.front →
+    before.known.local.seen_cur ≤ after.known.local.seen_cur → after.known.local.answered ≡ before.known.local.answered → HasSeen r.callers place after.known.local
+still_seen r place before after caller was front cur answered =
+    let number = caller.of.caller in
+    let rises = place_up r.callers before.known.local.seen_cur after.known.local.seen_cur (omega (arith, number)) cur in
+    record {
+      front = (let a = was.front in omega (arith, a, front));
+      read = elim was.read [
+        | inl seen ↦ inl (omega (arith, seen, rises))
+        | inr one ↦ inr (one.0, one.1, ap (λ (xs : List Answer). slice_get xs one.0) answered ∙ one.2, one.3)
+      ];
+    }
+
+pub submit_linked_behind : {O : Type 0} (r : Running O) (op : List ℕ) (most place : ℕ) (before after : Seated) → HasSeen r.callers place before.known.local → (links : SubmitLinked r op most before after) → place ≤ links.ticket
+submit_linked_behind r op most place before after was links = (let front = was.front in let from = links.from in omega (arith, front, from))
+
+pub submit_seen : {O : Type 0} (r : Running O) (most place : ℕ) (before after : Seated) → IsCallerOf r before → HasSeen r.callers place before.known.local → SubmitKeeps most before after → HasSeen r.callers place after.known.local
+submit_seen r most place before after caller was keeps = still_seen r place before after caller was keeps.front keeps.cur keeps.answered
+
+pub read_seen : {O : Type 0} (r : Running O) (place : ℕ) (before after : Seated) → IsCallerOf r before → HasSeen r.callers place before.known.local → ReadKeeps before after → HasSeen r.callers place after.known.local
+read_seen r place before after caller was keeps = still_seen r place before after caller was keeps.front keeps.cur keeps.answered
+
+-- an unanswered entry is an own one
+own_unanswered : (own : List Linked) (n ticket : ℕ) → option_map (λ (x : Linked). x.ticket) (slice_get own n) ≡ Some ticket → (x : Linked) × (slice_get own n ≡ Some x) × (x.ticket ≡ ticket)
+own_unanswered own n ticket is = (let m = mapped (λ (x : Linked). x.ticket) (slice_get own n) ticket is in (m.0, m.1, m.2))
+
+pub driven_seen : {O : Type 0} (r : Running O) (place : ℕ) (before after : Seated) (answer : Answer) → place ≤ answer.ticket + 1 → DriveDone r before after answer → HasSeen r.callers place after.known.local
+driven_seen r place before after answer low done =
+    let x = own_unanswered before.known.local.own (length before.known.local.answered) answer.ticket done.ticket in
+    let below = done.caller.cells.to (length before.known.local.answered) x.0 (ap (λ (xs : List Linked). slice_get xs (length before.known.local.answered)) done.keeps.own ∙ x.1) in
+    let same = x.2 in
+    record {
+      front = omega (arith, low, below, same);
+      read = inr (length before.known.local.answered, answer, ap (λ (xs : List Answer). slice_get xs (length before.known.local.answered)) done.answered ∙ slice_get-last before.known.local.answered answer, low);
+    }
+
+-- A caller loaded CUR, and raised DUR by the code found, which answered nothing.
+module _ {O : Type 0} (r : Running O) (step : O → List ℕ → List ℕ → List ℕ × List ℕ) (reads : O → List ℕ → Bool) (s mid v : Seated) (code : ℕ) (caller : IsCallerOf r s)
+    (loaded : mid ≡ stepped (instance_at r step reads) LoadCur s code) where
+  mid_own : mid.known.local.own ≡ s.known.local.own
+  mid_own = ap (λ (x : Seated). x.known.local.own) loaded
+
+  mid_answered : mid.known.local.answered ≡ s.known.local.answered
+  mid_answered = ap (λ (x : Seated). x.known.local.answered) loaded
+
+  -- it answers nothing, since each entry of the caller is answered
+  pub tells_nothing : (lines : ℕ) (lawful : List ℕ → Type 0) (place : ℕ) → TellsAnswers lines lawful r.base (step r.object) mid.known place []
+  tells_nothing lines lawful place =
+      let own = ap (λ (xs : List Linked). length xs) mid_own in
+      let answered = ap (λ (xs : List Answer). length xs) mid_answered in
+      let count = caller.count in
+      let none : unanswered mid.known.local ≡ None = slice_get_past mid.known.local.own (length mid.known.local.answered) (omega (arith, own, answered, count)) in
+      subst (λ (o : Option Linked). AnswersOf lines lawful r.base (step r.object) mid.known place o []) (sym none) refl
+
+  module _ (most : s.known.local.seen_cur ≤ code) (raised : v ≡ record mid { known = known_answered (instance_at r step reads) code [] None mid.known }) where
+    own_still : v.known.local.own ≡ s.known.local.own
+    own_still = ap (λ (x : Seated). x.known.local.own) raised ∙ mid_own
+
+    answered_same : v.known.local.answered ≡ s.known.local.answered
+    answered_same = ap (λ (x : Seated). x.known.local.answered) raised ∙ append-nil mid.known.local.answered ∙ mid_answered
+
+    cur_is : v.known.local.seen_cur ≡ code
+    cur_is = ap (λ (x : Seated). x.known.local.seen_cur) raised ∙ ap (λ (x : Seated). x.known.local.seen_cur) loaded
+
+    front_is : v.known.local.front ≡ max s.known.local.front (root_place_of r.callers code)
+    front_is = ap (λ (x : Seated). x.known.local.front) raised ∙ ap (λ (x : Seated). x.known.local.front) loaded
+
+    pub current_keeps : CatchUpKeeps s v
+    current_keeps = record {
+      number = ap (λ (x : Seated). x.known.local.number) raised ∙ ap (λ (x : Seated). x.known.local.number) loaded;
+      limit = ap (λ (x : Seated). x.known.local.limit) raised ∙ ap (λ (x : Seated). x.known.local.limit) loaded;
+      own = own_still;
+      answered = answered_same;
+      reads = ap (λ (x : Seated). x.known.local.seen_reads) raised ∙ append-nil mid.known.local.seen_reads ∙ ap (λ (x : Seated). x.known.local.seen_reads) loaded;
+      met = ap (λ (x : Seated). x.known.local.met) raised ∙ ap (λ (x : Seated). x.known.local.met) loaded;
+      scans = ap (λ (x : Seated). x.known.local.scans) raised ∙ ap (λ (x : Seated). x.known.local.scans) loaded;
+      cur = (let is = cur_is in omega (arith, is, most));
+      front = (let is = front_is in omega (arith, is));
+      steps = (let second = ap (λ (x : Seated). x.known.local.steps) raised in let first = ap (λ (x : Seated). x.known.local.steps) loaded in omega (arith, first, second));
+    }
+
+    pub current_sets : v.known.sets ≡ s.known.sets
+    current_sets = ap (λ (x : Seated). x.known.sets) raised ∙ ap (λ (x : Seated). x.known.sets) loaded
+
+    still_cell : (j : ℕ) → (cell_of v.known.local j).ticket ≡ (cell_of s.known.local j).ticket
+    still_cell j = ap (λ (x : Seated). (cell_of x.known.local j).ticket) raised ∙ ap (λ (x : Seated). (cell_of x.known.local j).ticket) loaded
+
+    pub current_seen : (found : ℕ) → IsSeatOf r v → ¬ IsAtLimit s.known.local → found ≡ root_place_of r.callers code → SeesCurrent r s v found
+    current_seen found of allowed is =
+        let front = front_is in
+        let rises : s.known.local.front ≤ v.known.local.front = omega (arith, front) in
+        let placed : found ≡ root_place_of r.callers v.known.local.seen_cur = is ∙ ap (root_place_of r.callers) (sym cur_is) in
+        record {
+          caller = record {
+            of = of;
+            rest = record {
+              exclusive = ap (λ (x : Seated). x.known.local.exclusive) raised ∙ ap (λ (x : Seated). x.known.local.exclusive) loaded ∙ caller.rest.exclusive;
+              shared = ap (λ (x : Seated). x.known.local.shared) raised ∙ ap (λ (x : Seated). x.known.local.shared) loaded ∙ caller.rest.shared;
+              passer = ap (λ (x : Seated). x.known.local.passer) raised ∙ ap (λ (x : Seated). x.known.local.passer) loaded ∙ caller.rest.passer;
+              downgraded = ap (λ (x : Seated). x.known.local.downgraded) raised ∙ ap (λ (x : Seated). x.known.local.downgraded) loaded ∙ caller.rest.downgraded;
+              won = ap (λ (x : Seated). x.known.local.won) raised ∙ ap (λ (x : Seated). x.known.local.won) loaded ∙ caller.rest.won;
+              protection = ap (λ (x : Seated). x.known.local.protection) raised ∙ ap (λ (x : Seated). x.known.local.protection) loaded ∙ caller.rest.protection;
+              scan = ap (λ (x : Seated). x.known.local.scan) raised ∙ ap (λ (x : Seated). x.known.local.scan) loaded ∙ caller.rest.scan;
+              refused = ap (λ (x : Seated). x.known.local.refused) raised ∙ ap (λ (x : Seated). x.known.local.refused) loaded ∙ caller.rest.refused;
+              fresh = ap (λ (x : Seated). x.known.local.fresh) raised;
+            };
+            count = (let own = ap (λ (xs : List Linked). length xs) own_still in let answered = ap (λ (xs : List Answer). length xs) answered_same in let count = caller.count in omega (arith, own, answered, count));
+            front = (let from = caller.front in omega (arith, from, rises));
+            cells = own_kept s.known.local v.known.local caller.cells own_still rises (λ j t at. sym (still_cell j) ∙ at);
+          };
+          allowed = allowed;
+          is = placed;
+          seen = record { front = omega (arith, front, is); read = inl (omega (arith, placed)) };
+        }

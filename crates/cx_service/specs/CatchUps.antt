@@ -1,0 +1,62 @@
+-- What it comes to that a caller catches up with a place that another one told.
+use Rattle.std.specs.Prelude.{◌≡◌, ◌+◌, ◌<◌, ◌≤◌, ◌⊎◌, ℕ, slice_get, None, Some}
+use Rattle.cx_base.specs.Codes.{root_place_of}
+use Rattle.cx_core.specs.declared.local.Answer.{Answer}
+use Rattle.cx_core.specs.declared.local.Local.{Local}
+use Rattle.cx_rule.specs.Running.{Running}
+use Rattle.cx_rule.specs.Seats.{IsAtLimit, Seated}
+use Rattle.cx_service.specs.declared.catch_up.CaughtUp.{CaughtUp}
+use Rattle.cx_service.specs.declared.catch_up.CaughtUp.TheVariants.{Caught, Behind, Halted}
+use Rattle.cx_service.specs.Callers.{IsCallerOf, IsStoppedOf, StoppedSeat}
+
+-- A caller has seen a place: its front is at the place or above it, and so is what it found in CUR or what is behind an entry that it was
+-- answered. So it links no entry below the place, and reads nothing below it.
+pub record HasSeen (callers place : ℕ) (l : Local) : Type 0 where
+  pub front : place ≤ l.front
+  pub read : (place ≤ root_place_of callers l.seen_cur) ⊎ ((i : ℕ) × (x : Answer) × (slice_get l.answered i ≡ Some x) × (place ≤ x.ticket + 1))
+
+-- What catching up leaves as it was. What was found in CUR and the front do not fall, and at most two steps are made.
+pub record CatchUpKeeps (before after : Seated) : Type 0 where
+  pub number : after.known.local.number ≡ before.known.local.number
+  pub limit : after.known.local.limit ≡ before.known.local.limit
+  pub own : after.known.local.own ≡ before.known.local.own
+  pub answered : after.known.local.answered ≡ before.known.local.answered
+  pub reads : after.known.local.seen_reads ≡ before.known.local.seen_reads
+  pub met : after.known.local.met ≡ before.known.local.met
+  pub scans : after.known.local.scans ≡ before.known.local.scans
+  pub cur : before.known.local.seen_cur ≤ after.known.local.seen_cur
+  pub front : before.known.local.front ≤ after.known.local.front
+  pub steps : after.known.local.steps ≤ before.known.local.steps + 2
+
+-- The code in CUR was loaded, and DUR raised by it. This is its place, which the caller has seen.
+pub record SeesCurrent {O : Type 0} (r : Running O) (before after : Seated) (found : ℕ) : Type 0 where
+  pub caller : IsCallerOf r after
+  pub allowed : ¬ IsAtLimit before.known.local
+  pub is : found ≡ root_place_of r.callers after.known.local.seen_cur
+  pub seen : HasSeen r.callers found after.known.local
+
+-- The caller has seen the place.
+pub record CatchUpCaught {O : Type 0} (r : Running O) (place : ℕ) (before after : Seated) : Type 0 where
+  pub caller : IsCallerOf r after
+  pub keeps : CatchUpKeeps before after
+  pub allowed : ¬ IsAtLimit before.known.local
+  pub seen : HasSeen r.callers place after.known.local
+
+-- The place found in CUR is below it.
+pub record CatchUpBehind {O : Type 0} (r : Running O) (place found : ℕ) (before after : Seated) : Type 0 where
+  pub caller : IsCallerOf r after
+  pub keeps : CatchUpKeeps before after
+  pub allowed : ¬ IsAtLimit before.known.local
+  pub is : found ≡ root_place_of r.callers after.known.local.seen_cur
+  pub below : found < place
+
+-- A further step was to be made and the steps equal the limit.
+pub record CatchUpHalted {O : Type 0} (r : Running O) (before : Seated) (after : StoppedSeat) : Type 0 where
+  pub caller : IsStoppedOf r after.seat
+  pub linked : after.linked ≡ None
+  pub keeps : CatchUpKeeps before after.seat
+
+abbrev pub CatchesUp : {O : Type 0} → Running O → ℕ → Seated → CaughtUp → Type 0
+CatchesUp r place before (Caught after) = CatchUpCaught r place before after
+CatchesUp r place before (Behind after found) = CatchUpBehind r place found before after
+CatchesUp r place before (Halted after) = CatchUpHalted r before after

@@ -1,0 +1,49 @@
+//! What a caller does that has seen a place: it links no entry below it and reads nothing below it. Each law is the contract of a function that
+//! does nothing.
+
+ghost use Rattle.std.specs.Prelude.{◌≤◌, ◌+◌, List, ℕ};
+ghost use Rattle.cx_core.specs.declared.local.Answer.{Answer};
+ghost use Rattle.cx_rule.specs.Running.{Running};
+ghost use Rattle.cx_rule.specs.Seats.{Seated};
+ghost use Rattle.cx_service.specs.Callers.{IsCallerOf};
+ghost use Rattle.cx_service.specs.CatchUps.{HasSeen};
+ghost use Rattle.cx_service.specs.Drives.{DriveDone};
+ghost use Rattle.cx_service.specs.Lookups.{ReadAnswered, ReadKeeps};
+ghost use Rattle.cx_service.specs.Submits.{SubmitKeeps, SubmitLinked};
+ghost use Rattle.cx_service.specs.Updates.{UpdateDone};
+ghost use Rattle.cx_turns.specs.declared.lookup.Seen.{Seen};
+
+use cx_base::Object;
+
+/// Its update is answered at a ticket at or above the place, and it has seen the place still.
+pub fn updates_stand_behind_what_was_seen<O: Object>()
+    ensures { (r : Running O) (op : List ℕ) (place : ℕ) (before after : Seated) (answer : Answer) → HasSeen r.callers place before.known.local → UpdateDone r op before after answer →
+        (place ≤ answer.ticket) × HasSeen r.callers place after.known.local }
+{}
+
+/// Its read is answered at a place at or above it, and it has seen the place still.
+pub fn reads_stand_behind_what_was_seen<O: Object>()
+    ensures { (r : Running O) (op : List ℕ) (place : ℕ) (before after : Seated) (seen : Seen) → HasSeen r.callers place before.known.local → ReadAnswered r op before after seen →
+        (place ≤ seen.place) × HasSeen r.callers place after.known.local }
+{}
+
+/// What a caller was answered it has seen: its update, and so each place up to the one behind the ticket.
+pub fn answered_updates_are_seen<O: Object>()
+    ensures { (r : Running O) (op : List ℕ) (before after : Seated) (answer : Answer) → UpdateDone r op before after answer → HasSeen r.callers (answer.ticket + 1) after.known.local }
+{}
+
+/// Whatever a submit comes to, what was seen before has been seen still, and an entry that it linked has a ticket at or above it.
+pub fn submits_stand_behind_what_was_seen<O: Object>()
+    ensures linked { (r : Running O) (op : List ℕ) (most place : ℕ) (before after : Seated) → HasSeen r.callers place before.known.local → (links : SubmitLinked r op most before after) → place ≤ links.ticket }
+    ensures seen { (r : Running O) (most place : ℕ) (before after : Seated) → IsCallerOf r before → HasSeen r.callers place before.known.local → SubmitKeeps most before after → HasSeen r.callers place after.known.local }
+{}
+
+/// Whatever a read beside the queue comes to, what was seen before has been seen still.
+pub fn reads_keep_what_was_seen<O: Object>()
+    ensures { (r : Running O) (place : ℕ) (before after : Seated) → IsCallerOf r before → HasSeen r.callers place before.known.local → ReadKeeps before after → HasSeen r.callers place after.known.local }
+{}
+
+/// Once an entry is answered that was linked at or above a place, its caller has seen the place.
+pub fn driven_entries_are_seen<O: Object>()
+    ensures { (r : Running O) (place : ℕ) (before after : Seated) (answer : Answer) → place ≤ answer.ticket + 1 → DriveDone r before after answer → HasSeen r.callers place after.known.local }
+{}
