@@ -2,5 +2,6 @@ pub mod Closings
 pub mod Codes
 pub mod Contents
 pub mod Objects
+pub mod Outcomes
 pub mod Recoveries
 pub mod Sealed

@@ -2,10 +2,11 @@
 //! service, and C gives each to one call at a time.
 #![tactic(auto)]
 
-ghost use Rattle.std.specs.Prelude.{length};
+ghost use Rattle.std.specs.Prelude.{◌≡◌, length};
 ghost use Rattle.githoppu_c.specs.Closings.{ClosesAs, Images};
 ghost use Rattle.githoppu_c.specs.Contents.{Answers, Calls, Finishes, IsCallable, IsTriesFor, Opens};
 ghost use Rattle.githoppu_c.specs.Objects.{IsQueueFault, IsQueueIn, IsStoreFault, IsStoreIn};
+ghost use Rattle.githoppu_c.specs.Outcomes.{TellsOutcome};
 ghost use Rattle.githoppu_c.specs.Recoveries.{Recovers};
 ghost use Rattle.githoppu_c.specs.declared.content.Content as content_type;
 
