@@ -114,13 +114,13 @@ def row(aim, setting, rounds):
 
 
 def section(measured, options, where):
-    head = ["Lines", "Keys", "Threads", "Calls", "Our service", "The other", "It", "Ratio of", "Ratio", "Aim", "Stands"]
+    head = ["Lines", "Keys", "Threads", "Calls", "Our service", "The other", "It", "Ratio of", "Ratio", "Target", "Met"]
     marks = ["--:", "--:", "--:", "--", "--:", "--", "--:", "--", "--:", "--", "--"]
     lines = [
         HEAD,
         "",
         "The steps of the core once more in plain Rust, of which nothing is proved, over the same document store: `cx`, where `+limit` counts each step and tests a limit, "
-        "`+bulk` counts a loop of steps once, and `+lag` frees cells no earlier than it must; and one region under a mutex. "
+        "`+bulk` counts a loop of steps once, and `+lag` frees cells no earlier than it must; and one region under a mutex. The targets are this repository's own. "
         + ("The updates of the other also delete documents and add to numbers. " if options.updates == "mixed" else "")
         + f"{where}. Medians of {options.rounds} rounds of {options.ms} milliseconds, in which both run in turn (`bench/aims.py`). Thousands of calls a "
         "second of all threads, and in brackets the nanoseconds of processor time of a call; the ratio is ours by the other's.",

@@ -44,6 +44,7 @@ FORMS = {
     "btree_mutex": "BTreeMap, Mutex",
     "btree_rwlock": "BTreeMap, RwLock",
 }
+MAPS = ["btree_mutex", "btree_rwlock"]
 LEAST_ROUNDS = 9
 # the updates of each caller in the short run that tells how many a longer one has; of reads alone it makes as many
 FIRST_UPDATES = 500
@@ -205,15 +206,15 @@ def page(measured, options, where, left_out, found):
         "",
         "## Which to take",
         "",
-        "\n\n".join(advice(shares(measured, REGION))),
+        "\n\n".join(advice(shares(measured, REGION), [shares(measured, form) for form in MAPS])),
         "",
-        "The service makes as many calls as each of the others, or more:",
+        "From which share of reads on the service makes at least as many calls as each of the others ('never' where it does not with reads alone):",
         "",
         comparison({FORMS[peer]: shares(measured, peer) for peer in FORMS if peer != OURS}),
         "",
         f"![Calls a second by share of reads]({PICTURE})",
         "",
-        "The picture is drawn from the table below: the others' calls are ours times their ratio.",
+        "The picture is drawn from the table below: the others' calls are ours times their ratio. Its vertical scale is logarithmic: equal steps up are equal factors.",
         "",
         "## The figures",
         "",
@@ -225,7 +226,7 @@ def page(measured, options, where, left_out, found):
         "",
         "## Steps by part",
         "",
-        "The steps of a caller alone at 1,024 lines and 100 keys, on average over its first 16 updates and 64 reads behind them. Over many updates one "
+        "The steps of a caller alone at 1,024 lines and 100 keys, on average over its first 16 updates and the 64 reads after them. Over many updates one "
         "makes a few more (`bench/service.py` has the times).",
         "",
         steps_by_part(found, "an update", PARTS, "retire"),

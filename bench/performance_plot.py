@@ -86,7 +86,7 @@ def drawn(panels, names):
     looks = dict(zip(names, LOOKS))
     width = (WIDTH - MARGIN - LEFT - GAP * (len(threads) - 1)) / len(threads)
     parts = [
-        text(MARGIN, 24, "Calls a second, of all threads together", "title"),
+        text(MARGIN, 24, "Calls a second, of all threads together (logarithmic scale)", "title"),
         text(WIDTH - MARGIN, 24, "the maps are not durable", "soft right"),
         *legend(names, looks),
     ]

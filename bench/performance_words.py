@@ -64,25 +64,58 @@ def shares_at_all_sizes(figures):
     return dict(sorted(least.items()))
 
 
-def advice(figures):
-    """When to take the service, and when one region under a mutex, which the figures are beside."""
-    least = shares_at_all_sizes(figures)
-    wins = [f"{share_words(share)} on {thread_words(count)}" for count, share in least.items() if share is not None]
+def joined(words):
+    """Words in a row: with an `and` before the last."""
+    return ", ".join(words[:-1]) + " and " + words[-1] if len(words) > 1 else words[0]
+
+
+def wins(figures):
+    """From which share of reads on the service is as fast at all sizes, with the numbers of threads for which that is so."""
+    found = {}
+    for count, share in shares_at_all_sizes(figures).items():
+        if share is not None:
+            found.setdefault(share, []).append(str(count))
+    return [f"{share_words(share)} on {joined(counts)} thread{'' if counts == ['1'] else 's'}" for share, counts in found.items()]
+
+
+def range_words(ratios):
+    """The least and the greatest of ratios."""
+    return " to ".join(dict.fromkeys(short(end) for end in (min(ratios), max(ratios))))
+
+
+def updates_in(figures):
+    """The ratios of updates alone."""
+    return [ratios[0] for ratios in figures.values() if 0 in ratios]
+
+
+def map_words(mutex, rwlock):
+    """How the service is beside a map that is not durable, under a mutex and under a readers-writer lock."""
+    words = ""
+    if updates_in(mutex):
+        words += f", and {range_words(updates_in(mutex))} times as many as a `BTreeMap` under one"
+    faster = [1 / ratio for ratios in rwlock.values() for ratio in ratios.values()]
+    return words + f". A `BTreeMap` under a readers-writer lock makes {range_words(faster)} times as many calls as the service, over all rows below. Neither map is durable."
+
+
+def advice(figures, maps=None):
+    """When to take the service, and when one region under a mutex, which the figures are beside; `maps` are those beside a map under a mutex,
+    and under a readers-writer lock."""
+    found = wins(figures)
     service = (
-        "**Take the service** where what was answered has to be there after a loss of power (in the stated model of persistent memory, which is "
-        "held in words here: what ends with the process is gone, unless what is left was written to a file), or where a caller that is stopped "
-        "must not shut the others out at once: they read on, and update until no cell of theirs is free and they are told who keeps them. Behind a lock who "
-        "is stopped shuts all out, and a loss of power in a change leaves it half made."
+        "**Take the service** where an acknowledged change must survive a crash (a power failure in the simulated persistent memory: when the process "
+        "ends its data are gone, unless an image was saved), or where a stalled thread must not stop all others at once. They go on reading, and each can make "
+        "at most 16 more updates before it gets `Full`, which names the stalled thread. With a lock, a stalled thread stops all others, and a crash in the "
+        "middle of a change leaves it half made."
     )
-    if wins:
-        service += f" Its speed alone is a reason {', '.join(wins)}: there it is at least as fast as a region under a mutex, at all sizes measured."
+    if found:
+        service += f" Its speed alone is a reason {joined(found)}: there it is at least as fast as a region under a mutex, at all sizes measured."
     else:
-        service += " Its speed alone is no reason: on no number of threads it is as fast as a region under a mutex at all sizes measured."
-    if all(share == 0 for share in least.values()):
+        service += " Its speed alone is no reason: on no number of threads is it as fast as a region under a mutex at all sizes measured."
+    if all(share == 0 for share in shares_at_all_sizes(figures).values()):
         return [service]
     mutex = "**Take a mutex** for all else."
-    updates = [ratios[0] for ratios in figures.values() if 0 in ratios]
+    updates = updates_in(figures)
     if updates:
-        ends = dict.fromkeys(short(end) for end in (min(updates), max(updates)))
-        mutex += f" Of updates alone the service makes {' to '.join(ends)} times as many as a region under a mutex."
+        mutex += f" Of updates alone the service makes {range_words(updates)} times as many as a region under a mutex"
+        mutex += map_words(*maps) if maps else "."
     return [service, mutex]

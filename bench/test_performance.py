@@ -166,8 +166,12 @@ class Words(unittest.TestCase):
         never, _ = performance_words.advice(self.figures(lambda form, reads: 0.2))
         self.assertIn("no reason", never)
         some, mutex = performance_words.advice(self.figures(lambda form, reads: 0.25 + reads / 100))
-        self.assertIn("from 90 reads in 100 up on 4 threads", some)
-        self.assertIn("makes 0.25 times", mutex)
+        self.assertIn("from 90 reads in 100 up on 1, 2 and 4 threads:", some)
+        self.assertIn("makes 0.25 times as many as a region under a mutex.", mutex)
+        maps = [self.figures(lambda form, reads: 0.5), self.figures(lambda form, reads: 0.2 + reads / 500)]
+        _, mutex = performance_words.advice(self.figures(lambda form, reads: 0.25 + reads / 100), maps)
+        self.assertIn("and 0.5 times as many as a `BTreeMap` under one", mutex)
+        self.assertIn("makes 2.50 to 5.00 times as many calls as the service", mutex)
         self.assertEqual(1, len(performance_words.advice(self.figures(lambda form, reads: 2.0))))
 
     def test_page_has_a_row_for_each_size_and_peer(self):

@@ -84,7 +84,8 @@ enum githoppu_status {
     GITHOPPU_IMAGE_NUMBERS = 20, /* a result there has a number above the place */
     /* of githoppu_check_version */
     GITHOPPU_OLD_HEADER = 21,    /* the library is newer than this header */
-    GITHOPPU_OLD_LIBRARY = 22    /* this header is newer than the library */
+    GITHOPPU_OLD_LIBRARY = 22,   /* this header is newer than the library */
+    GITHOPPU_BEHIND = 24         /* of catching up: the current place is below the one asked for, so no session of this store was answered at it */
 };
 
 /* ---- The library's own functions. The functions further below call these, and are easier to use. ---- */
@@ -109,6 +110,16 @@ int32_t githoppu_call(githoppu_handle session, const uint64_t op[144], uint64_t 
 
 /* Goes on with the pending operation, for the given number of turns. DONE, PENDING, STOPPED or OUT_OF_TURN. The reply is written where it is DONE. */
 int32_t githoppu_finish(githoppu_handle session, uint64_t reply[144], uint64_t tries, void **out);
+
+/* The place that tells another session of the store what this one has seen: behind the operation that it was answered last, of a read the place
+ * that was read, or the greatest place that it caught up with; 0 before. DONE, or OUT_OF_TURN and 0 of a closed store. It goes to other threads by any
+ * channel, as a number.
+ *
+ * See_place has a session see a place that another one told. DONE: its later answers stand at or above the place, so they hold what the other
+ * session was answered. BEHIND: the current place is below it, which is so of no place that a session of this store told. STOPPED, or OUT_OF_TURN while an
+ * operation is pending. */
+int32_t githoppu_place_of(githoppu_handle session, uint64_t *place, void **out);
+int32_t githoppu_see_place(githoppu_handle session, uint64_t place, void **out);
 
 /* Closes a session, in any state: its last operation may be pending. Sessions are closed in any order, by any threads; no closing waits for another.
  * DONE: it was the last, and *out is the closed store, of which githoppu_image writes an image. OTHERS: other sessions are open, and *out is null. AGAIN:
@@ -183,6 +194,7 @@ static inline const char *githoppu_status_text(int status) {
     case GITHOPPU_IMAGE_NUMBERS: return "a result in the image has a number above the place";
     case GITHOPPU_OLD_HEADER: return "the library is newer than the header";
     case GITHOPPU_OLD_LIBRARY: return "the header is newer than the library";
+    case GITHOPPU_BEHIND: return "the current place is below the one asked for";
     default: return "no status of this version of the library";
     }
 }
@@ -310,6 +322,23 @@ static inline int githoppu_do(void **session, const githoppu_words *op, githoppu
             GITHOPPU_YIELD();
     }
     return status == GITHOPPU_PENDING ? githoppu_end(session, reply) : status;
+}
+
+/* The place that tells another session what this one has seen: 0 where the session is null, or a closed store. */
+static inline uint64_t githoppu_place(void **session) {
+    githoppu_handle handle;
+    uint64_t place = 0;
+    handle.at = *session;
+    if (handle.at != NULL)
+        (void)githoppu_place_of(handle, &place, session);
+    return place;
+}
+
+/* Has a session see a place that another one told: what githoppu_see_place answers, or NO_SESSION. */
+static inline int githoppu_catch_up(void **session, uint64_t place) {
+    githoppu_handle handle;
+    handle.at = *session;
+    return handle.at == NULL ? GITHOPPU_NO_SESSION : githoppu_see_place(handle, place, session);
 }
 
 /* Closes a session, and tries again while others are in the way. What githoppu_close answers, or NO_SESSION; AGAIN only after GITHOPPU_ROUNDS rounds. At

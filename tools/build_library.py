@@ -1,9 +1,10 @@
 #!/usr/bin/env python3
-"""Builds a static library over the libraries that stand built in this checkout: python3 tools/build_library.py CRATE
+"""Builds a proved static library over the libraries that stand built in this checkout: python3 tools/build_library.py CRATE
 
 `rt ci` proves a static library and leaves none, and `rt lib` after it would prove all that stands below once more. So this calls the compiler,
-`rattle build`, which proves the crate itself and loads what `rt ci` proved below it. Where a library below is not built it says so and ends
-with 2: then `rt lib` in the crate's folder is the way.
+`rattle build`, which proves the crate itself and loads what `rt ci` proved below it; that takes some two minutes. Where a library below is not built it
+says so at once and ends with 2: then `rt lib` in the crate's folder proves all, in an hour of processor time, and `tools/build --library` builds the
+library without a proof, in one minute.
 
 Example: python3 tools/build_library.py githoppu_c
 Status 0 where the library is built, 1 where it is not proved, 2 where a library below it is not built or the words are others.
@@ -26,6 +27,12 @@ def lines_of(text):
         if colon:
             named[name.split()[0]] = rest.split()
     return named
+
+
+def static_libraries(text):
+    """The crates of crates.txt that are static libraries."""
+    heads = (line.partition("#")[0].partition(":")[0].split() for line in text.splitlines())
+    return [head[0] for head in heads if "staticlib" in head[1:]]
 
 
 def below(named, crate):
@@ -51,11 +58,19 @@ def words_of(named, crate, kit):
 
 
 def build(crate):
-    named = lines_of((ROOT / "crates.txt").read_text(encoding="utf-8"))
+    text = (ROOT / "crates.txt").read_text(encoding="utf-8")
+    libraries = static_libraries(text)
+    if crate not in libraries:
+        print(f"usage: build_library.py CRATE, where CRATE is a static library of crates.txt: {', '.join(libraries)}", file=sys.stderr)
+        return 2
+    if shutil.which("rt") is None:
+        print("there is no rt on the path", file=sys.stderr)
+        return 2
+    named = lines_of(text)
     kit = Path(os.path.realpath(shutil.which("rt"))).parent.parent
     words, lacking = words_of(named, crate, kit)
     if lacking:
-        print(f"not built: {' '.join(lacking)}", file=sys.stderr)
+        print(f"not built: {lacking[0]}{f' and {len(lacking) - 1} more' if lacking[1:] else ''} that {crate} stands on", file=sys.stderr)
         return 2
     folder = ROOT / "crates" / crate
     (folder / "out").mkdir(exist_ok=True)

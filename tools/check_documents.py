@@ -1,24 +1,33 @@
 #!/usr/bin/env python3
-"""Says which names in README.md, docs/ and the heads of crates are none of this repository: python3 tools/check_documents.py [ROOT]
+"""Says what is wrong with the pages, and which names in them are none of this repository: python3 tools/check_documents.py [ROOT]
 
-The head of a crate is what the comment says that its src/lib.rt begins with. What stands between backticks is looked up: a path has to exist; a name, with its parts apart at `::` and `.`, has to stand as a whole word in a
-source, as an item, a clause's label, a crate or a word that a format fixes. Links of pages have to lead to a file. Each that is found nowhere
-is a line `FILE:LINE: NAME`. A word in capitals stands for what a reader puts there; `*` for anything, as does what
-is left out before `_`; what a build makes, under `out`, is not looked for.
+The pages are README.md, CHANGELOG.md, CONTRIBUTING.md, those of docs/, and the README of crates/, examples/ and tools/. Names are looked up in them and in
+the heads of crates: the comment that a src/lib.rt begins with. What stands between backticks is looked up: a path has to exist; a name, with its parts
+apart at `::` and `.`, has to stand as a whole word in a source, as an item, a clause's label, a crate or a word that a format fixes. Links of pages have
+to lead to a file. Each that is found nowhere is a line `FILE:LINE: NAME`. A word in capitals stands for what a reader puts there, but in the name of a page;
+`*` stands for anything, as does what is left out before `_`; what a build makes, under `out`, is not looked for.
+
+A page is wrong where it is over its length, a line of README.md where it has over 120 characters; so is a phrase of a list of idioms, a term in italics
+where theorems are stated (README.md, docs/THEOREMS.md) that docs/GLOSSARY.md has not, a table that stands twice, a page that no other names, and
+a definition in docs/THEOREMS.md that is not as in its source. The rules are in page_rules.py. It takes 3 seconds.
 
 Example: python3 tools/check_documents.py
-Status 0 where all are found, 1 where one is not, 2 where the words are others.
+Status 0 where nothing is wrong, 1 where something is, 2 where the words are others.
 """
 import os
 import re
 import sys
 from pathlib import Path
 
+import page_rules
 from told import asked_words
 
-PAGES = ("README.md", "docs/*.md", "tools/README.md", "crates/*/src/lib.rt")
+PAGES = ("README.md", "CHANGELOG.md", "CONTRIBUTING.md", "docs/*.md", "crates/README.md", "examples/README.md", "tools/README.md")
+HEADS = "crates/*/src/lib.rt"
+# pages that are gone, which heads of crates still name: a head is mended when its crate is proved anew
+GONE = {"docs/CALLING.md"}
 HEAD = re.compile(r"^//!.*$", re.M)
-SOURCE = re.compile(r"/(crates/.*\.(rt|antt|edit)|crates\.txt|(tools|bench)/.*\.(py|txt|rs|json)|examples/.*|\.ci/run)")
+SOURCE = re.compile(r"/(crates/.*\.(rt|antt|edit)|crates\.txt|(tools|bench|bindings)/.*\.(py|txt|rs|json|c|h|toml)|include/.*\.h|examples/.*|\.ci/run)")
 WORD = re.compile(r"[^\W\d]\w*")
 TICKED = re.compile(r"`([^`\n]+)`")
 LINK = re.compile(r"\]\(([^)#\s]+)\)")
@@ -33,7 +42,7 @@ def paths_of(root):
     """Each file and folder but what a build makes, with a `/` before it."""
     found = []
     for folder, folders, files in os.walk(root):
-        folders[:] = [name for name in folders if name not in (".git", "out", "__pycache__")]
+        folders[:] = [name for name in folders if name not in (".git", "out", "target", "__pycache__")]
         found += [f"/{Path(folder, name).relative_to(root)}" for name in folders + files]
     return found
 
@@ -42,7 +51,7 @@ def words_of(root, paths):
     """All words of the sources but for the heads of crates, and those of the names of files and folders."""
     words = set(WORD.findall(" ".join(paths)))
     for path in paths:
-        if SOURCE.fullmatch(path):
+        if SOURCE.fullmatch(path) and (root / path[1:]).is_file():
             words.update(WORD.findall(HEAD.sub("", (root / path[1:]).read_text(encoding="utf-8", errors="replace"))))
     return words
 
@@ -51,7 +60,9 @@ def is_path(paths, text):
     """Whether a path leads somewhere, from the top or from a folder."""
     if "out" in text.split("/"):
         return True
-    ending = re.escape(PLACE.sub("*", re.sub(r"^(\.\./)+", "", text).rstrip("/"))).replace(r"\*", "[^/]*")
+    plain = re.sub(r"^(\.\./)+", "", text).rstrip("/")
+    # pages have names in capitals
+    ending = re.escape(plain if plain.endswith(".md") else PLACE.sub("*", plain)).replace(r"\*", "[^/]*")
     return any(map(re.compile(f".*/{ending}").fullmatch, paths))
 
 
@@ -69,18 +80,31 @@ def lacks(text, paths, words):
     return [word for word in WORD.findall(text) if not is_word(word, words)]
 
 
-def faults_of(root):
-    """Each name of a page that is found nowhere, with its line."""
+def names_lacking(root):
+    """Each name of a page or of a head that is found nowhere, with its line."""
     paths, faults = paths_of(root), []
     words = words_of(root, paths)
-    for page in sorted(path for pattern in PAGES for path in root.glob(pattern)):
+    for page in sorted(path for pattern in (*PAGES, HEADS) for path in root.glob(pattern)):
         for number, line in enumerate(page.read_text(encoding="utf-8").split("\n"), 1):
-            if page.suffix == ".rt" and not HEAD.match(line):
+            is_head = page.suffix == ".rt"
+            if is_head and not HEAD.match(line):
                 continue
-            found = [word for text in TICKED.findall(line) for word in lacks(text, paths, words)]
+            found = [word for text in TICKED.findall(line) for word in lacks(text, paths, words) if not (is_head and word in GONE)]
             found += [link for link in LINK.findall(line) if "://" not in link and not is_path(paths, link)]
             faults += [f"{page.relative_to(root)}:{number}: {name}" for name in found]
     return faults
+
+
+def page_faults(root):
+    """What is wrong with the pages by the rules of page_rules.py."""
+    paths = sorted(path for pattern in PAGES for path in root.glob(pattern))
+    pages = {str(path.relative_to(root)): path.read_text(encoding="utf-8") for path in paths}
+    return page_rules.faults_of(pages, (path.read_text(encoding="utf-8") for path in root.glob("crates/*/specs/*.antt")))
+
+
+def faults_of(root):
+    """All that is wrong, each with its file and line."""
+    return names_lacking(root) + page_faults(root)
 
 
 def main(root):

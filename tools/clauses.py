@@ -5,6 +5,7 @@ For each crate that is no tests' crate: the lines of its sources (without the co
 their clauses, the clauses a function, the most of one function, how many of the clauses in a hundred are distinct, and the wrong edits under
 `must-fail/`. The last row is all of them together. With --worst N the N functions with the most clauses come after it. TOP is the repository's folder, this one if none is said.
 
+It takes a second.
 Example: python3 tools/clauses.py --worst 20
 Status 0.
 """

@@ -10,6 +10,7 @@ texts, and says so; with --texts it has them. The picture is as wide as its text
 
 Without -o the picture goes to standard output. It has a background of its own, so that it can be shown on a light page and on a dark one.
 
+It takes a second.
 Example: draw_life.py docs/pictures/two_shops.report -o /tmp/two_shops.svg
 Status 0 where there is a picture; 1 and `line N: WHY` where the report has a line that is none; 2 where a file cannot be read or written, or
 the words are others.

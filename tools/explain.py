@@ -3,12 +3,14 @@
 
     explain.py [--program PATH] SCRIPT
     explain.py [--program PATH] --fifo SCRIPT_OF_A_QUEUE
+    explain.py [--program PATH] --pool SCRIPT_OF_CLIENTS_THAT_SHARE_CALLERS
     explain.py [--program PATH] --image IMAGE_TEXT
     explain.py --status NUMBER
 
-The program is the one given, or the one that tools/build sees to. What it refuses is shown with its line, the column, which
+The program is the one given, or the one that tools/build takes. What it refuses is shown with its line, the column, which
 counts characters from 1, and the row of the grammar of docs/FORMATS.md that it breaks. Of an image that does not pass a check it is
-said at which word, what was found there, and what was wanted. The last form says what a status of the program means.
+said at which word, what was found there, and what was wanted. The last form says what a status of the program means. It takes a second; of an image
+of the largest size, some ten.
 
 Example: explain.py examples/two_shops.script
 Status 0 where the script or the image is accepted, 1 where it is refused, 2 where the program could not be run or ended for another cause.
@@ -20,6 +22,7 @@ import unicodedata
 from pathlib import Path
 
 from image_text import BadImage, place_of, read_image, recovered
+from pool_text import read_pool_script
 from program import HOW_TO_BUILD, built
 from queue_text import read_queue_script
 from script_text import LARGEST_INPUT, Refusal, TooLong, raw_lines, read_script, words_of
@@ -30,6 +33,7 @@ REFUSAL = re.compile(rb"refused line ([1-9][0-9]{0,8}): ([a-z0-9]+)\n")
 REFUSED_IMAGE = re.compile(rb"image refused: ([a-z]+[ 0-9]*)\n")
 
 LINES_ROW = "lines L            L is 64 to 16384; the first line that is not passed over, and nowhere else"
+POOL_LIFE_ROW = "life N power C     N is 1 to 64, C at most 2^64 - 1; one line at most, after the lines line"
 LIFE_ROW = "life N power C     N is 1 to 8, C at most 2^64 - 1; begins a life, after the lines line"
 CUT_ROW = "cut K S            K is below N, S at most 2^64 - 1; in a life, one for each client"
 COMMAND_ROWS = {
@@ -96,8 +100,14 @@ OTHER_ENDS = {
 }
 
 
+# the bounds of the number behind the first word of a line, and what it counts
+BOUNDS = {
+    ("header", "lines"): (64, 16_384, "a lines line"),
+    ("life", "life"): (1, 8, "a life line"),
+}
+POOL_BOUNDS = {**BOUNDS, ("life", "life"): (1, 64, "a life line")}
 # the section of docs/FORMATS.md that says how a text is read
-SECTIONS = {read_script: "The script", read_queue_script: "A bounded queue of texts", read_image: "The image text"}
+SECTIONS = {read_script: "The script", read_pool_script: "Clients that share callers", read_queue_script: "A bounded queue of texts", read_image: "The image text"}
 
 
 def rows_of(reason, line, command_rows=COMMAND_ROWS):
@@ -126,16 +136,30 @@ def rows_of(reason, line, command_rows=COMMAND_ROWS):
     }.get(reason, [])
 
 
+def out_of_bounds(reason, line, bounds=BOUNDS):
+    """Which number of a line is below or above what it may be, in words; an empty text where none is."""
+    found = re.fullmatch(r"([a-z]+) ([0-9]+)(?: power [0-9]+)?", line)
+    if found is None or (reason, found[1]) not in bounds:
+        return ""
+    least, most, what = bounds[reason, found[1]]
+    number = int(found[2])
+    if number < least:
+        return f"{number} is below {least}, the least that {what} may have."
+    return f"{number} is above {most}, the most that {what} may have." if number > most else ""
+
+
 def explanation(path, data, number, reason, read=read_script):
     """What is said of a script, or an image text, that was refused at this line for this reason."""
     raw = (raw_lines(data) + [b""])[number - 1]
     start, end, agreed = place_of_fault(data, number, reason, read)
     line, start, end = shown_line(raw, reason, start, end)
     place = f"{path}, line {number}, column {start + 1}: {reason}"
-    parts = [place, "", *with_caret(line, number, start, end), "", SENTENCES.get(reason, UNKNOWN), ""]
+    outside = out_of_bounds(reason, line, POOL_BOUNDS if read is read_pool_script else BOUNDS)
+    parts = [place, "", *with_caret(line, number, start, end), "", SENTENCES.get(reason, UNKNOWN), *([outside] if outside else []), ""]
     parts.append(f"By the grammar (docs/FORMATS.md, {SECTIONS[read]}):")
     command_rows = QUEUE_ROWS if read is read_queue_script else COMMAND_ROWS
-    parts.extend("  " + row for row in rows_of(reason, raw.decode("utf-8", "replace"), command_rows))
+    rows = rows_of(reason, raw.decode("utf-8", "replace"), command_rows)
+    parts.extend("  " + (POOL_LIFE_ROW if row == LIFE_ROW and read is read_pool_script else row) for row in rows)
     if not agreed:
         parts.append("")
         parts.append("The place is a guess: read by docs/FORMATS.md alone, the script has another first fault, or none.")
@@ -191,7 +215,7 @@ def width(letter):
 def explained(path, data, status, output, read=read_script):
     """The words on how the program ended, and the status of this one."""
     if status == 0:
-        return f"{path}: accepted, {output.count(bytes([10]))} lines of report", 0
+        return f"{path}: accepted, {output.count(bytes([10]))} lines of report{'' if output else ': the script has no lives'}", 0
     refused = REFUSAL.fullmatch(output)
     if status == 3 and refused and 1 <= int(refused[1]) <= len(raw_lines(data)):
         return explanation(path, data, int(refused[1]), refused[2].decode(), read), 1
@@ -201,6 +225,11 @@ def explained(path, data, status, output, read=read_script):
 def explained_queue(path, data, status, output):
     """The same of a script of a queue."""
     return explained(path, data, status, output, read_queue_script)
+
+
+def explained_pool(path, data, status, output):
+    """The same of a script of clients that share callers."""
+    return explained(path, data, status, output, read_pool_script)
 
 
 def explained_image(path, data, status, output):
@@ -240,7 +269,7 @@ def meaning(status):
 
 
 # what the program is asked for, and how it is explained what came of it
-OTHER_TEXTS = {"--fifo": ("fifo", explained_queue), "--image": ("recover", explained_image)}
+OTHER_TEXTS = {"--fifo": (["fifo"], explained_queue), "--pool": (["pool", "8"], explained_pool), "--image": (["recover"], explained_image)}
 
 
 def main(words):
@@ -252,18 +281,18 @@ def main(words):
     program = built()
     if words[:1] == ["--program"] and len(words) > 1:
         program, words = Path(words[1]), words[2:]
-    asked, explain = "run", explained
+    asked, explain = ["run"], explained
     if words and words[0] in OTHER_TEXTS:
         (asked, explain), words = OTHER_TEXTS[words[0]], words[1:]
     if len(words) != 1:
-        print("usage: explain.py [--program PATH] [--fifo | --image] FILE")
+        print("usage: explain.py [--program PATH] [--fifo | --pool | --image] FILE")
         return 2
     if not program.exists():
         print(f"no program at {program}; {HOW_TO_BUILD}")
         return 2
     try:
         data = Path(words[0]).read_bytes()
-        ended = subprocess.run([program.resolve(), asked], input=data, capture_output=True, check=False)
+        ended = subprocess.run([program.resolve(), *asked], input=data, capture_output=True, check=False)
     except OSError as error:
         print(f"{error.filename}: {error.strerror}")
         return 2

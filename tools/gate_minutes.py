@@ -9,6 +9,7 @@ with included), then what is left (programs and tests that are built and run, an
 The gate prints no times. So the prover's processes are looked at while they run, twice a second, by Linux's /proc: what one takes after
 the last look is counted as left. Only what this run proved is seen: what is kept of earlier runs costs nothing here.
 
+It takes what the command takes: the gate from nothing 50 minutes on four processors.
 Example: python3 tools/gate_minutes.py rt ci publish
 Status 0 where the command ends with 0: it is the command's.
 """

@@ -9,6 +9,9 @@ WORD = 2 ** 64
 OP_WORDS = 144
 CELL_WORDS = 145
 SET_WORDS = 513
+GAP_SLOTS = 512
+SLOT_WORDS = 16
+LINE = 8
 CELLS = 16
 SLOTS = 8
 OBJECT_START = 8 + CELL_WORDS * SLOTS
@@ -56,6 +59,7 @@ class Core:
     def __init__(self, callers, lines):
         self.n = callers
         self.q = CELLS * callers
+        self.slots = GAP_SLOTS * callers
         self.region = 8 * (146 + lines)
         self.base = [0] * self.region
         self.base[OBJECT_START] = VERSION
@@ -115,6 +119,17 @@ class Core:
                 return False
             words[address] = at(2 * m + 2, 0)
         return tuple(words) == self.image(cell["ticket"] + 1)
+
+    def is_gap(self, s, word):
+        """Whether a word of slot `s` of the ring of gaps names a gap: lines strictly between two, which its ticket leaves as they are."""
+        ticket = word // 2**34 * self.slots + s
+        first, last = word // 2**17 % 2**17, word % 2**17
+        if first + 1 >= last:
+            return True
+        if ticket >= len(self.history):
+            return False
+        between = slice(LINE * (first + 1), LINE * last)
+        return self.image(ticket)[between] == self.image(ticket + 1)[between]
 
     # ---- rights
 
@@ -385,6 +400,12 @@ class Core:
 
     def read_set(self, l, k, t, i):
         return i < SET_WORDS and self.may_read(l, t, k) and l.seen_offer == (k, t, t + 1)
+
+    def note_gap(self, l, s, i, v):
+        return self.load_gap(l, s, i) and self.is_gap(s, v)
+
+    def load_gap(self, l, s, i):
+        return s < self.slots and i < SLOT_WORDS
 
     # ---- losses of power
 

@@ -1,13 +1,21 @@
-"""Where the program stands that the tools run."""
+"""Where the program and the library stand that the tools run and link."""
 import sys
 from pathlib import Path
 
-CRATE = Path(__file__).resolve().parent.parent / "crates" / "cx_tool"
+CRATES = Path(__file__).resolve().parent.parent / "crates"
+CRATE = CRATES / "cx_tool"
 # left by the gate, and by `rt run`
 PROVED = CRATE / "out" / "cx_tool"
-# made by tools/build
+# made by tools/build; where the file beside it is there too, the program is the slow one that `rt try` makes for finding faults
 UNPROVED = CRATE / "out" / "unproved" / "cx_tool"
+SLOW = UNPROVED.with_name("slow")
+# left by tools/bindings after the gate and by `rt lib`, and by tools/build --library
+LIBRARY_CRATE = CRATES / "githoppu_c"
+LIBRARY = LIBRARY_CRATE / "out" / "libgithoppu_c.a"
+UNPROVED_LIBRARY = LIBRARY_CRATE / "out" / "unproved" / "libgithoppu_c.a"
 HOW_TO_BUILD = "build it: tools/build"
+# the word of tools/test_tools.py by which the gate asks for the proved program
+FOR_THE_GATE = "--with-program"
 
 
 def built():
@@ -25,6 +33,8 @@ def needed(program=None):
     return path.resolve()
 
 
-def is_proved(program):
-    """Whether a program is there and is the proved one: the tests run no other, since they hold its threads and refuse it memory."""
-    return program == PROVED and program.exists()
+def is_tested(program):
+    """Whether a program is there that the tests run: the proved one, and, but not for the gate, one that was built without a proof for speed."""
+    if program == PROVED:
+        return program.exists()
+    return program == UNPROVED and program.exists() and not SLOW.exists() and FOR_THE_GATE not in sys.argv

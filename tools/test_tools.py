@@ -1,8 +1,9 @@
 #!/usr/bin/env python3
 """Tests of the tools, and of the built program: python3 tools/test_tools.py [--with-program]
 
-No network is needed. The program is the one that the gate or `tools/build --proved` leaves. Where there is none, the tests that run it are skipped; with
---with-program, as the gate has it, they fail there. A class or a test alone is named by further words.
+No network is needed. The program is the one that tools/build takes. Where there is none, the tests that run it are skipped; with --with-program, as the
+gate has it, it is the proved one alone, and they fail where there is none. A class or a test alone is named by further words. It takes two minutes
+with the program, half a minute without it.
 
 Example: python3 tools/test_tools.py Pictures
 Status 0 where all passed, else 1.
@@ -24,11 +25,8 @@ TESTS = TOOLS / "tests"
 ROOT = TOOLS.parent
 PICTURES = ROOT / "docs" / "pictures"
 EXAMPLES = ROOT / "examples"
-WITH_PROGRAM = "--with-program"
-MUST_RUN = WITH_PROGRAM in sys.argv
 sys.path[:0] = [str(TOOLS), str(TESTS)]
 
-import check_documents
 import check_report
 import clauses
 import draw_life
@@ -43,22 +41,28 @@ import random_queues
 import record_trace
 import stopped_clients
 import told
-from build_tests import Builds
+from build_tests import Builds, Runs, Unproved
+from check_tests import QuickChecks
+from document_tests import Documents, PageRules
 from end_tests import Ends
 from help_tests import Helps
+from history_tests import Histories
 from image_tests import ImageExplanations, ProgramOnImages, ReadImages, usage
 from picture_tests import Pictures
 from plain_core import Core
 from pool_tests import PoolTexts, ProgramOnPools, pool_rows
 from pool_text import read_pool_script
-from program import is_proved
+from program import FOR_THE_GATE, PROVED, is_tested
 from queue_tests import ProgramOnQueues, QueueTexts
 from queue_text import read_queue_script
 from report_text import Fault, read_report, split_reply
 from row_files import ROWS, legal_rows, row
 from script_text import Refusal, TooLong, read_script
 from trace_tests import PlainTraces, ProgramOnTraces
+from tutorial_tests import Tutorial
 from wrong_reports import WRONG
+
+MUST_RUN = FOR_THE_GATE in sys.argv
 
 HEAD = b"lines 64\nlife 1 power 0\n"
 # rows whose report is one of many: clients that are stopped or give up, and reads whose places are free
@@ -214,7 +218,8 @@ def shown_in_documents():
 
 
 def shown_runs(page):
-    """The runs that a document shows: a block with a report beside its script, or one with the report of the example named last."""
+    """The runs that a document shows: a block with a report beside its script, or one with the report of the example named last. What stands
+    behind two spaces in a line of a report is a note on it."""
     for found in re.finditer(r"(?m)^(?: {4}.*\n)+", page):
         lines = found[0].splitlines()
         column = lines[0].find("life 0 clients ")
@@ -223,7 +228,7 @@ def shown_runs(page):
         script = "".join(line[4:column].rstrip() + "\n" for line in lines).rstrip("\n")
         if column == 4:
             script = (EXAMPLES / re.findall(r"examples/(\w+\.script)", page[: found.start()])[-1]).read_text("utf-8")
-        yield script.encode(), "".join(line[column:] + "\n" for line in lines if line[column:]).encode()
+        yield script.encode(), "".join(line[column:].split("  ")[0] + "\n" for line in lines if line[column:]).encode()
 
 
 def said_by(main, words):
@@ -496,12 +501,29 @@ class Explanations(unittest.TestCase):
         shown, carets = said.split("\n")[2:4]
         return shown[carets.index("^") : carets.rindex("^") + 1]
 
+    def test_a_number_that_is_out_of_bounds(self):
+        rows = [
+            (explain.explained, b"lines 63\n", 1, "header", "63 is below 64, the least that a lines line may have.", explain.LINES_ROW),
+            (explain.explained_queue, b"lines 16385\n", 1, "header", "16385 is above 16384, the most that a lines line may have.", explain.LINES_ROW),
+            (explain.explained, b"lines 64\nlife 9 power 0\n", 2, "life", "9 is above 8, the most that a life line may have.", explain.LIFE_ROW),
+            (explain.explained_pool, b"lines 64\nlife 0 power 0\n", 2, "life", "0 is below 1, the least that a life line may have.", explain.POOL_LIFE_ROW),
+            (explain.explained_pool, b"lines 64\nlife 65 power 0\n", 2, "life", "65 is above 64, the most that a life line may have.", explain.POOL_LIFE_ROW),
+        ]
+        for explained, script, line, reason, told, grammar in rows:
+            said, status = explained("a", script, 3, f"refused line {line}: {reason}\n".encode())
+            with self.subTest(told):
+                self.assertEqual((1, "  " + grammar), (status, said.split("\n")[-1]))
+                self.assertIn(f"{explain.SENTENCES[reason]}\n{told}\n", said)
+        self.assertEqual("", explain.out_of_bounds("header", "lines 064x"))
+        self.assertEqual("", explain.out_of_bounds("life", "life 8 power 1"))
+
     def test_another_fault(self):
         said, _ = explain.explained("a.script", HEAD, 3, b"refused line 2: cut\n")
         self.assertIn("The place is a guess", said)
 
     def test_other_ends(self):
         self.assertEqual(("a: accepted, 2 lines of report", 0), explain.explained("a", HEAD, 0, b"life\npower\n"))
+        self.assertEqual(("a: accepted, 0 lines of report: the script has no lives", 0), explain.explained("a", b"", 0, b""))
         for status, ended in ((8, 1), (2, 2), (6, 2), (-11, 2), (3, 2)):
             self.assertEqual(ended, explain.explained("a", HEAD, status, b"")[1])
         self.assertEqual(("a: the program ended with status 3", 2), explain.explained("a", HEAD, 3, b"refused line 9: key\n"))
@@ -525,10 +547,10 @@ class Program(unittest.TestCase):
     """The built program: statuses, and what is written."""
 
     def setUp(self):
-        if not is_proved(random_lives.PROGRAM):
+        if not is_tested(random_lives.PROGRAM):
             if MUST_RUN:
                 self.fail(f"there is no proved program, or a newer one without a proof: {random_lives.PROGRAM}")
-            self.skipTest("the program is not built and proved")
+            self.skipTest("the program is not built")
 
     def ran(self, words, script):
         """The status, what is written, and how many bytes of the script are read."""
@@ -601,6 +623,8 @@ class Program(unittest.TestCase):
         self.assertIsNone(random_lives.compare(100, random_lives.Seen()))
 
     def test_a_held_reader_enters_the_queue(self):
+        if random_lives.PROGRAM != PROVED:
+            self.skipTest("of the programs the proved one alone is fast enough beside a reader that is held")
         not_held = []
         for _ in range(8):
             try:
@@ -641,34 +665,6 @@ class ClausesTest(unittest.TestCase):
         with tempfile.TemporaryDirectory() as folder:
             Path(folder, "lib.rt").write_text(source, encoding="utf-8")
             self.assertEqual(13, clauses.lines_under(Path(folder)))
-
-
-class DocumentsTest(unittest.TestCase):
-    """The pages name what there is."""
-
-    def test_the_pages_name_nothing_that_is_not_there(self):
-        self.assertEqual(check_documents.faults_of(ROOT), [])
-
-    def test_what_is_not_there_is_found(self):
-        with tempfile.TemporaryDirectory() as folder:
-            root = Path(folder)
-            source = root / "crates" / "one" / "src" / "lib.rt"
-            source.parent.mkdir(parents=True)
-            source.write_text("pub fn made() -> Made\n    ensures whole { true }\n")
-            page = root / "README.md"
-            rows = [
-                ("`made` (`whole`), `crates/one/src/lib.rt`, `lib.rt`, `one/src/*.rt`, `crates/NAME/out/NAME`", []),
-                ("`made_anew`", ["README.md:1: made_anew"]),
-                ("`Made::other`", ["README.md:1: other"]),
-                ("`crates/two/src/lib.rt`", ["README.md:1: crates/two/src/lib.rt"]),
-                ("a line\n[page](docs/PAGE.md)", []),
-                ("a line\n[page](docs/page.md)", ["README.md:2: docs/page.md"]),
-            ]
-            (root / "docs").mkdir()
-            (root / "docs" / "Other.md").write_text("")
-            for text, want in rows:
-                page.write_text(text)
-                self.assertEqual(check_documents.faults_of(root), want, text)
 
 
 class GateMinutesTest(unittest.TestCase):
@@ -751,6 +747,6 @@ class TracesTest(unittest.TestCase):
 if __name__ == "__main__":
     if told.helped(__doc__, sys.argv[1:]):
         sys.exit(0)
-    if not (MUST_RUN or is_proved(random_lives.PROGRAM)):
-        print("there is no proved program (tools/build --proved): the tests that run it are skipped", file=sys.stderr)
-    unittest.main(argv=[word for word in sys.argv if word != WITH_PROGRAM])
+    if not (MUST_RUN or is_tested(random_lives.PROGRAM)):
+        print("there is no program (tools/build): the tests that run it are skipped", file=sys.stderr)
+    unittest.main(argv=[word for word in sys.argv if word != FOR_THE_GATE])

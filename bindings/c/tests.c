@@ -701,6 +701,61 @@ static void test_closing_threads(void) {
     }
 }
 
+/* ---- places ---- */
+
+/* The place behind a further answer of a session: of an update it is above the place before it, and of a read not below. */
+static uint64_t place_after(void **session, int reads) {
+    githoppu_words reply;
+    if (reads)
+        DO(githoppu_count(session, &reply), GITHOPPU_COUNT);
+    else
+        DO(githoppu_add(session, "sold", 1, &reply), GITHOPPU_SUM);
+    return githoppu_place(session);
+}
+
+/* Two sessions in turn, each answered before the other begins, with each of the four kinds of pairs. */
+static void test_places_in_turn(void) {
+    int kinds, i;
+    for (kinds = 0; kinds < 4; kinds++) {
+        void *s[2];
+        uint64_t last = 0;
+        CHECK(githoppu_open(LINES, s, 2) == GITHOPPU_DONE);
+        CHECK(githoppu_place(&s[0]) == 0 && githoppu_place(&s[1]) == 0);
+        for (i = 0; i < 200; i++) {
+            int reads = kinds >> i % 2 & 1;
+            uint64_t place = place_after(&s[i % 2], reads);
+            CHECK(reads ? place >= last : place > last);
+            last = place;
+        }
+        githoppu_give_up(s, 2);
+    }
+}
+
+static void test_catching_up(void) {
+    void *s[2], *closed, *none = NULL;
+    githoppu_words reply;
+    githoppu_handle handle;
+    uint64_t place, told = 7;
+    CHECK(githoppu_open(LINES, s, 2) == GITHOPPU_DONE);
+    /* the first place is everybody's, and none is above it */
+    CHECK(githoppu_catch_up(&s[1], 0) == GITHOPPU_DONE && githoppu_place(&s[1]) == 0);
+    CHECK(githoppu_catch_up(&s[1], 1) == GITHOPPU_BEHIND && githoppu_place(&s[1]) == 0);
+    place = place_after(&s[0], 0);
+    CHECK(place == 1 && githoppu_catch_up(&s[1], place + 1) == GITHOPPU_BEHIND && githoppu_place(&s[1]) == 0);
+    CHECK(githoppu_catch_up(&s[1], place) == GITHOPPU_DONE && githoppu_place(&s[1]) == place);
+    /* a lower place is seen then too, and lowers nothing */
+    CHECK(githoppu_catch_up(&s[1], 0) == GITHOPPU_DONE && githoppu_place(&s[1]) == place);
+    DO(githoppu_get(&s[1], "sold", &reply), GITHOPPU_DOC);
+    CHECK(place_after(&s[1], 0) == 2 && githoppu_catch_up(&s[0], UINT64_MAX) == GITHOPPU_BEHIND);
+    /* null is no session, and what is closed neither */
+    CHECK(githoppu_catch_up(&none, 0) == GITHOPPU_NO_SESSION && githoppu_place(&none) == 0);
+    CHECK(githoppu_close_all(s, 2, &closed) == GITHOPPU_DONE);
+    handle.at = closed;
+    CHECK(githoppu_place_of(handle, &told, &closed) == GITHOPPU_OUT_OF_TURN && told == 0 && githoppu_place(&closed) == 0);
+    CHECK(githoppu_catch_up(&closed, 0) == GITHOPPU_OUT_OF_TURN);
+    githoppu_give_up(&closed, 1);
+}
+
 /* ---- memory ---- */
 
 /* Refuses each block of an open in turn: NO_MEMORY, nothing is kept, and no slot is written. */
@@ -827,6 +882,8 @@ int main(int count, char **words) {
     test_outcome_refusals();
     test_outcomes();
     test_queue_image();
+    test_places_in_turn();
+    test_catching_up();
     test_closing_refused();
     test_closing_threads();
     test_outcomes_after_crashes();

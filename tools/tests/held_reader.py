@@ -6,8 +6,9 @@
 A read is entered where it was refused eight times, each time because the current replica was another between two steps of the reader. At
 full speed that does not come. Here the parent of the program holds its first thread, which works for the reader, before each instruction
 that changes a shared word, as a debugger does it (Linux on x86-64), so that the others publish between two steps of the reader. The program is
-the one given, or the proved one (tools/build --proved): one without a proof has checks at each access, and does not come to it.
+the one given, or the proved one (tools/build --proved). One without a proof is slower between two steps, and enters no read.
 
+It takes 20 seconds.
 Example: held_reader.py
 Status 0, and 1 where the program cannot be held or its report is wrong; 2 where the words are others.
 """

@@ -1,4 +1,5 @@
 """Tests of what the tools say of themselves."""
+import re
 import subprocess
 import sys
 import unittest
@@ -6,7 +7,10 @@ from concurrent.futures import ThreadPoolExecutor
 from pathlib import Path
 
 ROOT = Path(__file__).resolve().parent.parent.parent
-IN_SHELLS = ("tools/run", "tools/build", "tools/bindings")
+IN_SHELLS = ("tools/run", "tools/build", "tools/check", "tools/bindings")
+# a second: it is said where that page is written anew
+WITHOUT_A_TIME = ("check_documents.py",)
+TIME = re.compile(r"\btakes?\b.* (?:seconds?|minutes?|hours?)\b", re.DOTALL)
 
 
 def tools():
@@ -24,15 +28,17 @@ def asked(words):
 
 class Helps(unittest.TestCase):
     def test_each_tool_says_what_it_is_for(self):
-        """Its words, an example that names what there is, and its statuses; with the program or without it."""
+        """Its words, an example that names what there is, its statuses, and how long it takes; with the program or without it."""
         found = list(tools())
-        self.assertGreaterEqual(len(found), 28)
+        self.assertGreaterEqual(len(found), 30)
         with ThreadPoolExecutor() as pool:
             for words, ended in zip(found, pool.map(asked, found)):
                 name = Path(words[-1]).name
                 with self.subTest(name):
                     self.assertEqual((0, ""), (ended.returncode, ended.stderr))
                     self.assertIn(name, ended.stdout)
+                    if Path(words[-1]).parent.name != "bench" and name not in WITHOUT_A_TIME:
+                        self.assertRegex(ended.stdout, TIME)
                     lines = ended.stdout.splitlines()
                     examples = [line for line in lines if line.startswith("Example: ")]
                     self.assertEqual((1, 1), (len(examples), sum(line.startswith("Status 0") for line in lines)))

@@ -5,8 +5,9 @@ one thing wrong, and texts that are none of an image.
     hostile_images.py [PROGRAM]
 
 gives each to the program and compares status and text with the reading of image_text.py. The program is the one given, or the one that
-tools/build sees to.
+tools/build takes.
 
+It takes a minute.
 Example: hostile_images.py
 Status 0 where each was answered as docs/FORMATS.md has it, 1 at the first that was not, 2 where the words are others.
 """

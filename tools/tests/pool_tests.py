@@ -11,7 +11,7 @@ import plain_judge
 import random_faults
 import random_pools
 from pool_text import read_pool_script
-from program import is_proved
+from program import is_tested
 from random_lives import PROGRAM, Refused, Seen, answer_of_program
 from report_text import Fault, read_report
 from script_text import Refusal, read_script
@@ -158,7 +158,7 @@ class PoolTexts(unittest.TestCase):
         self.assertIn("2 of 2 entries kept, 1 document (choice 4)", picture)
 
 
-@unittest.skipUnless(is_proved(PROGRAM), "the program is not built and proved")
+@unittest.skipUnless(is_tested(PROGRAM), "the program is not built")
 class ProgramOnPools(unittest.TestCase):
     """The built program on scripts of clients that share callers."""
 

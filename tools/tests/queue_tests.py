@@ -11,7 +11,7 @@ import explain
 import plain_judge
 import random_faults
 import random_queues
-from program import is_proved
+from program import is_tested
 from queue_text import read_queue_script
 from random_lives import PROGRAM, Refused, Seen, answer_of_program
 from report_text import Fault, read_report, split_reply
@@ -221,7 +221,7 @@ def in_and_out(report):
     return put, taken, report.lives[-1].power.size if report.lives else 0
 
 
-@unittest.skipUnless(is_proved(PROGRAM), "the program is not built and proved")
+@unittest.skipUnless(is_tested(PROGRAM), "the program is not built")
 class ProgramOnQueues(unittest.TestCase):
     """The built program on scripts of a queue."""
 

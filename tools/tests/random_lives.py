@@ -6,7 +6,8 @@
                                         refusal of each the one that docs/FORMATS.md names
     random_lives.py report CLIENTS LIVES COMMANDS SEED      writes a legal report, to draw, with COMMANDS commands in each life
 
-The program is the one given, or the one that tools/build sees to.
+The program is the one given, or the one that tools/build takes.
+600 scripts take half a minute.
 Example: random_lives.py 600
 Status 0 where each is as it must be, 1 at the first that is not, which is shown, 2 where the words are others.
 """

@@ -6,7 +6,8 @@
                                         one that docs/FORMATS.md names
     random_pools.py report CLIENTS COMMANDS SEED    writes a legal report, to draw
 
-The program is the one given, or the one that tools/build sees to.
+The program is the one given, or the one that tools/build takes.
+500 scripts take 15 seconds.
 Example: random_pools.py report 20 40 1
 Status 0 where each is as it must be, 1 at the first that is not, which is shown, 2 where the words are others.
 """

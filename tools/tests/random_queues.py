@@ -6,7 +6,8 @@
                                         one that docs/FORMATS.md names
     random_queues.py report CLIENTS LIVES COMMANDS SEED     writes a legal report, to draw, with COMMANDS commands in each life
 
-The program is the one given, or the one that tools/build sees to.
+The program is the one given, or the one that tools/build takes.
+500 scripts take half a minute.
 Example: random_queues.py 500
 Status 0 where each is as it must be, 1 at the first that is not, which is shown, 2 where the words are others.
 """

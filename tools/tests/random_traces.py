@@ -5,7 +5,8 @@
                                          changes; what the program writes must be what the plain model of the core finds
     random_traces.py arguments           the same, of each kind of event with each argument at its ends
 
-The program is the one given, or the one that tools/build sees to.
+The program is the one given, or the one that tools/build takes.
+2,000 traces take half a minute.
 Example: random_traces.py 2000
 Status 0 where both agree, 1 at the first trace on which they do not, 2 where the words are others.
 """
@@ -25,7 +26,7 @@ from told import asked_words
 
 PROGRAM = built()
 MOST_SECONDS = 120
-ENDS = [0, 1, 15, 16, 144, 145, 512, 513, 1679, 1680, 2**40, 2**40 + 1, WORD - 1]
+ENDS = [0, 1, 15, 16, 144, 145, 511, 512, 513, 1679, 1680, 2**40, 2**40 + 1, WORD - 1]
 # What stands in front of an event: nothing; a caller that holds a replica alone; one that shares it; an entry of its own, that it may read
 FRONTS = {
     "nothing": [],

@@ -4,8 +4,9 @@
     real_ends.py [PROGRAM]
 
 Each case compares the status and what was written. A read that fails gives 4 and nothing; a write that fails gives 5 and a front of the
-text; a slow end gives the whole text. The program never ends by a signal. It is the one given, or the one that tools/build sees to.
+text; a slow end gives the whole text. The program never ends by a signal. It is the one given, or the one that tools/build takes.
 
+It takes three seconds.
 Example: real_ends.py
 Status 0 where each case is as owed, 1 where one is not, 2 where the words are others.
 """

@@ -3,10 +3,10 @@
 
     refused_memory.py [PROGRAM]
 
-Where memory is refused the program ends with status 6 and has written nothing, or with status 0 and a legal text; where a thread is
-refused it ends with status 0 and a legal text. It never hangs, and never ends by a signal. A C compiler, `cc`, makes the library that
-refuses (refuse.c); without one there is nothing to run. The program is the one given, or the proved one (tools/build --proved): one without a proof
-has an allocator of its own, which refuses nothing.
+It does so with each word of the program that reads or makes a script, an image or a trace. Where memory is refused the program ends with status 6 and
+has written nothing, or with status 0 and a legal text; where a thread is refused it ends with status 0 and a legal text. It never hangs, and never
+ends by a signal. A C compiler, `cc`, makes the library that refuses (refuse.c); without one there is nothing to run. The program is the one given, or
+the one that tools/build takes. It takes half a minute.
 
 Example: refused_memory.py
 Status 0 where each run ended so, 1 where one did not, 2 where the words are others.
@@ -24,21 +24,33 @@ sys.path[:0] = [str(TESTS.parent), str(TESTS)]
 import check_report
 import hostile_images
 from image_text import read_image, recovered
-from program import PROVED, needed
+from plain_core import Core
+from pool_text import read_pool_script
+from program import needed
+from queue_text import read_queue_script
+from record_trace import Recorder, found_in
 from report_text import Fault, read_report
 from script_text import read_script
 from told import asked_words
 
 MOST_SECONDS = 20
 TWO_SHOPS = (TESTS / "rows" / "ordinary_use.script").read_bytes()
+QUEUE = b"lines 64\nlife 2 power 1\n0 push a\n1 push b\n0 pop\n1 len\nlife 1 power 0\n0 pop\n0 push c\n0 peek\n"
+POOL = b"lines 64\nlife 5 power 1\n0 add n 1\n1 add n 1\n2 put a [1]\n3 get n\n4 count\n0 get n\n"
+TRACE = "\n".join(["trace 2 64", *Recorder(Core(2, 64), 5).record(60)]).encode()
 LOADED = b"clients 2\nupdates 6\ndocuments 6\nsum 105\n"
 
 
-def is_report(script, written):
-    try:
-        return bool(check_report.judge(read_script(script), read_report(written)))
-    except Fault:
-        return False
+def judged_by(read):
+    """Whether a report is legal for a script that is read so."""
+
+    def is_report(script, written):
+        try:
+            return bool(check_report.judge(read(script), read_report(written)))
+        except Fault:
+            return False
+
+    return is_report
 
 
 def is_image(script, written):
@@ -48,7 +60,10 @@ def is_image(script, written):
 
 # words, an input, and what a text written with status 0 is held to
 RUNS = {
-    "run": (["run"], TWO_SHOPS, is_report),
+    "run": (["run"], TWO_SHOPS, judged_by(read_script)),
+    "fifo": (["fifo"], QUEUE, judged_by(read_queue_script)),
+    "pool": (["pool", "2"], POOL, judged_by(read_pool_script)),
+    "trace": (["trace"], TRACE, lambda data, written: written == f"{found_in(data)}\n".encode()),
     "load": (["load", "0", "2", "3"], b"", lambda _, written: written == LOADED),
     "image": (["image"], TWO_SHOPS, is_image),
     "recover": (["recover"], hostile_images.image_text(hostile_images.good_image()), lambda data, written: (0, written) == hostile_images.answer_of(data)),
@@ -116,7 +131,7 @@ def known(program):
 
 def main(words):
     words = asked_words(__doc__, words, (0, 1))
-    program = needed(words[0] if words else PROVED)
+    program = needed(*words)
     with tempfile.TemporaryDirectory() as folder:
         library = compiled(folder)
         if library is None:

@@ -6,7 +6,7 @@ from pathlib import Path
 
 import random_lives
 import random_traces
-from program import is_proved
+from program import FOR_THE_GATE, is_tested
 from record_trace import MOST_LINES, explanation, found_in
 
 ROWS = Path(__file__).resolve().parent / "rows"
@@ -61,10 +61,10 @@ class ProgramOnTraces(unittest.TestCase):
     """The built program on traces, beside the plain model."""
 
     def setUp(self):
-        if not is_proved(random_lives.PROGRAM):
-            if "--with-program" in sys.argv:
+        if not is_tested(random_lives.PROGRAM):
+            if FOR_THE_GATE in sys.argv:
                 self.fail(f"there is no proved program: {random_lives.PROGRAM}")
-            self.skipTest("the program is not built and proved")
+            self.skipTest("the program is not built")
 
     def test_rows(self):
         rows = trace_rows()

@@ -333,6 +333,18 @@ impl Session {
         Ok(self.0.ask(&document_op(6, "", &[], 0)?)?[3])
     }
 
+    /// The place that tells another session what this one has seen: behind the operation that it was answered last, or the greatest place that it
+    /// caught up with; 0 before. It is a number, and goes to other threads by any channel.
+    pub fn place(&mut self) -> u64 {
+        self.0.place()
+    }
+
+    /// Has this session see a place that another one told: from `true` on its answers stand at or above the place. `false`: the current place is below
+    /// it, so no session of this one's store was answered at it.
+    pub fn catch_up(&mut self, place: u64) -> Result<bool, Error> {
+        self.0.catch_up(place)
+    }
+
     /// Closes the session. The one of a store that is closed last closes the store.
     pub fn close(self) -> Closing<Session> {
         Closing::of(self.0.close(), Session)
@@ -422,6 +434,18 @@ impl QueueSession {
     /// Whether there is none.
     pub fn is_empty(&mut self) -> Result<bool, Error> {
         Ok(self.len()? == 0)
+    }
+
+    /// The place that tells another session what this one has seen: behind the operation that it was answered last, or the greatest place that it
+    /// caught up with; 0 before. It is a number, and goes to other threads by any channel.
+    pub fn place(&mut self) -> u64 {
+        self.0.place()
+    }
+
+    /// Has this session see a place that another one told: from `true` on its answers stand at or above the place. `false`: the current place is below
+    /// it, so no session of this one's queue was answered at it.
+    pub fn catch_up(&mut self, place: u64) -> Result<bool, Error> {
+        self.0.catch_up(place)
     }
 
     /// Closes the session. The one of a queue that is closed last closes the queue.

@@ -28,12 +28,15 @@ pub const IMAGE_VERSION: i32 = 17;
 pub const IMAGE_PLACE: i32 = 18;
 pub const IMAGE_BODY: i32 = 19;
 pub const IMAGE_NUMBERS: i32 = 20;
+pub const BEHIND: i32 = 24;
 
 extern "C" {
     pub fn githoppu_open(lines: u64, sessions: *mut *mut c_void, count: usize) -> i32;
     pub fn githoppu_open_queue(lines: u64, sessions: *mut *mut c_void, count: usize) -> i32;
     pub fn githoppu_call(session: Handle, op: *const Words, reply: *mut Words, tries: u64, out: *mut *mut c_void) -> i32;
     pub fn githoppu_finish(session: Handle, reply: *mut Words, tries: u64, out: *mut *mut c_void) -> i32;
+    pub fn githoppu_place_of(session: Handle, place: *mut u64, out: *mut *mut c_void) -> i32;
+    pub fn githoppu_see_place(session: Handle, place: u64, out: *mut *mut c_void) -> i32;
     pub fn githoppu_close(session: Handle, out: *mut *mut c_void) -> i32;
     pub fn githoppu_image(closed: Handle, choice: u64, words: *mut u64, count: usize, needed: *mut u64, out: *mut *mut c_void) -> i32;
     pub fn githoppu_recover(words: *const u64, words_count: usize, sessions: *mut *mut c_void, count: usize) -> i32;

@@ -54,6 +54,22 @@ impl Pointer {
         }
     }
 
+    /// The place that tells another session what this one has seen.
+    pub fn place(&mut self) -> u64 {
+        let mut place = 0;
+        unsafe { raw::githoppu_place_of(Handle(self.0), &mut place, &mut self.0) };
+        place
+    }
+
+    /// Has the session see a place: whether that is there.
+    pub fn catch_up(&mut self, place: u64) -> Result<bool, Error> {
+        match unsafe { raw::githoppu_see_place(Handle(self.0), place, &mut self.0) } {
+            raw::DONE => Ok(true),
+            raw::BEHIND => Ok(false),
+            status => Err(Error::of(status)),
+        }
+    }
+
     /// Closes a session, and tries again while others are in the way.
     pub fn close(mut self) -> Ended {
         let mut status = raw::AGAIN;

@@ -220,6 +220,31 @@ fn a_queue_keeps_its_order() {
 }
 
 #[test]
+fn a_session_catches_up_with_another() {
+    let mut sessions = Store::open(64, 2).unwrap();
+    let mut reader = sessions.pop().unwrap();
+    let mut writer = sessions.pop().unwrap();
+    assert_eq!((writer.place(), reader.place()), (0, 0));
+    assert_eq!(reader.catch_up(1), Ok(false));
+    let (send, receive) = std::sync::mpsc::channel();
+    let written = thread::spawn(move || {
+        for _ in 0..10_000 {
+            writer.add("sold", 1).unwrap();
+            send.send(writer.place()).unwrap();
+        }
+    });
+    for (i, place) in receive.iter().enumerate() {
+        assert_eq!(reader.catch_up(place), Ok(true));
+        assert!(reader.place() >= place);
+        let sold: usize = reader.get("sold").unwrap().unwrap().parse().unwrap();
+        assert!(sold > i);
+        assert!(reader.place() >= place);
+    }
+    written.join().unwrap();
+    assert_eq!(reader.get("sold"), Ok(Some("10000".to_string())));
+}
+
+#[test]
 fn a_store_with_a_dropped_session_is_not_closed() {
     let mut sessions = Store::open(64, 3).unwrap();
     drop(sessions.pop());

@@ -1,5 +1,5 @@
 -- What a call comes to: the service's answer, by what it was asked.
-use Rattle.std.specs.Prelude.{◌≡◌, ◌⊎◌, ℕ, Bool, true, false, List}
+use Rattle.std.specs.Prelude.{◌≡◌, ◌+◌, ◌⊎◌, ℕ, Bool, true, false, List}
 use Rattle.cx_rule.specs.Running.{IsSeatOf, Running}
 use Rattle.cx_rule.specs.Seats.{Seated}
 use Rattle.cx_core.specs.declared.local.FullNote.{FullNote}
@@ -21,16 +21,21 @@ IsHanded r (Idle caller) = IsCallerOf r caller
 IsHanded r (Linked linked) = IsLinkedOf r linked
 IsHanded r (Stopped stopped) = IsSeatOf r stopped.seat
 
--- driving a linked entry in so many turns comes to this, with this reply where it is done
+-- the place that a session tells behind a call, which told this one before
+abbrev pub place_after : Called → ℕ → ℕ
+place_after (Done place) before = place
+place_after called before = before
+
+-- driving a linked entry in so many turns comes to this, with this reply where it is done, and the place behind the entry
 abbrev pub DrivesTo : {O : Type 0} → Running O → ℕ → Seated → Called → Handed → List ℕ → Type 0
-DrivesTo r tries before Done (Idle after) reply = (ticket : ℕ) × Drives r tries before (DrivenDone after (record { ticket = ticket; reply = reply }))
+DrivesTo r tries before (Done place) (Idle after) reply = (ticket : ℕ) × (place ≡ ticket + 1) × Drives r tries before (DrivenDone after (record { ticket = ticket; reply = reply }))
 DrivesTo r tries before Pending (Linked after) reply = Drives r tries before (DrivenPending after)
 DrivesTo r tries before CalledStopped (Stopped after) reply = Drives r tries before (DrivenHalted after)
 DrivesTo r tries before called after reply = ⊥
 
--- a read beside the queue comes to this
+-- a read beside the queue comes to this, with its place where it is done
 abbrev pub LooksTo : {O : Type 0} → Running O → List ℕ → ℕ → Seated → Called → Handed → List ℕ → Type 0
-LooksTo r op tries before Done (Idle after) reply = (place : ℕ) × Looks r op tries before (Read after (record { place = place; reply = reply }))
+LooksTo r op tries before (Done place) (Idle after) reply = Looks r op tries before (Read after (record { place = place; reply = reply }))
 LooksTo r op tries before Again (Idle after) reply = Looks r op tries before (ReadPending after)
 LooksTo r op tries before CalledStopped (Stopped after) reply = Looks r op tries before (ReadHalted after)
 LooksTo r op tries before called after reply = ⊥

@@ -35,5 +35,5 @@ module _ {O : Type 0} (line_count : O → ℕ) (lawful : O → List ℕ → Type
 
   -- closing a session comes to this; it is as it was where others were in the way
   abbrev pub Closes : Session O → Closing O → Type 0
-  Closes s (Again session) = IsReady session × (arc_value session.service ≡ arc_value s.service) × (session.handed ≡ s.handed)
+  Closes s (Again session) = IsReady session × (arc_value session.service ≡ arc_value s.service) × (session.handed ≡ s.handed) × (session.place ≡ s.place)
   Closes s closing = ClosesTo (arc_value s.service) closing

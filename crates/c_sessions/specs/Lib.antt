@@ -1,4 +1,5 @@
 pub mod Calls
+pub mod Places
 pub mod Closings
 pub mod Handing
 pub mod Rule

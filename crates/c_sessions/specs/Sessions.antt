@@ -1,5 +1,5 @@
 -- Sessions between their calls, and what a call makes of one.
-use Rattle.std.specs.Prelude.{◌≡◌, ℕ, Bool, All, List, length, map, IfSome, Some}
+use Rattle.std.specs.Prelude.{◌≡◌, ◌≤◌, ℕ, Bool, All, List, length, map, IfSome, Some}
 use Rattle.std.specs.List.{range_with_len}
 use Rattle.std.specs.Option.{option_map_or}
 use Rattle.std.specs.Arc.{arc_value}
@@ -14,14 +14,17 @@ use Rattle.cx_service.specs.declared.start.StartFault.{StartFault}
 use Rattle.cx_service.specs.declared.start.StartFault.TheVariants.{Memory}
 use Rattle.c_sessions.specs.declared.session.Session.{Session}
 use Rattle.c_sessions.specs.declared.steps.Called.{Called}
-use Rattle.c_sessions.specs.Calls.{CallsFrom, FinishesFrom, IsHanded}
+use Rattle.c_sessions.specs.Calls.{CallsFrom, FinishesFrom, IsHanded, place_after}
+use Rattle.c_sessions.specs.Places.{HasPlace, SeesFrom, place_seen}
+use Rattle.c_sessions.specs.declared.seeing.Sight.{Sight}
 use Rattle.c_sessions.specs.Handing.{IsExitOf}
 
--- something stands of the session's caller, and the session can be closed
+-- something stands of the session's caller, which has seen the session's place, and the session can be closed
 pub record IsReady {O : Type 0} (s : Session O) : Type 0 where
   pub handed : Handed
   pub is : s.handed ≡ Some handed
   pub of : IsHanded (arc_value s.service) handed
+  pub seen : HasPlace (arc_value s.service) s.place handed
   pub exit : IsExitOf (arc_value s.service) s.exit
 
 -- a session of this service, ready
@@ -58,15 +61,21 @@ abbrev pub IsOpenFault : ℕ → ℕ → StartFault → Type 0
 IsOpenFault callers lines Memory = Unit {0}
 IsOpenFault callers lines fault = IsStartFault callers lines fault
 
--- the session after it has the same share, and this stands of its caller
-pub record Stands {O : Type 0} (before after : Session O) (come_to : Handed → Handed → Type 0) : Type 0 where
+-- The session after it has the same share, and this stands of its caller. Its place is this one, and does not fall.
+pub record Stands {O : Type 0} (before after : Session O) (place : ℕ) (come_to : Handed → Handed → Type 0) : Type 0 where
   pub same : arc_value after.service ≡ arc_value before.service
   pub told : IfSome before.handed (λ b. IfSome after.handed (come_to b))
+  pub is : after.place ≡ place
+  pub rises : before.place ≤ after.place
 
--- a call of this operation, in so many tries, came to this
+-- A call of this operation, in so many tries, came to this. An answer's place is the session's then, so it is not below the place before.
 abbrev pub CallsIn : {O : Type 0} → (O → List ℕ → Bool) → List ℕ → ℕ → Session O → Called → Session O → List ℕ → Type 0
-CallsIn reads op tries before called after reply = Stands before after (λ b a. CallsFrom reads (arc_value before.service) op tries b called a reply)
+CallsIn reads op tries before called after reply = Stands before after (place_after called before.place) (λ b a. CallsFrom reads (arc_value before.service) op tries b called a reply)
 
 -- and so did finishing, in so many turns
 abbrev pub FinishesIn : {O : Type 0} → ℕ → Session O → Called → Session O → List ℕ → Type 0
-FinishesIn tries before called after reply = Stands before after (λ b a. FinishesFrom (arc_value before.service) tries b called a reply)
+FinishesIn tries before called after reply = Stands before after (place_after called before.place) (λ b a. FinishesFrom (arc_value before.service) tries b called a reply)
+
+-- and so did catching up with a place
+abbrev pub SeesIn : {O : Type 0} → ℕ → Session O → Sight → Session O → Type 0
+SeesIn place before sight after = Stands before after (place_seen sight place before.place) (λ b a. SeesFrom (arc_value before.service) place b sight a)

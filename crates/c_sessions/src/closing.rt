@@ -45,6 +45,7 @@ impl<O: Object> Session<O> {
             service,
             exit,
             handed,
+            place,
         } = self;
         let Exit {
             handover,
@@ -63,6 +64,7 @@ impl<O: Object> Session<O> {
                 service: back.service,
                 exit,
                 handed: back.handed,
+                place,
             });
         }
         let came = handover.came.fetch_add(1, Ordering::SeqCst);

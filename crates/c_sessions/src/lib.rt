@@ -4,6 +4,8 @@
 //!
 //! - `open`, `open_from`: a session for each caller of a new service, over the object's first base or over another.
 //! - `Session::call`, `Session::finish`: what a call answers is the service's answer, and the session is ready again.
+//! - `Session::place`, `Session::catch_up`: the place tells another session what this one has seen, and once that one caught up with it, its later
+//!   answers stand at or above it (`Stands`, `Sees`).
 //! - `Session::close`, `close_kept`: the callers of one service lie in a queue under the rule that it is one service, each with its share of it
 //!   (`Gathers`). Who comes last takes all out and closes the service: what it hands out is what the service leaves (`IsClosedOf`). Nobody waits.
 #![tactic(auto)]
@@ -14,12 +16,14 @@ mod gathering;
 mod handover;
 mod opening;
 mod rule;
+mod seeing;
 mod session;
 mod steps;
 mod tries;
 
 pub use closing::{Closing, close_kept};
 pub use opening::{open, open_from};
+pub use seeing::Sight;
 pub use session::{Session, sessions_cross_threads};
 pub use steps::Called;
 pub use tries::Tries;

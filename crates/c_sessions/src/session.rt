@@ -4,9 +4,10 @@ ghost use Rattle.std.specs.Prelude.{◌≡◌, Some};
 ghost use Rattle.std.specs.Arc.{arc_value};
 ghost use Rattle.c_sessions.specs.Calls.{IsHanded};
 ghost use Rattle.c_sessions.specs.Handing.{IsExitOf};
-ghost use Rattle.c_sessions.specs.Sessions.{CallsIn, FinishesIn, IsReady};
+ghost use Rattle.c_sessions.specs.Sessions.{CallsIn, FinishesIn, IsReady, SeesIn};
 
 use crate::exit::Exit;
+use crate::seeing::{Sight, see};
 use crate::steps::{Called, end, go_on};
 use crate::tries::Tries;
 use cx_base::Object;
@@ -14,12 +15,14 @@ use cx_service::{Handed, Service};
 use std::alloc::Global;
 use std::sync::Arc;
 
-/// A share of a service, and what stands of one of its callers. Between calls something always does.
+/// A share of a service, and what stands of one of its callers. Between calls something always does. The place is the greatest that the session
+/// was answered at or caught up with, 0 at first.
 #[derive(Drop)]
 pub struct Session<O: Object> {
     pub(crate) service: Arc<Service<O>, Global>,
     pub(crate) exit: Exit<O>,
     pub(crate) handed: Option<Handed>,
+    pub(crate) place: u64,
 }
 
 impl<O: Object> Session<O> {
@@ -34,6 +37,7 @@ impl<O: Object> Session<O> {
             service,
             exit,
             handed: Some(handed),
+            place: 0,
         }
     }
 
@@ -48,6 +52,7 @@ impl<O: Object> Session<O> {
         };
         let (handed, called) = go_on(&self.service, handed, op, reply, tries);
         self.handed = Some(handed);
+        self.place = called.place_after(self.place);
         called
     }
 
@@ -62,7 +67,32 @@ impl<O: Object> Session<O> {
         };
         let (handed, called) = end(&self.service, handed, reply, tries);
         self.handed = Some(handed);
+        self.place = called.place_after(self.place);
         called
+    }
+
+    /// The place that tells another session what this one has seen: who catches up with it sees all that this one was answered or caught up with.
+    /// It is 0 before the first answer, and does not fall.
+    pub fn place(&self) -> u64
+        ensures { result ≡ self.now.place }
+    {
+        self.place
+    }
+
+    /// Has the session see a place that another one of the service told, in whatever way. From `Caught` on what it is answered stands at or above
+    /// the place. `Behind` comes only where the current place was found below it, which is where nobody was answered at it.
+    pub fn catch_up(&mut self, place: u64) -> Sight
+        requires ready { IsReady self.old }
+        ensures ready { IsReady self.new }
+        ensures sees { SeesIn place self.old result self.new }
+    {
+        let Some(handed) = self.handed.take() else {
+            unreachable!()
+        };
+        let (handed, sight) = see(&self.service, handed, place);
+        self.handed = Some(handed);
+        self.place = sight.place_seen(place, self.place);
+        sight
     }
 }
 

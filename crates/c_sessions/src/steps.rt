@@ -1,8 +1,8 @@
 //! What a call does with what stands of a caller.
 
-ghost use Rattle.std.specs.Prelude.{IsTrue};
+ghost use Rattle.std.specs.Prelude.{◌≡◌, IsTrue};
 ghost use Rattle.cx_service.specs.Callers.{IsCallerOf, IsLinkedOf};
-ghost use Rattle.c_sessions.specs.Calls.{Calls, CallsFrom, DrivesTo, EntersTo, FinishesFrom, IsHanded, LooksTo};
+ghost use Rattle.c_sessions.specs.Calls.{Calls, CallsFrom, DrivesTo, EntersTo, FinishesFrom, IsHanded, LooksTo, place_after};
 
 use crate::tries::Tries;
 use cx_base::Object;
@@ -11,8 +11,8 @@ use cx_service::{Caller, Driven, Handed, Linked, ReadTried, Service, Submitted};
 /// What a call comes to.
 #[derive(Clone, Copy, Debug, PartialEq, Eq, Drop)]
 pub enum Called {
-    /// It is answered, and the reply is there.
-    Done,
+    /// It is answered, and the reply is there. The place tells others what is seen then: of an entry it is the ticket plus 1, of a read the read's.
+    Done(u64),
     /// The entry is linked and not answered yet.
     Pending,
     /// Others were in the way, and nothing is linked.
@@ -25,6 +25,18 @@ pub enum Called {
     Stopped,
     /// An entry is linked that is not answered, or none is where one is to be finished.
     OutOfTurn,
+}
+
+impl Called {
+    /// The place that a session tells behind the call, which told this one before.
+    pub(crate) fn place_after(self, before: u64) -> u64
+        ensures { result ≡ place_after self before }
+    {
+        match self {
+            Called::Done(place) => place,
+            _ => before,
+        }
+    }
 }
 
 /// Does an operation of a caller with no call under way.
@@ -98,7 +110,7 @@ fn look<O: Object>(
         ReadTried::Read(back, seen) => {
             let told = seen.reply;
             *reply = told;
-            (Handed::Idle(back), Called::Done)
+            (Handed::Idle(back), Called::Done(seen.place))
         }
         ReadTried::Pending(back) => (Handed::Idle(back), Called::Again),
         ReadTried::Halted(stopped) => (Handed::Stopped(stopped), Called::Stopped),
@@ -141,7 +153,8 @@ fn drive<O: Object>(
         Driven::Done(back, answer) => {
             let told = answer.reply;
             *reply = told;
-            (Handed::Idle(back), Called::Done)
+            let place = back.place_behind(&answer);
+            (Handed::Idle(back), Called::Done(place))
         }
         Driven::Pending(back) => (Handed::Linked(back), Called::Pending),
         Driven::Halted(stopped) => (Handed::Stopped(stopped), Called::Stopped),

@@ -10,8 +10,8 @@ use Rattle.cx_turns.specs.declared.lookup.Seen.{Seen}
 use Rattle.seat_pool.specs.Pooling.{total}
 use Rattle.seat_pool.specs.declared.hand.Told.{Told}
 use Rattle.seat_pool.proofs.Poolings.{total_both}
-use Rattle.client_pool.specs.Clients.{AreInTurn, HasNoMore, HasRead, HasUpdated, IsSameClient, answered_by, entries_of, floor_after, next_of, place_of, reads_of}
-use Rattle.client_pool.specs.Lending.{IsLentTo, ShowsRead, TellsEntry, TellsSame}
+use Rattle.client_pool.specs.Clients.{AreInTurn, HasItsCalls, HasNoMore, HasRead, HasUpdated, IsSameClient, answered_by, entries_of, floor_after, next_of, place_of, reads_of}
+use Rattle.client_pool.specs.Lending.{IsGivenBack, IsLentTo, ShowsRead, TellsEntry, TellsSame}
 use Rattle.client_pool.specs.declared.call.Answered.{Answered}
 use Rattle.client_pool.specs.declared.call.Answered.TheVariants.{Read, Updated}
 use Rattle.client_pool.specs.declared.call.Call.{Call}
@@ -48,9 +48,9 @@ reads_more (Look x ∷ calls) read = ap (λ (l : List SeenRead). x ∷ l) (reads
 
 module _ {O : Type 0} (r : Running O) (table : TableId) (before after : Client) where
   -- an entry was told
-  pub updated : (op : List ℕ) (caller : ℕ) (answer : Answer) → TellsEntry r table op before.floor before.lent after.lent caller answer → IsSameClient before after
-      → after.answers.items ≡ before.answers.items ++ Updated caller answer ∷ [] → after.floor ≡ answer.ticket + 1 → HasUpdated r table op before after answer
-  updated op caller answer tells same answers floor =
+  pub updated : (op : List ℕ) (floor caller : ℕ) (answer : Answer) → before.floor ≤ floor → before.caught_up ≤ floor → TellsEntry r table op floor before.lent after.lent caller answer → IsSameClient before after
+      → after.caught_up ≡ before.caught_up → after.answers.items ≡ before.answers.items ++ Updated caller answer ∷ [] → after.floor ≡ answer.ticket + 1 → HasUpdated r table op before after answer
+  updated op least caller answer above above_seen tells same seen answers floor =
       let t = tells.told in
       let mine : answered_by (Entry t) ≡ Updated caller answer = ap (λ n. Updated n t.answer) tells.is.0 ∙ ap (Updated caller) tells.is.1 in
       let at : t.answer.ticket ≡ answer.ticket = ap (λ (a : Answer). a.ticket) tells.is.1 in
@@ -61,10 +61,12 @@ module _ {O : Type 0} (r : Running O) (table : TableId) (before after : Client) 
           client = tells.lent;
           back = tells.back;
           same = same;
+          seen = seen;
+          from = omega (arith, above_seen, tells.from, at);
           calls = λ calls has. record {
             answers = answers ∙ ap (λ (l : List Answered). l ++ Updated caller answer ∷ []) has.answers ∙ ap (λ (a : Answered). map answered_by calls ++ a ∷ []) (sym mine) ∙ sym (map-append answered_by calls (Entry t ∷ []));
             floor = floor ∙ ap (λ n. n + 1) (sym at) ∙ sym (floor_more r.base.place calls (Entry t));
-            in_turn = in_turn_more r.base.place calls (Entry t) has.in_turn (omega (arith, has.floor, tells.from, at));
+            in_turn = in_turn_more r.base.place calls (Entry t) has.in_turn (omega (arith, has.floor, above, tells.from, at));
             told = tells.tells ∙ ap (λ (l : List Told). l ++ t ∷ []) has.told ∙ sym (entries_more calls t);
             shown = λ h. (let same_ : total h (reads_of (calls ++ Entry t ∷ [])) ≡ total h (reads_of calls) = ap (total h) (reads_same calls t) in omega (arith, same_, has.shown h, tells.shows h));
           };
@@ -72,12 +74,13 @@ module _ {O : Type 0} (r : Running O) (table : TableId) (before after : Client) 
       }
 
   -- nothing was told
-  pub no_more : IsLentTo r table after.lent → TellsSame before.lent after.lent → IsSameClient before after → after.answers.items ≡ before.answers.items → after.floor ≡ before.floor → HasNoMore r table before after
-  no_more lent tells same answers floor = record {
+  pub no_more : IsLentTo r table after.lent → TellsSame before.lent after.lent → IsSameClient before after → after.answers.items ≡ before.answers.items → after.floor ≡ before.floor → after.caught_up ≡ before.caught_up → HasNoMore r table before after
+  no_more lent tells same answers floor seen = record {
     client = lent;
     same = same;
     answers = answers;
     floor = floor;
+    seen = seen;
     calls = λ calls has. record {
       answers = answers ∙ has.answers;
       floor = floor ∙ has.floor;
@@ -87,10 +90,27 @@ module _ {O : Type 0} (r : Running O) (table : TableId) (before after : Client) 
     };
   }
 
+  -- a caller was given back
+  pub given_more : IsGivenBack r table before.lent after.lent → IsSameClient before after → after.answers.items ≡ before.answers.items → after.floor ≡ before.floor → HasItsCalls r table before after
+  given_more given same answers floor = record {
+    client = given.lent;
+    back = given.back;
+    same = same;
+    answers = answers;
+    floor = floor;
+    calls = λ calls has. record {
+      answers = answers ∙ has.answers;
+      floor = floor ∙ has.floor;
+      in_turn = has.in_turn;
+      told = given.tells ∙ has.told;
+      shown = λ h. omega (arith, has.shown h, given.shows h);
+    };
+  }
+
   -- a read was shown
-  pub read_more : (op : List ℕ) (seen : Seen) → ShowsRead r table op before.floor before.lent after.lent seen → IsSameClient before after
-      → after.answers.items ≡ before.answers.items ++ Read seen ∷ [] → after.floor ≡ seen.place → HasRead r table op before after seen
-  read_more op seen shows same answers floor =
+  pub read_more : (op : List ℕ) (floor : ℕ) (seen : Seen) → before.floor ≤ floor → before.caught_up ≤ floor → ShowsRead r table op floor before.lent after.lent seen → IsSameClient before after
+      → after.caught_up ≡ before.caught_up → after.answers.items ≡ before.answers.items ++ Read seen ∷ [] → after.floor ≡ seen.place → HasRead r table op before after seen
+  read_more op least seen above above_seen shows same same_seen answers floor =
       let x = shows.read in
       let mine : answered_by (Look x) ≡ Read seen = ap (λ p. Read (record { place = p; reply = x.reply })) shows.is.0 ∙ ap (λ (q : List ℕ). Read (record { place = seen.place; reply = q })) shows.is.2 in
       record {
@@ -100,10 +120,12 @@ module _ {O : Type 0} (r : Running O) (table : TableId) (before after : Client) 
           client = shows.lent;
           back = shows.back;
           same = same;
+          seen = same_seen;
+          from = omega (arith, above_seen, shows.from, shows.is.0);
           calls = λ calls has. record {
             answers = answers ∙ ap (λ (l : List Answered). l ++ Read seen ∷ []) has.answers ∙ ap (λ (a : Answered). map answered_by calls ++ a ∷ []) (sym mine) ∙ sym (map-append answered_by calls (Look x ∷ []));
             floor = floor ∙ sym shows.is.0 ∙ sym (floor_more r.base.place calls (Look x));
-            in_turn = in_turn_more r.base.place calls (Look x) has.in_turn (omega (arith, has.floor, shows.from, shows.is.0));
+            in_turn = in_turn_more r.base.place calls (Look x) has.in_turn (omega (arith, has.floor, above, shows.from, shows.is.0));
             told = shows.tells ∙ has.told ∙ sym (entries_same calls x);
             shown = λ h. (let same_ : total h (reads_of (calls ++ Look x ∷ [])) ≡ total h (reads_of calls ++ x ∷ []) = ap (total h) (reads_more calls x) in omega (arith, same_, total_both h (reads_of calls) (x ∷ []), has.shown h, shows.shows h));
           };

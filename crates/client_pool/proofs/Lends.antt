@@ -11,6 +11,7 @@ use Rattle.cx_core.specs.declared.local.SeenRead.{SeenRead}
 use Rattle.cx_rule.specs.Running.{Running}
 use Rattle.cx_rule.specs.Seats.{Seated}
 use Rattle.cx_service.specs.Callers.{IsCallerOf, StoppedSeat}
+use Rattle.cx_service.specs.CatchUps.{CatchUpHalted, CatchUpKeeps}
 use Rattle.cx_service.specs.Lookups.{ReadAnswered, ReadHalted, ReadKeeps, ReadPending}
 use Rattle.cx_service.specs.Submits.{entry_at}
 use Rattle.cx_service.specs.Updates.{KeepsLists, ReadQueues, ReadStops, UpdateDone, UpdateFull, UpdateHalted, UpdateWorn, Updates}
@@ -25,7 +26,7 @@ use Rattle.seat_pool.specs.declared.hand.Told.{Told}
 use Rattle.seat_pool.specs.declared.lent.Lent.{Lent}
 use Rattle.seat_pool.proofs.Poolings.{total_both}
 use Rattle.seat_pool.proofs.Telling.{are_kept, are_shown, are_told, same_calls}
-use Rattle.client_pool.specs.Lending.{ComesTo, HaltsReading, HoldsIdle, HoldsKept, IsLentTo, IsOut, IsPart, IsSettled, KeepsFull, KeepsStopped, KeepsWorn, ShowsRead, TellsEntry, TellsSame}
+use Rattle.client_pool.specs.Lending.{ComesTo, HaltsReading, HoldsIdle, HoldsKept, IsGivenBack, IsLentTo, IsOut, IsPart, IsSettled, KeepsFull, KeepsStopped, KeepsWorn, ShowsRead, TellsEntry, TellsSame}
 
 module _ {O : Type 0} (r : Running O) where
   pub stays : (x : Seated) → IsCallerOf r x → StaysIdle r x x
@@ -70,6 +71,38 @@ module _ {O : Type 0} (r : Running O) where
     more = [];
     reads = still x y keeps.reads;
   }
+
+  pub caught_on : (x y : Seated) → IsCallerOf r y → CatchUpKeeps x y → StaysIdle r x y
+  caught_on x y is keeps = record {
+    caller = is;
+    number = keeps.number;
+    limit = keeps.limit;
+    calls = same_calls y x.known.local.number x.known.local.own x.known.local.answered keeps.number keeps.own keeps.answered;
+    more = [];
+    reads = still x y keeps.reads;
+  }
+
+  -- a caller that was stopped while it caught up is as one that was stopped in a read and answered nothing
+  caught_halted : (op : List ℕ) (x : Seated) (s : StoppedSeat) → CatchUpHalted r x s → ReadHalted r op x s
+  caught_halted op x s halted =
+      let keeps = halted.keeps in
+      record {
+        caller = halted.caller;
+        linked = halted.linked;
+        keeps = record {
+          number = keeps.number;
+          limit = keeps.limit;
+          own = keeps.own;
+          answered = keeps.answered;
+          scans = keeps.scans;
+          front = keeps.front;
+          cur = keeps.cur;
+          linked = keeps.times.linked;
+          ended = keeps.times.answered;
+        };
+        reads = inl keeps.reads;
+        times = inl keeps.times.reads;
+      }
 
   -- its new entry is below its front
   own_below : (op : List ℕ) (x y : Seated) (answer : Answer) → UpdateDone r op x y answer → answer.ticket < y.known.local.front
@@ -156,6 +189,25 @@ module _ {O : Type 0} (r : Running O) where
           shows = λ h. (let same : total h (view after.pass).shown ≡ total h (v.shown ++ (holds.idle.more ++ x_ ∷ [])) = ap (λ (u : Hand). total h u.shown) is ∙ ap (total h) shown.2 in omega (arith, same, total_both h v.shown (holds.idle.more ++ x_ ∷ []), total_both h holds.idle.more (x_ ∷ [])));
         }
 
+    -- a caller was given back that was in no call
+    pub given_back : (before after : Lent) (x y : Seated) → IsOut r table before x → StaysIdle r x y → after.kept ≡ None → (after.pass.table_id ≡ table) × (after.pass.me.1 ≡ []) → view after.pass ≡ with_given (view before.pass) y → IsGivenBack r table before after
+    given_back before after x y out stay none pass is =
+        let v = view before.pass in
+        let holds = out.holds in
+        let idle = stays_on holds.taken x y holds.idle stay in
+        let given : view after.pass ≡ given_from v (holds.taken ∷ []) y = is ∙ ap (λ l. given_from v l y) holds.held in
+        let shown = are_shown r holds.taken y [] v holds.held idle in
+        record {
+          lent = record {
+            part = part_like before after (given_from v (holds.taken ∷ []) y) out.part pass given refl refl refl;
+            kept = subst (HoldsKept r (view after.pass)) (sym none) (ap (λ (u : Hand). u.held) given);
+          };
+          back = none;
+          limits = ap (λ (u : Hand). limits_at u.home) given;
+          tells = ap (λ (u : Hand). u.told) is ∙ shown.1;
+          shows = λ h. (let same : total h (view after.pass).shown ≡ total h (v.shown ++ idle.more) = ap (λ (u : Hand). total h u.shown) is ∙ ap (total h) shown.2 in omega (arith, same, total_both h v.shown idle.more));
+        }
+
     pub tells_on : (a b c : Lent) → TellsSame a b → TellsSame b c → TellsSame a c
     tells_on a b c s t = record { limits = t.limits ∙ s.limits; told = t.told ∙ s.told; shown = t.shown ∙ s.shown }
 
@@ -204,12 +256,22 @@ module _ {O : Type 0} (r : Running O) where
           let same : (s.seat.known.local.number ≡ x.known.local.number) × (s.seat.known.local.limit ≡ x.known.local.limit) = halted_same op x s halted in
           stopped_kept s x out (are_kept r op out.holds.taken x s out.holds.idle halted) (limit_of (view before.pass) x s.seat out.holds same.0 same.1) keeps
 
+      pub caught_stopped : (s : StoppedSeat) (x : Seated) → IsOut r table before x → CatchUpHalted r x s → after.kept ≡ Some (Stopped s) → KeepsStopped r table before after s.linked
+      caught_stopped s x out halted keeps = settled_stopped [] s x out (inr (caught_halted [] x s halted)) keeps
+
     -- it may be given back
     pub done_back : (op : List ℕ) (lent : Lent) (x y : Seated) (answer : Answer) → IsOut r table lent x → UpdateDone r op x y answer → IsCallerOf r y × HasLimit (limits_at (view lent.pass).home) y × IsFirstOf (view lent.pass).held y
     done_back op lent x y answer out done = (
       done.caller,
       limit_of (view lent.pass) x y out.holds done.links.number done.links.limit,
       (are_told r op out.holds.taken x y [] answer (view lent.pass) out.holds.held out.holds.idle done).0,
+    )
+
+    pub idle_back : (lent : Lent) (x y : Seated) → IsOut r table lent x → IsCallerOf r y → CatchUpKeeps x y → IsCallerOf r y × HasLimit (limits_at (view lent.pass).home) y × IsFirstOf (view lent.pass).held y
+    idle_back lent x y out is keeps = (
+      is,
+      limit_of (view lent.pass) x y out.holds keeps.number keeps.limit,
+      (are_shown r out.holds.taken y [] (view lent.pass) out.holds.held (stays_on out.holds.taken x y out.holds.idle (caught_on x y is keeps))).0,
     )
 
     pub read_back : (op : List ℕ) (lent : Lent) (x y : Seated) (seen : Seen) → IsOut r table lent x → ReadAnswered r op x y seen → IsCallerOf r y × HasLimit (limits_at (view lent.pass).home) y × IsFirstOf (view lent.pass).held y
@@ -286,6 +348,15 @@ module _ {O : Type 0} (r : Running O) where
         read = t.read;
         is = t.is;
         from = t.from;
+        tells = t.tells ∙ same.told;
+        shows = λ h. (let same_ : total h (view mid.pass).shown ≡ total h (view before.pass).shown = ap (total h) same.shown in omega (arith, same_, t.shows h));
+      }
+
+      pub given_since : IsGivenBack r table mid after → IsGivenBack r table before after
+      given_since t = record {
+        lent = t.lent;
+        back = t.back;
+        limits = t.limits ∙ same.limits;
         tells = t.tells ∙ same.told;
         shows = λ h. (let same_ : total h (view mid.pass).shown ≡ total h (view before.pass).shown = ap (total h) same.shown in omega (arith, same_, t.shows h));
       }

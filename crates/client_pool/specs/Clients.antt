@@ -1,10 +1,12 @@
 -- What a client of a pool is, and what a call of its comes to.
-use Rattle.std.specs.Prelude.{◌≡◌, ◌+◌, ◌<◌, ◌≤◌, ℕ, List, [], ◌∷◌, ◌++◌, None, map, vec_capacity, vec_len}
+use Rattle.std.specs.Prelude.{◌≡◌, ◌+◌, ◌<◌, ◌≤◌, ℕ, max, List, [], ◌∷◌, ◌++◌, None, map, vec_capacity, vec_len}
 use Rattle.atomic_table.specs.Seated.{TableId}
 use Rattle.crossbeam_queue.specs.Passes.{view}
 use Rattle.cx_core.specs.declared.local.Answer.{Answer}
 use Rattle.cx_core.specs.declared.local.SeenRead.{SeenRead}
 use Rattle.cx_rule.specs.Running.{Running}
+use Rattle.cx_rule.specs.Seats.{Seated}
+use Rattle.cx_service.specs.CatchUps.{CatchUpBehind, CatchUpCaught}
 use Rattle.cx_turns.specs.declared.lookup.Seen.{Seen}
 use Rattle.seat_pool.specs.Pooling.{total}
 use Rattle.seat_pool.specs.declared.hand.Told.{Told}
@@ -13,6 +15,8 @@ use Rattle.client_pool.specs.declared.call.Answered.TheVariants.{Updated, Read}
 use Rattle.client_pool.specs.declared.call.Call.{Call}
 use Rattle.client_pool.specs.declared.call.Call.TheVariants.{Entry, Look}
 use Rattle.client_pool.specs.declared.client.Client.{Client}
+use Rattle.client_pool.specs.declared.pool.PooledCatchUp.{PooledCatchUp}
+use Rattle.client_pool.specs.declared.pool.PooledCatchUp.TheVariants.{Caught, Behind, Stopped as StoppedCatchUp}
 use Rattle.client_pool.specs.declared.pool.Pooled.{Pooled}
 use Rattle.client_pool.specs.declared.pool.Pooled.TheVariants.{Done, Full, Worn, Stopped, Memory}
 use Rattle.client_pool.specs.declared.pool.PooledRead.{PooledRead}
@@ -73,11 +77,13 @@ pub record IsSameClient (before after : Client) : Type 0 where
   pub limits : limits_of after.lent ≡ limits_of before.lent
   pub closing : after.closing ≡ before.closing
 
--- the client made this call more, and keeps no caller
+-- The client made this call more, and keeps no caller. Its answer holds at or above the place that the client caught up with.
 pub record HasMade {O : Type 0} (r : Running O) (table : TableId) (before after : Client) (call : Call) : Type 0 where
   pub client : IsClientOf r table after
   pub back : after.lent.kept ≡ None
   pub same : IsSameClient before after
+  pub seen : after.caught_up ≡ before.caught_up
+  pub from : before.caught_up ≤ place_of call
   pub calls : (calls : List Call) → HasCalls r before calls → HasCalls r after (calls ++ call ∷ [])
 
 -- the call is an entry of this operation, with this answer
@@ -92,13 +98,39 @@ pub record HasRead {O : Type 0} (r : Running O) (table : TableId) (op : List ℕ
   pub is : (read.place ≡ seen.place) × (read.op ≡ op) × (read.reply ≡ seen.reply)
   pub made : HasMade r table before after (Look read)
 
--- the client was answered nothing more: its answers and its floor are as before
+-- the client was answered nothing more: its answers, its floor and the place that it caught up with are as before
 pub record HasNoMore {O : Type 0} (r : Running O) (table : TableId) (before after : Client) : Type 0 where
   pub client : IsClientOf r table after
   pub same : IsSameClient before after
   pub answers : after.answers.items ≡ before.answers.items
   pub floor : after.floor ≡ before.floor
+  pub seen : after.caught_up ≡ before.caught_up
   pub calls : (calls : List Call) → HasCalls r before calls → HasCalls r after calls
+
+-- a caller was taken for the client and given back, and the client was answered nothing more
+pub record HasItsCalls {O : Type 0} (r : Running O) (table : TableId) (before after : Client) : Type 0 where
+  pub client : IsClientOf r table after
+  pub back : after.lent.kept ≡ None
+  pub same : IsSameClient before after
+  pub answers : after.answers.items ≡ before.answers.items
+  pub floor : after.floor ≡ before.floor
+  pub calls : (calls : List Call) → HasCalls r before calls → HasCalls r after calls
+
+-- The client caught up with a place: a caller had seen it, and no later answer of the client holds below it (`HasMade.from`).
+pub record HasCaughtUp {O : Type 0} (r : Running O) (table : TableId) (place : ℕ) (before after : Client) : Type 0 where
+  pub made : HasItsCalls r table before after
+  pub seen : after.caught_up ≡ max before.caught_up place
+  pub asked : Seated
+  pub now : Seated
+  pub caught : CatchUpCaught r place asked now
+
+-- The current place was found below the one asked for: this one.
+pub record IsBehind {O : Type 0} (r : Running O) (table : TableId) (place found : ℕ) (before after : Client) : Type 0 where
+  pub made : HasItsCalls r table before after
+  pub seen : after.caught_up ≡ before.caught_up
+  pub asked : Seated
+  pub now : Seated
+  pub behind : CatchUpBehind r place found asked now
 
 -- there was no room for a further answer, and nothing was done
 pub record WantsRoom (before after : Client) : Type 0 where
@@ -121,3 +153,9 @@ ReadsInAll r table op before after (FullRead note) = HasNoMore r table before af
 ReadsInAll r table op before after WornRead = HasNoMore r table before after × KeepsWorn r table before.lent after.lent
 ReadsInAll r table op before after (StoppedRead linked) = HasNoMore r table before after × KeepsStopped r table before.lent after.lent linked
 ReadsInAll r table op before after MemoryRead = HasNoMore r table before after × WantsRoom before after
+
+-- what catching up with a place comes to
+abbrev pub CatchesUp : {O : Type 0} → Running O → TableId → ℕ → Client → Client → PooledCatchUp → Type 0
+CatchesUp r table place before after Caught = HasCaughtUp r table place before after
+CatchesUp r table place before after (Behind found) = IsBehind r table place found before after
+CatchesUp r table place before after StoppedCatchUp = HasNoMore r table before after × KeepsStopped r table before.lent after.lent None

@@ -8,6 +8,7 @@ use Rattle.cx_core.specs.declared.local.SeenRead.{SeenRead}
 use Rattle.cx_rule.specs.Running.{Running}
 use Rattle.cx_rule.specs.Seats.{Seated}
 use Rattle.cx_service.specs.Callers.{StoppedSeat}
+use Rattle.cx_service.specs.CatchUps.{CatchUpBehind, CatchUpCaught}
 use Rattle.cx_service.specs.Lookups.{ReadHalted}
 use Rattle.cx_service.specs.Updates.{UpdateDone, UpdateFull, UpdateHalted, UpdateWorn}
 use Rattle.cx_service.specs.declared.close.Handed.{Handed}
@@ -21,6 +22,8 @@ use Rattle.seat_pool.specs.declared.hand.Hand.{Hand}
 use Rattle.seat_pool.specs.declared.hand.Told.{Told}
 use Rattle.seat_pool.specs.declared.lent.Lent.{Lent}
 use Rattle.client_pool.specs.declared.pool.Pool.{Pool}
+use Rattle.client_pool.specs.declared.pool.PooledCatchUp.{PooledCatchUp}
+use Rattle.client_pool.specs.declared.pool.PooledCatchUp.TheVariants.{Caught as PlaceSeen, Behind as PlaceBehind, Stopped as PlaceStopped}
 use Rattle.client_pool.specs.declared.lend.Caught.{Caught}
 use Rattle.client_pool.specs.declared.lend.Caught.TheVariants.{Up, Ended}
 use Rattle.client_pool.specs.declared.look.Looked.{Looked}
@@ -169,6 +172,34 @@ Serves r table op floor before after (Done caller answer) = TellsEntry r table o
 Serves r table op floor before after (Full note) = KeepsFull r table before after note
 Serves r table op floor before after Worn = KeepsWorn r table before after
 Serves r table op floor before after (Halted linked) = KeepsStopped r table before after linked
+
+-- the caller that was taken is given back, with no call more
+pub record IsGivenBack {O : Type 0} (r : Running O) (table : TableId) (before after : Lent) : Type 0 where
+  pub lent : IsLentTo r table after
+  pub back : after.kept ≡ None
+  pub limits : limits_of after ≡ limits_of before
+  pub tells : (view after.pass).told ≡ (view before.pass).told
+  pub shows : (h : SeenRead → ℕ) → total h (view before.pass).shown ≤ total h (view after.pass).shown
+
+-- a caller was taken that had seen the place, and was given back
+pub record SeesPlace {O : Type 0} (r : Running O) (table : TableId) (place : ℕ) (before after : Lent) : Type 0 where
+  pub given : IsGivenBack r table before after
+  pub asked : Seated
+  pub now : Seated
+  pub caught : CatchUpCaught r place asked now
+
+-- a caller was taken that found the place in CUR below the one asked for, and was given back
+pub record SeesLess {O : Type 0} (r : Running O) (table : TableId) (place found : ℕ) (before after : Lent) : Type 0 where
+  pub given : IsGivenBack r table before after
+  pub asked : Seated
+  pub now : Seated
+  pub behind : CatchUpBehind r place found asked now
+
+-- what it comes to that a caller of the client's sees a place
+abbrev pub Sees : {O : Type 0} → Running O → TableId → ℕ → Lent → Lent → PooledCatchUp → Type 0
+Sees r table place before after PlaceSeen = SeesPlace r table place before after
+Sees r table place before after (PlaceBehind found) = SeesLess r table place found before after
+Sees r table place before after PlaceStopped = KeepsStopped r table before after None
 
 -- what an operation comes to that only reads
 abbrev pub Looks : {O : Type 0} → Running O → TableId → List ℕ → ℕ → Lent → Lent → Looked → Type 0

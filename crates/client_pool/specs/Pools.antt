@@ -16,6 +16,7 @@ use Rattle.seat_pool.specs.Gathering.{AreTold, IsRestOf}
 use Rattle.seat_pool.specs.Pooling.{IsHomeOf, all_parts}
 use Rattle.seat_pool.specs.declared.hand.Hand.{Hand}
 use Rattle.seat_pool.specs.declared.lent.Lent.{Lent}
+use Rattle.table_order.specs.Closings.{IsClosedLinearizable}
 use Rattle.client_pool.specs.Answers.{AreAnswered, AreWhole}
 use Rattle.client_pool.specs.Clients.{HasCalls, IsClientOf}
 use Rattle.client_pool.specs.Lending.{is_live, limits_of}
@@ -101,11 +102,12 @@ abbrev pub former_of : Client → FormerClient
 former_of c = record { number = c.number; floor = c.floor; answers = c.answers }
 
 -- What a closed pool leaves of its service: all callers were handed to its closing, each once, with the account of the clients' calls. Whatever calls the
--- clients made, one list each, are the history's; and where no client keeps a stopped caller, they are all that it has. No caller that a client keeps
+-- clients made, one list each, are the history's, which is a linearization of them by the order of all callers' steps; and where no client keeps a stopped caller, they are all that it has. No caller that a client keeps
 -- has its front past the history.
 pub record IsClosed {O : Type 0} (r : Running O) (instance : Instance) (clients : List Client) (remains : Remains) : Type 0 where
   pub handed : List Handed
   pub leaves : Leaves r instance (seats_of handed) remains
+  pub order : IsClosedLinearizable instance (seats_of handed) remains
   pub told : AreTold r (lents_of clients) handed
   pub answered : (calls : List (List Call)) → AllZip (HasCalls r) clients calls → AreAnswered instance remains.trail.history remains.trail.locals calls
   pub whole : All (λ (c : Client). is_live c.lent.kept ≡ true) clients → (calls : List (List Call)) → AllZip (HasCalls r) clients calls → AreWhole r.base.place remains.trail.history calls

@@ -1,6 +1,6 @@
 //! The clients of a pool.
 
-ghost use Rattle.std.specs.Prelude.{◌≡◌};
+ghost use Rattle.std.specs.Prelude.{◌≡◌, max};
 ghost use Rattle.client_pool.specs.Lending.{is_live};
 
 use crate::call::Answered;
@@ -14,6 +14,7 @@ use seat_pool::{Hand, Lent};
 pub struct Client {
     pub(crate) number: u32,
     pub(crate) floor: u64,
+    pub(crate) caught_up: u64,
     pub(crate) answers: Vec<Answered>,
     pub(crate) lent: Lent,
     pub(crate) closing: Option<Closing>,
@@ -43,6 +44,21 @@ impl Client {
         ensures { result ≡ self.now.floor }
     {
         self.floor
+    }
+
+    /// The greatest place that it caught up with, 0 at first. No later answer to the client holds below this place either.
+    pub fn caught_up(&self) -> u64
+        ensures { result ≡ self.now.caught_up }
+    {
+        self.caught_up
+    }
+
+    /// The place that tells another client or caller what this one has seen: who catches up with it sees all that this one was answered or
+    /// caught up with.
+    pub fn place(&self) -> u64
+        ensures { result ≡ max self.now.floor self.now.caught_up }
+    {
+        self.floor.max(self.caught_up)
     }
 
     /// What it was answered, in order.

@@ -12,6 +12,7 @@ use cx_table::Remains;
 use seat_pool::Lent;
 use std::alloc::Global;
 use std::sync::Wait;
+use table_order::closing::closed_tables_are_linearizable;
 
 /// What was lent to clients, and what else they are.
 fn part_clients(
@@ -28,6 +29,7 @@ fn part_clients(
         let Client {
             number,
             floor,
+            caught_up: _,
             answers,
             lent,
             closing: _,
@@ -43,7 +45,8 @@ fn part_clients(
 }
 
 impl<O: Object> Pool<O> {
-    /// Closes the pool and its service, given all its clients, of client 0 first: all callers are gathered, those in the queue and those that clients keep,
+    /// Closes the pool and its service, given all its clients, of client 0 first. The history that is left is a linearization of the calls, by the
+    /// order of all callers' steps. All callers are gathered, those in the queue and those that clients keep,
     /// each once and in whatever state it is. The calls that the clients were told are those that the callers show as answered, each once, but for at most
     /// one of each stopped caller, which was told to nobody. `Err` is want of memory alone, and hands back the service, all its callers, of caller 0 first, and what the clients were answered.
     pub fn close<R: Wait>(
@@ -64,6 +67,7 @@ impl<O: Object> Pool<O> {
         let Client {
             number,
             floor,
+            caught_up: _,
             answers,
             lent,
             closing,
@@ -87,6 +91,9 @@ impl<O: Object> Pool<O> {
             floor,
             answers,
         });
+        // a running table is within its limits, by which what it leaves is a linearizable object's
+        let _lines = service.lines();
+        closed_tables_are_linearizable::<O>();
         match seat_pool::close(rt, alloc, service, line, rest, lents, gathered, out) {
             Ok(remains) => Ok(remains),
             Err(Kept { service, callers }) => Err(PoolKept {

@@ -62,7 +62,7 @@ fn take_waiting<O: Object, R: Wait>(
 }
 
 /// The caller that the client keeps, or else one out of the queue.
-fn take_for<O: Object, R: Wait>(
+pub(crate) fn take_for<O: Object, R: Wait>(
     rt: &R,
     service: &Service<O>,
     line: &Line,
@@ -110,7 +110,7 @@ fn catch_up<O: Object, R: Wait>(
 }
 
 /// The client keeps a stopped caller. The result is its linked entry that no call has answered.
-fn keep_stopped(lent: &mut Lent, stopped: Stopped) -> Option<u64>
+pub(crate) fn keep_stopped(lent: &mut Lent, stopped: Stopped) -> Option<u64>
     ensures kept { (lent.new.pass ≡ lent.old.pass) × (lent.new.kept ≡ Some (handed_cases.Stopped stopped)) }
     ensures linked { result ≡ stopped.linked }
 {

@@ -2,9 +2,10 @@
 //! it wrote.
 //!
 //! - `Pool::open` puts the callers of a service into a queue, and makes the clients. A pool is shared by threads, and each client goes to one.
-//! - `update` and `read` take a caller out of the queue, see to it that it has seen what the client was answered before (the client's floor), make the call,
+//! - `update` and `read` take a caller out of the queue, see to it that it has seen what the client was answered before or caught up with (`Client::place`), make the call,
 //!   and give the caller back. A client that was answered Full or Worn keeps its caller for its next call, and one whose caller is stopped makes no
 //!   further call: so no caller is lost.
+//! - `catch_up` has a client see what another one was answered, by a place that the other tells: no later answer of the client holds below it.
 //! - `close` gathers all callers and closes the service.
 //!
 //! Each client has one list of calls (`HasCalls` in `specs/Clients.antt`): what it was answered, with the entries and the reads that these are answers of. No
@@ -12,6 +13,7 @@
 #![tactic(auto)]
 
 mod call;
+mod catch_up;
 mod client;
 mod close;
 mod lend;
@@ -24,5 +26,5 @@ mod update;
 pub use call::{Answered, Call};
 pub use client::Client;
 pub use open::Unopened;
-pub use pool::{FormerClient, Pool, PoolKept, Pooled, PooledRead};
+pub use pool::{FormerClient, Pool, PoolKept, Pooled, PooledCatchUp, PooledRead};
 pub use threads::cross_threads;

@@ -60,8 +60,8 @@ fn look<O: Object, R: Wait>(
 }
 
 impl<O: Object> Pool<O> {
-    /// Answers an operation that only reads for a client that was not told `Stopped`, by a caller that has seen all that the client was answered before:
-    /// beside the queue, or as an entry of it. A read whose place is below the client's floor is made again. It waits as `update` does, and `Full`, `Worn`, `Stopped` and `Memory` are as
+    /// Answers an operation that only reads for a client that was not told `Stopped`, by a caller that has seen all that the client was answered before or
+    /// caught up with: beside the queue, or as an entry of it. A read whose place is below that is made again. It waits as `update` does, and `Full`, `Worn`, `Stopped` and `Memory` are as
     /// there.
     pub fn read<R: Wait>(&self, rt: &R, client: &mut Client, op: &[u64; 144]) -> PooledRead
         requires pool { IsPool O.only_reads self.now }
@@ -72,7 +72,7 @@ impl<O: Object> Pool<O> {
         if client.answers.reserve(1).is_err() {
             return PooledRead::Memory;
         }
-        let floor = client.floor;
+        let floor = client.place();
         match begin(rt, self, &mut client.lent, floor) {
             Ok(caller) => match look(rt, self, &mut client.lent, caller, floor, op) {
                 Looked::Found(seen) => {

@@ -81,6 +81,7 @@ fn new_client<O: Object>(
     Client {
         number,
         floor: service.place(),
+        caught_up: 0,
         answers: Vec::new(alloc),
         lent: Lent {
             pass: share(service, line, pass),

@@ -45,6 +45,17 @@ pub enum Pooled {
     Memory,
 }
 
+/// What catching up with a place returns.
+#[derive(Clone, Copy, Debug, PartialEq, Eq, Drop)]
+pub enum PooledCatchUp {
+    /// The client has seen the place.
+    Caught,
+    /// The current place is below it: this one.
+    Behind(u64),
+    /// The caller's step limit was reached. The client keeps it, and makes no further call.
+    Stopped,
+}
+
 /// What a read comes to.
 #[derive(Clone, Copy, Debug, PartialEq, Eq, Drop)]
 pub enum PooledRead {

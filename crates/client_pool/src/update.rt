@@ -31,7 +31,7 @@ fn enter<O: Object, R: Wait>(
 }
 
 impl<O: Object> Pool<O> {
-    /// Enters an operation into the queue for a client that was not told `Stopped`, by a caller that has seen all that the client was answered before. It
+    /// Enters an operation into the queue for a client that was not told `Stopped`, by a caller that has seen all that the client was answered before or caught up with. It
     /// waits for a caller, and for those who link and publish. `Full`, `Worn` and `Stopped` come only where the service answered the caller so in this call: the client keeps
     /// it, and its answers and its floor are as before. `Memory` is want of room for the answer, and leaves all as it was.
     pub fn update<R: Wait>(&self, rt: &R, client: &mut Client, op: &[u64; 144]) -> Pooled
@@ -42,7 +42,7 @@ impl<O: Object> Pool<O> {
         if client.answers.reserve(1).is_err() {
             return Pooled::Memory;
         }
-        let floor = client.floor;
+        let floor = client.place();
         match begin(rt, self, &mut client.lent, floor) {
             Ok(caller) => match enter(rt, self, &mut client.lent, caller, floor, op) {
                 Served::Done(caller, answer) => {

@@ -13,7 +13,8 @@
 //! its states, by three choices, is recovered as the full image of its root's place; on the ring each guard failing for one reason, FREE opened
 //! to what another caller needs and no further, a need stated too late, and two callers that scan at once; on write sets each guard failing for
 //! one reason, sets that are none refused, no word of a set written once it is offered, a cell kept from its owner while a reader holds its
-//! protection, and a cell given again, whose old offer word offers nothing.
+//! protection, and a cell given again, whose old offer word offers nothing; on the ring of gaps each guard failing for one reason, and gaps
+//! refused that have a changed line first or last, or a line and no ticket of the history.
 #![tactic(auto)]
 
 mod events;

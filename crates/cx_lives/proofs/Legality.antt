@@ -27,7 +27,9 @@ use Rattle.recovery.specs.Crashes.{IsLeftOf, IsWhole}
 use Rattle.recovery.specs.Images.{IsReadable}
 use Rattle.recovery.specs.Kept.{IsKeptBy, IsOpened, crash_of}
 use Rattle.cx_lives.specs.Life.{HasRun}
-use Rattle.cx_lives.specs.Lives.{HasLived, HasLost, IsServiceOf, IsToldBy, LeavesImage}
+use Rattle.cx_lives.specs.Lives.{HasLived, HasLost, IsServiceOf, IsToldBy, LeavesImage, table_of}
+use Rattle.table_order.specs.Closings.{IsClosedLinearizable}
+use Rattle.typed_object.specs.Meaning.{HasMeaning}
 use Rattle.cx_lives.proofs.Entries.{few_entries}
 
 -- a closed service of the store, and a base that was kept of it
@@ -144,6 +146,10 @@ module _ {O Op Reply Store : Type 0} (lines_in : O → ℕ) (images : O → List
     items = λ store stands. lost.flags.items_are ∙ lost.items_are store stands;
   }
 
+  -- its steps, said over its trail
+  steps_same : instance_at service steps readings ≡ object_instance (steps o) (readings o) life.clients remains.trail.base
+  steps_same = λ i. record { callers = is.callers i; base = sym ran.leaves.base i; step = steps (is.same i); reads = readings (is.same i) }
+
   told_by : IsToldBy m.encoding life remains.trail flagged
   told_by = record {
     is_told = subst (λ (b : Base). IsTold m.encoding life b.place remains.trail.history remains.trail.locals flagged) (sym ran.leaves.base) (retold service.base.place remains.trail.history ran.is_told);
@@ -152,23 +158,66 @@ module _ {O Op Reply Store : Type 0} (lines_in : O → ℕ) (images : O → List
         ∙ ap₂ (λ (p q : ℕ). p - q)
         (by.place ∙ ap₂ (λ (n : ℕ) (codes : List ℕ). root_place_of n (slice_index codes (life.choice % length codes))) is.callers ran.leaves.published)
         (sym lost.flags.same.from);
+    order = record {
+      step = steps o;
+      reads = readings o;
+      seats = ran.seats;
+      remains = remains;
+      trail_is = refl;
+      order = subst (λ (x : Instance). IsClosedLinearizable x ran.seats remains) steps_same ran.order;
+    };
   }
 
-  leaves_image : IsWhole remains → IsReadable (lines_in o) image → LeavesImage (lines_in o) life remains.trail image
-  leaves_image whole readable = record {
+  -- the table that was closed, said over its trail
+  closed_table : Leaves (table_of life.clients (lines_in o) remains.trail) (object_instance (steps o) (readings o) life.clients remains.trail.base) ran.seats remains
+  closed_table =
+      let l = ran.leaves in
+      let of_table : Running (Unit {0}) = record { table = service.table; callers = service.callers; lines = service.lines; base = service.base; object = tt } in
+      let same : of_table ≡ table_of life.clients (lines_in o) remains.trail = λ i. record { table = sym l.of i; callers = is.callers i; lines = is.has_lines i; base = sym l.base i; object = tt } in
+      let closed : Leaves of_table (instance_at service steps readings) ran.seats remains = record {
+        callers = l.callers;
+        lines = l.lines;
+        first = l.first;
+        published = l.published;
+        of = l.of;
+        base = l.base;
+        locals = l.locals;
+        words = l.words;
+        whole = l.whole;
+        shows = l.shows;
+        state = l.state;
+        reached = l.reached;
+        history = l.history;
+        merged = l.merged;
+        chain = l.chain;
+        volatile = l.volatile;
+        durable = l.durable;
+        dirty = l.dirty;
+        notes = l.notes;
+        times = l.times;
+        images = l.images;
+      } in
+      subst (λ (x : Running (Unit {0})). Leaves x (object_instance (steps o) (readings o) life.clients remains.trail.base) ran.seats remains) same
+      (subst (λ (x : Instance). Leaves of_table x ran.seats remains) steps_same closed)
+
+  leaves_image : (opening : List ℕ) → HasMeaning (images o) opening (steps o) (readings o) m → IsWhole remains → IsReadable (lines_in o) image → LeavesImage m (lines_in o) (images o) life remains.trail image
+  leaves_image opening means whole readable = record {
     readable = readable;
+    opening = opening;
+    step = steps o;
+    reads = readings o;
+    means = means;
+    seats = ran.seats;
     remains = remains;
+    closed = closed_table;
     whole = whole;
-    callers = ran.leaves.callers ∙ is.callers;
-    has_lines = ran.leaves.lines ∙ is.has_lines;
     trail_is = refl;
-    published = ran.leaves.published;
     left = lost.left;
   }
 
-  pub lived : IsWhole remains → IsReadable (lines_in o) image → IsEnded life flagged → HasReplies m base.place begun.store life flagged → GoesOn m (lines_in o) (images o) base.place begun.store life flagged next
+  pub lived : (opening : List ℕ) → HasMeaning (images o) opening (steps o) (readings o) m → IsWhole remains → IsReadable (lines_in o) image → IsEnded life flagged → HasReplies m base.place begun.store life flagged → GoesOn m (lines_in o) (images o) base.place begun.store life flagged next
       → IsBaseOf m next (begun_after m begun life flagged.journal flagged.kept) → HasLived m (lines_in o) version (images o) life begun base (record { told = flagged; trail = remains.trail; image = image; next = next })
-  lived whole readable ended has goes begins =
+  lived opening means whole readable ended has goes begins =
       let has' : HasReplies m begun.place begun.store life flagged = subst (λ (p : ℕ). HasReplies m p begun.store life flagged) based.at_place has in
       let goes' : GoesOn m (lines_in o) (images o) begun.place begun.store life flagged next = subst (λ (p : ℕ). GoesOn m (lines_in o) (images o) p begun.store life flagged next) based.at_place goes in
       let from : flagged.from ≡ begun.place = flagged_from ∙ based.at_place in
@@ -183,7 +232,7 @@ module _ {O Op Reply Store : Type 0} (lines_in : O → ℕ) (images : O → List
         };
         told = told_by;
         began = ran.leaves.base ∙ is.from;
-        left = leaves_image whole readable;
+        left = leaves_image opening means whole readable;
         recovered = lost.recovered;
         next = record { lawful = goes.lawful; is = begins };
         few = omega (arith, goes.at_place, goes.prefix, few_entries life flagged.journal ended.interleaved);

@@ -8,6 +8,7 @@ use Rattle.life_records.specs.Told.{IsTold}
 use Rattle.life_records.specs.Works.{AreWorks}
 use Rattle.life_records.specs.Limits.{IsLifeInLimits}
 use Rattle.life_records.specs.Records.{Life, LifeRecord, Meaning}
+use Rattle.table_order.specs.Closings.{IsClosedLinearizable}
 use Rattle.cx_lives.specs.Ends.{IsNewIn}
 
 -- A life that may be run on a service by these callers: item i is caller i, with client i's limit and no call made, and there are
@@ -26,6 +27,8 @@ pub record HasRun {O Op Reply Store : Type 0} (m : Meaning Op Reply Store) (step
   pub seats : List Seated
   pub are : AreSeats r seats
   pub leaves : Leaves r (instance_at r step reads) seats remains
+  -- by the order of their steps the history is a linearization
+  pub order : IsClosedLinearizable (instance_at r step reads) seats remains
   pub is_told : IsTold m.encoding life r.base.place remains.trail.history remains.trail.locals told
   pub works : AreWorks m.encoding life remains.trail.locals told.journal told.reads told.stops told.fulls
   pub choice : told.choice ≡ life.choice

@@ -1,5 +1,5 @@
 -- What one life comes to.
-use Rattle.std.specs.Prelude.{◌≡◌, ◌+◌, ◌-◌, ◌%◌, ◌^◌, ◌<◌, ◌≤◌, ℕ, List, [], ◌∷◌, ◌++◌, length, slice_index, All, Option, None, Some}
+use Rattle.std.specs.Prelude.{◌≡◌, ◌+◌, ◌-◌, ◌%◌, ◌^◌, ◌<◌, ◌≤◌, ℕ, Bool, List, [], ◌∷◌, ◌++◌, length, slice_index, All, Option, None, Some}
 use Rattle.cx_base.specs.Codes.{root_place_of}
 use Rattle.cx_base.specs.OldFormat.{no_old_format}
 use Rattle.cx_core.specs.Base.{LawfulBase}
@@ -8,10 +8,13 @@ use Rattle.cx_core.specs.declared.entry.Image.{Image}
 use Rattle.cx_core.specs.Region.{object_part}
 use Rattle.cx_rule.specs.Ending.{Ending}
 use Rattle.cx_rule.specs.Running.{Running}
+use Rattle.cx_rule.specs.Seats.{Seated}
+use Rattle.cx_table.specs.Remains.{Leaves}
 use Rattle.cx_table.specs.declared.remains.Remains.{Remains}
 use Rattle.life_records.specs.Ended.{IsFlagged, IsSameButKept}
 use Rattle.life_records.specs.Told.{IsTold}
 use Rattle.life_laws.specs.Begins.{Begun, IsBaseOf, begun_after, nothing_begun}
+use Rattle.life_laws.specs.Meanings.{object_instance}
 use Rattle.life_laws.specs.Replies.{HasOpValues, HasReplyValues}
 use Rattle.life_records.specs.Limits.{IsLifeInLimits}
 use Rattle.life_records.specs.Lives.{AreLivesFrom, IsLegalLife}
@@ -20,14 +23,27 @@ use Rattle.life_records.specs.Records.{Encoding, Life, LifeRecord, Meaning}
 use Rattle.recovery.specs.Crashes.{IsLeftOf, IsWhole}
 use Rattle.recovery.specs.Images.{IsReadable}
 use Rattle.recovery.specs.Recovery.{IsRecovered}
+use Rattle.typed_object.specs.Meaning.{HasMeaning}
+use Rattle.table_order.specs.Closings.{IsClosedLinearizable}
 use Rattle.cx_lives.specs.declared.lives.Lived.{Lived}
 use Rattle.cx_lives.specs.declared.lives.Ran.{Ran}
 
--- A record of a life is told by the trail of its service. The life's choice takes the code whose place ends what was kept, from the
--- codes with which the service ended, in rising order.
+-- The history of a trail is a linearization of what its callers did, by the order of all their steps: a table with this trail was closed, and it
+-- is what a linearizable object leaves.
+pub record IsLinearized (clients : ℕ) (trail : Ending) : Type 0 where
+  pub step : List ℕ → List ℕ → List ℕ × List ℕ
+  pub reads : List ℕ → Bool
+  pub seats : List Seated
+  pub remains : Remains
+  pub trail_is : remains.trail ≡ trail
+  pub order : IsClosedLinearizable (object_instance step reads clients trail.base) seats remains
+
+-- A record of a life is told by the trail of its service, whose history is a linearization of the clients' commands. The life's choice takes
+-- the code whose place ends what was kept, from the codes with which the service ended, in rising order.
 pub record IsToldBy {Op Reply : Type 0} (encoding : Encoding Op Reply) (life : Life Op) (trail : Ending) (told : LifeRecord Reply) : Type 0 where
   pub is_told : IsTold encoding life trail.base.place trail.history trail.locals told
   pub kept : told.kept ≡ root_place_of life.clients (slice_index trail.chain (life.choice % length trail.chain)) - told.from
+  pub order : IsLinearized life.clients trail
 
 -- a base from which a service of the object may start, that is what a life begins with
 pub record BeginsLife {Op Reply Store : Type 0} (m : Meaning Op Reply Store) (lines : ℕ) (is_lawful : List ℕ → Type 0) (begun : Begun Store) (base : Base) : Type 0 where
@@ -72,16 +88,23 @@ pub record HasLost {Op Reply Store : Type 0} (m : Meaning Op Reply Store) (lines
   pub items_are : (store : Store) → m.stands (object_part next.words) store → items ≡ m.items store
   pub values : HasReplyValues m flagged
 
--- An image that may be read for an object of so many lines. By the life's choice the loss of power left it of a closed table, whose callers
--- were the life's clients and whose trail is this one.
-pub record LeavesImage {Op : Type 0} (lines : ℕ) (life : Life Op) (trail : Ending) (image : Image) : Type 0 where
+-- the table of a trail, whatever its object is
+abbrev pub table_of : ℕ → ℕ → Ending → Running (Unit {0})
+table_of callers lines trail = record { table = trail.table; callers = callers; lines = lines; base = trail.base; object = tt }
+
+-- An image that may be read for an object of so many lines. By the life's choice the loss of power left it of the table of this trail, which was
+-- closed: its callers were the life's clients, and its steps what the operations mean.
+pub record LeavesImage {Op Reply Store : Type 0} (m : Meaning Op Reply Store) (lines : ℕ) (is_lawful : List ℕ → Type 0) (life : Life Op) (trail : Ending) (image : Image) : Type 0 where
   pub readable : IsReadable lines image
+  pub opening : List ℕ
+  pub step : List ℕ → List ℕ → List ℕ × List ℕ
+  pub reads : List ℕ → Bool
+  pub means : HasMeaning is_lawful opening step reads m
+  pub seats : List Seated
   pub remains : Remains
+  pub closed : Leaves (table_of life.clients lines trail) (object_instance step reads life.clients trail.base) seats remains
   pub whole : IsWhole remains
-  pub callers : remains.callers ≡ life.clients
-  pub has_lines : remains.lines ≡ lines
   pub trail_is : remains.trail ≡ trail
-  pub published : remains.published.items ≡ trail.chain
   pub left : IsLeftOf remains life.choice image
 
 -- What one life comes to that begins so: a record of a legal life, told by the trail of its service, which began with this base; and
@@ -91,7 +114,7 @@ pub record HasLived {Op Reply Store : Type 0} (m : Meaning Op Reply Store) (line
   pub legal : IsLegalLife m begun.place begun.store life ran.told
   pub told : IsToldBy m.encoding life ran.trail ran.told
   pub began : ran.trail.base ≡ base
-  pub left : LeavesImage lines life ran.trail ran.image
+  pub left : LeavesImage m lines is_lawful life ran.trail ran.image
   pub recovered : IsRecovered version is_lawful no_old_format ran.image ran.next
   pub next : BeginsLife m lines is_lawful (begun_after m begun life ran.told.journal ran.told.kept) ran.next
   pub few : ran.next.place ≤ base.place + length life.commands
@@ -130,23 +153,23 @@ HaveEnded m lines version is_lawful begun lives (Some image) (Some base) =
 HaveEnded m lines version is_lawful begun lives _ _ = ⊥
 
 -- the loss of power that ended the last of these lives left the image, by the last of these trails
-pub record LastLeaves {Op : Type 0} (lines : ℕ) (lives : List (Life Op)) (trails : List Ending) (image : Image) : Type 0 where
+pub record LastLeaves {Op Reply Store : Type 0} (m : Meaning Op Reply Store) (lines : ℕ) (is_lawful : List ℕ → Type 0) (lives : List (Life Op)) (trails : List Ending) (image : Image) : Type 0 where
   pub before : List (Life Op)
   pub life : Life Op
   pub lives_are : lives ≡ before ++ life ∷ []
   pub trails_before : List Ending
   pub trail : Ending
   pub trails_are : trails ≡ trails_before ++ trail ∷ []
-  pub leaves : LeavesImage lines life trail image
+  pub leaves : LeavesImage m lines is_lawful life trail image
 
 -- where lives were run, the image is what the last one left
-abbrev pub HaveLeft : {Op : Type 0} → ℕ → List (Life Op) → List Ending → Option Image → Type 0
-HaveLeft lines lives trails None = lives ≡ []
-HaveLeft lines lives trails (Some image) = LastLeaves lines lives trails image
+abbrev pub HaveLeft : {Op Reply Store : Type 0} → Meaning Op Reply Store → ℕ → (List ℕ → Type 0) → List (Life Op) → List Ending → Option Image → Type 0
+HaveLeft m lines is_lawful lives trails None = lives ≡ []
+HaveLeft m lines is_lawful lives trails (Some image) = LastLeaves m lines is_lawful lives trails image
 
 -- What lives come to: their records are of legal lives, and told by the trails of the services that ran them.
 pub record HaveLived {Op Reply Store : Type 0} (m : Meaning Op Reply Store) (lines version : ℕ) (is_lawful : List ℕ → Type 0) (lives : List (Life Op)) (lived : Lived Reply) : Type 0 where
   pub legal : AreLivesFrom m 0 m.opening lives lived.records
   pub told : AreTold m lives lived.records lived.trails
   pub ends : HaveEnded m lines version is_lawful (begun_by m (nothing_begun m) lives lived.records) lives lived.image lived.base
-  pub left : HaveLeft lines lives lived.trails lived.image
+  pub left : HaveLeft m lines is_lawful lives lived.trails lived.image

@@ -8,7 +8,7 @@ use Rattle.trace_text.specs.Traces.{IsTraceFault}
 use Rattle.trace_text.specs.declared.trace.TraceReason.{TraceReason}
 
 abbrev pub usage_text : List ℕ
-usage_text = codes "usage: cx_tool run | image | recover | load FROM CLIENTS OPS | fifo | trace | pool SEATS\n"
+usage_text = codes "usage: cx_tool run | image | recover | load FROM CLIENTS OPS | pool SEATS | fifo | trace\n"
 
 abbrev pub refused_text : ℕ → List ℕ → List ℕ
 refused_text line reason = codes "refused line " ++ decimal line ++ codes ": " ++ reason ++ codes "\n"

@@ -24,7 +24,7 @@ use std::thread::Threads;
 
 /// What is written where the words are no command.
 const USAGE: &[u8] =
-    b"usage: cx_tool run | image | recover | load FROM CLIENTS OPS | fifo | trace | pool SEATS\n";
+    b"usage: cx_tool run | image | recover | load FROM CLIENTS OPS | pool SEATS | fifo | trace\n";
 
 /// Runs the command that the words name. With `run` it reads a script from the source, runs its lives and writes the
 /// report, with `image` the image that the last loss of power left; with `recover` it reads such an image, and tells what is recovered

@@ -29,7 +29,7 @@ halted_in r j most op s t caller room many long halted =
     let few = some_differ (drop 1 (cell_of s.known.local j).words) op in
     let cur = ap (λ (x : Seated). x.known.local.seen_cur) halted.rest in
     let front = ap (λ (x : Seated). x.known.local.front) halted.rest in (
-      halts r (stale s) t (ap beside_submit halted.rest) most caller (ap (λ (x : Seated). x.known.local.own) halted.rest) (omega (arith, front)) (omega (arith, cur))
+      halts r (stale s) t (ap beside_submit halted.rest) most caller (ap (λ (x : Seated). x.known.local.own) halted.rest) (ap (λ (x : Seated). x.known.times.linked) halted.rest) (omega (arith, front)) (omega (arith, cur))
           (omega (arith, limit, few, halted.limit.0, halted.short, many, long))
           (λ k within idle. record { free = ap (λ (x : Seated). x.known.local.seen_free) halted.rest; scans = ap (λ (x : Seated). x.known.local.scans) halted.rest })
           halted.limit,

@@ -18,6 +18,7 @@ use Rattle.cx_rule.specs.Seats.{IsAtLimit, Seated, unanswered_ticket}
 use Rattle.mutation_queue.specs.declared.linking.LinkTried.{LinkTried}
 use Rattle.mutation_queue.specs.declared.linking.LinkTried.TheVariants.{Again, Linked as LinkedAt, Worn}
 use Rattle.mutation_queue.specs.Cells.{writes}
+use Rattle.cx_turns.specs.Turns.{StepsOn}
 use Rattle.mutation_queue.specs.Links.{LinksAgain, LinksAt, LinksNone, LosesTries, IsWorn, Tried}
 use Rattle.cx_service.specs.Callers.{HasOwnCells, IsBetweenCalls, IsCallerOf, IsLinkedOf, unlinked}
 use Rattle.cx_service.specs.Submits.{EntersIn, LooksForNothing, SubmitAgain, SubmitHalted, SubmitKeeps, SubmitLinked, SubmitWorn, TriesOf, entry_at}
@@ -26,7 +27,7 @@ use Rattle.cx_service.proofs.Cells.{default, own_kept, own_more}
 -- what no step of a submit changes: the seat but for its entries, cells, steps and scans, its front, the slot last looked at, what was
 -- found of FREE and of the callers' needs, and what was loaded from CUR
 abbrev pub beside_submit : Seated → Seated
-beside_submit s = record s { known = record s.known { local = record s.known.local { own = []; cells = []; front = 0; seen_slot = None; seen_free = 0; seen_need = None; seen_cur = 0; fresh = false; scan = None; steps = 0; scans = 0 } } }
+beside_submit s = record s { known = record s.known { local = record s.known.local { own = []; cells = []; front = 0; seen_slot = None; seen_free = 0; seen_need = None; seen_cur = 0; fresh = false; scan = None; steps = 0; scans = 0 }; times = record s.known.times { linked = []; loaded = 0 } } }
 
 -- a seat as if what was loaded from CUR were not fresh
 abbrev pub stale : Seated → Seated
@@ -47,6 +48,7 @@ module _ {O : Type 0} (r : Running O) (s v : Seated) (kept : beside_submit v ≡
     cur = cur;
     steps = steps;
     idle = idle;
+    times = record { answered = ap (λ (x : Seated). x.known.times.answered) kept; reads = ap (λ (x : Seated). x.known.times.reads) kept };
   }
 
   -- it is still the seat of its caller
@@ -83,13 +85,14 @@ module _ {O : Type 0} (r : Running O) (s v : Seated) (kept : beside_submit v ≡
   none_unanswered : (xs : List Linked) (n : ℕ) → length xs ≤ n → option_map (λ (x : Linked). x.ticket) (slice_get xs n) ≡ None
   none_unanswered xs n past = ap (option_map (λ (x : Linked). x.ticket)) (slice_get_past xs n past)
 
-  pub halts : (most : ℕ) → IsCallerOf r s → v.known.local.own ≡ s.known.local.own → s.known.local.front ≤ v.known.local.front → s.known.local.seen_cur ≤ v.known.local.seen_cur → v.known.local.steps ≤ s.known.local.steps + most → ((j : ℕ) → j < 16 → IsIdle s.known.local j → LooksForNothing s v) →
+  pub halts : (most : ℕ) → IsCallerOf r s → v.known.local.own ≡ s.known.local.own → v.known.times.linked ≡ s.known.times.linked → s.known.local.front ≤ v.known.local.front → s.known.local.seen_cur ≤ v.known.local.seen_cur → v.known.local.steps ≤ s.known.local.steps + most → ((j : ℕ) → j < 16 → IsIdle s.known.local j → LooksForNothing s v) →
       IsAtLimit v.known.local → SubmitHalted r most s (unlinked v)
-  halts most caller own front cur steps idle limit = record {
+  halts most caller own linked front cur steps idle limit = record {
     caller = record { of = of_kept caller.of; limit = limit };
     linked = refl;
     keeps = keeps most front cur steps idle;
     own = own;
+    times = linked;
     none = none_unanswered v.known.local.own (length v.known.local.answered)
         (let long = ap (λ (x : Seated). length x.known.local.answered) kept in let same = ap (λ (xs : List Linked). length xs) own in omega (arith, long, same, caller.count));
   }
@@ -127,6 +130,9 @@ module _ {O : Type 0} (r : Running O) (j : ℕ) (op : List ℕ) (s t : Seated) (
   same_own : t.known.local.own ≡ s.known.local.own
   same_own = ap (λ (x : Seated). x.known.local.own) rest
 
+  same_linked : t.known.times.linked ≡ s.known.times.linked
+  same_linked = ap (λ (x : Seated). x.known.times.linked) rest
+
   same_front : t.known.local.front ≡ s.known.local.front
   same_front = ap (λ (x : Seated). x.known.local.front) rest
 
@@ -151,6 +157,9 @@ module _ {O : Type 0} (r : Running O) (j : ℕ) (op : List ℕ) (s t : Seated) (
     none_own : v.known.local.own ≡ s.known.local.own
     none_own = ap (λ (x : Seated). x.known.local.own) none.same ∙ same_own
 
+    none_linked : v.known.times.linked ≡ s.known.times.linked
+    none_linked = ap (λ (x : Seated). x.known.times.linked) none.same ∙ same_linked
+
     none_caller : IsCallerOf r v
     none_caller =
         between r s v none_kept 0 caller (ap (λ (x : Seated). x.known.local.fresh) none.same ∙ same_fresh) (ap (λ (x : Seated). x.known.local.scan) none.same ∙ no_scan)
@@ -169,7 +178,7 @@ module _ {O : Type 0} (r : Running O) (j : ℕ) (op : List ℕ) (s t : Seated) (
     none_looked = not_looked v (ap (λ (x : Seated). x.known.local.seen_free) none.same) (ap (λ (x : Seated). x.known.local.scans) none.same)
 
     pub halts_linking : (most : ℕ) → v.known.local.steps ≤ s.known.local.steps + most → IsAtLimit v.known.local → SubmitHalted r most s (unlinked v)
-    halts_linking most steps limit = halts r s v none_kept most caller none_own (omega (arith, none.front, same_front)) none_cur steps none_looked limit
+    halts_linking most steps limit = halts r s v none_kept most caller none_own none_linked (omega (arith, none.front, same_front)) none_cur steps none_looked limit
 
   -- tries were made then
   pub tries_of : (come_to : Seated → Seated → Type 0) (v : Seated) → min (s.known.local.steps + writes s.known.local j (next_number r.base s.known.local ∷ op)) max_word ≤ t.known.local.steps → come_to t v → TriesOf r 0 come_to s v
@@ -182,8 +191,8 @@ module _ {O : Type 0} (r : Running O) (j : ℕ) (op : List ℕ) (s t : Seated) (
         made = made;
       }
 
-  pub again : (tries most : ℕ) (v : Seated) → LinksAgain r.callers tries t v → ¬ IsAtLimit s.known.local → v.known.local.steps ≤ s.known.local.steps + most → SubmitAgain r tries most s v
-  again tries most v links allowed steps = record {
+  pub again : (tries most : ℕ) (v : Seated) → LinksAgain r.callers tries t v → ¬ IsAtLimit s.known.local → v.known.local.steps ≤ s.known.local.steps + most → StepsOn s t → SubmitAgain r tries most s v
+  again tries most v links allowed steps since = record {
     caller = none_caller v links.none;
     keeps = keeps r s v (none_kept v links.none) most (omega (arith, links.none.front, same_front)) (none_cur v links.none) steps (none_looked v links.none);
     allowed = allowed;
@@ -192,6 +201,8 @@ module _ {O : Type 0} (r : Running O) (j : ℕ) (op : List ℕ) (s t : Seated) (
     front = omega (arith, links.front, same_front);
     cur = (let e = ap (λ (x : Seated). root_place_of r.callers x.known.local.seen_cur) links.none.same in omega (arith, e, links.cur));
     left = links.left;
+    linked = none_linked v links.none;
+    since = omega (arith, links.none.since, since);
   }
 
   pub worn : (most : ℕ) (v : Seated) → IsWorn t v → ¬ IsAtLimit s.known.local → v.known.local.steps ≤ s.known.local.steps + most → SubmitWorn r most s v
@@ -203,6 +214,7 @@ module _ {O : Type 0} (r : Running O) (j : ℕ) (op : List ℕ) (s t : Seated) (
     own = none_own v links.none;
     front = links.front;
     idle = (j, room, subst (IsIdleAt v.known.local.seen_free) (sym (ap (λ (x : Seated). (cell_of x.known.local j).ticket) links.none.same ∙ no_ticket)) tt);
+    linked = none_linked v links.none;
   }
 
   -- the entry was linked
@@ -267,8 +279,8 @@ module _ {O : Type 0} (r : Running O) (j : ℕ) (op : List ℕ) (s t : Seated) (
         ∙ ap (λ (xs : List Linked). option_map (λ (x : Linked). x.ticket) (slice_get xs (length s.known.local.own))) at_own
         ∙ ap (option_map (λ (x : Linked). x.ticket)) (slice_get-last s.known.local.own (entry_at r s.known.local op ticket))
 
-  pub linked_at : (ticket most : ℕ) (v : Seated) → LinksAt j ticket t v → ¬ IsAtLimit s.known.local → v.known.local.steps ≤ s.known.local.steps + most → SubmitLinked r op most s v
-  linked_at ticket most v at allowed steps = record {
+  pub linked_at : (ticket most : ℕ) (v : Seated) → LinksAt j ticket t v → ¬ IsAtLimit s.known.local → v.known.local.steps ≤ s.known.local.steps + most → StepsOn s t → SubmitLinked r op most s v
+  linked_at ticket most v at allowed steps since = record {
     caller = at_caller ticket v at;
     keeps = keeps r s v (at_kept ticket v at) most (omega (arith, at.from, at.front, same_front)) (let e = ap (λ (x : Seated). x.known.local.seen_cur) at.same in let f = ap (λ (x : Seated). x.known.local.seen_cur) rest in omega (arith, e, f)) steps (not_looked v (ap (λ (x : Seated). x.known.local.seen_free) at.same) (ap (λ (x : Seated). x.known.local.scans) at.same));
     allowed = allowed;
@@ -278,6 +290,7 @@ module _ {O : Type 0} (r : Running O) (j : ℕ) (op : List ℕ) (s t : Seated) (
     own = at_own ticket v at;
     from = omega (arith, at.from, same_front);
     front = at.front;
+    begun = record { at = at.linked.at; from = omega (arith, at.linked.from, since); is = at.linked.is ∙ ap (λ ts. ts ++ at.linked.at ∷ []) same_linked };
   }
 
   -- whatever they came to, no write sets were read
@@ -289,6 +302,6 @@ module _ {O : Type 0} (r : Running O) (j : ℕ) (op : List ℕ) (s t : Seated) (
   -- what tries to link it come to
   pub entered : (tries most : ℕ) (v : Seated) (tried : LinkTried) → Tried r.callers j tries t v tried → ¬ IsAtLimit s.known.local → v.known.local.steps ≤ s.known.local.steps + most →
       min (s.known.local.steps + writes s.known.local j (next_number r.base s.known.local ∷ op)) max_word ≤ t.known.local.steps → EntersIn 0 most r op tries s v tried
-  entered tries most v (LinkedAt ticket) links allowed steps since = linked_at ticket most v links allowed steps
-  entered tries most v Again links allowed steps since = (again tries most v links allowed steps, tries_of (LosesTries r.callers tries) v since links.lost)
+  entered tries most v (LinkedAt ticket) links allowed steps since = linked_at ticket most v links allowed steps (omega (arith, since))
+  entered tries most v Again links allowed steps since = (again tries most v links allowed steps (omega (arith, since)), tries_of (LosesTries r.callers tries) v since links.lost)
   entered tries most v Worn links allowed steps since = worn most v links allowed steps

@@ -11,6 +11,7 @@ use Rattle.cx_core.specs.Region.{slot_number}
 use Rattle.cx_core.specs.RingEvents.{need_word}
 use Rattle.cx_core.specs.State.{Instance, one_more}
 use Rattle.cx_rule.specs.declared.rule.Noted.{Noted}
+use Rattle.cx_turns.specs.Turns.{StepsOn}
 use Rattle.mutation_queue.specs.Cells.{IsInUse, IsInUseAt, writes}
 use Rattle.mutation_queue.specs.Links.{EndsBy, HaltsTry, LosesTries}
 use Rattle.mutation_queue.specs.Collecting.{Collects, HaltsCollecting, but_collected}
@@ -38,6 +39,8 @@ pub record Precedes (more : ℕ) (s t : Seated) : Type 0 where
   pub cur : s.known.local.seen_cur ≤ t.known.local.seen_cur
   pub scans : s.known.local.scans ≤ t.known.local.scans
   pub steps : t.known.local.steps ≤ s.known.local.steps + more
+  pub since : StepsOn s t
+  pub linked : t.known.times.linked ≡ s.known.times.linked
   pub idle : (j : ℕ) → j < 16 → IsIdle s.known.local j → LooksForNothing s t
   pub stood : IsAtLimit s.known.local → t ≡ s
 
@@ -69,7 +72,7 @@ module _ (most : ℕ) (s t : Seated) (looked : LooksForCell most s t) where
   looked_cur = (let e = ap (λ (x : Seated). x.known.local.seen_cur) looked.same in omega (arith, e))
 
   pub looked_first : EndsLooking s t → AreInUse s.known.local ⊎ (t ≡ s) → (IsAtLimit s.known.local → t ≡ s) → Precedes most s t
-  looked_first ends used stood = record { kept = looked_kept; own = looked_own; cells = looked_cells; front = omega (arith, looked_front); cur = looked_cur; scans = ends.scans; steps = looked.steps; idle = looked_idle s t used; stood = stood }
+  looked_first ends used stood = record { kept = looked_kept; own = looked_own; cells = looked_cells; front = omega (arith, looked_front); cur = looked_cur; scans = ends.scans; steps = looked.steps; since = ends.since; linked = ap (λ (x : Seated). x.known.times.linked) looked.same; idle = looked_idle s t used; stood = stood }
 
 -- a cell was looked for by so many steps, and no scan came after
 looks_on : (callers n : ℕ) (s t v : Seated) → v.known.local.scans ≡ t.known.local.scans → LooksBy callers n s t → LooksBy callers n s v
@@ -108,6 +111,7 @@ module _ {O : Type 0} (r : Running O) (more : ℕ) (s t : Seated) (first : Prece
         let still : IsIdle t.known.local j = subst (λ (cells : List Cell). IsIdleAt t.known.local.seen_free (cell_of (record s.known.local { cells = cells }) j).ticket) (sym first.cells) (subst (λ n. IsIdleAt n (cell_of s.known.local j).ticket) (sym none.free) idle) in
         let last = after.idle j within still in
         record { free = last.free ∙ none.free; scans = last.scans ∙ none.scans });
+    times = record { answered = after.times.answered ∙ ap (λ (x : Seated). x.known.times.answered) first.kept; reads = after.times.reads ∙ ap (λ (x : Seated). x.known.times.reads) first.kept };
   }
 
   same_entry : (op : List ℕ) (ticket : ℕ) → entry_at r t.known.local op ticket ≡ entry_at r s.known.local op ticket
@@ -159,6 +163,7 @@ module _ {O : Type 0} (r : Running O) (more : ℕ) (s t : Seated) (first : Prece
     own = after.own ∙ ap (λ (xs : List Linked). xs ++ entry_at r t.known.local op after.ticket ∷ []) first.own ∙ ap (λ x. s.known.local.own ++ x ∷ []) (same_entry op after.ticket);
     from = omega (arith, after.from, first.front);
     front = after.front;
+    begun = record { at = after.begun.at; from = omega (arith, after.begun.from, first.since); is = after.begun.is ∙ ap (λ ts. ts ++ after.begun.at ∷ []) first.linked };
   }
 
   again_then : (tries m n : ℕ) (v : Seated) → m + more ≤ n → SubmitAgain r tries m t v → SubmitAgain r tries n s v
@@ -171,6 +176,8 @@ module _ {O : Type 0} (r : Running O) (more : ℕ) (s t : Seated) (first : Prece
     front = omega (arith, after.front, first.front);
     cur = after.cur;
     left = after.left;
+    linked = after.linked ∙ first.linked;
+    since = omega (arith, after.since, first.since);
   }
 
   worn_then : (m n : ℕ) (v : Seated) → m + more ≤ n → SubmitWorn r m t v → SubmitWorn r n s v
@@ -182,6 +189,7 @@ module _ {O : Type 0} (r : Running O) (more : ℕ) (s t : Seated) (first : Prece
     own = after.own ∙ first.own;
     front = after.front;
     idle = after.idle;
+    linked = after.linked ∙ first.linked;
   }
 
   pub halted_then : (m n : ℕ) (v : StoppedSeat) → m + more ≤ n → SubmitHalted r m t v → SubmitHalted r n s v
@@ -191,6 +199,7 @@ module _ {O : Type 0} (r : Running O) (more : ℕ) (s t : Seated) (first : Prece
     keeps = keeps_then m n v.seat most halted.keeps;
     own = halted.own ∙ first.own;
     none = halted.none;
+    times = halted.times ∙ first.linked;
   }
 
   pub enters_then : (op : List ℕ) (k took tries m n : ℕ) (v : Seated) (tried : LinkTried) → m + more ≤ n → min (s.known.local.steps + took) max_word ≤ t.known.local.steps → EntersIn k m r op tries t v tried → EntersIn (took + k) n r op tries s v tried
@@ -234,6 +243,8 @@ cur_loaded instance s t found made rises allowed =
       cur = (let e = ap (λ (x : Seated). x.known.local.seen_cur) made in omega (arith, e, rises));
       scans = (let e = ap (λ (x : Seated). x.known.local.scans) made in omega (arith, e));
       steps = omega (arith, steps);
+      since = omega (arith, steps);
+      linked = ap (λ (x : Seated). x.known.times.linked) made;
       idle = λ j within idle. record { free = ap (λ (x : Seated). x.known.local.seen_free) made; scans = ap (λ (x : Seated). x.known.local.scans) made };
       stood = λ at. absurd (allowed at);
     }
@@ -374,7 +385,7 @@ collect_ends callers target s v found small collects = record { scan = collects.
 pub halts_looking : {O : Type 0} (r : Running O) (most n : ℕ) (s t : Seated) → IsCallerOf r s → LooksForCell n s t → n ≤ most → (op : List ℕ) (tries : ℕ) → HaltsLooking (r.callers + 3) s t → HaltsEntering r op tries most s (unlinked t)
 halts_looking r most n s t caller looked few op tries halted =
     let front = looked_front n s t looked in
-    (halts r s t (looked_kept n s t looked) most caller (looked_own n s t looked) (omega (arith, front)) (looked_cur n s t looked) (omega (arith, looked.steps, few)) (looked_idle s t (inl halted.used)) halted.limit, inl halted.looking)
+    (halts r s t (looked_kept n s t looked) most caller (looked_own n s t looked) (ap (λ (x : Seated). x.known.times.linked) looked.same) (omega (arith, front)) (looked_cur n s t looked) (omega (arith, looked.steps, few)) (looked_idle s t (inl halted.used)) halted.limit, inl halted.looking)
 
 -- no cell is idle
 pub full_there : {O : Type 0} (r : Running O) (most n : ℕ) (s t : Seated) (note : FullNote) → LooksForCell n s t → IsCallerOf r s → FindsNone r.callers s t note → n ≤ most → SubmitFull r most s t note
@@ -391,4 +402,5 @@ full_there r most n s t note looked caller none few =
           let e = ap (λ (xs : List Linked). length xs) first.own in
           omega (arith, many, e));
       names = none.names;
+      linked = first.linked;
     }

@@ -16,17 +16,23 @@ use Rattle.cx_rule.specs.Raises.{AnswersOf, TellsAnswers, known_answered}
 use Rattle.cx_rule.specs.Running.{IsSeatOf, Running, instance_at}
 use Rattle.cx_rule.specs.Seats.{IsAtLimit, Seated, stepped}
 use Rattle.cx_service.specs.Callers.{IsCallerOf}
-use Rattle.cx_service.specs.CatchUps.{CatchUpKeeps, HasSeen, SeesCurrent}
+use Rattle.cx_service.specs.CatchUps.{CatchUpKeeps, CatchUpSees, CatchesUp, HasSeen, ReadSees, SeesCurrent, UpdateSees}
+use Rattle.cx_service.specs.declared.catch_up.CaughtUp.{CaughtUp}
+use Rattle.cx_service.specs.declared.catch_up.CaughtUp.TheVariants.{Caught, Behind, Halted}
+use Rattle.cx_service.specs.declared.update.ReadDone.{ReadDone}
+use Rattle.cx_service.specs.declared.update.ReadDone.TheVariants.{Read, Queued, Full as FullRead, Worn as WornRead, Halted as HaltedRead}
+use Rattle.cx_service.specs.declared.update.Updated.{Updated}
+use Rattle.cx_service.specs.declared.update.Updated.TheVariants.{Done as UpdatedDone, Full as UpdatedFull, Worn as UpdatedWorn, Halted as UpdatedHalted}
 use Rattle.cx_service.specs.Drives.{DriveDone}
 use Rattle.cx_service.specs.Lookups.{ReadAnswered, ReadKeeps}
 use Rattle.cx_service.specs.Submits.{SubmitKeeps, SubmitLinked, entry_at}
-use Rattle.cx_service.specs.Updates.{UpdateDone}
+use Rattle.cx_service.specs.Updates.{KeepsLists, ReadQueues, ReadsInAll, UpdateDone, Updates}
 use Rattle.cx_service.proofs.Cells.{own_kept}
 use Rattle.cx_turns.specs.declared.lookup.Seen.{Seen}
 
 module _ {O : Type 0} (r : Running O) (op : List ℕ) (before after : Seated) where
   -- an own entry that was answered is below the front
-  done_front : (answer : Answer) → UpdateDone r op before after answer → answer.ticket < after.known.local.front
+  pub done_front : (answer : Answer) → UpdateDone r op before after answer → answer.ticket < after.known.local.front
   done_front answer done =
       let l = before.known.local in
       let x : Linked = entry_at r l op answer.ticket in
@@ -62,6 +68,9 @@ module _ {O : Type 0} (r : Running O) (op : List ℕ) (before after : Seated) wh
       ] in
       (above, record { front = (let a = was.front in let b = read.keeps.front in omega (arith, a, b)); read = inl (omega (arith, above, at)) })
 
+  pub answered_read_seen : (seen : Seen) → ReadAnswered r op before after seen → HasSeen r.callers seen.place after.known.local
+  answered_read_seen seen read = record { front = read.reached; read = inl (let at = read.place in omega (arith, at)) }
+
 -- what was seen has been seen still where neither the front nor the code found in CUR fell and the answers are as they were
 still_seen : {O : Type 0} (r : Running O) (place : ℕ) (before after : Seated) → IsCallerOf r before → HasSeen r.callers place before.known.local → before.known.local.front ≤ after.known.local.front →
     before.known.local.seen_cur ≤ after.known.local.seen_cur → after.known.local.answered ≡ before.known.local.answered → HasSeen r.callers place after.known.local
@@ -85,9 +94,50 @@ submit_seen r most place before after caller was keeps = still_seen r place befo
 pub read_seen : {O : Type 0} (r : Running O) (place : ℕ) (before after : Seated) → IsCallerOf r before → HasSeen r.callers place before.known.local → ReadKeeps before after → HasSeen r.callers place after.known.local
 read_seen r place before after caller was keeps = still_seen r place before after caller was keeps.front keeps.cur keeps.answered
 
+-- where nothing was linked or answered
+pub lists_seen : {O : Type 0} (r : Running O) (place : ℕ) (before after : Seated) → IsCallerOf r before → HasSeen r.callers place before.known.local → KeepsLists before after → HasSeen r.callers place after.known.local
+lists_seen r place before after caller was keeps = still_seen r place before after caller was keeps.front keeps.cur keeps.answered
+
+pub catch_up_seen : {O : Type 0} (r : Running O) (place : ℕ) (before after : Seated) → IsCallerOf r before → HasSeen r.callers place before.known.local → CatchUpKeeps before after → HasSeen r.callers place after.known.local
+catch_up_seen r place before after caller was keeps = still_seen r place before after caller was keeps.front keeps.cur keeps.answered
+
+pub update_sees : {O : Type 0} (r : Running O) (op : List ℕ) (place : ℕ) (before : Seated) (updated : Updated) → IsCallerOf r before → HasSeen r.callers place before.known.local → Updates r op before updated →
+    UpdateSees r.callers place updated
+update_sees r op place before (UpdatedDone after answer) caller was done = update_behind r op before after place answer was done
+update_sees r op place before (UpdatedFull after note) caller was full = lists_seen r place before after caller was full.keeps
+update_sees r op place before (UpdatedWorn after) caller was worn = lists_seen r place before after caller was worn.keeps
+update_sees r op place before (UpdatedHalted after) caller was halted = tt
+
+pub queued_sees : {O : Type 0} (r : Running O) (op : List ℕ) (place : ℕ) (before : Seated) (updated : Updated) → IsCallerOf r before → HasSeen r.callers place before.known.local → ReadQueues r op before updated →
+    UpdateSees r.callers place updated
+queued_sees r op place before updated caller was queues =
+    update_sees r op place queues.refused updated queues.pending.caller (still_seen r place before queues.refused caller was queues.pending.keeps.front queues.pending.keeps.cur queues.pending.keeps.answered) queues.entered
+
+pub read_sees : {O : Type 0} (r : Running O) (op : List ℕ) (place : ℕ) (before : Seated) (done : ReadDone) → IsCallerOf r before → HasSeen r.callers place before.known.local → ReadsInAll r op before done →
+    ReadSees r.callers place done
+read_sees r op place before (Read after seen) caller was read = read_behind r op before after place seen was read.0
+read_sees r op place before (Queued after answer) caller was queues = queued_sees r op place before (UpdatedDone after answer) caller was queues
+read_sees r op place before (FullRead after note) caller was queues = queued_sees r op place before (UpdatedFull after note) caller was queues
+read_sees r op place before (WornRead after) caller was queues = queued_sees r op place before (UpdatedWorn after) caller was queues
+read_sees r op place before (HaltedRead after) caller was stops = tt
+
+pub catch_up_sees : {O : Type 0} (r : Running O) (other place : ℕ) (before : Seated) (caught : CaughtUp) → IsCallerOf r before → HasSeen r.callers place before.known.local → CatchesUp r other before caught →
+    CatchUpSees r.callers place caught
+catch_up_sees r other place before (Caught after) caller was caught = catch_up_seen r place before after caller was caught.keeps
+catch_up_sees r other place before (Behind after found) caller was behind = catch_up_seen r place before after caller was behind.keeps
+catch_up_sees r other place before (Halted after) caller was halted = tt
+
 -- an unanswered entry is an own one
 own_unanswered : (own : List Linked) (n ticket : ℕ) → option_map (λ (x : Linked). x.ticket) (slice_get own n) ≡ Some ticket → (x : Linked) × (slice_get own n ≡ Some x) × (x.ticket ≡ ticket)
 own_unanswered own n ticket is = (let m = mapped (λ (x : Linked). x.ticket) (slice_get own n) ticket is in (m.0, m.1, m.2))
+
+-- so is one that was driven to its answer
+pub driven_front : {O : Type 0} (r : Running O) (before after : Seated) (answer : Answer) → DriveDone r before after answer → answer.ticket < after.known.local.front
+driven_front r before after answer done =
+    let x = own_unanswered before.known.local.own (length before.known.local.answered) answer.ticket done.ticket in
+    let below = done.caller.cells.to (length before.known.local.answered) x.0 (ap (λ (xs : List Linked). slice_get xs (length before.known.local.answered)) done.keeps.own ∙ x.1) in
+    let same = x.2 in
+    omega (arith, below, same)
 
 pub driven_seen : {O : Type 0} (r : Running O) (place : ℕ) (before after : Seated) (answer : Answer) → place ≤ answer.ticket + 1 → DriveDone r before after answer → HasSeen r.callers place after.known.local
 driven_seen r place before after answer low done =
@@ -142,6 +192,11 @@ module _ {O : Type 0} (r : Running O) (step : O → List ℕ → List ℕ → Li
       cur = (let is = cur_is in omega (arith, is, most));
       front = (let is = front_is in omega (arith, is));
       steps = (let second = ap (λ (x : Seated). x.known.local.steps) raised in let first = ap (λ (x : Seated). x.known.local.steps) loaded in omega (arith, first, second));
+      times = record {
+        linked = ap (λ (x : Seated). x.known.times.linked) raised ∙ ap (λ (x : Seated). x.known.times.linked) loaded;
+        answered = ap (λ (x : Seated). x.known.times.answered) raised ∙ append-nil mid.known.times.answered ∙ ap (λ (x : Seated). x.known.times.answered) loaded;
+        reads = ap (λ (x : Seated). x.known.times.reads) raised ∙ append-nil mid.known.times.reads ∙ ap (λ (x : Seated). x.known.times.reads) loaded;
+      };
     }
 
     pub current_sets : v.known.sets ≡ s.known.sets
@@ -174,6 +229,7 @@ module _ {O : Type 0} (r : Running O) (step : O → List ℕ → List ℕ → Li
             cells = own_kept s.known.local v.known.local caller.cells own_still rises (λ j t at. sym (still_cell j) ∙ at);
           };
           allowed = allowed;
+          made = (let second = ap (λ (x : Seated). x.known.local.steps) raised in let first = ap (λ (x : Seated). x.known.local.steps) loaded in omega (arith, first, second));
           is = placed;
           seen = record { front = omega (arith, front, is); read = inl (omega (arith, placed)) };
         }

@@ -1,5 +1,5 @@
 -- What turns for an entry, and for a read, leave of their caller, and what turns come to one after another.
-use Rattle.std.proofs.Common.{◌≡◌, ◌+◌, ◌<◌, ◌≤◌, ◌⊎◌, inl, inr, ℕ, List, length, map, refl, ap, sym, subst, ◌∙◌, arith, Some, None, length-append}
+use Rattle.std.proofs.Common.{◌≡◌, ◌+◌, ◌<◌, ◌≤◌, ◌⊎◌, inl, inr, ℕ, List, [], ◌∷◌, ◌++◌, length, map, refl, ap, sym, subst, ◌∙◌, arith, Some, None, length-append}
 use Rattle.std.proofs.Math.ListN.{get_or-map}
 use Rattle.std.proofs.lemmas.Bool.{cases_lt}
 use Rattle.std.proofs.lemmas.Option.{slice_get_past}
@@ -21,7 +21,7 @@ use Rattle.cx_service.specs.Lookups.{ReadAnswered, ReadDue, ReadHalted, ReadKeep
 use Rattle.cx_service.proofs.Cells.{default, own_kept}
 use Rattle.cx_turns.specs.Answering.{AnswersEntry, AnswersRead, HaltsFor, HaltsLookup, beside_lookup, beside_update, with_answer, with_read}
 use Rattle.cx_turns.specs.declared.lookup.Seen.{Seen}
-use Rattle.cx_turns.specs.Turns.{IsAtRest, StepsAtMost, TurnRefused}
+use Rattle.cx_turns.specs.Turns.{IsAtRest, StepsAtMost, StepsOn, TurnRefused}
 use Rattle.replica_sets.specs.Own.{but_set}
 
 -- a refusal more, and refusals in turn after turn
@@ -68,6 +68,8 @@ module _ {O : Type 0} (r : Running O) (s v : Seated) (linked : IsLinkedOf r s) (
     limit = ap (λ (x : Seated). x.known.local.limit) rest;
     own = ap (λ (x : Seated). x.known.local.own) rest;
     reads = ap (λ (x : Seated). x.known.local.seen_reads) rest;
+    linked = ap (λ (x : Seated). x.known.times.linked) rest;
+    read = ap (λ (x : Seated). x.known.times.reads) rest;
   }
 
   stands : (m : ℕ) → IsAtRest v.known.local → length v.known.local.answered + m ≡ length s.known.local.answered + 1 → IsBetweenCalls m r v
@@ -82,6 +84,7 @@ module _ {O : Type 0} (r : Running O) (s v : Seated) (linked : IsLinkedOf r s) (
     met = answers.met;
     ticket = is;
     answered = answers.answered;
+    ended = answers.ended;
   }
     where
       zero_more : (n : ℕ) → n + 0 ≡ n
@@ -94,6 +97,7 @@ module _ {O : Type 0} (r : Running O) (s v : Seated) (linked : IsLinkedOf r s) (
     allowed = allowed;
     rises = rises_one s v small refused.refusal.met;
     answered = refused.refusal.answered;
+    ended = refused.refusal.times.answered;
     met = meets_one s v refused.refusal.met;
     most = most_one s v refused.refusal.met;
   }
@@ -106,7 +110,8 @@ module _ {O : Type 0} (r : Running O) (s v : Seated) (linked : IsLinkedOf r s) (
       ticket = ticket;
       is = is;
       linked = refl;
-      answered = halts.answered;
+      answered = elim halts.answered [ inl none ↦ inl none.same | inr one ↦ inr (one.0, one.1.is, one.2) ];
+      ended = elim halts.answered [ inl none ↦ inl none.times | inr one ↦ inr one.1.ended ];
     },
     record {
       most = halts.most;
@@ -117,7 +122,7 @@ module _ {O : Type 0} (r : Running O) (s v : Seated) (linked : IsLinkedOf r s) (
 -- turns after others, in each of which a refusal was met
 module _ {O : Type 0} (r : Running O) (n : ℕ) (s u : Seated) (before : DrivePending r n s u) where
   keeps_then : (v : Seated) → DriveKeeps u v → DriveKeeps s v
-  keeps_then v k = record { number = k.number ∙ before.keeps.number; limit = k.limit ∙ before.keeps.limit; own = k.own ∙ before.keeps.own; reads = k.reads ∙ before.keeps.reads }
+  keeps_then v k = record { number = k.number ∙ before.keeps.number; limit = k.limit ∙ before.keeps.limit; own = k.own ∙ before.keeps.own; reads = k.reads ∙ before.keeps.reads; linked = k.linked ∙ before.keeps.linked; read = k.read ∙ before.keeps.read }
 
   same_ticket : unanswered_ticket s.known.local ≡ unanswered_ticket u.known.local
   same_ticket =
@@ -130,6 +135,7 @@ module _ {O : Type 0} (r : Running O) (n : ℕ) (s u : Seated) (before : DrivePe
     keeps = keeps_then v p.keeps;
     allowed = before.allowed;
     answered = p.answered ∙ before.answered;
+    ended = p.ended ∙ before.ended;
     rises = omega (arith, before.rises, p.rises);
     met = meets_then n m s u v before.met p.met;
     most = omega (arith, before.most, p.most);
@@ -143,6 +149,7 @@ module _ {O : Type 0} (r : Running O) (n : ℕ) (s u : Seated) (before : DrivePe
     met = omega (arith, before.rises, d.met);
     ticket = same_ticket ∙ d.ticket;
     answered = d.answered ∙ ap (with_answer answer.ticket answer.reply) before.answered;
+    ended = record { at = d.ended.at; to = d.ended.to; is = d.ended.is ∙ ap (λ ts. ts ++ d.ended.at ∷ []) before.ended };
   }
 
   halted_then : (v : StoppedSeat) → DriveHalted r u v → DriveHalted r s v
@@ -155,6 +162,10 @@ module _ {O : Type 0} (r : Running O) (n : ℕ) (s u : Seated) (before : DrivePe
     answered = elim h.answered [
       | inl none ↦ inl (none ∙ before.answered)
       | inr one ↦ inr (one.0, one.1 ∙ ap (with_answer h.ticket one.0) before.answered, one.2)
+    ];
+    ended = elim h.ended [
+      | inl none ↦ inl (none ∙ before.ended)
+      | inr one ↦ inr (record { at = one.at; to = one.to; is = one.is ∙ ap (λ ts. ts ++ one.at ∷ []) before.ended })
     ];
   }
 
@@ -232,6 +243,8 @@ module _ {O : Type 0} (r : Running O) (op : List ℕ) (s v : Seated) (caller : I
     scans = ap (λ (x : Seated). x.known.local.scans) rest;
     front = front;
     cur = rises;
+    linked = ap (λ (x : Seated). x.known.times.linked) rest;
+    ended = ap (λ (x : Seated). x.known.times.answered) rest;
   }
 
   still : IsAtRest v.known.local → IsCallerOf r v
@@ -239,20 +252,22 @@ module _ {O : Type 0} (r : Running O) (op : List ℕ) (s v : Seated) (caller : I
       between_after r 0 0 s v caller (ap (λ (x : Seated). x.known.local.own) rest) (ap (λ (x : Seated). map but_set x.known.local.cells) rest) front of at
       (ap (λ (x : Seated). length x.known.local.answered + 0) rest)
 
-  pub read_done : (seen : Seen) → ¬ IsAtLimit s.known.local → AnswersRead op seen.place seen.reply s v → seen.place ≡ root_place_of r.callers v.known.local.seen_cur → ReadAnswered r op s v seen
-  read_done seen allowed answers placed = record {
+  pub read_done : (seen : Seen) → ¬ IsAtLimit s.known.local → AnswersRead s.known.local.steps op seen.place seen.reply s v → seen.place ≡ root_place_of r.callers v.known.local.seen_cur → seen.place ≤ v.known.local.front → ReadAnswered r op s v seen
+  read_done seen allowed answers placed reached = record {
     caller = still answers.rest;
     keeps = read_keeps;
     allowed = allowed;
     met = (let same = answers.met in omega (arith, same));
     reads = answers.reads;
     place = placed;
+    reached = reached;
     above = answers.above;
     from = answers.from;
+    times = record { begun = s.known.local.steps; ended = answers.times.ended; from = omega arith; to = answers.times.to; is = answers.times.is };
   }
 
-  pub read_refused : ¬ IsAtLimit s.known.local → s.known.local.met ≤ max_word → TurnRefused s v × StepsAtMost 4 s v → ReadPending r 1 s v
-  read_refused allowed small (refused, steps) = record {
+  pub read_refused : ¬ IsAtLimit s.known.local → s.known.local.met ≤ max_word → TurnRefused s v × StepsAtMost 4 s v × StepsOn s v → ReadPending r 1 s v
+  read_refused allowed small (refused, steps, since) = record {
     caller = still refused.rest;
     keeps = read_keeps;
     allowed = allowed;
@@ -261,11 +276,19 @@ module _ {O : Type 0} (r : Running O) (op : List ℕ) (s v : Seated) (caller : I
     met = meets_one s v refused.refusal.met;
     most = most_one s v refused.refusal.met;
     steps = steps;
+    since = since;
+    times = refused.refusal.times.reads;
   }
 
-  pub read_ended : HaltsLookup op s v → ReadHalted r op s (record { seat = v; linked = None }) × ReadDue 1 s v
+  pub read_ended : HaltsLookup s.known.local.steps op s v → ReadHalted r op s (record { seat = v; linked = None }) × ReadDue 1 s v
   read_ended h = (
-    record { caller = record { of = of; limit = h.halts.limit }; linked = refl; keeps = read_keeps; reads = h.reads },
+    record {
+      caller = record { of = of; limit = h.halts.limit };
+      linked = refl;
+      keeps = read_keeps;
+      reads = elim h.reads [ inl none ↦ inl none.same | inr one ↦ inr (one.0, one.1, one.2, one.4) ];
+      times = elim h.reads [ inl none ↦ inl none.times | inr one ↦ inr (record { begun = s.known.local.steps; ended = one.3.ended; from = omega arith; to = one.3.to; is = one.3.is }) ];
+    },
     record { most = h.halts.most; due = λ none. (let same = h.halts.due none in omega (arith, same)) },
   )
 
@@ -275,7 +298,7 @@ all_answered r s caller = ap (option_map (λ (x : Linked). x.ticket)) (slice_get
 
 module _ {O : Type 0} (r : Running O) (op : List ℕ) (n : ℕ) (s u : Seated) (before : ReadPending r n s u) where
   read_keeps_then : (v : Seated) → ReadKeeps u v → ReadKeeps s v
-  read_keeps_then v k = record { number = k.number ∙ before.keeps.number; limit = k.limit ∙ before.keeps.limit; own = k.own ∙ before.keeps.own; answered = k.answered ∙ before.keeps.answered; scans = k.scans ∙ before.keeps.scans; front = omega (arith, before.keeps.front, k.front); cur = omega (arith, before.keeps.cur, k.cur) }
+  read_keeps_then v k = record { number = k.number ∙ before.keeps.number; limit = k.limit ∙ before.keeps.limit; own = k.own ∙ before.keeps.own; answered = k.answered ∙ before.keeps.answered; scans = k.scans ∙ before.keeps.scans; front = omega (arith, before.keeps.front, k.front); cur = omega (arith, before.keeps.cur, k.cur); linked = k.linked ∙ before.keeps.linked; ended = k.ended ∙ before.keeps.ended }
 
   -- reads with one more, in terms of the first seat
   more_reads : (place : ℕ) (reply : List ℕ) → with_read place op reply (length u.known.local.answered) u.known.local.seen_reads ≡ with_read place op reply (length s.known.local.answered) s.known.local.seen_reads
@@ -293,6 +316,8 @@ module _ {O : Type 0} (r : Running O) (op : List ℕ) (n : ℕ) (s u : Seated) (
     met = meets_then n 1 s u v before.met p.met;
     most = omega (arith, before.most, p.most);
     steps = omega (arith, before.steps, p.steps);
+    since = omega (arith, before.since, p.since);
+    times = p.times ∙ before.times;
   }
 
   read_done_then : (v : Seated) (seen : Seen) → ReadAnswered r op u v seen → ReadAnswered r op s v seen
@@ -303,8 +328,10 @@ module _ {O : Type 0} (r : Running O) (op : List ℕ) (n : ℕ) (s u : Seated) (
     met = omega (arith, before.rises, d.met);
     reads = d.reads ∙ more_reads seen.place seen.reply;
     place = d.place;
+    reached = d.reached;
     above = λ i x at. d.above i x (ap (λ (xs : List Answer). slice_get xs i) before.keeps.answered ∙ at);
     from = λ i x at. d.from i x (ap (λ (xs : List SeenRead). slice_get xs i) before.reads ∙ at);
+    times = record { begun = d.times.begun; ended = d.times.ended; from = omega (arith, before.since, d.times.from); to = d.times.to; is = d.times.is ∙ ap (λ ts. ts ++ (d.times.begun, d.times.ended) ∷ []) before.times };
   }
 
   read_halted_then : (v : StoppedSeat) → ReadHalted r op u v → ReadHalted r op s v
@@ -315,6 +342,10 @@ module _ {O : Type 0} (r : Running O) (op : List ℕ) (n : ℕ) (s u : Seated) (
     reads = elim h.reads [
       | inl none ↦ inl (none ∙ before.reads)
       | inr one ↦ inr (one.0, one.1, one.2 ∙ more_reads one.0 one.1, one.3)
+    ];
+    times = elim h.times [
+      | inl none ↦ inl (none ∙ before.times)
+      | inr one ↦ inr (record { begun = one.begun; ended = one.ended; from = omega (arith, before.since, one.from); to = one.to; is = one.is ∙ ap (λ ts. ts ++ (one.begun, one.ended) ∷ []) before.times })
     ];
   }
 

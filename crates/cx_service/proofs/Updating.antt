@@ -8,20 +8,25 @@ use Rattle.cx_core.specs.declared.local.Linked.{Linked as OwnEntry}
 use Rattle.cx_core.specs.Region.{slot_number}
 use Rattle.cx_rule.specs.Running.{Running}
 use Rattle.cx_rule.specs.Seats.{IsAtLimit, Seated}
+use Rattle.cx_rule.specs.Timing.{KeepsTimes}
 use Rattle.cx_core.specs.declared.local.FullNote.{FullNote}
 use Rattle.cx_service.specs.Callers.{StoppedSeat}
 use Rattle.cx_service.specs.Drives.{DriveDone, DriveHalted}
-use Rattle.cx_service.specs.Submits.{SubmitAgain, SubmitFull, SubmitHalted, SubmitLinked, SubmitWorn, entry_at}
+use Rattle.cx_service.specs.Submits.{SubmitAgain, SubmitFull, SubmitHalted, SubmitKeeps, SubmitLinked, SubmitWorn, entry_at}
 use Rattle.cx_service.specs.Lookups.{ReadPending}
+use Rattle.cx_service.specs.Submits.{Submits}
+use Rattle.cx_service.specs.declared.submit.Submitted.TheVariants.{Halted as SubmitHalts}
 use Rattle.cx_service.specs.declared.update.ReadDone.{ReadDone}
 use Rattle.cx_service.specs.declared.update.ReadDone.TheVariants.{Read, Queued, Full as FullRead, Worn as WornRead, Halted as HaltedRead}
 use Rattle.cx_service.specs.Updates.{KeepsLists, LinksEntry, QueuesRead, ReadsInAll, UpdateDone, UpdateFull, UpdateHalted, UpdateWorn}
+use Rattle.cx_service.specs.Updates.{SubmitsAgain}
 use Rattle.cx_turns.specs.Answering.{with_answer}
+use Rattle.cx_turns.specs.Turns.{StepsOn}
 
 pub keeps_all : (s : Seated) → KeepsLists s s
-keeps_all s = record { number = refl; limit = refl; own = refl; answered = refl; reads = refl }
+keeps_all s = record { number = refl; limit = refl; own = refl; answered = refl; reads = refl; front = omega arith; cur = omega arith }
 
-module _ {O : Type 0} (r : Running O) (op : List ℕ) (s u : Seated) (same : KeepsLists s u) (stood : IsAtLimit s.known.local → u ≡ s) where
+module _ {O : Type 0} (r : Running O) (op : List ℕ) (s u : Seated) (same : KeepsLists s u) (times : KeepsTimes s.known.times u.known.times) (since : StepsOn s u) (stood : IsAtLimit s.known.local → u ≡ s) where
   -- what is allowed after the tries so far was so before them
   allowed_first : ¬ IsAtLimit u.known.local → ¬ IsAtLimit s.known.local
   allowed_first free at = free (subst (λ (x : Seated). IsAtLimit x.known.local) (sym (stood at)) at)
@@ -32,14 +37,26 @@ module _ {O : Type 0} (r : Running O) (op : List ℕ) (s u : Seated) (same : Kee
       ap (λ (n : ℕ). (let e : OwnEntry = record { ticket = ticket; entry = record { caller = n; number = slot_number n r.base.words + length u.known.local.own + 1; op = op } } in e)) same.number
       ∙ ap (λ (xs : List OwnEntry). (let e : OwnEntry = record { ticket = ticket; entry = record { caller = s.known.local.number; number = slot_number s.known.local.number r.base.words + length xs + 1; op = op } } in e)) same.own
 
-  pub again_keeps : (tries most : ℕ) (v : Seated) → SubmitAgain r tries most u v → KeepsLists s v
-  again_keeps tries most v a = record {
-    number = a.keeps.number ∙ same.number;
-    limit = a.keeps.limit ∙ same.limit;
-    own = a.own ∙ same.own;
-    answered = a.keeps.answered ∙ same.answered;
-    reads = a.keeps.reads ∙ same.reads;
+  -- what a further submit keeps, which linked nothing
+  keeps_on : (most : ℕ) (v : Seated) → v.known.local.own ≡ u.known.local.own → SubmitKeeps most u v → KeepsLists s v
+  keeps_on most v own keeps = record {
+    number = keeps.number ∙ same.number;
+    limit = keeps.limit ∙ same.limit;
+    own = own ∙ same.own;
+    answered = keeps.answered ∙ same.answered;
+    reads = keeps.reads ∙ same.reads;
+    front = (let first = same.front in let more = keeps.front in omega (arith, first, more));
+    cur = (let first = same.cur in let more = keeps.cur in omega (arith, first, more));
   }
+
+  pub again_keeps : (tries most : ℕ) (v : Seated) → SubmitAgain r tries most u v → KeepsLists s v
+  again_keeps tries most v a = keeps_on most v a.own a.keeps
+
+  pub again_times : (tries most : ℕ) (v : Seated) → SubmitAgain r tries most u v → KeepsTimes s.known.times v.known.times
+  again_times tries most v a = record { linked = a.linked ∙ times.linked; answered = a.keeps.times.answered ∙ times.answered; reads = a.keeps.times.reads ∙ times.reads }
+
+  pub again_since : (tries most : ℕ) (v : Seated) → SubmitAgain r tries most u v → StepsOn s v
+  again_since tries most v a = omega (arith, a.since, since)
 
   pub again_stood : (tries most : ℕ) (v : Seated) → SubmitAgain r tries most u v → IsAtLimit s.known.local → v ≡ s
   again_stood tries most v a at = absurd (allowed_first a.allowed at)
@@ -48,45 +65,56 @@ module _ {O : Type 0} (r : Running O) (op : List ℕ) (s u : Seated) (same : Kee
   update_full most v note rise f = record {
     caller = f.caller;
     allowed = allowed_first f.allowed;
-    keeps = record { number = f.keeps.number ∙ same.number; limit = f.keeps.limit ∙ same.limit; own = f.own ∙ same.own; answered = f.keeps.answered ∙ same.answered; reads = f.keeps.reads ∙ same.reads };
+    keeps = keeps_on most v f.own f.keeps;
     full = (let e = ap (λ (xs : List OwnEntry). length xs) same.own in omega (arith, e, f.full));
     scans = elim (cases_lt (u.known.local.scans + 1) max_word) [
       | inl below ↦ inl (let e = f.scans in omega (arith, e, below, rise))
       | inr above ↦ inr (let e = f.scans in omega (arith, e, above))
     ];
     names = f.names;
+    times = record { linked = f.linked ∙ times.linked; answered = f.keeps.times.answered ∙ times.answered; reads = f.keeps.times.reads ∙ times.reads };
   }
 
   pub update_worn : (most : ℕ) (v : Seated) → SubmitWorn r most u v → UpdateWorn r s v
   update_worn most v w = record {
     caller = w.caller;
     allowed = allowed_first w.allowed;
-    keeps = record { number = w.keeps.number ∙ same.number; limit = w.keeps.limit ∙ same.limit; own = w.own ∙ same.own; answered = w.keeps.answered ∙ same.answered; reads = w.keeps.reads ∙ same.reads };
+    keeps = keeps_on most v w.own w.keeps;
     front = w.front;
     idle = w.idle;
+    times = record { linked = w.linked ∙ times.linked; answered = w.keeps.times.answered ∙ times.answered; reads = w.keeps.times.reads ∙ times.reads };
   }
 
-  pub update_halted : (most : ℕ) (v : StoppedSeat) → SubmitHalted r most u v → UpdateHalted r op s v
-  update_halted most v h = record {
+  pub update_halted : (most : ℕ) (v : StoppedSeat) → SubmitHalted r most u v → SubmitsAgain r op s u → Submits r op 16 u (SubmitHalts v) → UpdateHalted r op s v
+  update_halted most v h tried due = record {
     caller = h.caller;
     number = h.keeps.number ∙ same.number;
     lists = inl (record {
+      last = u;
+      tried = tried;
+      due = due;
       none = h.linked;
-      keeps = record { number = h.keeps.number ∙ same.number; limit = h.keeps.limit ∙ same.limit; own = h.own ∙ same.own; answered = h.keeps.answered ∙ same.answered; reads = h.keeps.reads ∙ same.reads };
+      times = record { linked = h.times ∙ times.linked; answered = h.keeps.times.answered ∙ times.answered; reads = h.keeps.times.reads ∙ times.reads };
+      keeps = keeps_on most v.seat h.own h.keeps;
     });
   }
 
   -- an entry that was linked, and driven on
   module _ (most : ℕ) (l : Seated) (linked : SubmitLinked r op most u l) where
     links : (v : Seated) (ticket : ℕ) → ticket ≡ linked.ticket → v.known.local.number ≡ l.known.local.number → v.known.local.limit ≡ l.known.local.limit → v.known.local.own ≡ l.known.local.own → v.known.local.seen_reads ≡ l.known.local.seen_reads →
-        LinksEntry r op ticket s v
-    links v ticket is number limit own reads = record {
+        v.known.times.linked ≡ l.known.times.linked → v.known.times.reads ≡ l.known.times.reads → LinksEntry r op ticket s v
+    links v ticket is number limit own reads still read = record {
       number = number ∙ linked.keeps.number ∙ same.number;
       limit = limit ∙ linked.keeps.limit ∙ same.limit;
       own = own ∙ linked.own ∙ ap (λ (xs : List OwnEntry). xs ++ entry_at r u.known.local op linked.ticket ∷ []) same.own
           ∙ ap (λ (x : OwnEntry). s.known.local.own ++ x ∷ []) (same_entry linked.ticket ∙ ap (entry_at r s.known.local op) (sym is));
       reads = reads ∙ linked.keeps.reads ∙ same.reads;
+      begun = record { at = linked.begun.at; from = omega (arith, linked.begun.from, since); is = still ∙ linked.begun.is ∙ ap (λ ts. ts ++ linked.begun.at ∷ []) times.linked };
+      read = read ∙ linked.keeps.times.reads ∙ times.reads;
     }
+
+    before_ended : l.known.times.answered ≡ s.known.times.answered
+    before_ended = linked.keeps.times.answered ∙ times.answered
 
     before_answered : l.known.local.answered ≡ s.known.local.answered
     before_answered = linked.keeps.answered ∙ same.answered
@@ -96,8 +124,9 @@ module _ {O : Type 0} (r : Running O) (op : List ℕ) (s u : Seated) (same : Kee
       caller = d.caller;
       from = (let same = same_Some answer.ticket linked.ticket (sym d.ticket ∙ linked.lends) in omega (arith, same, rise, linked.from));
       allowed = allowed_first linked.allowed;
-      links = links v answer.ticket (same_Some answer.ticket linked.ticket (sym d.ticket ∙ linked.lends)) d.keeps.number d.keeps.limit d.keeps.own d.keeps.reads;
+      links = links v answer.ticket (same_Some answer.ticket linked.ticket (sym d.ticket ∙ linked.lends)) d.keeps.number d.keeps.limit d.keeps.own d.keeps.reads d.keeps.linked d.keeps.read;
       answered = d.answered ∙ ap (with_answer answer.ticket answer.reply) before_answered;
+      ended = record { at = d.ended.at; to = d.ended.to; is = d.ended.is ∙ ap (λ ts. ts ++ d.ended.at ∷ []) before_ended };
     }
 
     pub drive_halted : (v : StoppedSeat) → DriveHalted r l v → UpdateHalted r op s v
@@ -107,10 +136,14 @@ module _ {O : Type 0} (r : Running O) (op : List ℕ) (s u : Seated) (same : Kee
       lists = inr (record {
         ticket = h.ticket;
         linked = h.linked;
-        links = links v.seat h.ticket (same_Some h.ticket linked.ticket (sym h.is ∙ linked.lends)) h.keeps.number h.keeps.limit h.keeps.own h.keeps.reads;
+        links = links v.seat h.ticket (same_Some h.ticket linked.ticket (sym h.is ∙ linked.lends)) h.keeps.number h.keeps.limit h.keeps.own h.keeps.reads h.keeps.linked h.keeps.read;
         answered = elim h.answered [
           | inl none ↦ inl (none ∙ before_answered)
           | inr one ↦ inr (one.0, one.1 ∙ ap (with_answer h.ticket one.0) before_answered, one.2)
+        ];
+        ended = elim h.ended [
+          | inl none ↦ inl (none ∙ before_ended)
+          | inr one ↦ inr (record { at = one.at; to = one.to; is = one.is ∙ ap (λ ts. ts ++ one.at ∷ []) before_ended })
         ];
       });
     }

@@ -1,12 +1,18 @@
 -- What it comes to that a caller catches up with a place that another one told.
-use Rattle.std.specs.Prelude.{◌≡◌, ◌+◌, ◌<◌, ◌≤◌, ◌⊎◌, ℕ, slice_get, None, Some}
+use Rattle.std.specs.Prelude.{◌≡◌, ◌+◌, ◌<◌, ◌≤◌, ◌⊎◌, ℕ, min, slice_get, None, Some}
 use Rattle.cx_base.specs.Codes.{root_place_of}
 use Rattle.cx_core.specs.declared.local.Answer.{Answer}
 use Rattle.cx_core.specs.declared.local.Local.{Local}
+use Rattle.cx_core.specs.Layout.{max_word}
 use Rattle.cx_rule.specs.Running.{Running}
 use Rattle.cx_rule.specs.Seats.{IsAtLimit, Seated}
+use Rattle.cx_rule.specs.Timing.{KeepsTimes}
 use Rattle.cx_service.specs.declared.catch_up.CaughtUp.{CaughtUp}
 use Rattle.cx_service.specs.declared.catch_up.CaughtUp.TheVariants.{Caught, Behind, Halted}
+use Rattle.cx_service.specs.declared.update.ReadDone.{ReadDone}
+use Rattle.cx_service.specs.declared.update.ReadDone.TheVariants.{Read, Queued, Full as FullRead, Worn as WornRead, Halted as HaltedRead}
+use Rattle.cx_service.specs.declared.update.Updated.{Updated}
+use Rattle.cx_service.specs.declared.update.Updated.TheVariants.{Done as UpdatedDone, Full as UpdatedFull, Worn as UpdatedWorn, Halted as UpdatedHalted}
 use Rattle.cx_service.specs.Callers.{IsCallerOf, IsStoppedOf, StoppedSeat}
 
 -- A caller has seen a place: its front is at the place or above it, and so is what it found in CUR or what is behind an entry that it was
@@ -27,11 +33,17 @@ pub record CatchUpKeeps (before after : Seated) : Type 0 where
   pub cur : before.known.local.seen_cur ≤ after.known.local.seen_cur
   pub front : before.known.local.front ≤ after.known.local.front
   pub steps : after.known.local.steps ≤ before.known.local.steps + 2
+  pub times : KeepsTimes before.known.times after.known.times
+
+-- two steps were made, where their count is not at its end: the load of CUR, and the raise of DUR
+abbrev pub MakesTwoSteps : Seated → Seated → Type 0
+MakesTwoSteps before after = after.known.local.steps ≡ min (before.known.local.steps + 2) max_word
 
 -- The code in CUR was loaded, and DUR raised by it. This is its place, which the caller has seen.
 pub record SeesCurrent {O : Type 0} (r : Running O) (before after : Seated) (found : ℕ) : Type 0 where
   pub caller : IsCallerOf r after
   pub allowed : ¬ IsAtLimit before.known.local
+  pub made : MakesTwoSteps before after
   pub is : found ≡ root_place_of r.callers after.known.local.seen_cur
   pub seen : HasSeen r.callers found after.known.local
 
@@ -40,6 +52,7 @@ pub record CatchUpCaught {O : Type 0} (r : Running O) (place : ℕ) (before afte
   pub caller : IsCallerOf r after
   pub keeps : CatchUpKeeps before after
   pub allowed : ¬ IsAtLimit before.known.local
+  pub made : MakesTwoSteps before after
   pub seen : HasSeen r.callers place after.known.local
 
 -- The place found in CUR is below it.
@@ -47,6 +60,7 @@ pub record CatchUpBehind {O : Type 0} (r : Running O) (place found : ℕ) (befor
   pub caller : IsCallerOf r after
   pub keeps : CatchUpKeeps before after
   pub allowed : ¬ IsAtLimit before.known.local
+  pub made : MakesTwoSteps before after
   pub is : found ≡ root_place_of r.callers after.known.local.seen_cur
   pub below : found < place
 
@@ -60,3 +74,24 @@ abbrev pub CatchesUp : {O : Type 0} → Running O → ℕ → Seated → CaughtU
 CatchesUp r place before (Caught after) = CatchUpCaught r place before after
 CatchesUp r place before (Behind after found) = CatchUpBehind r place found before after
 CatchesUp r place before (Halted after) = CatchUpHalted r before after
+
+-- Catching up leaves its caller with a place seen. A stopped caller makes no further call.
+abbrev pub CatchUpSees : ℕ → ℕ → CaughtUp → Type 0
+CatchUpSees callers place (Caught after) = HasSeen callers place after.known.local
+CatchUpSees callers place (Behind after found) = HasSeen callers place after.known.local
+CatchUpSees callers place (Halted after) = Unit {0}
+
+-- An update stands at or above a place and leaves its caller with the place seen, and so does one that is not answered.
+abbrev pub UpdateSees : ℕ → ℕ → Updated → Type 0
+UpdateSees callers place (UpdatedDone after answer) = (place ≤ answer.ticket) × HasSeen callers place after.known.local
+UpdateSees callers place (UpdatedFull after note) = HasSeen callers place after.known.local
+UpdateSees callers place (UpdatedWorn after) = HasSeen callers place after.known.local
+UpdateSees callers place (UpdatedHalted after) = Unit {0}
+
+-- The same of a read, whether it is answered beside the queue or as an entry of it.
+abbrev pub ReadSees : ℕ → ℕ → ReadDone → Type 0
+ReadSees callers place (Read after seen) = (place ≤ seen.place) × HasSeen callers place after.known.local
+ReadSees callers place (Queued after answer) = (place ≤ answer.ticket) × HasSeen callers place after.known.local
+ReadSees callers place (FullRead after note) = HasSeen callers place after.known.local
+ReadSees callers place (WornRead after) = HasSeen callers place after.known.local
+ReadSees callers place (HaltedRead after) = Unit {0}

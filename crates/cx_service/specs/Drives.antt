@@ -5,6 +5,7 @@ use Rattle.cx_core.specs.declared.local.Answer.{Answer}
 use Rattle.cx_core.specs.Layout.{max_word}
 use Rattle.cx_rule.specs.Running.{Running}
 use Rattle.cx_rule.specs.Seats.{IsAtLimit, Seated, unanswered_ticket}
+use Rattle.cx_rule.specs.Timing.{EndsIn}
 use Rattle.cx_service.specs.declared.drive.Driven.{Driven}
 use Rattle.cx_service.specs.declared.drive.Driven.TheVariants.{Done, Pending, Halted}
 use Rattle.cx_service.specs.Callers.{IsCallerOf, IsLinkedOf, IsStoppedOf, StoppedSeat}
@@ -23,12 +24,18 @@ MeetsAtMost most before after = after.known.local.met ≤ before.known.local.met
 abbrev pub MeetsFewer : ℕ → Seated → Seated → Type 0
 MeetsFewer tries before after = after.known.local.met < before.known.local.met + tries
 
+-- an entry was answered, or none
+abbrev pub EndsOrNot : Seated → Seated → Type 0
+EndsOrNot before after = (after.known.times.answered ≡ before.known.times.answered) ⊎ EndsIn after.known.local.steps before.known.times.answered after.known.times.answered
+
 -- what each answer of a drive leaves as it was
 pub record DriveKeeps (before after : Seated) : Type 0 where
   pub number : after.known.local.number ≡ before.known.local.number
   pub limit : after.known.local.limit ≡ before.known.local.limit
   pub own : after.known.local.own ≡ before.known.local.own
   pub reads : after.known.local.seen_reads ≡ before.known.local.seen_reads
+  pub linked : after.known.times.linked ≡ before.known.times.linked
+  pub read : after.known.times.reads ≡ before.known.times.reads
 
 -- The entry is answered, and nothing else: the caller has one answer more, at the entry's ticket. The limit allowed a step.
 pub record DriveDone {O : Type 0} (r : Running O) (before after : Seated) (answer : Answer) : Type 0 where
@@ -38,6 +45,7 @@ pub record DriveDone {O : Type 0} (r : Running O) (before after : Seated) (answe
   pub met : before.known.local.met ≤ after.known.local.met
   pub ticket : unanswered_ticket before.known.local ≡ Some answer.ticket
   pub answered : after.known.local.answered ≡ with_answer answer.ticket answer.reply before.known.local.answered
+  pub ended : EndsIn after.known.local.steps before.known.times.answered after.known.times.answered
 
 -- In each of so many turns one refusal was met. The entry stands, unanswered. The limit allowed a step.
 pub record DrivePending {O : Type 0} (r : Running O) (tries : ℕ) (before after : Seated) : Type 0 where
@@ -48,6 +56,7 @@ pub record DrivePending {O : Type 0} (r : Running O) (tries : ℕ) (before after
   pub rises : before.known.local.met ≤ after.known.local.met
   pub met : MeetsMore tries before after
   pub most : MeetsAtMost tries before after
+  pub ended : after.known.times.answered ≡ before.known.times.answered
 
 -- A further step was to be made and the steps equal the limit. No call answered the entry, whose ticket the caller keeps. Before the
 -- raise that answers it the caller has no answer more, and behind that raise it has the entry's, and a win that is still to be retired.
@@ -59,6 +68,7 @@ pub record DriveHalted {O : Type 0} (r : Running O) (before : Seated) (after : S
   pub linked : after.linked ≡ Some ticket
   pub answered : (after.seat.known.local.answered ≡ before.known.local.answered)
       ⊎ ((reply : List ℕ) × (after.seat.known.local.answered ≡ with_answer ticket reply before.known.local.answered) × (after.seat.known.local.won ≢ None))
+  pub ended : EndsOrNot before after.seat
 
 -- A further step is due to a drive in so many turns: fewer refusals were met, a right stands that is still to be given up, or a code is
 -- found in CUR whose place is above the entry's ticket, by which DUR is still to be raised. No turn meets more than one refusal.

@@ -5,6 +5,7 @@ use Rattle.cx_core.specs.declared.local.Answer.{Answer}
 use Rattle.cx_core.specs.declared.local.SeenRead.{SeenRead}
 use Rattle.cx_rule.specs.Running.{Running}
 use Rattle.cx_rule.specs.Seats.{IsAtLimit, Seated}
+use Rattle.cx_rule.specs.Timing.{ReadsIn}
 use Rattle.cx_service.specs.declared.lookup.Looked.{Looked}
 use Rattle.cx_service.specs.declared.lookup.Looked.TheVariants.{Ended, Found, Refused}
 use Rattle.cx_service.specs.declared.lookup.ReadTried.{ReadTried}
@@ -13,7 +14,7 @@ use Rattle.cx_service.specs.Callers.{IsCallerOf, IsStoppedOf, StoppedSeat}
 use Rattle.cx_service.specs.Drives.{MeetsAtMost, MeetsFewer, MeetsMore}
 use Rattle.cx_turns.specs.declared.lookup.Seen.{Seen}
 use Rattle.cx_turns.specs.Answering.{with_read}
-use Rattle.cx_turns.specs.Turns.{StepsAtMost}
+use Rattle.cx_turns.specs.Turns.{StepsAtMost, StepsOn}
 use Rattle.strong_trylock.specs.Held.{all_rights, no_rights}
 
 -- what each answer of a read leaves as it was, and a front and a code found in CUR that do not fall
@@ -25,9 +26,12 @@ pub record ReadKeeps (before after : Seated) : Type 0 where
   pub scans : after.known.local.scans ≡ before.known.local.scans
   pub front : before.known.local.front ≤ after.known.local.front
   pub cur : before.known.local.seen_cur ≤ after.known.local.seen_cur
+  pub linked : after.known.times.linked ≡ before.known.times.linked
+  pub ended : after.known.times.answered ≡ before.known.times.answered
 
 -- The read is answered, and nothing else: the caller has one read more, of this operation. Its place is that of the code last found in CUR,
--- above each ticket and not below any place that the caller was answered before. The limit allowed a step.
+-- above each ticket and not below any place that the caller was answered before, and not above the caller's front. The limit allowed a step. It began and was
+-- answered by steps of this call.
 pub record ReadAnswered {O : Type 0} (r : Running O) (op : List ℕ) (before after : Seated) (seen : Seen) : Type 0 where
   pub caller : IsCallerOf r after
   pub keeps : ReadKeeps before after
@@ -35,8 +39,10 @@ pub record ReadAnswered {O : Type 0} (r : Running O) (op : List ℕ) (before aft
   pub met : before.known.local.met ≤ after.known.local.met
   pub reads : after.known.local.seen_reads ≡ with_read seen.place op seen.reply (length before.known.local.answered) before.known.local.seen_reads
   pub place : seen.place ≡ root_place_of r.callers after.known.local.seen_cur
+  pub reached : seen.place ≤ after.known.local.front
   pub above : (i : ℕ) (x : Answer) → slice_get before.known.local.answered i ≡ Some x → x.ticket < seen.place
   pub from : (i : ℕ) (x : SeenRead) → slice_get before.known.local.seen_reads i ≡ Some x → x.place ≤ seen.place
+  pub times : ReadsIn before.known.local.steps after.known.local.steps before.known.times.reads after.known.times.reads
 
 -- In each of so many turns one refusal was met, by at most four steps. The limit allowed a step.
 pub record ReadPending {O : Type 0} (r : Running O) (tries : ℕ) (before after : Seated) : Type 0 where
@@ -48,6 +54,8 @@ pub record ReadPending {O : Type 0} (r : Running O) (tries : ℕ) (before after 
   pub met : MeetsMore tries before after
   pub most : MeetsAtMost tries before after
   pub steps : StepsAtMost (4 * tries) before after
+  pub since : StepsOn before after
+  pub times : after.known.times.reads ≡ before.known.times.reads
 
 -- A further step was to be made and the steps equal the limit. No read was answered, or this one was, and its shared right is still to
 -- be given back. No entry is linked that no call has answered.
@@ -57,6 +65,7 @@ pub record ReadHalted {O : Type 0} (r : Running O) (op : List ℕ) (before : Sea
   pub keeps : ReadKeeps before after.seat
   pub reads : (after.seat.known.local.seen_reads ≡ before.known.local.seen_reads)
       ⊎ ((place : ℕ) × (reply : List ℕ) × (after.seat.known.local.seen_reads ≡ with_read place op reply (length before.known.local.answered) before.known.local.seen_reads) × (after.seat.known.local.shared ≢ None))
+  pub times : (after.seat.known.times.reads ≡ before.known.times.reads) ⊎ ReadsIn before.known.local.steps after.seat.known.local.steps before.known.times.reads after.seat.known.times.reads
 
 -- A further step is due to a read in so many turns: fewer refusals were met, or a right stands that is still to be given up. No turn meets
 -- more than one.

@@ -8,12 +8,15 @@ use Rattle.cx_core.specs.QueueEvents.{IsIdle, cell_of, next_number}
 use Rattle.cx_core.specs.State.{one_more}
 use Rattle.cx_rule.specs.Running.{Running}
 use Rattle.cx_rule.specs.Seats.{IsAtLimit, Seated, unanswered_ticket}
+use Rattle.cx_rule.specs.declared.rule.Times.{Times}
+use Rattle.cx_rule.specs.Timing.{BeginsIn}
 use Rattle.cx_core.specs.declared.local.FullNote.{FullNote}
 use Rattle.cx_service.specs.declared.submit.Submitted.{Submitted}
 use Rattle.cx_service.specs.declared.submit.Submitted.TheVariants.{Linked, Again, Full, Worn, Halted}
 use Rattle.cx_service.specs.Callers.{IsCallerOf, IsLinkedOf, IsStoppedOf, StoppedSeat}
 use Rattle.mutation_queue.specs.Cells.{IsInUse, writes}
 use Rattle.mutation_queue.specs.Collecting.{but_collected}
+use Rattle.cx_turns.specs.Turns.{StepsOn}
 use Rattle.mutation_queue.specs.declared.linking.LinkTried.{LinkTried}
 use Rattle.mutation_queue.specs.Links.{EndsBy, HaltsTry, LosesTries}
 use Rattle.mutation_queue.specs.declared.linking.LinkTried.TheVariants.{Linked as TriedLinked, Again as TriedAgain, Worn as TriedWorn}
@@ -27,6 +30,11 @@ pub record LooksForNothing (before after : Seated) : Type 0 where
   pub free : after.known.local.seen_free ≡ before.known.local.seen_free
   pub scans : after.known.local.scans ≡ before.known.local.scans
 
+-- what is known of when a caller's entries and reads were answered is as it was
+pub record KeepsEnds (before after : Times) : Type 0 where
+  pub answered : after.answered ≡ before.answered
+  pub reads : after.reads ≡ before.reads
+
 -- what each answer of a submit leaves as it was, a front and a code found in CUR that do not fall, and at most so many steps; where a cell was
 -- idle, none was looked for
 pub record SubmitKeeps (most : ℕ) (before after : Seated) : Type 0 where
@@ -39,12 +47,14 @@ pub record SubmitKeeps (most : ℕ) (before after : Seated) : Type 0 where
   pub cur : before.known.local.seen_cur ≤ after.known.local.seen_cur
   pub steps : after.known.local.steps ≤ before.known.local.steps + most
   pub idle : (j : ℕ) → j < 16 → IsIdle before.known.local j → LooksForNothing before after
+  pub times : KeepsEnds before.known.times after.known.times
 
 -- the caller's next entry, with this operation and this ticket
 abbrev pub entry_at : {O : Type 0} → Running O → Local → List ℕ → ℕ → OwnEntry
 entry_at r l op ticket = record { ticket = ticket; entry = record { caller = l.number; number = next_number r.base l; op = op } }
 
--- The entry is linked, and no other: the caller has one entry more, of this operation, at the ticket that it lends.
+-- The entry is linked, and no other: the caller has one entry more, of this operation, at the ticket that it lends. It was linked by a step
+-- of this call.
 pub record SubmitLinked {O : Type 0} (r : Running O) (op : List ℕ) (most : ℕ) (before after : Seated) : Type 0 where
   pub caller : IsLinkedOf r after
   pub keeps : SubmitKeeps most before after
@@ -55,6 +65,7 @@ pub record SubmitLinked {O : Type 0} (r : Running O) (op : List ℕ) (most : ℕ
   pub own : after.known.local.own ≡ before.known.local.own ++ entry_at r before.known.local op ticket ∷ []
   pub from : before.known.local.front ≤ ticket
   pub front : after.known.local.front ≡ ticket + 1
+  pub begun : BeginsIn before.known.local.steps before.known.times.linked after.known.times.linked
 
 -- What tries to link an entry came to, one after another: it was written into a cell before, behind so many steps, by one for the first
 -- word and for each other that differed.
@@ -75,6 +86,8 @@ pub record SubmitAgain {O : Type 0} (r : Running O) (tries most : ℕ) (before a
   pub front : before.known.local.front + tries ≤ after.known.local.front
   pub cur : root_place_of r.callers after.known.local.seen_cur + tries ≤ after.known.local.front
   pub left : after.known.local.front < 2 ^ 40
+  pub linked : after.known.times.linked ≡ before.known.times.linked
+  pub since : StepsOn before after
 
 -- all 16 cells hold tickets, and this is the least
 pub record HoldsFrom (l : Local) (ticket : ℕ) : Type 0 where
@@ -100,6 +113,7 @@ pub record SubmitFull {O : Type 0} (r : Running O) (most : ℕ) (before after : 
   pub scans : after.known.local.scans ≡ one_more before.known.local.scans
   pub full : 16 ≤ length before.known.local.own
   pub names : NamesHolder r.callers after.known.local note
+  pub linked : after.known.times.linked ≡ before.known.times.linked
 
 -- A cell is idle, and there is no further ticket.
 pub record SubmitWorn {O : Type 0} (r : Running O) (most : ℕ) (before after : Seated) : Type 0 where
@@ -110,6 +124,7 @@ pub record SubmitWorn {O : Type 0} (r : Running O) (most : ℕ) (before after : 
   pub own : after.known.local.own ≡ before.known.local.own
   pub front : after.known.local.front ≡ 2 ^ 40
   pub idle : (j : ℕ) × (j < 16) × IsIdle after.known.local j
+  pub linked : after.known.times.linked ≡ before.known.times.linked
 
 -- A further step was to be made and the steps equal the limit. Nothing was linked.
 pub record SubmitHalted {O : Type 0} (r : Running O) (most : ℕ) (before : Seated) (after : StoppedSeat) : Type 0 where
@@ -118,6 +133,7 @@ pub record SubmitHalted {O : Type 0} (r : Running O) (most : ℕ) (before : Seat
   pub keeps : SubmitKeeps most before after.seat
   pub own : after.seat.known.local.own ≡ before.known.local.own
   pub none : unanswered_ticket after.seat.known.local ≡ None
+  pub times : after.seat.known.times.linked ≡ before.known.times.linked
 
 -- A cell was looked for by so many steps: by none where one was idle, by one where FREE was loaded alone, and by the scan's too where one
 -- was made.

@@ -5,24 +5,28 @@ use Rattle.cx_core.specs.Layout.{max_word}
 use Rattle.cx_core.specs.QueueEvents.{IsIdle}
 use Rattle.cx_rule.specs.Running.{Running}
 use Rattle.cx_rule.specs.Seats.{IsAtLimit, Seated}
+use Rattle.cx_rule.specs.Timing.{BeginsIn, EndsIn, KeepsTimes}
 use Rattle.cx_core.specs.declared.local.FullNote.{FullNote}
+use Rattle.cx_service.specs.declared.submit.Submitted.TheVariants.{Again as SubmitsBack, Halted as SubmitHalts}
 use Rattle.cx_service.specs.declared.update.ReadDone.{ReadDone}
 use Rattle.cx_service.specs.declared.update.ReadDone.TheVariants.{Read, Queued, Full as FullRead, Worn as WornRead, Halted as HaltedRead}
 use Rattle.cx_service.specs.declared.update.Updated.{Updated}
 use Rattle.cx_service.specs.declared.update.Updated.TheVariants.{Done, Full, Worn, Halted}
 use Rattle.cx_service.specs.Callers.{IsCallerOf, IsStoppedOf, StoppedSeat}
-use Rattle.cx_service.specs.Drives.{DriveDone, DriveHalted, MeetsFewer}
+use Rattle.cx_service.specs.Drives.{DriveDone, DriveHalted, EndsOrNot, MeetsFewer}
 use Rattle.cx_service.specs.Lookups.{ReadAnswered, ReadDue, ReadHalted, ReadPending}
-use Rattle.cx_service.specs.Submits.{NamesHolder, entry_at}
+use Rattle.cx_service.specs.Submits.{NamesHolder, Submits, entry_at}
 use Rattle.cx_turns.specs.Answering.{with_answer}
 
--- the caller's number, its limit and its lists are as they were
+-- the caller's number, its limit and its lists are as they were, and its front and what it found in CUR do not fall
 pub record KeepsLists (before after : Seated) : Type 0 where
   pub number : after.known.local.number ≡ before.known.local.number
   pub limit : after.known.local.limit ≡ before.known.local.limit
   pub own : after.known.local.own ≡ before.known.local.own
   pub answered : after.known.local.answered ≡ before.known.local.answered
   pub reads : after.known.local.seen_reads ≡ before.known.local.seen_reads
+  pub front : before.known.local.front ≤ after.known.local.front
+  pub cur : before.known.local.seen_cur ≤ after.known.local.seen_cur
 
 -- an entry of this operation was linked at a ticket, and no other
 pub record LinksEntry {O : Type 0} (r : Running O) (op : List ℕ) (ticket : ℕ) (before after : Seated) : Type 0 where
@@ -30,15 +34,18 @@ pub record LinksEntry {O : Type 0} (r : Running O) (op : List ℕ) (ticket : ℕ
   pub limit : after.known.local.limit ≡ before.known.local.limit
   pub own : after.known.local.own ≡ before.known.local.own ++ entry_at r before.known.local op ticket ∷ []
   pub reads : after.known.local.seen_reads ≡ before.known.local.seen_reads
+  pub begun : BeginsIn before.known.local.steps before.known.times.linked after.known.times.linked
+  pub read : after.known.times.reads ≡ before.known.times.reads
 
 -- The entry is linked and answered, and nothing else: the caller has one entry more and one answer more, at the answer's ticket, which is not
--- below the caller's front.
+-- below the caller's front. It was linked and answered by steps of this call.
 pub record UpdateDone {O : Type 0} (r : Running O) (op : List ℕ) (before after : Seated) (answer : Answer) : Type 0 where
   pub caller : IsCallerOf r after
   pub allowed : ¬ IsAtLimit before.known.local
   pub from : before.known.local.front ≤ answer.ticket
   pub links : LinksEntry r op answer.ticket before after
   pub answered : after.known.local.answered ≡ with_answer answer.ticket answer.reply before.known.local.answered
+  pub ended : EndsIn after.known.local.steps before.known.times.answered after.known.times.answered
 
 -- No cell is idle after a scan of this call: another caller's need keeps them. The caller linked at least 16 entries in this
 -- service.
@@ -49,6 +56,7 @@ pub record UpdateFull {O : Type 0} (r : Running O) (before after : Seated) (note
   pub full : 16 ≤ length before.known.local.own
   pub scans : (before.known.local.scans < after.known.local.scans) ⊎ (after.known.local.scans ≡ max_word)
   pub names : NamesHolder r.callers after.known.local note
+  pub times : KeepsTimes before.known.times after.known.times
 
 -- A cell is idle, and there is no further ticket.
 pub record UpdateWorn {O : Type 0} (r : Running O) (before after : Seated) : Type 0 where
@@ -57,11 +65,21 @@ pub record UpdateWorn {O : Type 0} (r : Running O) (before after : Seated) : Typ
   pub keeps : KeepsLists before after
   pub front : after.known.local.front ≡ 2 ^ 40
   pub idle : (j : ℕ) × (j < 16) × IsIdle after.known.local j
+  pub times : KeepsTimes before.known.times after.known.times
 
--- nothing was linked before the limit was come to
-pub record HaltsUnlinked (before : Seated) (after : StoppedSeat) : Type 0 where
+-- Submits of an operation in 16 tries, none or more, each of which found another's link in every try and handed the caller back.
+pub data SubmitsAgain {O : Type 0} (r : Running O) (op : List ℕ) (first : Seated) : Seated → Type 0 where
+  not_yet : (now : Seated) → now ≡ first → SubmitsAgain r op first now
+  once_more : (mid now : Seated) → SubmitsAgain r op first mid → Submits r op 16 mid (SubmitsBack now) → SubmitsAgain r op first now
+
+-- Nothing was linked before the limit was come to: it was in the last of such submits, to which a further step was due.
+pub record HaltsUnlinked {O : Type 0} (r : Running O) (op : List ℕ) (before : Seated) (after : StoppedSeat) : Type 0 where
   pub none : after.linked ≡ None
   pub keeps : KeepsLists before after.seat
+  pub last : Seated
+  pub tried : SubmitsAgain r op before last
+  pub due : Submits r op 16 last (SubmitHalts after)
+  pub times : KeepsTimes before.known.times after.seat.known.times
 
 -- The entry was linked before the limit was come to, and no call answered it. The caller has no answer more, or the entry's, and then a
 -- win that is still to be retired.
@@ -71,12 +89,13 @@ pub record HaltsLinked {O : Type 0} (r : Running O) (op : List ℕ) (before : Se
   pub links : LinksEntry r op ticket before after.seat
   pub answered : (after.seat.known.local.answered ≡ before.known.local.answered)
       ⊎ ((reply : List ℕ) × (after.seat.known.local.answered ≡ with_answer ticket reply before.known.local.answered) × (after.seat.known.local.won ≢ None))
+  pub ended : EndsOrNot before after.seat
 
 -- A further step was to be made and the steps equal the limit.
 pub record UpdateHalted {O : Type 0} (r : Running O) (op : List ℕ) (before : Seated) (after : StoppedSeat) : Type 0 where
   pub caller : IsStoppedOf r after.seat
   pub number : after.seat.known.local.number ≡ before.known.local.number
-  pub lists : HaltsUnlinked before after ⊎ HaltsLinked r op before after
+  pub lists : HaltsUnlinked r op before after ⊎ HaltsLinked r op before after
 
 -- what an update of this operation comes to
 abbrev pub Updates : {O : Type 0} → Running O → List ℕ → Seated → Updated → Type 0
@@ -98,7 +117,7 @@ pub record ReadQueues {O : Type 0} (r : Running O) (op : List ℕ) (before : Sea
   pub pending : ReadPending r 8 before refused
   pub entered : Updates r op refused updated
 
--- A further step was to be made and the steps equal the limit, beside the queue or once the read had entered it.
+-- A further step was to be made and the steps equal the limit: in a turn beside the queue, or in the update by which the read had entered it.
 pub record ReadStops {O : Type 0} (r : Running O) (op : List ℕ) (before : Seated) (after : StoppedSeat) : Type 0 where
   pub caller : IsStoppedOf r after.seat
   pub number : after.seat.known.local.number ≡ before.known.local.number

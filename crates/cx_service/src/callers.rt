@@ -1,11 +1,12 @@
 //! The callers of a service. Contracts see of each its seat: what it knows, linked and was answered. A seat and the room that its turns
 //! work in lie in memory of their own, so that callers are handed on by a word.
 
-ghost use Rattle.std.specs.Prelude.{◌≡◌, ◌+◌, ◌^◌, ◌≤◌, Some, length, min};
+ghost use Rattle.std.specs.Prelude.{◌≡◌, ◌+◌, ◌^◌, ◌<◌, ◌≤◌, Some, length, min};
 ghost use Rattle.cx_core.specs.Layout.{max_word};
 ghost use Rattle.cx_rule.specs.Seats.{unanswered_ticket};
 ghost use Rattle.redo_set.specs.Taking.{sets_read};
 
+use cx_core::Answer;
 use cx_table::CallerSeat;
 use cx_turns::Scratch;
 use std::marker::Model;
@@ -101,6 +102,16 @@ impl Caller {
         ensures { result ≡ self.now.known.local.met }
     {
         self.desk.seat.met()
+    }
+
+    /// The place behind an entry that it was answered, its ticket plus 1: another caller that catches up with it sees the entry.
+    pub fn place_behind(&self, answer: &Answer) -> u64
+        requires { answer.now.ticket < self.now.known.local.front }
+        ensures { result ≡ answer.now.ticket + 1 }
+    {
+        // the ticket is below this, which is 2^40 at most
+        let _front = self.front();
+        answer.ticket + 1
     }
 
     /// How often this caller applied another's entry by its write set in this service, on whichever replica. This stays at 2^64 - 1 once there.

@@ -4,12 +4,14 @@ ghost use Rattle.std.specs.Prelude.{◌≡◌, ◌≤◌, [], IfErr, IfOk, map, 
 ghost use Rattle.cx_rule.specs.Running.{instance_at};
 ghost use Rattle.cx_table.specs.Remains.{AreSeats, Leaves};
 ghost use Rattle.cx_service.specs.Closes.{seat_of, seats_of};
+ghost use Rattle.table_order.specs.Closings.{IsClosedLinearizable};
 
 use crate::callers::{Caller, Desk, Linked, Stopped};
 use crate::service::Service;
 use cx_base::Object;
 use cx_table::{CallerSeat, Remains};
 use std::alloc::Global;
+use table_order::closing::closed_tables_are_linearizable;
 
 /// A caller that is handed in, in whatever state it is.
 #[derive(Drop)]
@@ -27,11 +29,14 @@ pub struct Kept<O: Object> {
 }
 
 impl<O: Object> Service<O> {
-    /// Closes the service, whose callers are handed in, of caller 0 first. `Err` is want of memory alone, and hands all back
+    /// Closes the service, whose callers are handed in, of caller 0 first. What it leaves was reached by all callers' steps, one after
+    /// another: by their order the history is a linearization (Herlihy and Wing), also over a crash (Izraelevitz and others), and where the
+    /// steps of one call stand before those of another, so do the calls' operations. `Err` is want of memory alone, and hands all back
     /// as it was.
     pub fn close(self, alloc: Global, callers: Vec<Handed>) -> Result<Remains, Kept<O>>
         requires { AreSeats self (seats_of callers.items) }
         ensures remains { IfOk result (λ r. Leaves self (instance_at self O.step O.only_reads) (seats_of callers.items) r) }
+        ensures order { IfOk result (λ r. IsClosedLinearizable (instance_at self O.step O.only_reads) (seats_of callers.items) r) }
         ensures kept { IfErr result (λ k. (k.service ≡ self) × (k.callers ≡ callers)) }
     {
         let Ok(room) = self.shared.room(alloc) else {
@@ -46,6 +51,9 @@ impl<O: Object> Service<O> {
                 callers,
             });
         };
+        // a running table is within its limits, by which what it leaves is a linearizable object's
+        let _lines = self.shared.lines();
+        closed_tables_are_linearizable::<O>();
         let Service { shared, .. } = self;
         Ok(shared.gather_in(room, as_seats(callers, seats)))
     }

@@ -6,11 +6,14 @@ ghost use Rattle.cx_core.specs.declared.local.Answer.{Answer};
 ghost use Rattle.cx_rule.specs.Running.{Running};
 ghost use Rattle.cx_rule.specs.Seats.{Seated};
 ghost use Rattle.cx_service.specs.Callers.{IsCallerOf};
-ghost use Rattle.cx_service.specs.CatchUps.{HasSeen};
+ghost use Rattle.cx_service.specs.CatchUps.{CatchUpSees, CatchesUp, HasSeen, ReadSees, UpdateSees};
 ghost use Rattle.cx_service.specs.Drives.{DriveDone};
 ghost use Rattle.cx_service.specs.Lookups.{ReadAnswered, ReadKeeps};
 ghost use Rattle.cx_service.specs.Submits.{SubmitKeeps, SubmitLinked};
-ghost use Rattle.cx_service.specs.Updates.{UpdateDone};
+ghost use Rattle.cx_service.specs.Updates.{ReadsInAll, UpdateDone, Updates};
+ghost use Rattle.cx_service.specs.declared.catch_up.CaughtUp.{CaughtUp};
+ghost use Rattle.cx_service.specs.declared.update.ReadDone.{ReadDone};
+ghost use Rattle.cx_service.specs.declared.update.Updated.{Updated};
 ghost use Rattle.cx_turns.specs.declared.lookup.Seen.{Seen};
 
 use cx_base::Object;
@@ -32,6 +35,11 @@ pub fn answered_updates_are_seen<O: Object>()
     ensures { (r : Running O) (op : List ℕ) (before after : Seated) (answer : Answer) → UpdateDone r op before after answer → HasSeen r.callers (answer.ticket + 1) after.known.local }
 {}
 
+/// What it read it has seen: the read's place.
+pub fn answered_reads_are_seen<O: Object>()
+    ensures { (r : Running O) (op : List ℕ) (before after : Seated) (seen : Seen) → ReadAnswered r op before after seen → HasSeen r.callers seen.place after.known.local }
+{}
+
 /// Whatever a submit comes to, what was seen before has been seen still, and an entry that it linked has a ticket at or above it.
 pub fn submits_stand_behind_what_was_seen<O: Object>()
     ensures linked { (r : Running O) (op : List ℕ) (most place : ℕ) (before after : Seated) → HasSeen r.callers place before.known.local → (links : SubmitLinked r op most before after) → place ≤ links.ticket }
@@ -46,4 +54,19 @@ pub fn reads_keep_what_was_seen<O: Object>()
 /// Once an entry is answered that was linked at or above a place, its caller has seen the place.
 pub fn driven_entries_are_seen<O: Object>()
     ensures { (r : Running O) (place : ℕ) (before after : Seated) (answer : Answer) → place ≤ answer.ticket + 1 → DriveDone r before after answer → HasSeen r.callers place after.known.local }
+{}
+
+/// Whatever an update returns, it stands at or above a place that its caller had seen, and the caller has seen the place still, unless it is stopped.
+pub fn updates_keep_what_was_seen<O: Object>()
+    ensures { (r : Running O) (op : List ℕ) (place : ℕ) (before : Seated) (updated : Updated) → IsCallerOf r before → HasSeen r.callers place before.known.local → Updates r op before updated → UpdateSees r.callers place updated }
+{}
+
+/// The same of a read, which may have entered the queue.
+pub fn queued_reads_keep_what_was_seen<O: Object>()
+    ensures { (r : Running O) (op : List ℕ) (place : ℕ) (before : Seated) (done : ReadDone) → IsCallerOf r before → HasSeen r.callers place before.known.local → ReadsInAll r op before done → ReadSees r.callers place done }
+{}
+
+/// Catching up with another place, which may be a lower one, leaves what was seen before.
+pub fn catch_ups_keep_what_was_seen<O: Object>()
+    ensures { (r : Running O) (other place : ℕ) (before : Seated) (caught : CaughtUp) → IsCallerOf r before → HasSeen r.callers place before.known.local → CatchesUp r other before caught → CatchUpSees r.callers place caught }
 {}

@@ -52,7 +52,8 @@ pub enum ReadDone {
 impl<O: Object> Service<O> {
     /// Enters an operation into the queue and drives it to its answer. It tries again as long as others link before it, or hold all
     /// replicas, and so it may wait for them; before it does, other threads may run. `Full` comes only where the count of scans rose in this call and another caller,
-    /// which the note names, needs the entries in the caller's cells. `Halted` comes exactly where a further step is to be made and the steps equal the limit.
+    /// which the note names, needs the entries in the caller's cells. `Halted` comes exactly where a further step is to be made, of the submit that
+    /// was begun last or of driving the linked entry, and the steps equal the limit.
     pub fn update<R: Wait>(&self, rt: &R, caller: Caller, op: &[u64; 144]) -> Updated
         requires { IsCallerOf self.now caller }
         ensures { Updates self.now op.now caller result }

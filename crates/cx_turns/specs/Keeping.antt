@@ -14,7 +14,7 @@ use Rattle.cx_rule.specs.Fitting.{loaded_of}
 use Rattle.cx_rule.specs.Running.{Running}
 use Rattle.cx_rule.specs.Seats.{Seated}
 use Rattle.cx_table.specs.Right.{Right}
-use Rattle.cx_turns.specs.Turns.{TurnRefused}
+use Rattle.cx_turns.specs.Turns.{StepsOn, TurnRefused}
 use Rattle.mutation_queue.specs.Protections.{MeetsNone, ShowsOutdated}
 use Rattle.replica.specs.Copies.{HoldsBoth}
 use Rattle.replica.specs.Held.{IsHeld, IsHeldShared}
@@ -96,6 +96,7 @@ pub record MissesCurrent (rights : AllRights) (before after : Seated) : Type 0 w
   pub left : all_rights after ≡ rights
   pub fresh : after.known.local.fresh ≡ false
   pub met : after.known.local.met ≡ one_more before.known.local.met
+  pub since : StepsOn before after
 
 -- what taking it comes to
 abbrev pub TakesCurrent : {O : Type 0} → Ghosts O → Running O → AllRights → Seated → Seated → Option Right → Type 0

@@ -98,6 +98,10 @@ pub record Turns {O : Type 0} (r : Running O) (beside : Seated → Seated) (befo
 abbrev pub StepsAtMost : ℕ → Seated → Seated → Type 0
 StepsAtMost n before after = after.known.local.steps ≤ before.known.local.steps + n
 
+-- no step is taken back
+abbrev pub StepsOn : Seated → Seated → Type 0
+StepsOn before after = min before.known.local.steps max_word ≤ after.known.local.steps
+
 -- the same of a call that may raise the front, by at most so many steps
 pub record TurnsIn {O : Type 0} (r : Running O) (beside : Seated → Seated) (n : ℕ) (before after : Seated) : Type 0 where
   pub seat : IsSeatOf r after

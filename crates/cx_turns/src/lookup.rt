@@ -41,6 +41,7 @@ pub fn read_turn<O: Object>(
     ensures turns { Turns shared.now beside_lookup seat.old seat.new }
     ensures rises { seat.old.known.local.seen_cur ≤ seat.new.known.local.seen_cur }
     ensures place { IfOk result (λ found. IfSome found (λ place. place ≡ root_place_of shared.now.callers seat.new.known.local.seen_cur)) }
+    ensures reached { IfOk result (λ found. IfSome found (λ place. place ≤ seat.new.known.local.front)) }
 {
     shared.load_cur(seat)?;
     let Some(hold) = read_current(shared, seat, op, reply)? else {

@@ -35,6 +35,8 @@ pub enum Fact {
     OfferWord(usize, u64),
     /// A word of the sets by its place.
     SetWord(usize, u64),
+    /// A word of the ring of gaps by its place.
+    GapWord(usize, u64),
     /// FREE.
     Free(u64),
     /// LOW, FREE, and the needs of two callers.
@@ -93,6 +95,7 @@ pub fn is_so(board: &Board, fact: &Fact) -> bool {
         Fact::CellWord(at, word) => has_word(board.state.cell(), *at, *word),
         Fact::OfferWord(cell, word) => has_word(board.state.offer(), *cell, *word),
         Fact::SetWord(at, word) => has_word(board.state.set(), *at, *word),
+        Fact::GapWord(at, word) => has_word(board.state.gap(), *at, *word),
         Fact::Free(free) => board.state.free() == *free,
         Fact::Ring(words) => is_ring(board, words),
         Fact::Root(codes, wins) => is_root(board, codes, wins),

@@ -10,6 +10,8 @@ mod facts;
 #[cfg(test)]
 mod full_steps;
 #[cfg(test)]
+mod gaps;
+#[cfg(test)]
 mod kept_bases;
 #[cfg(test)]
 mod locks;

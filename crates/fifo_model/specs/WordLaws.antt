@@ -234,6 +234,24 @@ item_is_asked words one =
       | false ↦ λ _ is. absurd (omega (arith, is))
     ]) refl one
 
+-- words of no operation have no kind
+pub none_has_no_kind : (words : List ℕ) → AreOfNoOp words → kind_in words ≡ 0
+unfolding kind_in
+none_has_no_kind words none =
+    (elim (is_op_in words) as (λ b. is_op_in words ≡ b → cond b (slice_index words 0) 0 ≡ 0) [
+      | true ↦ λ passes. (let there = op_is_there words passes in absurd (none (op_in words) there.0 there.1))
+      | false ↦ λ _. refl
+    ]) refl
+
+-- words with a kind are those of an operation of it
+pub of_kind : (words : List ℕ) (k : ℕ) → kind_in words ≡ suc k → IsOp (op_by (suc k) words) × (op_words (op_by (suc k) words) ≡ words)
+unfolding kind_in is_op_in
+of_kind words k is =
+    (elim (op_test (slice_index words 0) words) as (λ b. op_test (slice_index words 0) words ≡ b → cond b (slice_index words 0) 0 ≡ suc k → IsOp (op_by (suc k) words) × (op_words (op_by (suc k) words) ≡ words)) [
+      | true ↦ λ passes same. op_by_kind words (suc k) (sym (ap (λ n. op_test n words) same) ∙ passes)
+      | false ↦ λ _ same. absurd (omega (arith, same))
+    ]) refl is
+
 -- ---- they are 144 words
 
 pub words_of_fit : (kind : ℕ) (item : List ℕ) → kind < 2 ^ 64 → Words 8 item → Words 144 (words_of kind item)

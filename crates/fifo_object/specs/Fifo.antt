@@ -4,7 +4,8 @@ use Rattle.std.specs.Prelude.{◌≡◌, ◌==◌, ◌||◌, ◌⊎◌, ◌+◌,
 use Rattle.std.specs.List.{range_with_len}
 use Rattle.cx_base.specs.Memory.{Always, Words, overwritten}
 use Rattle.cx_base.specs.declared.memory.Memory.{Ghosts}
-use Rattle.fifo_model.specs.Words.{is_item, item_in, kind_in, reply_words, words_of}
+use Rattle.fifo_model.specs.Words.{is_item, item_in, kind_in, op_words, reply_words, words_of}
+use Rattle.fifo_model.specs.declared.operations.FifoOp.TheVariants.{Len, Peek}
 use Rattle.fifo_model.specs.declared.operations.FifoReply.TheVariants.{Empty, Full, Length, Pushed}
 
 -- the header's words
@@ -87,6 +88,10 @@ fifo_step lines image op = step_by (kind_in op) lines (item_in op) image
 -- whether these are the words of an operation that only reads
 unfoldable pub fifo_reads : List ℕ → Bool
 fifo_reads op = kind_in op == 3 || kind_in op == 4
+
+-- these are the words of a peek, or those of a request for the number of texts
+abbrev pub IsReading : List ℕ → Type 0
+IsReading words = (words ≡ op_words Peek) ⊎ (words ≡ op_words Len)
 
 -- one image has the words of another but in the header's line and in that of a place
 abbrev pub IsSameBeside : ℕ → List ℕ → List ℕ → Type 0

@@ -65,7 +65,7 @@ len_of : (lines : ℕ) (image : List ℕ) → fifo_step lines image (op_words Le
 unfolding words_of
 len_of lines image = step_of lines image Len tt
 
-reads_of : (op : FifoOp) → IsOp op → fifo_reads (op_words op) ≡ only_reads op
+pub reads_of : (op : FifoOp) → IsOp op → fifo_reads (op_words op) ≡ only_reads op
 unfolding fifo_reads words_of
 reads_of (Push text) is = ap (λ k. k == 3 || k == 4) (kind_is_read (Push text) is)
 reads_of Pop is = ap (λ k. k == 3 || k == 4) (kind_is_read Pop is)

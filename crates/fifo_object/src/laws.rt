@@ -1,9 +1,20 @@
-//! A law of the queue's steps.
+//! Laws of the queue's steps.
 
-ghost use Rattle.std.specs.Prelude.{ℕ, List};
-ghost use Rattle.fifo_object.specs.Fifo.{TouchesTwoLines, fifo_step};
+ghost use Rattle.std.specs.Prelude.{◌≡◌, ◌↔◌, ℕ, List, replicate, true};
+ghost use Rattle.fifo_model.specs.Words.{AreOfNoOp};
+ghost use Rattle.fifo_object.specs.Fifo.{IsReading, TouchesTwoLines, fifo_reads, fifo_step};
 
 /// Whatever the operation, a step touches the header's line and at most one more.
 pub fn steps_touch_two_lines()
     ensures { (lines : ℕ) (image op : List ℕ) → TouchesTwoLines (λ words. fifo_step lines words op) image }
+{}
+
+/// Words of no operation are answered by 144 zeros, and leave the image.
+pub fn words_of_no_operation_change_nothing()
+    ensures { (lines : ℕ) (image words : List ℕ) → AreOfNoOp words → fifo_step lines image words ≡ (image, replicate 144 0) }
+{}
+
+/// Words are taken for those of an operation that only reads exactly where they are those of a Peek or of a Len.
+pub fn readings_are_peek_and_len()
+    ensures { (words : List ℕ) → (fifo_reads words ≡ true) ↔ IsReading words }
 {}

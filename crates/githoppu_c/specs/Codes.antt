@@ -11,7 +11,7 @@ use Rattle.recovery.specs.declared.recovering.ImageFault.TheVariants.{Size, Root
 
 -- the number of what a call came to
 abbrev pub code_of : Called → ℤ
-code_of Done = pos 0
+code_of (Done place) = pos 0
 code_of Pending = pos 1
 code_of Again = pos 2
 code_of Full = pos 3

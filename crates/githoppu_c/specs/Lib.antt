@@ -1,6 +1,7 @@
 pub mod Closings
 pub mod Codes
 pub mod Contents
+pub mod Places
 pub mod Objects
 pub mod Outcomes
 pub mod Recoveries

@@ -2,9 +2,10 @@
 
 ghost use Rattle.std.specs.Prelude.{◌≡◌};
 ghost use Rattle.githoppu_c.specs.Codes as spec;
+ghost use Rattle.githoppu_c.specs.Places as places;
 
 use c_images::WordsFault;
-use c_sessions::Called;
+use c_sessions::{Called, Sight};
 use recovery::ImageFault;
 
 /// Done, and the reply is there.
@@ -51,13 +52,28 @@ pub fn code_of(called: Called) -> i32
     ensures { result ≡ spec.code_of called }
 {
     match called {
-        Called::Done => DONE,
+        Called::Done(_) => DONE,
         Called::Pending => PENDING,
         Called::Again => AGAIN,
         Called::Full => FULL,
         Called::Worn => WORN,
         Called::Stopped => STOPPED,
         Called::OutOfTurn => OUT_OF_TURN,
+    }
+}
+
+/// The current place is below the one that a session was to catch up with.
+pub const BEHIND: i32 = 24;
+
+/// The number of what catching up came to.
+pub fn sight_code(sight: Sight) -> i32
+    ensures { result ≡ places.sight_code sight }
+{
+    match sight {
+        Sight::Caught => DONE,
+        Sight::Behind(_) => BEHIND,
+        Sight::Stopped => STOPPED,
+        Sight::OutOfTurn => OUT_OF_TURN,
     }
 }
 

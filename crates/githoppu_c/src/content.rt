@@ -4,10 +4,11 @@ ghost use Rattle.std.specs.Prelude.{◌≡◌};
 ghost use Rattle.githoppu_c.specs.Closings.{ClosesAs, Images, queue_left, store_left};
 ghost use Rattle.githoppu_c.specs.Codes.{closing_code};
 ghost use Rattle.githoppu_c.specs.Contents.{Calls, Finishes, IsCallable};
+ghost use Rattle.githoppu_c.specs.Places.{HasPlace, Sees};
 
 use crate::codes::{AGAIN, DONE, LOST, NO_MEMORY, OTHERS, OUT_OF_TURN};
 use crate::images::{DOCUMENTS, QUEUE, write_to};
-use c_sessions::{Called, Closing, Session, Tries, close_kept};
+use c_sessions::{Called, Closing, Session, Sight, Tries, close_kept};
 use cx_service::Kept;
 use cx_table::Remains;
 use doc_store::DocStore;
@@ -51,6 +52,30 @@ impl Content {
             Content::Documents(session) => session.finish(reply, tries),
             Content::Queue(session) => session.finish(reply, tries),
             _ => Called::OutOfTurn,
+        }
+    }
+
+    /// The place that a session tells; of what is no session none.
+    pub fn place(&self) -> Option<u64>
+        ensures { HasPlace self.now result }
+    {
+        match self {
+            Content::Documents(session) => Some(session.place()),
+            Content::Queue(session) => Some(session.place()),
+            _ => None,
+        }
+    }
+
+    /// Has a session see a place that another one told.
+    pub fn catch_up(&mut self, place: u64) -> Sight
+        requires callable { IsCallable self.old }
+        ensures callable { IsCallable self.new }
+        ensures sees { Sees place self.old result self.new }
+    {
+        match self {
+            Content::Documents(session) => session.catch_up(place),
+            Content::Queue(session) => session.catch_up(place),
+            _ => Sight::OutOfTurn,
         }
     }
 

@@ -5,6 +5,7 @@
 ghost use Rattle.std.specs.Prelude.{◌≡◌, length};
 ghost use Rattle.githoppu_c.specs.Closings.{ClosesAs, Images};
 ghost use Rattle.githoppu_c.specs.Contents.{Answers, Calls, Finishes, IsCallable, IsTriesFor, Opens};
+ghost use Rattle.githoppu_c.specs.Places.{AnswersSight, TellsPlace};
 ghost use Rattle.githoppu_c.specs.Objects.{IsQueueFault, IsQueueIn, IsStoreFault, IsStoreIn};
 ghost use Rattle.githoppu_c.specs.Outcomes.{TellsOutcome};
 ghost use Rattle.githoppu_c.specs.Recoveries.{Recovers};
@@ -19,7 +20,7 @@ mod outcomes;
 mod raw_box;
 mod recovering;
 
-use crate::codes::{DONE, LOST, OTHERS, code_of};
+use crate::codes::{DONE, LOST, OTHERS, OUT_OF_TURN, code_of, sight_code};
 use crate::content::Content;
 use crate::handle::Handle;
 use crate::opening::{hand_out, open_documents, open_queue};
@@ -213,6 +214,38 @@ pub extern "C" fn githoppu_version() -> u64
     ensures { result ≡ 2000 }
 {
     VERSION
+}
+
+/// Tells the place that a session has seen, and of what is no session 0, out of turn. The session stands at `out` afterwards.
+#[unsafe(no_mangle)]
+pub extern "C" fn githoppu_place_of(session: Handle, place: &mut u64, out: &mut *mut u8) -> i32
+    ensures { TellsPlace session.content place.new result }
+{
+    let content = session.into_box();
+    let told = content.place();
+    *out = Box::into_raw(content) as *mut u8;
+    match told {
+        Some(seen) => {
+            *place = seen;
+            DONE
+        }
+        None => {
+            *place = 0;
+            OUT_OF_TURN
+        }
+    }
+}
+
+/// Has a session see a place that another session of the same store or queue told. The session stands at `out` afterwards.
+#[unsafe(no_mangle)]
+pub extern "C" fn githoppu_see_place(session: Handle, place: u64, out: &mut *mut u8) -> i32
+    requires { IsCallable session.content }
+    ensures { AnswersSight place session.content result }
+{
+    let mut content = session.into_box();
+    let sight = content.catch_up(place);
+    *out = Box::into_raw(content) as *mut u8;
+    sight_code(sight)
 }
 
 /// Gives up what C holds. The last session of a store or a queue gives that up.

@@ -22,7 +22,7 @@ same_on a b c s t = record { number = t.number ∙ s.number; limits = t.limits �
 
 module _ {O : Type 0} (r : Running O) (table : TableId) where
   pub begun : (client : Client) → MayAsk r table client → HasNoMore r table client client
-  begun client may = record { client = may.is; same = record { number = refl; limits = refl; closing = refl }; answers = refl; floor = refl; calls = λ calls has. has }
+  begun client may = record { client = may.is; same = record { number = refl; limits = refl; closing = refl }; answers = refl; floor = refl; seen = refl; calls = λ calls has. has }
 
   module _ (a b c : Client) (less : HasNoMore r table a b) where
     pub again : HasNoMore r table b c → HasNoMore r table a c
@@ -31,11 +31,19 @@ module _ {O : Type 0} (r : Running O) (table : TableId) where
       same = same_on a b c less.same more.same;
       answers = more.answers ∙ less.answers;
       floor = more.floor ∙ less.floor;
+      seen = more.seen ∙ less.seen;
       calls = λ calls has. more.calls calls (less.calls calls has);
     }
 
     made_since : (call : Call) → HasMade r table b c call → HasMade r table a c call
-    made_since call made = record { client = made.client; back = made.back; same = same_on a b c less.same made.same; calls = λ calls has. made.calls calls (less.calls calls has) }
+    made_since call made = record {
+      client = made.client;
+      back = made.back;
+      same = same_on a b c less.same made.same;
+      seen = made.seen ∙ less.seen;
+      from = (let from = made.from in let same = less.seen in omega (arith, from, same));
+      calls = λ calls has. made.calls calls (less.calls calls has);
+    }
 
     pub updated_since : (op : List ℕ) (answer : Answer) → HasUpdated r table op b c answer → HasUpdated r table op a c answer
     updated_since op answer u = record { told = u.told; is = u.is; made = made_since _ u.made }

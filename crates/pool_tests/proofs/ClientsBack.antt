@@ -4,10 +4,12 @@ use Rattle.std.specs.Prelude.{All}
 use Rattle.std.specs.List.{AllZip, range_with_len}
 use Rattle.std.proofs.lemmas.List.Elements.{All-cons, All-nil, length_all_zip}
 use Rattle.bounded_counters.specs.declared.counters.Counters.{Counters}
-use Rattle.client_pool.specs.Clients.{ReadsInAll, Updates}
+use Rattle.client_pool.specs.Clients.{CatchesUp, ReadsInAll, Updates}
 use Rattle.client_pool.specs.Pools.{IsClosing}
 use Rattle.client_pool.specs.declared.client.Client.{Client}
 use Rattle.client_pool.specs.declared.pool.Pool.{Pool}
+use Rattle.client_pool.specs.declared.pool.PooledCatchUp.{PooledCatchUp}
+use Rattle.client_pool.specs.declared.pool.PooledCatchUp.TheVariants.{Caught, Behind, Stopped as StoppedCatchUp}
 use Rattle.client_pool.specs.declared.pool.Pooled.{Pooled}
 use Rattle.client_pool.specs.declared.pool.Pooled.TheVariants.{Done, Full, Worn, Stopped, Memory}
 use Rattle.client_pool.specs.declared.pool.PooledRead.{PooledRead}
@@ -35,6 +37,11 @@ module _ (pool : Pool Counters) where
   looked op before after WornRead u = record { client = u.0.client; same = u.0.same }
   looked op before after (StoppedRead linked) u = record { client = u.0.client; same = u.0.same }
   looked op before after MemoryRead u = record { client = u.0.client; same = u.0.same }
+
+  pub followed : (place : ℕ) (before after : Client) (pooled : PooledCatchUp) → CatchesUp pool.service pool.line.table.shared.table_id place before after pooled → IsBack pool before after
+  followed place before after Caught u = record { client = u.made.client; same = u.made.same }
+  followed place before after (Behind found) u = record { client = u.made.client; same = u.made.same }
+  followed place before after StoppedCatchUp u = record { client = u.0.client; same = u.0.same }
 
   -- each at its place
   pub zipped : (olds news : List Client) → length news ≡ length olds → ((k : ℕ) (d e : Client) → k < length olds → IsBack pool (get_or olds k d) (get_or news k e)) → AllZip (IsBack pool) olds news

@@ -1,7 +1,9 @@
-//! Tests of clients that share the callers of a service: one after another and on threads of their own, where a caller is stopped, and as a server
-//! has them. It has tests alone.
+//! Tests of clients that share the callers of a service: one after another and on threads of their own, where a caller is stopped, as a server
+//! has them, and where one catches up with another. It has tests alone.
 #![tactic(auto)]
 
+#[cfg(test)]
+mod following;
 #[cfg(test)]
 mod holds;
 #[cfg(test)]

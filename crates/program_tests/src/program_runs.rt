@@ -15,7 +15,7 @@ pub(crate) const REPORT: &str =
     "life 0 clients 1 from 0\n0 0.1 put a 1 = new\n1 0.2 put a 2 = replaced\nread 0.3 at 2 get a = 2\npower 0 kept 2 of 2 documents 1\n";
 
 pub(crate) const USAGE: &str =
-    "usage: cx_tool run | image | recover | load FROM CLIENTS OPS | fifo | trace | pool SEATS\n";
+    "usage: cx_tool run | image | recover | load FROM CLIENTS OPS | pool SEATS | fifo | trace\n";
 
 /// The words of a command.
 pub(crate) fn words_of(alloc: Global, all: &[&str]) -> Result<Vec<String>, AllocError> {

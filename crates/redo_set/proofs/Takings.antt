@@ -5,15 +5,16 @@ use Rattle.std.specs.List.{slice_get}
 use Rattle.cx_base.specs.declared.object.Object.{Ghosts}
 use Rattle.cx_core.specs.declared.kinds.Kind.TheVariants.{LoadOffer, ReadSet}
 use Rattle.cx_core.specs.declared.local.SeenOffer.{SeenOffer}
+use Rattle.cx_core.specs.SetEvents.{ShowsOffer}
 use Rattle.cx_core.specs.State.{Instance, one_more}
 use Rattle.core_queue.specs.declared.notes.SetNoted.{SetNoted}
 use Rattle.core_queue.specs.NotedSets.{IsNotedSet}
 use Rattle.cx_rule.specs.declared.rule.Noted.{Noted}
 use Rattle.cx_rule.specs.Fitting.{Fitting}
 use Rattle.cx_rule.specs.Running.{Running, instance_at}
-use Rattle.cx_rule.specs.Seats.{Seated, stepped}
+use Rattle.cx_rule.specs.Seats.{IsAtLimit, Seated, stepped}
 use Rattle.cx_table.specs.Runs.{Runs, no_step, one_more_step, set_reads_from}
-use Rattle.redo_set.specs.Taking.{LeavesTaking, ReadsWords, set_notes, sets_read, with_notes}
+use Rattle.redo_set.specs.Taking.{FindsUnoffered, IsReadingSet, LeavesTaking, ReadsFewer, ReadsWords, set_notes, sets_read, with_notes}
 
 abbrev note : ℕ → ℕ → ℕ → SetNoted
 note ticket i w = record { ticket = ticket; index = i; word = w }
@@ -28,11 +29,31 @@ notes_more ticket i (x ∷ ws) w =
 abbrev seat_with : Seated → Option SeenOffer → ℕ → List Noted → List SetNoted → Seated
 seat_with s seen steps noted sets = record s { known = record s.known { local = record s.known.local { seen_offer = seen; steps = steps }; noted = noted; sets = sets } }
 
+-- a seat after some notes, by what it then shows
+shown_so : (seen : Option SeenOffer) (steps : ℕ) (notes : List SetNoted) (s after : Seated) → after ≡ with_notes seen steps notes s → after ≡ with_notes after.known.local.seen_offer after.known.local.steps notes s
+shown_so seen steps notes s after is =
+    is ∙ (λ k. with_notes (sym (ap (λ (x : Seated). x.known.local.seen_offer) is) k) (sym (ap (λ (x : Seated). x.known.local.steps) is) k) notes s)
+
 -- what a seat is after some notes it leaves
 pub leaves_of : (seen : Option SeenOffer) (steps : ℕ) (notes : List SetNoted) (s after : Seated) → after ≡ with_notes seen steps notes s → LeavesTaking s after
-leaves_of seen steps notes s after is = record {
-  notes = notes;
-  seat = is ∙ (λ k. with_notes (sym (ap (λ (x : Seated). x.known.local.seen_offer) is) k) (sym (ap (λ (x : Seated). x.known.local.steps) is) k) notes s);
+leaves_of seen steps notes s after is = record { notes = notes; seat = shown_so seen steps notes s after is }
+
+-- some words of a set were read, and a further one is to be
+pub reading_so : (cell ticket found steps : ℕ) (words : List ℕ) (s after : Seated) → found ≡ ticket + 1 → length words < 2 * slice_index words 0 + 1 →
+    after ≡ with_notes (Some (record { cell = cell; ticket = ticket; word = found })) steps (set_notes ticket 0 words) s → IsReadingSet cell ticket s after
+reading_so cell ticket found steps words s after offered fewer is = record {
+  offered = subst (λ (x : Seated). ShowsOffer x.known.local.seen_offer cell ticket) (sym is) (refl, refl, offered);
+  words = words;
+  fewer = fewer;
+  seat = shown_so (Some (record { cell = cell; ticket = ticket; word = found })) steps (set_notes ticket 0 words) s after is;
+}
+
+-- the limit was come to among the words
+pub fewer_so : (ticket from count : ℕ) (words : List ℕ) (s t after : Seated) → length words < count → t ≡ with_notes s.known.local.seen_offer t.known.local.steps (set_notes ticket from words) s → after ≡ t → ReadsFewer ticket from count s after
+fewer_so ticket from count words s t after fewer is same = record {
+  words = words;
+  fewer = fewer;
+  seat = subst (λ (x : Seated). x ≡ with_notes s.known.local.seen_offer x.known.local.steps (set_notes ticket from words) s) (sym same) is;
 }
 
 none_is : (s : Seated) → s ≡ with_notes s.known.local.seen_offer s.known.local.steps [] s
@@ -47,6 +68,15 @@ pub looked_is : (instance : Instance) (cell ticket found : ℕ) (s after : Seate
     after ≡ with_notes (Some (record { cell = cell; ticket = ticket; word = found })) (one_more s.known.local.steps) [] s
 looked_is instance cell ticket found s after step =
     step ∙ (λ k. seat_with s (Some (record { cell = cell; ticket = ticket; word = found })) (one_more s.known.local.steps) (append-nil s.known.noted k) (sym (append-nil s.known.sets) k))
+
+-- an offer was looked at, and it is another
+pub unoffered_is : (instance : Instance) (cell ticket found : ℕ) (s after : Seated) → ¬ IsAtLimit s.known.local → found ≢ ticket + 1 → after ≡ stepped instance (LoadOffer cell ticket) s found → FindsUnoffered cell ticket s after
+unoffered_is instance cell ticket found s after allowed other step = record {
+  allowed = allowed;
+  word = found;
+  other = other;
+  seat = step ∙ (λ k. seat_with s (Some (record { cell = cell; ticket = ticket; word = found })) (one_more s.known.local.steps) (append-nil s.known.noted k) s.known.sets);
+}
 
 -- one word more was read
 pub read_one : (instance : Instance) (cell ticket i v : ℕ) (seen : Option SeenOffer) (steps : ℕ) (notes : List SetNoted) (s t after : Seated) → t ≡ with_notes seen steps notes s → after ≡ stepped instance (ReadSet cell ticket i) t v →

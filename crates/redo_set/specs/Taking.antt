@@ -1,5 +1,5 @@
 -- The write set of another's entry, as a caller takes it: word by word from the cell that the slot last looked at shows.
-use Rattle.std.specs.Prelude.{◌≡◌, ◌+◌, ◌<◌, ◌==◌, ◌↔◌, true, false, ℕ, IsTrue, Bool, List, [], ◌∷◌, ◌++◌, Option, if◌then◌else◌}
+use Rattle.std.specs.Prelude.{◌≡◌, ◌≢◌, ◌⊎◌, ◌+◌, ◌*◌, ◌<◌, ◌==◌, ◌↔◌, true, false, ℕ, IsTrue, Bool, List, [], ◌∷◌, ◌++◌, length, slice_index, Option, Some, if◌then◌else◌}
 use Rattle.cx_base.specs.declared.object.Object.{Ghosts}
 use Rattle.cx_core.specs.declared.kinds.Kind.TheVariants.{ReadSet}
 use Rattle.cx_core.specs.declared.local.SeenOffer.{SeenOffer}
@@ -7,11 +7,12 @@ use Rattle.cx_core.specs.Events.{Guard}
 use Rattle.cx_core.specs.QueueEvents.{ShowsTicket}
 use Rattle.cx_core.specs.RingEvents.{Protects}
 use Rattle.cx_core.specs.SetEvents.{ShowsOffer}
+use Rattle.cx_core.specs.State.{one_more}
 use Rattle.core_queue.specs.declared.notes.SetNoted.{SetNoted}
 use Rattle.core_queue.specs.NotedSets.{IsNotedSet}
 use Rattle.cx_rule.specs.Fitting.{Fitting}
 use Rattle.cx_rule.specs.Running.{IsSeatOf, Running, instance_at}
-use Rattle.cx_rule.specs.Seats.{Seated, unseen}
+use Rattle.cx_rule.specs.Seats.{IsAtLimit, Seated, unseen}
 
 -- the offer of the entry with a ticket may be looked at in a cell: the slot last looked at shows it there, and a protection keeps it
 pub record MayTake {O : Type 0} (r : Running O) (cell ticket : ℕ) (seat : Seated) : Type 0 where
@@ -60,3 +61,33 @@ pub record Takes {O : Type 0} (o : Ghosts O) (r : Running O) (cell ticket : ℕ)
   pub offered : IsTrue taken ↔ ShowsOffer after.known.local.seen_offer cell ticket
   pub noted : IsTrue taken → IsNotedSet after.known.sets ticket set
   pub fits : IsTrue taken → Fitting r.lines (o.lawful r.object) r.base (o.step r.object) after.known
+
+-- The offer word of a cell was loaded for a ticket, by one step, which the limit allowed, and is another than the ticket plus 1. Nothing else
+-- changed.
+pub record FindsUnoffered (cell ticket : ℕ) (before after : Seated) : Type 0 where
+  pub allowed : ¬ IsAtLimit before.known.local
+  pub word : ℕ
+  pub other : word ≢ ticket + 1
+  pub seat : after ≡ record before { known = record before.known { local = record before.known.local { seen_offer = Some (record { cell = cell; ticket = ticket; word = word }); steps = one_more before.known.local.steps } } }
+
+-- the limit allowed a step, and where no set was taken, the one step made found no offer
+abbrev pub LooksForOffer : ℕ → ℕ → Seated → Seated → Bool → Type 0
+LooksForOffer cell ticket before after true = ¬ IsAtLimit before.known.local
+LooksForOffer cell ticket before after false = FindsUnoffered cell ticket before after
+
+-- fewer words of a set than so many were read, from an index on, and noted, and nothing else changed but the steps
+pub record ReadsFewer (ticket from count : ℕ) (before after : Seated) : Type 0 where
+  pub words : List ℕ
+  pub fewer : length words < count
+  pub seat : after ≡ with_notes before.known.local.seen_offer after.known.local.steps (set_notes ticket from words) before
+
+-- A further word of a set is to be read: the entry was seen to be offered in this call, and fewer words were noted than the set has.
+pub record IsReadingSet (cell ticket : ℕ) (before after : Seated) : Type 0 where
+  pub offered : ShowsOffer after.known.local.seen_offer cell ticket
+  pub words : List ℕ
+  pub fewer : length words < 2 * slice_index words 0 + 1
+  pub seat : after ≡ with_notes after.known.local.seen_offer after.known.local.steps (set_notes ticket 0 words) before
+
+-- a further step is due in taking a set: no step was made, or a word of the set is to be read
+abbrev pub IsTakingSet : ℕ → ℕ → Seated → Seated → Type 0
+IsTakingSet cell ticket before after = (after ≡ before) ⊎ IsReadingSet cell ticket before after

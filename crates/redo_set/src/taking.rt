@@ -3,7 +3,7 @@
 ghost use Rattle.std.specs.Prelude.{◌≡◌, ◌+◌, ◌<◌, ◌≤◌, ◌↔◌, false, IfOk, IsTrue, OnErr, OnOk, length};
 ghost use Rattle.cx_table.specs.Running.{IsSeatOf};
 ghost use Rattle.cx_table.specs.Seats.{IsAtLimit};
-ghost use Rattle.redo_set.specs.Taking.{CountsTaken, LeavesTaking, MayReadSet, MayTake, ReadsWords, Takes};
+ghost use Rattle.redo_set.specs.Taking.{CountsTaken, IsTakingSet, LeavesTaking, LooksForOffer, MayReadSet, MayTake, ReadsFewer, ReadsWords, Takes};
 
 use crate::set::WriteSet;
 use cx_base::{Halt, Object};
@@ -11,8 +11,9 @@ use cx_table::{CallerSeat, Shared};
 
 /// Reads the write set of the entry with a ticket, whose cell the slot last looked at shows, where the entry is offered: the offer word, the
 /// number of pairs and each pair, all under the protection that keeps the entry. Each word is noted with the ticket, and a set that was
-/// read whole is a write set of its ticket. False comes exactly where the offer word is another than the ticket plus 1, in one step; what is in
-/// `into` then is left open. `Halt` comes exactly where a further step is to be made and the seat's steps equal its limit.
+/// read whole is a write set of its ticket. False comes exactly where the offer word, loaded in this call by the one step that it makes, is
+/// another than the ticket plus 1; what is in `into` then is left open. `Halt` comes exactly where a further step is to be made, as no offer was
+/// loaded or fewer words were read than the set has, and the seat's steps equal its limit.
 pub fn take<O: Object>(
     shared: &Shared<O>,
     seat: &mut CallerSeat,
@@ -22,10 +23,12 @@ pub fn take<O: Object>(
 ) -> Result<bool, Halt>
     requires may { MayTake shared.now cell ticket seat.old }
     ensures taken { IfOk result (λ taken. Takes O.Object shared.now cell ticket into.new seat.new taken) }
+    ensures looked { IfOk result (LooksForOffer cell ticket seat.old seat.new) }
     ensures counted { IfOk result (CountsTaken seat.old seat.new) }
     ensures leaves { LeavesTaking seat.old seat.new }
     ensures seat { IsSeatOf shared.now seat.new }
     ensures halts { OnErr result (IsAtLimit seat.new.known.local) }
+    ensures due { OnErr result (IsTakingSet cell ticket seat.old seat.new) }
 {
     let found = shared.load_offer(seat, cell, ticket)?;
     if !names(ticket, found) {
@@ -60,6 +63,7 @@ fn read_words<O: Object>(
     ensures long { length into.new ≡ length into.old }
     ensures seat { IsSeatOf shared.now seat.new }
     ensures halts { OnErr result (IsAtLimit seat.new.known.local) }
+    ensures due { OnErr result (ReadsFewer ticket 1 (length into.old) seat.old seat.new) }
 {
     if shared.read_set_words(seat, cell, ticket, 1, into) {
         return Ok(());
@@ -82,6 +86,7 @@ fn read_each<O: Object>(
     ensures long { length into.new ≡ length into.old }
     ensures seat { IsSeatOf shared.now seat.new }
     ensures halts { OnErr result (IsAtLimit seat.new.known.local) }
+    ensures due { OnErr result (ReadsFewer ticket 1 (length into.old) seat.old seat.new) }
 {
     for i in 0..into.len() {
         into[i] = shared.read_set(seat, cell, ticket, 1 + i as u64)?;

@@ -1,6 +1,7 @@
 -- What a look, an offer and a set that was taken leave of a replica that is the image after its place.
 use Rattle.std.proofs.Common.{All, inl, inr, ◌≡◌, ◌<◌, ◌⊎◌, ◌++◌, ℕ, List, [], map, slice_set, ap, refl, sym, subst, ◌∙◌, Option, None}
 use Rattle.std.proofs.Math.Seq.{map-set_same}
+use Rattle.cx_base.specs.Memory.{Becomes}
 use Rattle.cx_base.specs.declared.object.Object.{Ghosts}
 use Rattle.cx_core.specs.declared.local.Cell.{Cell}
 use Rattle.cx_core.specs.declared.local.SeenSlot.{SeenSlot}
@@ -11,14 +12,15 @@ use Rattle.cx_core.proofs.ListLemmas.{slice_get-append_left}
 use Rattle.core_queue.specs.declared.notes.SetNoted.{SetNoted}
 use Rattle.core_queue.specs.NotedSets.{IsNotedSet}
 use Rattle.cx_rule.specs.declared.rule.Known.{Known}
-use Rattle.cx_rule.specs.Fitting.{Fitting, FitsOn, Has, IsOwnSet, HasEntry, SomeFits, entries_of, has_of}
+use Rattle.cx_rule.specs.Fitting.{Fitting, FitsKnown, FitsOn, Has, IsOwnSet, HasEntry, SomeFits, entries_of, has_of}
 use Rattle.cx_rule.specs.Running.{IsSeatOf, Running}
 use Rattle.cx_rule.specs.Seats.{Seated}
-use Rattle.cx_rule.proofs.HasMore.{HasMore, fits_more, some_same}
+use Rattle.cx_rule.proofs.HasMore.{HasMore, fits_more, fits_same, some_same}
 use Rattle.cx_table.specs.Right.{Right}
 use Rattle.cx_table.specs.Tokens.{IsExclusiveOf}
 use Rattle.mutation_queue.specs.Entries.{with_look}
 use Rattle.redo_set.specs.Offering.{HasStill, with_set}
+use Rattle.redo_set.specs.Sets.{put_over}
 use Rattle.redo_set.specs.Taking.{LeavesTaking, with_notes}
 use Rattle.replica.specs.Held.{IsHeld, beside_held}
 use Rattle.replica.specs.Laws.{image_more, image_same}
@@ -85,6 +87,27 @@ module _ {O : Type 0} (o : Ghosts O) (r : Running O) (held : Right) (at : ℕ) w
         is_held = held_noted before after of l (some_same (o.line_count r.object) (o.lawful r.object) r.base (o.step r.object) before.known after.known has accesses was.is_held.some) was.is_held;
         image = image_same (o.line_count r.object) (o.lawful r.object) r.base (o.step r.object) before.known after.known has accesses was.image;
         place = ap noted_place l.seat ∙ was.place;
+      }
+
+  abbrev fits : Seated → List ℕ → List ℕ → Type 0
+  fits s = FitsKnown (o.line_count r.object) (o.lawful r.object) r.base (o.step r.object) s.known
+
+  -- what is stored over a replica once a slot was looked at and a set was taken, is stored over the words that it had
+  pub stored_since : (seen : Option SeenSlot) (before mid taken after : Seated) (set : List ℕ) → mid ≡ with_look seen before → LeavesTaking mid taken → Becomes (fits taken) (fits after) (λ was now. now ≡ put_over set was) →
+      Becomes (fits before) (fits after) (λ was now. now ≡ put_over set was)
+  stored_since seen before mid taken after set looked l becomes =
+      let lines = o.line_count r.object in
+      let lawful = o.lawful r.object in
+      let step = o.step r.object in
+      let has : has_of mid.known ≡ has_of before.known = ap (λ (s : Seated). has_of s.known) looked in
+      let accesses : mid.known.accesses ≡ before.known.accesses = ap (λ (s : Seated). s.known.accesses) looked in
+      let more : HasMore (has_of mid.known) (has_of taken.known) = subst (λ (s : Seated). HasMore (has_of mid.known) (has_of s.known)) (sym l.seat) (sets_more mid.known l.notes) in
+      let still : taken.known.accesses ≡ mid.known.accesses = ap (λ (s : Seated). s.known.accesses) l.seat in
+      record {
+        from = λ first now f. (
+            let b = becomes.from first now f in
+            let was : List ℕ = b.0 in
+            (was, fits_same lines lawful r.base step before.known mid.known has accesses first was (fits_more lines lawful r.base step (has_of mid.known) (has_of taken.known) more mid.known.accesses first was (subst (λ xs. FitsOn lines lawful r.base step (has_of taken.known) xs first was) still b.1)), b.2));
       }
 
 -- a seat beside what work on the replica held exclusively changes, beside what is seen and noted of sets too

@@ -1,9 +1,13 @@
 -- Another's entry is brought onto a replica held exclusively by its write set, where it is offered.
-use Rattle.std.specs.Prelude.{◌≡◌, ◌+◌, true, false, ℕ, Bool, [], None}
+use Rattle.std.specs.Prelude.{◌≡◌, ◌+◌, true, false, ℕ, Bool, List, [], None}
+use Rattle.cx_base.specs.Memory.{Becomes}
 use Rattle.cx_base.specs.declared.object.Object.{Ghosts}
+use Rattle.core_queue.specs.NotedSets.{IsNotedSet}
+use Rattle.cx_rule.specs.Fitting.{FitsKnown}
 use Rattle.cx_rule.specs.Running.{IsSeatOf, Running}
 use Rattle.cx_rule.specs.Seats.{Seated}
 use Rattle.cx_table.specs.Right.{Right}
+use Rattle.redo_set.specs.Sets.{put_over}
 use Rattle.replica.specs.Held.{beside_held}
 use Rattle.replica.specs.Replays.{IsReady}
 
@@ -20,3 +24,13 @@ pub record LeavesOffered {O : Type 0} (r : Running O) (replica : ℕ) (before af
 abbrev pub ReplaysOffered : {O : Type 0} → Ghosts O → Running O → Right → ℕ → Seated → Bool → Type 0
 ReplaysOffered o r held ticket after true = IsReady o r held (ticket + 1) after
 ReplaysOffered o r held ticket after false = IsReady o r held ticket after
+
+-- The set of a ticket is noted whole, and its pairs were stored over the words that the replica held exclusively had.
+pub record IsBroughtBySet {O : Type 0} (o : Ghosts O) (r : Running O) (ticket : ℕ) (set : List ℕ) (before after : Seated) : Type 0 where
+  pub noted : IsNotedSet after.known.sets ticket set
+  pub stores : Becomes (FitsKnown (o.line_count r.object) (o.lawful r.object) r.base (o.step r.object) before.known) (FitsKnown (o.line_count r.object) (o.lawful r.object) r.base (o.step r.object) after.known) (λ was now. now ≡ put_over set was)
+
+-- where a set was taken, the replica was brought on by it
+abbrev pub BringsBySet : {O : Type 0} → Ghosts O → Running O → ℕ → List ℕ → Seated → Seated → Bool → Type 0
+BringsBySet o r ticket set before after true = IsBroughtBySet o r ticket set before after
+BringsBySet o r ticket set before after false = Unit {0}

@@ -6,7 +6,7 @@ ghost use Rattle.cx_table.specs.Calls.{MakesStep};
 ghost use Rattle.mutation_queue.specs.Entries.{Looked, MayRead};
 ghost use Rattle.redo_set.specs.Taking.{CountsTaken};
 ghost use Rattle.replica.specs.Replays.{IsReady};
-ghost use Rattle.replica_sets.specs.Offered.{LeavesOffered, ReplaysOffered};
+ghost use Rattle.replica_sets.specs.Offered.{BringsBySet, LeavesOffered, ReplaysOffered};
 
 use crate::storing::store_set;
 use cx_base::{Halt, Object, link_cell};
@@ -16,7 +16,7 @@ use redo_set::{WriteSet, take};
 
 /// Brings a replica held exclusively on by the write set of the entry whose ticket is its place, where that entry is offered: a look at its
 /// slot, a load of the offer, a load of each word of the set, and a store of each pair. It is false where the entry is not offered, and then
-/// the replica is as it was. `Halt` comes only where the seat's steps equal its limit.
+/// the replica is as it was. A set that is counted is one whose pairs were stored. `Halt` comes only where the seat's steps equal its limit.
 pub fn replay_offered<O: Object>(
     shared: &Shared<O>,
     seat: &mut CallerSeat,
@@ -29,6 +29,7 @@ pub fn replay_offered<O: Object>(
     requires later { shared.now.base.place ≤ ticket }
     ensures replayed { MatchResult result (ReplaysOffered O.Object shared.now held.now ticket seat.new) (λ _. IsAtLimit seat.new.known.local) }
     ensures counted { IfOk result (CountsTaken seat.old seat.new) }
+    ensures brought { IfOk result (BringsBySet O.Object shared.now ticket set.new seat.old seat.new) }
     ensures leaves { LeavesOffered shared.now held.now.replica seat.old seat.new }
 {
     let cell = see_cell(shared, seat, ticket)?;

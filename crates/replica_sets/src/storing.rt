@@ -28,6 +28,7 @@ pub fn store_set<O: Object>(
     requires ready { IsReady O.Object shared.now held.now (noted_place seat.old) seat.old }
     requires next { SetComesNext (region_words (O.line_count shared.now.object)) set.now seat.old }
     ensures ready { OnOk result (IsReady O.Object shared.now held.now (noted_place seat.old + 1) seat.new) }
+    ensures done { OnOk result (Becomes (FitsKnown (O.line_count shared.now.object) (O.lawful shared.now.object) shared.now.base (O.step shared.now.object) seat.old.known) (FitsKnown (O.line_count shared.now.object) (O.lawful shared.now.object) shared.now.base (O.step shared.now.object) seat.new.known) (λ before now. now ≡ put_over set.now before)) }
     ensures halts { OnErr result (left_of seat.new.known.local ≡ Some 0) }
     ensures leaves { Accessed O.Object shared.now held.now seat.old seat.new }
 {

@@ -33,14 +33,14 @@ abbrev pub text_left : Option Image → List ℕ
 text_left None = []
 text_left (Some image) = text_of image
 
--- The text is that of the image that the loss of power left which ended the last life, by that life's trail. What is recovered from it is
+-- The text is that of the image that the loss of power left which ended the last life, of the table that was closed with that life's trail. What is recovered from it is
 -- the base with which a next life would begin behind such records. Where there is no life there is no text.
 pub record IsLastImage (script : Script Op) (trails : List Ending) (text : List ℕ) : Type 0 where
   pub records : List (LifeRecord Reply)
   pub are : AreRecords script trails records
   pub image : Option Image
   pub base : Option Base
-  pub left : HaveLeft script.lines script.lives trails image
+  pub left : HaveLeft (document_meaning script.lines) script.lines (IsImage script.lines) script.lives trails image
   pub ends : HaveEnded (document_meaning script.lines) script.lines 2 (IsImage script.lines)
       (begun_by (document_meaning script.lines) (nothing_begun (document_meaning script.lines)) script.lives records) script.lives image base
   pub text_is : text ≡ text_left image

@@ -119,7 +119,7 @@ module _ {O : Type 0} (r : Running O) where
     still : s.seat.known.local.seen_reads ≡ before.known.local.seen_reads → s.seat.known.local.seen_reads ≡ before.known.local.seen_reads ++ []
     still seen = seen ∙ sym (append-nil before.known.local.seen_reads)
 
-    unlinked_ : UpdateHalted r op before s → HaltsUnlinked before s → Gathers r (taken ∷ []) (Stopped s ∷ [])
+    unlinked_ : UpdateHalted r op before s → HaltsUnlinked r op before s → Gathers r (taken ∷ []) (Stopped s ∷ [])
     unlinked_ halted u = none [] halted.caller halted.number (same_calls s.seat n before.known.local.own before.known.local.answered halted.number u.keeps.own u.keeps.answered) (still u.keeps.reads)
 
     linked_ : UpdateHalted r op before s → HaltsLinked r op before s → Gathers r (taken ∷ []) (Stopped s ∷ [])

@@ -1,3 +1,4 @@
+mod AskedLemmas
 mod HandedBack
 mod KeptLemmas
 mod OpenLemmas

@@ -1,8 +1,9 @@
 -- What an operation comes to that is asked for until it is answered.
-use Rattle.std.specs.Prelude.{◌≡◌, ◌⊎◌, ℕ, List, length}
+use Rattle.std.specs.Prelude.{◌≡◌, ◌+◌, ◌<◌, ◌≤◌, ◌⊎◌, ℕ, List, Result, MatchResult, length}
 use Rattle.cx_rule.specs.Running.{Running}
 use Rattle.cx_rule.specs.Seats.{Seated}
 use Rattle.cx_service.specs.Callers.{IsCallerOf, IsStoppedOf, StoppedSeat}
+use Rattle.cx_service.specs.CatchUps.{HasSeen}
 use Rattle.cx_service.specs.Updates.{KeepsLists, LinksEntry}
 use Rattle.cx_turns.specs.Answering.{with_answer, with_read}
 use Rattle.service_parts.specs.Callers.{IsBack}
@@ -24,15 +25,31 @@ pub record IsStoppedIn {O : Type 0} (r : Running O) (before : Seated) (after : S
   pub caller : IsStoppedOf r after.seat
   pub number : after.seat.known.local.number ≡ before.known.local.number
 
--- a reading is answered beside the queue: the caller has one read more, of this operation
-pub record IsReadBeside (op reply : List ℕ) (before after : Seated) : Type 0 where
-  pub place : ℕ
+-- a reading is answered beside the queue: the caller has one read more, of this operation, at this place
+pub record IsReadBeside (op : List ℕ) (place : ℕ) (reply : List ℕ) (before after : Seated) : Type 0 where
   pub own : after.known.local.own ≡ before.known.local.own
   pub answered : after.known.local.answered ≡ before.known.local.answered
   pub reads : after.known.local.seen_reads ≡ with_read place op reply (length before.known.local.answered) before.known.local.seen_reads
 
--- what an operation comes to; one that is told is answered beside the queue, or as an entry of it
+-- What an operation comes to. One that is told is answered beside the queue at the place that is told, or as an entry of it, whose ticket is the
+-- one below that place.
 abbrev pub IsAsked : {O : Type 0} → Running O → List ℕ → Seated → Asked → Type 0
-IsAsked r op before (Told after reply) = IsBack r before after × (IsReadBeside op reply before after ⊎ ((ticket : ℕ) × IsAnswered r op ticket reply before after))
+IsAsked r op before (Told after reply place) = IsBack r before after × (IsReadBeside op place reply before after ⊎ ((ticket : ℕ) × (place ≡ ticket + 1) × IsAnswered r op ticket reply before after))
 IsAsked r op before (Worn after) = IsLeftAlone r before after
 IsAsked r op before (Stopped after) = IsStoppedIn r before after
+
+-- What its caller has seen before, it has seen then: an answer stands at or above each place that the caller had seen.
+abbrev pub KeepsPlaces : ℕ → Seated → Asked → Type 0
+KeepsPlaces callers before (Told after reply place) = (seen : ℕ) → HasSeen callers seen before.known.local → (seen ≤ place) × HasSeen callers seen after.known.local
+KeepsPlaces callers before (Worn after) = (seen : ℕ) → HasSeen callers seen before.known.local → HasSeen callers seen after.known.local
+KeepsPlaces callers before (Stopped after) = Unit {0}
+
+-- the caller has seen a place, and what it had seen before; nothing is done
+pub record HasFollowed {O : Type 0} (r : Running O) (place : ℕ) (before after : Seated) : Type 0 where
+  pub caller : IsCallerOf r after
+  pub keeps : KeepsLists before after
+  pub seen : HasSeen r.callers place after.known.local
+
+-- so it is, or the caller is stopped at its limit of steps
+abbrev pub Follows : {O : Type 0} → Running O → ℕ → Seated → Result Seated StoppedSeat → Type 0
+Follows r place before result = MatchResult result (HasFollowed r place before) (IsStoppedIn r before)

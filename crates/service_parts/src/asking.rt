@@ -2,18 +2,19 @@
 
 ghost use Rattle.std.specs.Prelude.{IsTrue};
 ghost use Rattle.cx_service.specs.Callers.{IsCallerOf};
-ghost use Rattle.service_parts.specs.Asking.{IsAsked};
+ghost use Rattle.service_parts.specs.Asking.{Follows, IsAsked, KeepsPlaces};
 
 use cx_base::Object;
-use cx_service::{Caller, ReadDone, Service, Stopped, Updated};
+use cx_service::{Caller, CaughtUp, ReadDone, Service, Stopped, Updated};
 use std::sync::Wait;
 use std::thread;
 
 /// What an operation comes to that is asked for until it is answered.
 #[derive(Drop)]
 pub enum Asked {
-    /// It is done and durable, or read of what is durable: the reply.
-    Told(Caller, [u64; 144]),
+    /// It is done and durable, or read of what is durable: the reply, and the place by which another caller catches up with it: behind an entry
+    /// its ticket plus 1, and of a read the read's.
+    Told(Caller, [u64; 144], u64),
     /// There is no further ticket. Nothing is done.
     Worn(Caller),
     /// The caller's limit of steps was reached.
@@ -31,7 +32,8 @@ pub fn ask<O: Object, R: Wait>(
     op: &[u64; 144],
 ) -> Asked
     requires { IsCallerOf service.now caller }
-    ensures { IsAsked service.now op.now caller result }
+    ensures asked { IsAsked service.now op.now caller result }
+    ensures sees { KeepsPlaces service.now.callers caller result }
 {
     if service.object().reads(op) {
         look(rt, service, caller, op)
@@ -40,15 +42,45 @@ pub fn ask<O: Object, R: Wait>(
     }
 }
 
-/// The same of any operation, as an entry of the queue.
+/// Has a caller see a place that another one was told, by which it catches up: from then on its entries and its reads stand at or above it. Where
+/// the current place is below it, which is where nobody was answered at it yet, it is tried again once others have run. `Err` is the caller whose limit of steps
+/// was reached.
+pub fn follow<O: Object, R: Wait>(
+    rt: &R,
+    service: &Service<O>,
+    caller: Caller,
+    place: u64,
+) -> Result<Caller, Stopped>
+    requires { IsCallerOf service.now caller }
+    ensures { Follows service.now place caller result }
+{
+    let mut caller = caller;
+    for _ in rt.forever() {
+        match service.catch_up(caller, place) {
+            CaughtUp::Caught(back) => return Ok(back),
+            CaughtUp::Behind(back, _) => {
+                thread::yield_now();
+                caller = back;
+            }
+            CaughtUp::Halted(stopped) => return Err(stopped),
+        }
+    }
+    unreachable!()
+}
+
+/// Asks for any operation, as an entry of the queue.
 fn enter<O: Object, R: Wait>(rt: &R, service: &Service<O>, caller: Caller, op: &[u64; 144]) -> Asked
     requires { IsCallerOf service.now caller }
-    ensures { IsAsked service.now op.now caller result }
+    ensures asked { IsAsked service.now op.now caller result }
+    ensures sees { KeepsPlaces service.now.callers caller result }
 {
     let mut caller = caller;
     for _ in rt.forever() {
         match service.update(rt, caller, op) {
-            Updated::Done(back, answer) => return Asked::Told(back, answer.reply),
+            Updated::Done(back, answer) => {
+                let place = back.place_behind(&answer);
+                return Asked::Told(back, answer.reply, place);
+            }
             Updated::Full(back, _) => {
                 thread::yield_now();
                 caller = back;
@@ -60,17 +92,21 @@ fn enter<O: Object, R: Wait>(rt: &R, service: &Service<O>, caller: Caller, op: &
     unreachable!()
 }
 
-/// The same of one that only reads, beside the queue or in it.
+/// Asks for one that only reads, beside the queue or in it.
 fn look<O: Object, R: Wait>(rt: &R, service: &Service<O>, caller: Caller, op: &[u64; 144]) -> Asked
     requires caller { IsCallerOf service.now caller }
     requires reads { IsTrue (O.only_reads service.now.object op.now) }
-    ensures { IsAsked service.now op.now caller result }
+    ensures asked { IsAsked service.now op.now caller result }
+    ensures sees { KeepsPlaces service.now.callers caller result }
 {
     let mut caller = caller;
     for _ in rt.forever() {
         match service.read(rt, caller, op) {
-            ReadDone::Read(back, seen) => return Asked::Told(back, seen.reply),
-            ReadDone::Queued(back, answer) => return Asked::Told(back, answer.reply),
+            ReadDone::Read(back, seen) => return Asked::Told(back, seen.reply, seen.place),
+            ReadDone::Queued(back, answer) => {
+                let place = back.place_behind(&answer);
+                return Asked::Told(back, answer.reply, place);
+            }
             ReadDone::Full(back, _) => {
                 thread::yield_now();
                 caller = back;

@@ -2,7 +2,7 @@
 //! each caller works on a thread of its own, and what a loss of power keeps of it.
 //!
 //! - An operation is done once and its reply told, or a reading is answered beside the queue; the same caller is handed back: `ask`
-//!   (`IsAsked`).
+//!   (`IsAsked`). Its place is told too: who catches up with it by `follow` sees it, and so do all later calls of that caller (`KeepsPlaces`).
 //! - A worker hands each caller back, and so all the callers of the service are there again: `Worker`, `work_together`.
 //! - What was left by a life is recovered, with every answer in it, by the object that it was of: `serve` (`IsLeftBy`), `recovered`.
 #![tactic(auto)]
@@ -12,7 +12,7 @@ mod recovering;
 mod serving;
 mod working;
 
-pub use asking::{Asked, ask};
+pub use asking::{Asked, ask, follow};
 pub use recovering::recovered;
 pub use serving::{closed, serve, started};
 pub use working::{Worked, Worker, work_together};

@@ -130,7 +130,7 @@ impl Worker<Bank> for Mover {
         let mut told = NOTHING;
         for step in self.from..EACH + 90 {
             match ask(rt, service, caller, &operation(number, step).words()) {
-                Asked::Told(back, reply) => {
+                Asked::Told(back, reply, _) => {
                     told = told.with(Reply::of(&reply));
                     caller = back;
                 }
@@ -173,7 +173,7 @@ fn value<R: Wait>(rt: &R, service: &Service<Bank>, caller: Caller, op: Op) -> Wo
     ensures { IsHandedBy service.now caller result.caller }
 {
     match ask(rt, service, caller, &op.words()) {
-        Asked::Told(back, reply) => {
+        Asked::Told(back, reply, _) => {
             let caller = Handed::Idle(back);
             let told = match Reply::of(&reply) {
                 Reply::Value(has) => has,

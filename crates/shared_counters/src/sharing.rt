@@ -43,7 +43,7 @@ impl Worker<Counters> for Adder {
         let mut told = 0;
         for _ in 0..10 {
             match ask(rt, service, caller, &add_words(0, 1)) {
-                Asked::Told(back, reply) => {
+                Asked::Told(back, reply, _) => {
                     told = value_of(&reply, told);
                     caller = back;
                 }

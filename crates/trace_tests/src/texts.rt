@@ -25,8 +25,8 @@ static TEXTS: [StepsRow; 4] = [
     ),
     // each kind
     (
-        28,
-        b"trace 1 64\n0 write_cell 0 0 0\n0 link 0\n0 look 0\n0 read_cell 0 0 0\n0 load_free\n0 try_exclusive 0\n0 try_shared 0\n0 back_off 0\n0 downgrade 0\n0 release_exclusive 0\n0 load_word 0 0\n0 load_word 0 0 refused\n0 store_word 0 0 0\n0 persist 0 0\n0 load_cur\n0 publish\n0 raise 0\n0 retire\n0 protect 0\n0 confirm\n0 unprotect\n0 close_low 0\n0 scan 0\n0 open_free\n0 write_set 0 0 0\n0 offer 0\n0 load_offer 0 0\n0 read_set 0 0 0",
+        30,
+        b"trace 1 64\n0 write_cell 0 0 0\n0 link 0\n0 look 0\n0 read_cell 0 0 0\n0 load_free\n0 try_exclusive 0\n0 try_shared 0\n0 back_off 0\n0 downgrade 0\n0 release_exclusive 0\n0 load_word 0 0\n0 load_word 0 0 refused\n0 store_word 0 0 0\n0 persist 0 0\n0 load_cur\n0 publish\n0 raise 0\n0 retire\n0 protect 0\n0 confirm\n0 unprotect\n0 close_low 0\n0 scan 0\n0 open_free\n0 write_set 0 0 0\n0 offer 0\n0 load_offer 0 0\n0 read_set 0 0 0\n0 note_gap 0 0 0\n0 load_gap 0 0",
     ),
 ];
 
@@ -68,13 +68,13 @@ static FAULTS: [FaultRow; 13] = [
     (
         2,
         TraceReason::Event,
-        b"trace 1 64\n0 look|trace 1 64\n0 look |trace 1 64\n0 look 0 0|trace 1 64\n0 load_free 0|trace 1 64\n0 persist 0|trace 1 64\n0 persist 0 0 0|trace 1 64\n0 write_cell 0 0|trace 1 64\n0 write_cell 0 0 0 0|trace 1 64\n0 write_cell 0 0 0 ",
+        b"trace 1 64\n0 look|trace 1 64\n0 look |trace 1 64\n0 look 0 0|trace 1 64\n0 load_free 0|trace 1 64\n0 persist 0|trace 1 64\n0 persist 0 0 0|trace 1 64\n0 write_cell 0 0|trace 1 64\n0 write_cell 0 0 0 0|trace 1 64\n0 write_cell 0 0 0 |trace 1 64\n0 note_gap 0 0|trace 1 64\n0 note_gap 0 0 0 0|trace 1 64\n0 load_gap 0|trace 1 64\n0 load_gap 0 0 0",
     ),
     // no numbers
     (
         2,
         TraceReason::Event,
-        b"trace 1 64\n0 look 18446744073709551616|trace 1 64\n0 look 00|trace 1 64\n0 look -1|trace 1 64\n0 look  0|trace 1 64\n0 persist 0 x|trace 1 64\n0 persist x 0|trace 1 64\n0 write_cell 0 0 18446744073709551616",
+        b"trace 1 64\n0 look 18446744073709551616|trace 1 64\n0 look 00|trace 1 64\n0 look -1|trace 1 64\n0 look  0|trace 1 64\n0 persist 0 x|trace 1 64\n0 persist x 0|trace 1 64\n0 write_cell 0 0 18446744073709551616|trace 1 64\n0 note_gap 0 0 18446744073709551616|trace 1 64\n0 load_gap x 0",
     ),
     // marks
     (

@@ -101,8 +101,8 @@ static WORKED: [Row; 16] = [
     ),
 ];
 
-// One caller has 16 cells, 16 link slots and 2 replicas of 1,680 words. In each pair the greatest argument that is in range, and the one above.
-static ARGUMENTS: [Row; 60] = [
+// One caller has 16 cells, 16 link slots, 512 slots of the ring of gaps and 2 replicas of 1,680 words. In each pair the greatest argument that is in range, and the one above.
+static ARGUMENTS: [Row; 69] = [
     (
         b"trace 1 64\n0 write_cell 15 0 1\n",
         Verdict::Yes {
@@ -388,6 +388,48 @@ static ARGUMENTS: [Row; 60] = [
         b"trace 1 64\n0 read_set 0 0 513\n",
         Verdict::Guard { line: 2 },
     ),
+    (
+        b"trace 1 64\n0 note_gap 511 15 18446744073709551615\n",
+        Verdict::Yes {
+            events: 1,
+            crashes: 0,
+        },
+    ),
+    (
+        b"trace 1 64\n0 note_gap 512 0 0\n",
+        Verdict::Guard { line: 2 },
+    ),
+    (
+        b"trace 1 64\n0 note_gap 0 16 0\n",
+        Verdict::Guard { line: 2 },
+    ),
+    (
+        b"trace 1 64\n0 write_cell 0 0 1\n0 look 0\n0 link 0\n0 note_gap 0 0 131282\n",
+        Verdict::Yes {
+            events: 4,
+            crashes: 0,
+        },
+    ),
+    (
+        b"trace 1 64\n0 write_cell 0 0 1\n0 look 0\n0 link 0\n0 note_gap 0 0 2\n",
+        Verdict::Guard { line: 5 },
+    ),
+    (
+        b"trace 1 64\n0 write_cell 0 0 1\n0 look 0\n0 link 0\n0 note_gap 1 0 131282\n",
+        Verdict::Guard { line: 5 },
+    ),
+    (
+        b"trace 1 64\n0 load_gap 511 15\n",
+        Verdict::Yes {
+            events: 1,
+            crashes: 0,
+        },
+    ),
+    (
+        b"trace 1 64\n0 load_gap 512 0\n",
+        Verdict::Guard { line: 2 },
+    ),
+    (b"trace 1 64\n0 load_gap 0 16\n", Verdict::Guard { line: 2 }),
 ];
 
 #[test]

@@ -9,7 +9,7 @@ use Rattle.std.proofs.lemmas.List.Elements.{All-nil, All-cons}
 use Rattle.std.proofs.lemmas.Option.{cond_some, none-some, option_and_then_some, same_Some}
 use Rattle.cx_base.specs.Store.{IsKey}
 use Rattle.cx_core.specs.declared.kinds.Kind.{Kind}
-use Rattle.cx_core.specs.declared.kinds.Kind.TheVariants.{WriteCell, Link, Look, ReadCell, LoadFree, TryExclusive, TryShared, BackOff, Downgrade, ReleaseExclusive, LoadWord, StoreWord, Persist, LoadCur, Publish, Raise, Retire, Protect, Confirm, Unprotect, CloseLow, Scan, OpenFree, WriteSet, Offer, LoadOffer, ReadSet}
+use Rattle.cx_core.specs.declared.kinds.Kind.TheVariants.{WriteCell, Link, Look, ReadCell, LoadFree, TryExclusive, TryShared, BackOff, Downgrade, ReleaseExclusive, LoadWord, StoreWord, Persist, LoadCur, Publish, Raise, Retire, Protect, Confirm, Unprotect, CloseLow, Scan, OpenFree, WriteSet, Offer, LoadOffer, ReadSet, NoteGap, LoadGap}
 use Rattle.doc_model.specs.WordParts.{is_key}
 use Rattle.doc_model.specs.Words.{op_words}
 use Rattle.doc_model.specs.declared.operations.Op.{Op}
@@ -161,7 +161,8 @@ two_is : (name : List ℕ) (a b : ℕ) (k : Kind) → kind_with_two name a b ≡
 unfolding kind_with_two
 two_is name a b k e =
     row (codes "persist") name (Persist a b) k (a ∷ b ∷ []) _ (refl, refl, refl)
-    (row (codes "load_offer") name (LoadOffer a b) k (a ∷ b ∷ []) None (refl, refl, refl) (none_left name (a ∷ b ∷ []) k)) e
+    (row (codes "load_offer") name (LoadOffer a b) k (a ∷ b ∷ []) _ (refl, refl, refl)
+    (row (codes "load_gap") name (LoadGap a b) k (a ∷ b ∷ []) None (refl, refl, refl) (none_left name (a ∷ b ∷ []) k))) e
 
 three_is : (name : List ℕ) (a b c : ℕ) (k : Kind) → kind_with_three name a b c ≡ Some k → IsRow name (a ∷ b ∷ c ∷ []) k
 unfolding kind_with_three
@@ -170,7 +171,8 @@ three_is name a b c k e =
     (row (codes "read_cell") name (ReadCell a b c) k (a ∷ b ∷ c ∷ []) _ (refl, refl, refl)
     (row (codes "store_word") name (StoreWord a b c) k (a ∷ b ∷ c ∷ []) _ (refl, refl, refl)
     (row (codes "write_set") name (WriteSet a b c) k (a ∷ b ∷ c ∷ []) _ (refl, refl, refl)
-    (row (codes "read_set") name (ReadSet a b c) k (a ∷ b ∷ c ∷ []) None (refl, refl, refl) (none_left name (a ∷ b ∷ c ∷ []) k))))) e
+    (row (codes "read_set") name (ReadSet a b c) k (a ∷ b ∷ c ∷ []) _ (refl, refl, refl)
+    (row (codes "note_gap") name (NoteGap a b c) k (a ∷ b ∷ c ∷ []) None (refl, refl, refl) (none_left name (a ∷ b ∷ c ∷ []) k)))))) e
 
 -- the kind has numbers in front of those that stand here
 record Numbered (name front here : List ℕ) (kind : Kind) : Type 0 where
@@ -513,6 +515,8 @@ kind_again (ReadCell t k i) text is = ap kind_of (as_three (codes "read_cell") t
 kind_again (StoreWord r i v) text is = ap kind_of (as_three (codes "store_word") text is.end_ r i v is.spelled is.ends) ∙ three_again (codes "store_word") r i v (is.fits 0 0 (omega arith)) (is.fits 1 0 (omega arith)) (is.fits 2 0 (omega arith))
 kind_again (WriteSet j i v) text is = ap kind_of (as_three (codes "write_set") text is.end_ j i v is.spelled is.ends) ∙ three_again (codes "write_set") j i v (is.fits 0 0 (omega arith)) (is.fits 1 0 (omega arith)) (is.fits 2 0 (omega arith))
 kind_again (ReadSet k t i) text is = ap kind_of (as_three (codes "read_set") text is.end_ k t i is.spelled is.ends) ∙ three_again (codes "read_set") k t i (is.fits 0 0 (omega arith)) (is.fits 1 0 (omega arith)) (is.fits 2 0 (omega arith))
+kind_again (LoadGap s i) text is = ap kind_of (as_two (codes "load_gap") text is.end_ s i is.spelled is.ends) ∙ two_again (codes "load_gap") s i (is.fits 0 0 (omega arith)) (is.fits 1 0 (omega arith))
+kind_again (NoteGap s i v) text is = ap kind_of (as_three (codes "note_gap") text is.end_ s i v is.spelled is.ends) ∙ three_again (codes "note_gap") s i v (is.fits 0 0 (omega arith)) (is.fits 1 0 (omega arith)) (is.fits 2 0 (omega arith))
 kind_again (LoadWord r i false) text is =
     ap kind_of (as_two (codes "load_word") text is.end_ r i is.spelled is.ends) ∙ loaded_again r i (is.fits 0 0 (omega arith)) (is.fits 1 0 (omega arith))
 kind_again (LoadWord r i true) text is =

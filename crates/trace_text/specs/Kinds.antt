@@ -4,7 +4,7 @@ use Rattle.std.specs.Fmt.{decimal}
 use Rattle.plain_text.specs.Number.{number_of}
 use Rattle.plain_text.specs.Words.{first_word, rest_of, is_word}
 use Rattle.cx_core.specs.declared.kinds.Kind.{Kind}
-use Rattle.cx_core.specs.declared.kinds.Kind.TheVariants.{WriteCell, Link, Look, ReadCell, LoadFree, TryExclusive, TryShared, BackOff, Downgrade, ReleaseExclusive, LoadWord, StoreWord, Persist, LoadCur, Publish, Raise, Retire, Protect, Confirm, Unprotect, CloseLow, Scan, OpenFree, WriteSet, Offer, LoadOffer, ReadSet}
+use Rattle.cx_core.specs.declared.kinds.Kind.TheVariants.{WriteCell, Link, Look, ReadCell, LoadFree, TryExclusive, TryShared, BackOff, Downgrade, ReleaseExclusive, LoadWord, StoreWord, Persist, LoadCur, Publish, Raise, Retire, Protect, Confirm, Unprotect, CloseLow, Scan, OpenFree, WriteSet, Offer, LoadOffer, ReadSet, NoteGap, LoadGap}
 use Rattle.doc_model.specs.Words.{op_words}
 use Rattle.doc_model.specs.declared.operations.Op.{Op}
 use Rattle.trace_text.specs.Commands.{AsksReading}
@@ -37,6 +37,8 @@ kind_name (WriteSet j i v) = codes "write_set"
 kind_name (Offer j) = codes "offer"
 kind_name (LoadOffer k t) = codes "load_offer"
 kind_name (ReadSet k t i) = codes "read_set"
+kind_name (NoteGap s i v) = codes "note_gap"
+kind_name (LoadGap s i) = codes "load_gap"
 
 abbrev pub kind_numbers : Kind → List ℕ
 kind_numbers (WriteCell j i v) = j ∷ i ∷ v ∷ []
@@ -66,6 +68,8 @@ kind_numbers (WriteSet j i v) = j ∷ i ∷ v ∷ []
 kind_numbers (Offer j) = j ∷ []
 kind_numbers (LoadOffer k t) = k ∷ t ∷ []
 kind_numbers (ReadSet k t i) = k ∷ t ∷ i ∷ []
+kind_numbers (NoteGap s i v) = s ∷ i ∷ v ∷ []
+kind_numbers (LoadGap s i) = s ∷ i ∷ []
 
 -- each number behind a space
 abbrev pub numbers_text : List ℕ → List ℕ
@@ -117,6 +121,7 @@ unfoldable pub kind_with_two : List ℕ → ℕ → ℕ → Option Kind
 kind_with_two name a b =
     if is_word (codes "persist") name then Some (Persist a b)
     else if is_word (codes "load_offer") name then Some (LoadOffer a b)
+    else if is_word (codes "load_gap") name then Some (LoadGap a b)
     else None
 
 unfoldable pub kind_with_three : List ℕ → ℕ → ℕ → ℕ → Option Kind
@@ -126,6 +131,7 @@ kind_with_three name a b c =
     else if is_word (codes "store_word") name then Some (StoreWord a b c)
     else if is_word (codes "write_set") name then Some (WriteSet a b c)
     else if is_word (codes "read_set") name then Some (ReadSet a b c)
+    else if is_word (codes "note_gap") name then Some (NoteGap a b c)
     else None
 
 -- the kind of a name with the numbers behind it

@@ -117,6 +117,8 @@ fn kind_with_two(name: &[u8], a: u64, b: u64) -> Option<Kind>
         Some(Kind::Persist { r: a, i: b })
     } else if is_word(b"load_offer", name) {
         Some(Kind::LoadOffer { k: a, t: b })
+    } else if is_word(b"load_gap", name) {
+        Some(Kind::LoadGap { s: a, i: b })
     } else {
         None
     }
@@ -137,6 +139,8 @@ fn kind_with_three(name: &[u8], a: u64, b: u64, c: u64) -> Option<Kind>
         Some(Kind::WriteSet { j: a, i: b, v: c })
     } else if is_word(b"read_set", name) {
         Some(Kind::ReadSet { k: a, t: b, i: c })
+    } else if is_word(b"note_gap", name) {
+        Some(Kind::NoteGap { s: a, i: b, v: c })
     } else {
         None
     }

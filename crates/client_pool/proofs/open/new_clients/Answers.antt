@@ -38,7 +38,7 @@ returns g c =
     let made = c.new_client-last.ensures in
     let rooms = c.args.rooms in
     let closing : Closing = record { rest = c.new_client-last.new.pass; lents = rooms.lents; former = rooms.former; gathered = rooms.gathered; out = rooms.out } in
-    let last : Client = record { number = m.number; floor = m.floor; answers = m.answers; lent = m.lent; closing = Some closing } in
+    let last : Client = record { number = m.number; floor = m.floor; caught_up = m.caught_up; answers = m.answers; lent = m.lent; closing = Some closing } in
     let items = c.push_reserved-2.new.self.items in
     let short : count - 1 < 1024 = (let most = c.requires.count.1 in omega (arith, most)) in
     let placed = placed_more r table (count - 1) (view c.loop-number.pass) (view c.new_client-last.new.pass) (subst (λ k. IsPlaced r k (view c.loop-number.pass)) n i.placed) short made.pass.1 in

@@ -78,6 +78,7 @@ returns g c =
       seats = seats_of handed;
       are = gathered_seats (g.O.TypedObject.meaning c.args.service.object) life c.args.service c.args.callers.items f c.requires.seats (omega (arith, c.in_ok-handed.ensures.all, c.args.callers.ok.0, c.in_ok-works.ensures.len)) gathered;
       leaves = left;
+      order = c.in-Ok.ensures.order;
       is_told = subst (λ (xs : List Local). IsTold (g.O.TypedObject.meaning c.args.service.object).encoding life place history xs made) (sym left.locals) told;
       works = rw (left.locals, c.of.ensures, c.of-2.ensures, c.of-3.ensures, c.of-4.ensures) still;
       choice = c.choice-choice.ensures;

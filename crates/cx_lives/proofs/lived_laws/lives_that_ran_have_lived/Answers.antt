@@ -38,7 +38,7 @@ returns g c = λ life begun service told flagged remains image next based is ran
     let rec_in = recorded lines_in images steps readings m version o base life begun service told flagged remains image next based is ran lost by closed (λ place history. retold place history remains.trail.locals) in
     let kept = kept_in lines_in images steps readings m version o base life begun service told flagged remains image next based is ran lost by closed (λ place history. retold place history remains.trail.locals) in
     lived lines_in images steps readings m version o base life begun service told flagged remains image next based is ran lost by closed (λ place history. retold place history remains.trail.locals)
-    (c.closed_tables_are_whole.ensures.whole service ran.seats remains opened ran.leaves)
+    (g.O.Object.opening o) (g.met.O.TypedObject.has_meaning o) (c.closed_tables_are_whole.ensures.whole service ran.seats remains opened ran.leaves)
     (subst (λ x. IsReadable (lines_in x) image) is.same (c.closed_tables_are_whole.ensures.readable service ran.seats remains life.choice image opened ran.leaves lost.left)) ended
     (c.replies_are_the_stores.ensures service.callers closed.s begun.store life flagged closed.law rec_in)
     (c.kept_lives_go_on.ensures service.callers closed.s begun.store life flagged next closed.law rec_in kept)

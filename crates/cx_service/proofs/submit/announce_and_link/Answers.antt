@@ -19,7 +19,7 @@ returns-in_err-_cur-clause-halted g c =
     let front = ap (λ (x : Seated). x.known.local.front) halted.same in
     let steps = ap (λ (x : Seated). x.known.local.steps) halted.same in
     if_any_err c.from_residual.result (
-      (halts c.args.shared.now s t (ap beside_submit halted.same) (146 + 2 * c.args.tries) c.requires.caller (ap (λ (x : Seated). x.known.local.own) halted.same) (omega (arith, front)) (let cur = ap (λ (x : Seated). x.known.local.seen_cur) halted.same in omega (arith, cur)) (omega (arith, steps))
+      (halts c.args.shared.now s t (ap beside_submit halted.same) (146 + 2 * c.args.tries) c.requires.caller (ap (λ (x : Seated). x.known.local.own) halted.same) (ap (λ (x : Seated). x.known.times.linked) halted.same) (omega (arith, front)) (let cur = ap (λ (x : Seated). x.known.local.seen_cur) halted.same in omega (arith, cur)) (omega (arith, steps))
           (λ k within idle. record { free = ap (λ (x : Seated). x.known.local.seen_free) halted.same; scans = ap (λ (x : Seated). x.known.local.scans) halted.same })
           (subst (λ (x : Seated). IsAtLimit x.known.local) (sym halted.same) halted.limit)),
       inl (record {

@@ -6,7 +6,8 @@ use Rattle.cx_rule.specs.Running.{instance_at}
 use Rattle.cx_rule.specs.Seats.{Seated, unseen}
 use Rattle.cx_table.proofs.Runs.{take_set}
 use Rattle.redo_set.specs.Taking.{ReadsWords}
-use Rattle.redo_set.proofs.Takings.{words_more, words_none}
+use Rattle.redo_set.proofs.Results.{on_err}
+use Rattle.redo_set.proofs.Takings.{fewer_so, words_more, words_none}
 use Rattle.redo_set.proofs.taking.read_each.Goals as goal
 
 pub loop-i-init : goal.loop-i-init
@@ -31,3 +32,11 @@ loop-i-preserved g c =
       long = length-set c.loop-i.into i v ∙ c.loop-i.invariant.long;
       of = ok.made.seat;
     }
+
+pub returns-in_err-into-clause-due : goal.returns-in_err-into-clause-due
+returns-in_err-into-clause-due g c =
+    let i = c.loop-i.i in
+    let below : i < length c.args.into.now = c.loop-i-test.true in
+    let inv = c.loop-i.invariant in
+    on_err c.from_residual.result _
+    (fewer_so c.args.ticket 1 (length c.args.into.now) (take i c.loop-i.into) c.args.seat.now c.loop-i.seat c.read_set.new.seat (omega (arith, length-take i c.loop-i.into, below, inv.long)) inv.read.seat c.in_err-into.ensures.halted.same)

@@ -1,6 +1,6 @@
-use Rattle.std.proofs.Common.{refl, subst, sym, OnOk}
+use Rattle.std.proofs.Common.{length, refl, subst, sym, OnErr, OnOk, ℕ}
 use Rattle.cx_rule.specs.Seats.{Seated}
-use Rattle.redo_set.specs.Taking.{LeavesTaking, MayReadSet, ReadsWords, set_notes}
+use Rattle.redo_set.specs.Taking.{LeavesTaking, MayReadSet, ReadsFewer, ReadsWords, set_notes}
 use Rattle.redo_set.proofs.Takings.{leaves_of, run_words}
 use Rattle.redo_set.proofs.taking.read_words.Goals as goal
 
@@ -22,3 +22,8 @@ returns-clause-read g c =
 
 pub returns-clause-leaves : goal.returns-clause-leaves
 returns-clause-leaves g c = subst (λ (s : Seated). LeavesTaking s c.read_each.new.seat) (c.if-read_set_words.ensures.short refl).0 c.read_each.ensures.leaves
+
+pub returns-clause-due : goal.returns-clause-due
+returns-clause-due g c =
+    subst (λ (n : ℕ). OnErr c.read_each.result (ReadsFewer c.args.ticket 1 n c.args.seat.now c.read_each.new.seat)) c.if-read_set_words.ensures.length
+    (subst (λ (s : Seated). OnErr c.read_each.result (ReadsFewer c.args.ticket 1 (length c.read_set_words.new.into) s c.read_each.new.seat)) (c.if-read_set_words.ensures.short refl).0 c.read_each.ensures.due)

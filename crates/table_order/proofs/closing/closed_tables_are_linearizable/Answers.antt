@@ -1,8 +1,10 @@
 use Rattle.std.proofs.Common.{◌∙◌, sym, arith}
 use Rattle.cx_core.proofs.MergeLemmas.{history_is}
+use Rattle.cx_rule.specs.Rule.{opening_limited}
 use Rattle.cx_rule.specs.Running.{instance_at}
 use Rattle.core_order.proofs.Ordering.{linearizable}
 use Rattle.cx_rule.proofs.Opening.{limited_lawful}
+use Rattle.table_order.proofs.Calls.{keeps_calls, none_made}
 use Rattle.table_order.proofs.closing.closed_tables_are_linearizable.Goals as goal
 
 pub returns : goal.returns
@@ -20,4 +22,5 @@ returns g c = λ table seats r running leaves. (
       reached = leaves.reached;
       linearizable = is;
       history = same ∙ leaves.history;
+      calls = keeps_calls instance (opening_limited instance leaves.reached.limits) _ leaves.reached.events opening (none_made instance leaves.reached.limits) leaves.reached.ran seats leaves.times;
     })

@@ -5,6 +5,7 @@ use Rattle.cx_rule.specs.Running.{instance_at}
 use Rattle.client_pool.proofs.History.{are_answered}
 use Rattle.client_pool.proofs.Closing.{all_of, lents_are}
 use Rattle.client_pool.proofs.Whole.{are_whole, front_within}
+use Rattle.cx_service.specs.Closes.{seats_of}
 use Rattle.client_pool.proofs.pool.Pool.close.Goals as goal
 
 pub close-requires-clause-lents : goal.close-requires-clause-lents
@@ -24,6 +25,7 @@ returns-in-Ok-clause-remains g c =
     record {
       handed = closed.0;
       leaves = closed.1;
+      order = c.closed_tables_are_linearizable.ensures r (seats_of closed.0) c.in-Ok.remains c.lines-lines.ensures.running closed.1;
       told = told;
       answered = answered;
       whole = λ live calls are. are_whole r c.in-Ok.remains.trail.history closed.0 clients closed.1.merged told live calls are (answered calls are).once;

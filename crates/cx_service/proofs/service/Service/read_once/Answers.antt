@@ -1,4 +1,4 @@
-use Rattle.std.proofs.Common.{◌≡◌, ℕ, arith, subst, sym, ◌∙◌, None, ap, IfSome}
+use Rattle.std.proofs.Common.{◌≡◌, ◌≤◌, ℕ, arith, subst, sym, ◌∙◌, None, ap, IfSome}
 use Rattle.cx_base.specs.Codes.{root_place_of}
 use Rattle.cx_rule.specs.Running.{IsSeatOf, Running}
 use Rattle.cx_rule.specs.Seats.{Seated}
@@ -21,10 +21,11 @@ returns-in-Ok-Some g c =
     let answers = subst (λ o. LooksUp c.args.op.now s v (seen_at reply o)) c.in-Ok-Some.field-0-is c.in-Ok-Some.ensures.turned in
     let here : c.in-Ok-Some.place ≡ root_place_of c.self.inside.shared.callers v.known.local.seen_cur =
     subst (λ o. IfSome o (λ (p : ℕ). p ≡ root_place_of c.self.inside.shared.callers v.known.local.seen_cur)) c.in-Ok-Some.field-0-is c.in-Ok-Some.ensures.place in
+    let reached : c.in-Ok-Some.place ≤ v.known.local.front = subst (λ o. IfSome o (λ (p : ℕ). p ≤ v.known.local.front)) c.in-Ok-Some.field-0-is c.in-Ok-Some.ensures.reached in
     let placed = here ∙ ap (λ (t : Running _). root_place_of t.callers v.known.local.seen_cur) c.self.view_is in
     subst (λ (x : Seated). ReadAnswered c.args.self.now c.args.op.now x v seen × MeetsFewer 1 x v) is (
       read_done c.args.self.now c.args.op.now s v (subst (IsCallerOf c.args.self.now) (sym is) c.requires.caller) c.read_turn.ensures.turns.rest c.read_turn.ensures.turns.front (subst (λ (t : Running _). IsSeatOf t v) c.self.view_is c.read_turn.ensures.turns.seat) c.read_turn.ensures.rises
-          seen c.in-Ok-Some.ensures.allowed answers placed,
+          seen c.in-Ok-Some.ensures.allowed answers placed reached,
       (let same = answers.met in omega (arith, same)),
     )
 

@@ -1,11 +1,13 @@
 use Rattle.std.proofs.Common.{◌≡◌, ◌≤◌}
 use Rattle.cx_rule.specs.Seats.{IsAtLimit}
+use Rattle.cx_rule.specs.Timing.{KeepsTimes}
 use Rattle.cx_service.specs.Callers.{IsCallerOf}
-use Rattle.cx_service.specs.Updates.{KeepsLists}
+use Rattle.cx_service.specs.Updates.{KeepsLists, SubmitsAgain}
+use Rattle.cx_turns.specs.Turns.{StepsOn}
 use Rattle.cx_service.proofs.service.Service.update.Given as goal
 
 -- the caller is in no call, its lists are as they were, its scans are no fewer, and its front did not fall; where it was at its limit no step was
--- made
+-- made. Each submit so far found others' links.
 abbrev pub invariant-loop : goal.invariant-loop
 invariant-loop g l = record {
   caller : IsCallerOf l.self l.caller;
@@ -13,4 +15,7 @@ invariant-loop g l = record {
   scans : l.fn.caller.known.local.scans ≤ l.caller.known.local.scans;
   front : l.fn.caller.known.local.front ≤ l.caller.known.local.front;
   stood : IsAtLimit l.fn.caller.known.local → l.caller ≡ l.fn.caller;
+  tried : SubmitsAgain l.self l.op l.fn.caller l.caller;
+  times : KeepsTimes l.fn.caller.known.times l.caller.known.times;
+  since : StepsOn l.fn.caller l.caller;
 }

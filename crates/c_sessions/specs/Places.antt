@@ -1,0 +1,33 @@
+-- What the caller of a session has seen of a place, and what catching up with one comes to.
+use Rattle.std.specs.Prelude.{◌≡◌, ◌≤◌, ℕ, max, Some}
+use Rattle.cx_rule.specs.Running.{Running}
+use Rattle.cx_rule.specs.Seats.{Seated, unanswered_ticket}
+use Rattle.cx_service.specs.CatchUps.{CatchesUp, HasSeen}
+use Rattle.cx_service.specs.declared.catch_up.CaughtUp.TheVariants.{Caught as CallerCaught, Behind as CallerBehind, Halted as CallerHalted}
+use Rattle.cx_service.specs.declared.close.Handed.{Handed}
+use Rattle.cx_service.specs.declared.close.Handed.TheVariants.{Idle, Linked, Stopped}
+use Rattle.c_sessions.specs.declared.seeing.Sight.{Sight}
+use Rattle.c_sessions.specs.declared.seeing.Sight.TheVariants.{Caught, Behind, Stopped as SightStopped, OutOfTurn}
+
+-- What stands of a caller has seen a place: it is answered nothing below it. A stopped caller makes no further call.
+abbrev pub HasPlace : {O : Type 0} → Running O → ℕ → Handed → Type 0
+HasPlace r place (Idle caller) = HasSeen r.callers place caller.known.local
+HasPlace r place (Linked linked) = (ticket : ℕ) → unanswered_ticket linked.known.local ≡ Some ticket → place ≤ ticket
+HasPlace r place (Stopped stopped) = Unit {0}
+
+-- the place that a session tells that was to see one, and told this one before
+abbrev pub place_seen : Sight → ℕ → ℕ → ℕ
+place_seen Caught place before = max before place
+place_seen sight place before = before
+
+-- that a caller with no call under way is to see a place comes to this
+abbrev pub SeesTo : {O : Type 0} → Running O → ℕ → Seated → Sight → Handed → Type 0
+SeesTo r place before Caught (Idle after) = CatchesUp r place before (CallerCaught after)
+SeesTo r place before (Behind found) (Idle after) = CatchesUp r place before (CallerBehind after found)
+SeesTo r place before SightStopped (Stopped after) = CatchesUp r place before (CallerHalted after)
+SeesTo r place before sight after = ⊥
+
+-- and in any state: out of turn where an entry is linked or the caller is stopped, and then nothing is changed
+abbrev pub SeesFrom : {O : Type 0} → Running O → ℕ → Handed → Sight → Handed → Type 0
+SeesFrom r place (Idle before) sight after = SeesTo r place before sight after
+SeesFrom r place before sight after = (sight ≡ OutOfTurn) × (after ≡ before)

@@ -1,0 +1,49 @@
+//! A caller of a session catches up with a place.
+
+ghost use Rattle.std.specs.Prelude.{◌≡◌};
+ghost use Rattle.c_sessions.specs.Calls.{IsHanded};
+ghost use Rattle.c_sessions.specs.Places.{SeesFrom, place_seen};
+
+use cx_base::Object;
+use cx_service::{CaughtUp, Handed, Service};
+
+/// What catching up with a place returns.
+#[derive(Clone, Copy, Debug, PartialEq, Eq, Drop)]
+pub enum Sight {
+    /// The session has seen the place.
+    Caught,
+    /// The current place is below it: this one.
+    Behind(u64),
+    /// The caller has come to its limit of steps.
+    Stopped,
+    /// An entry is linked that is not answered.
+    OutOfTurn,
+}
+
+impl Sight {
+    /// The place that a session tells that was to see one, and told this one before.
+    pub(crate) fn place_seen(self, place: u64, before: u64) -> u64
+        ensures { result ≡ place_seen self place before }
+    {
+        match self {
+            Sight::Caught => before.max(place),
+            _ => before,
+        }
+    }
+}
+
+/// Has what stands of a caller see a place.
+pub(crate) fn see<O: Object>(service: &Service<O>, handed: Handed, place: u64) -> (Handed, Sight)
+    requires ready { IsHanded service.now handed }
+    ensures ready { IsHanded service.now result.0 }
+    ensures sees { SeesFrom service.now place handed result.1 result.0 }
+{
+    match handed {
+        Handed::Idle(caller) => match service.catch_up(caller, place) {
+            CaughtUp::Caught(back) => (Handed::Idle(back), Sight::Caught),
+            CaughtUp::Behind(back, found) => (Handed::Idle(back), Sight::Behind(found)),
+            CaughtUp::Halted(stopped) => (Handed::Stopped(stopped), Sight::Stopped),
+        },
+        other => (other, Sight::OutOfTurn),
+    }
+}

@@ -1,0 +1,62 @@
+use Rattle.std.proofs.Common.{None, subst, sym, ◌∙◌}
+use Rattle.seat_pool.specs.declared.lent.Lent.{Lent}
+use Rattle.client_pool.specs.Lending.{KeepsStopped}
+use Rattle.client_pool.proofs.Lends.{caught_on, caught_stopped, given_back, given_since, idle_back, stopped_since}
+use Rattle.client_pool.proofs.catch_up.see.Goals as goal
+
+pub give-requires-clause-caller : goal.give-requires-clause-caller
+give-requires-clause-caller g c =
+    let caught = c.in-Caught.ensures in
+    idle_back c.args.pool.now.service c.args.pool.now.line.table.shared.table_id c.take_for-caller.new.lent c.take_for-caller.result c.in-Caught.back c.take_for-caller.ensures.out caught.caller caught.keeps
+
+pub returns-in-Caught : goal.returns-in-Caught
+returns-in-Caught g c =
+    let r = c.args.pool.now.service in
+    let table = c.args.pool.now.line.table.shared.table_id in
+    let out = c.take_for-caller.ensures in
+    let mid = c.take_for-caller.new.lent in
+    let x = c.take_for-caller.result in
+    let y = c.in-Caught.back in
+    let caught = c.in-Caught.ensures in
+    let after : Lent = record { pass = c.give.new.pass; kept = mid.kept } in
+    record {
+      given = given_since r table c.args.lent.now mid after out.same (given_back r table mid after x y out.out (caught_on r x y caught.caller caught.keeps) out.out.none c.give.ensures.0 c.give.ensures.1);
+      asked = x;
+      now = y;
+      caught = caught;
+    }
+
+pub give-2-requires-clause-caller : goal.give-2-requires-clause-caller
+give-2-requires-clause-caller g c =
+    let behind = c.in-Behind.ensures in
+    idle_back c.args.pool.now.service c.args.pool.now.line.table.shared.table_id c.take_for-caller.new.lent c.take_for-caller.result c.in-Behind.back c.take_for-caller.ensures.out behind.caller behind.keeps
+
+pub returns-in-Behind : goal.returns-in-Behind
+returns-in-Behind g c =
+    let r = c.args.pool.now.service in
+    let table = c.args.pool.now.line.table.shared.table_id in
+    let out = c.take_for-caller.ensures in
+    let mid = c.take_for-caller.new.lent in
+    let x = c.take_for-caller.result in
+    let y = c.in-Behind.back in
+    let behind = c.in-Behind.ensures in
+    let after : Lent = record { pass = c.give-2.new.pass; kept = mid.kept } in
+    record {
+      given = given_since r table c.args.lent.now mid after out.same (given_back r table mid after x y out.out (caught_on r x y behind.caller behind.keeps) out.out.none c.give-2.ensures.0 c.give-2.ensures.1);
+      asked = x;
+      now = y;
+      behind = behind;
+    }
+
+pub returns-in-Halted : goal.returns-in-Halted
+returns-in-Halted g c =
+    let r = c.args.pool.now.service in
+    let table = c.args.pool.now.line.table.shared.table_id in
+    let out = c.take_for-caller.ensures in
+    let mid = c.take_for-caller.new.lent in
+    let after = c.keep_stopped-_none.new.lent in
+    let kept = c.keep_stopped-_none.ensures in
+    let s = c.in-Halted.stopped in
+    let halted = c.in-Halted.ensures in
+    subst (λ l. KeepsStopped r table c.args.lent.now after l) halted.linked
+    (stopped_since r table c.args.lent.now mid after out.same s.linked (caught_stopped r table mid after kept.kept.0 s c.take_for-caller.result out.out halted kept.kept.1))

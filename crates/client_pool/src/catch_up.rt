@@ -1,0 +1,58 @@
+//! A client catches up with what another one was answered.
+
+ghost use Rattle.std.specs.Prelude.{◌≡◌, true};
+ghost use Rattle.client_pool.specs.Clients.{CatchesUp, IsClientOf};
+ghost use Rattle.client_pool.specs.Lending.{IsLentTo, IsPool, Sees, is_live};
+
+use crate::client::Client;
+use crate::lend::{keep_stopped, take_for};
+use crate::pool::{Pool, PooledCatchUp};
+use cx_base::Object;
+use cx_service::CaughtUp;
+use seat_pool::{Lent, give};
+use std::sync::Wait;
+
+/// Has a caller of the client's see a place, and gives it back unless its step limit was reached.
+fn see<O: Object, R: Wait>(rt: &R, pool: &Pool<O>, lent: &mut Lent, place: u64) -> PooledCatchUp
+    requires pool { IsPool O.only_reads pool.now }
+    requires lent { IsLentTo pool.now.service pool.now.line.table.shared.table_id lent.old × (is_live lent.old.kept ≡ true) }
+    ensures { Sees pool.now.service pool.now.line.table.shared.table_id place lent.old lent.new result }
+{
+    let caller = take_for(rt, &pool.service, &pool.line, lent);
+    match pool.service.catch_up(caller, place) {
+        CaughtUp::Caught(back) => {
+            give(rt, &pool.service, &pool.line, &mut lent.pass, back);
+            PooledCatchUp::Caught
+        }
+        CaughtUp::Behind(back, found) => {
+            give(rt, &pool.service, &pool.line, &mut lent.pass, back);
+            PooledCatchUp::Behind(found)
+        }
+        CaughtUp::Halted(stopped) => {
+            let _none = keep_stopped(lent, stopped);
+            PooledCatchUp::Stopped
+        }
+    }
+}
+
+impl<O: Object> Pool<O> {
+    /// Has a client that was not told `Stopped` see a place that another one told, in whatever way: `Client::place` of another client, or of a
+    /// caller's answers the ticket plus 1 of an update and the place of a read. From `Caught` on no answer to the client holds below the place, by
+    /// whichever caller it is made. `Behind` comes only where the current place was found below it, which is where nobody was answered at it;
+    /// nothing is changed then. It waits for a caller. `Stopped` comes only where the caller's step limit was reached: the client keeps it,
+    /// and makes no further call.
+    pub fn catch_up<R: Wait>(&self, rt: &R, client: &mut Client, place: u64) -> PooledCatchUp
+        requires pool { IsPool O.only_reads self.now }
+        requires client { IsClientOf self.now.service self.now.line.table.shared.table_id client.old × (is_live client.old.lent.kept ≡ true) }
+        ensures { CatchesUp self.now.service self.now.line.table.shared.table_id place client.old client.new result }
+    {
+        match see(rt, self, &mut client.lent, place) {
+            PooledCatchUp::Caught => {
+                client.caught_up = client.caught_up.max(place);
+                PooledCatchUp::Caught
+            }
+            PooledCatchUp::Behind(found) => PooledCatchUp::Behind(found),
+            PooledCatchUp::Stopped => PooledCatchUp::Stopped,
+        }
+    }
+}

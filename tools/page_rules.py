@@ -1,0 +1,159 @@
+"""Rules for the pages: how long each may be, which words it leaves out, which terms are in the glossary, which tables stand once.
+
+Each rule takes the pages, texts by their paths from the top, and gives faults, each `FILE:LINE: what is wrong`.
+"""
+import re
+
+README, GLOSSARY, THEOREMS = "README.md", "docs/GLOSSARY.md", "docs/THEOREMS.md"
+LENGTHS = {
+    README: 70,
+    "CONTRIBUTING.md": 120,
+    "crates/README.md": 100,
+    "docs/ARCHITECTURE.md": 150,
+    "docs/CONTRACTS.md": 180,
+    "docs/DECISIONS.md": 120,
+    "docs/FAQ.md": 55,
+    "docs/FORMATS.md": 600,
+    GLOSSARY: 80,
+    "docs/REFERENCE.md": 300,
+    THEOREMS: 200,
+    "docs/TUTORIAL.md": 200,
+}
+WIDTH = 120
+MOST_TERMS = 70
+# our own phrases, each with what the field or plain English says
+IDIOMS = {
+    r"\b(?:come|comes|came|coming) to\b": "returns, is, does",
+    r"\bso many\b": "the given number of, as many",
+    r"\bwant of memory\b|\bmemory is wanting\b": "out of memory",
+    r"\b(?:a|each|any|some) front of\b": "prefix of",
+    r"\b(?:give|gives|gave|given|giving) up\b": "releases, ends, is refused",
+    r"\bwhere the caller has (?:it|them)\b": "into the caller's buffer",
+    r"\btold by (?:the|a|its) trails?\b": "derived from the execution witness",
+}
+TICKED = re.compile(r"`[^`\n]*`")
+TERM = re.compile(r"\*(\S(?:[^*\n]*\S)?)\*")
+FENCE = re.compile(r"^\s*```")
+
+
+def numbered(text):
+    return list(enumerate(text.split("\n"), 1))
+
+
+def prose(text):
+    """The numbered lines of a page without code: blocks, indented lines behind an empty one, and what stands between backticks."""
+    lines, fenced, block, before = [], False, False, ""
+    for number, line in numbered(text):
+        if FENCE.match(line):
+            fenced = not fenced
+        elif not fenced:
+            block = line.startswith("    ") and (block or not before.strip())
+            if not block:
+                lines.append((number, TICKED.sub("``", line)))
+        before = line
+    return lines
+
+
+def long_pages(pages):
+    """Pages over their length, and lines of README over their width."""
+    for page, most in LENGTHS.items():
+        count = len(pages.get(page, "").splitlines())
+        if count > most:
+            yield f"{page}:{count}: {count} lines, over {most}"
+    for number, line in numbered(pages.get(README, "")):
+        if len(line) > WIDTH:
+            yield f"{README}:{number}: {len(line)} characters, over {WIDTH}"
+
+
+def idioms(pages):
+    """Phrases of the list, in prose."""
+    for page, text in pages.items():
+        for number, line in prose(text):
+            for pattern, plain in IDIOMS.items():
+                for found in re.finditer(pattern, line, re.I):
+                    yield f"{page}:{number}: '{found.group()}' (say: {plain})"
+
+
+def rows_of(lines):
+    """The rows of a table, each the cells of a line, without the line of dashes."""
+    rows = [[cell.strip() for cell in re.split(r"(?<!\\)\|", line.strip().strip("|"))] for line in lines]
+    return [row for row in rows if not all(re.fullmatch(r":?-+:?", cell) for cell in row)]
+
+
+def tables(text):
+    """The tables of a page: the number of the first line, the head and the rows."""
+    found, lines, first = [], [], 0
+    for number, line in numbered(text) + [(0, "")]:
+        if line.startswith("|"):
+            first = first if lines else number
+            lines.append(line)
+        elif lines:
+            head, *rows = rows_of(lines)
+            found.append((first, head, rows))
+            lines = []
+    return found
+
+
+def names_in(cell):
+    """The names of a term: `crash (power failure, power loss)` has three."""
+    return {name.strip().lower() for name in re.split(r"[(),]", cell.strip()) if name.strip()}
+
+
+def terms_of(glossary):
+    """The first cells of the glossary's rows, but of those in bold, which are headings."""
+    return [row[0] for _, _, rows in tables(glossary) for row in rows if not row[0].startswith("**")]
+
+
+def unknown_terms(pages):
+    """Terms in italics where theorems are stated that are not in the glossary, and a glossary with too many."""
+    if GLOSSARY not in pages:
+        return
+    terms = terms_of(pages[GLOSSARY])
+    if len(terms) > MOST_TERMS:
+        yield f"{GLOSSARY}:1: {len(terms)} terms, over {MOST_TERMS}"
+    known = set().union(*map(names_in, terms))
+    for page in (README, THEOREMS):
+        for number, line in prose(pages.get(page, "")):
+            for term in TERM.findall(line.replace("**", "")):
+                if not {term.lower(), term.lower().removesuffix("s")} & known:
+                    yield f"{page}:{number}: {term}: no term of {GLOSSARY}"
+
+
+def same_tables(pages):
+    """Tables of which half of the rows, and two at least, stand in an earlier one; or four fifths of the first cells, five at least, in one of another page."""
+    seen = []
+    for page, text in pages.items():
+        for first, _, rows in tables(text):
+            whole = {tuple(row) for row in rows}
+            firsts = {row[0] for row in rows if re.search(r"[A-Za-z]{2}", row[0])}
+            for before, place, other, others in seen:
+                same_rows = 2 * len(whole & other) >= max(4, min(len(whole), len(other)))
+                same_firsts = 5 * len(firsts & others) >= max(25, 4 * min(len(firsts), len(others)))
+                if same_rows or (same_firsts and page != before):
+                    yield f"{page}:{first}: the table of {before}:{place}, once more"
+            seen.append((page, first, whole, firsts))
+
+
+def unlinked(pages):
+    """Pages that no other page names."""
+    for page in pages:
+        name = page if page.count("/") == 0 or page.endswith("/README.md") else page.rsplit("/", 1)[1]
+        if page != README and not any(name in text for other, text in pages.items() if other != page):
+            yield f"{page}:1: no other page names it"
+
+
+def misquoted(pages, sources):
+    """Lines of the definitions that THEOREMS shows which stand in no source."""
+    lines = {line.strip() for text in sources for line in text.split("\n")}
+    shown = False
+    for number, line in numbered(pages.get(THEOREMS, "")):
+        if FENCE.match(line):
+            shown = line.strip() == "```antt"
+        elif shown and line.strip() and line.strip() not in lines:
+            yield f"{THEOREMS}:{number}: in no source: {line.strip()}"
+
+
+def faults_of(pages, sources):
+    """All faults by these rules."""
+    found = (long_pages(pages), idioms(pages), unknown_terms(pages), same_tables(pages), unlinked(pages), misquoted(pages, sources))
+    return [fault for faults in found for fault in faults]

@@ -1,0 +1,112 @@
+"""Tests of the rules for pages, and that the pages keep them."""
+import tempfile
+import unittest
+from pathlib import Path
+
+import check_documents
+import page_rules
+
+ROOT = Path(__file__).resolve().parent.parent.parent
+
+
+class Documents(unittest.TestCase):
+    """The pages name what there is, and keep the rules."""
+
+    def test_nothing_is_wrong_with_the_pages(self):
+        self.assertEqual([], check_documents.faults_of(ROOT))
+
+    def test_each_rule_has_its_page(self):
+        for page in (*page_rules.LENGTHS, page_rules.GLOSSARY, page_rules.THEOREMS):
+            self.assertTrue((ROOT / page).exists(), page)
+
+    def test_what_is_not_there_is_found(self):
+        with tempfile.TemporaryDirectory() as folder:
+            root = Path(folder)
+            source = root / "crates" / "one" / "src" / "lib.rt"
+            source.parent.mkdir(parents=True)
+            source.write_text("//! As `docs/CALLING.md` has it.\npub fn made() -> Made\n    ensures whole { true }\n")
+            page = root / "README.md"
+            rows = [
+                ("`made` (`whole`), `crates/one/src/lib.rt`, `lib.rt`, `one/src/*.rt`, `crates/NAME/out/NAME`", []),
+                ("`made_anew`", ["README.md:1: made_anew"]),
+                ("`Made::other`", ["README.md:1: other"]),
+                ("`crates/two/src/lib.rt`", ["README.md:1: crates/two/src/lib.rt"]),
+                ("`docs/CALLING.md`", ["README.md:1: docs/CALLING.md"]),
+                ("a line\n[page](docs/Other.md)", []),
+                ("a line\n[page](docs/PAGE.md)", ["README.md:2: docs/PAGE.md"]),
+                ("`Other.md` [page](docs/page.md)", ["README.md:1: docs/page.md"]),
+            ]
+            (root / "docs").mkdir()
+            (root / "docs" / "Other.md").write_text("")
+            for text, want in rows:
+                page.write_text(text)
+                self.assertEqual(want, check_documents.names_lacking(root), text)
+            self.assertEqual(["README.md:1: docs/page.md"], check_documents.faults_of(root))
+            page.write_text("so many")
+            self.assertEqual(2, len(check_documents.faults_of(root)))
+
+
+class PageRules(unittest.TestCase):
+    """Each rule takes what it allows, and finds what it forbids."""
+
+    def test_a_page_over_its_length(self):
+        most = page_rules.LENGTHS["docs/GLOSSARY.md"]
+        self.assertEqual([], list(page_rules.long_pages({"docs/GLOSSARY.md": "a\n" * most})))
+        self.assertEqual([f"docs/GLOSSARY.md:{most + 1}: {most + 1} lines, over {most}"], list(page_rules.long_pages({"docs/GLOSSARY.md": "a\n" * (most + 1)})))
+        self.assertEqual([], list(page_rules.long_pages({"docs/OTHER.md": "a\n" * 1000})))
+
+    def test_a_line_of_the_readme_over_its_width(self):
+        page = "\n".join(["a" * 120, "a" * 121])
+        self.assertEqual(["README.md:2: 121 characters, over 120"], list(page_rules.long_pages({"README.md": page})))
+        self.assertEqual([], list(page_rules.long_pages({"docs/FAQ.md": page})))
+
+    def test_an_idiom(self):
+        rows = [
+            ("What a call comes to.", 1),
+            ("So many turns, for want of memory.", 2),
+            ("A front of the text, and the front of a caller.", 1),
+            ("It gives up, and is given up.", 2),
+            ("`gives up` and\n\n    so many\n\n```\nso many\n```\n", 0),
+            ("A welcome to all, becomes total, income to come.", 0),
+            ("- a list\n    goes on, so many", 1),
+        ]
+        for text, count in rows:
+            self.assertEqual(count, len(list(page_rules.idioms({"docs/FAQ.md": text}))), text)
+
+    def test_a_term_that_the_glossary_has_not(self):
+        glossary = "| Term | Here |\n|---|---|\n| **Group** | |\n| crash (power failure, power loss) | |\n| redo log (write set) | |\n"
+        rows = [
+            ("a *crash*, *Power failure*, *redo logs*, **bold** and `*code*`, 3 * 4 and 5 * 6", []),
+            ("***Crash* first.**", []),
+            ("a *group*", ["docs/THEOREMS.md:1: group: no term of docs/GLOSSARY.md"]),
+            ("a *loss of power*", ["docs/THEOREMS.md:1: loss of power: no term of docs/GLOSSARY.md"]),
+        ]
+        for text, want in rows:
+            self.assertEqual(want, list(page_rules.unknown_terms({"docs/GLOSSARY.md": glossary, "docs/THEOREMS.md": text})), text)
+        many = "| Term |\n|---|\n" + "".join(f"| term {n} |\n" for n in range(page_rules.MOST_TERMS + 1))
+        self.assertEqual(["docs/GLOSSARY.md:1: 71 terms, over 70"], list(page_rules.unknown_terms({"docs/GLOSSARY.md": many})))
+
+    def test_a_table_that_stands_twice(self):
+        def table(*rows):
+            return "\n".join(["| A | B |", "|---|---|", *(f"| {a} | {b} |" for a, b in rows)])
+
+        one = table(("queue", 1), ("lock", 2), ("root", 3), ("ring", 4), ("cell", 5))
+        reworded = table(("queue", 6), ("lock", 7), ("root", 8), ("ring", 9), ("cell", 0))
+        half = table(("queue", 1), ("lock", 2), ("other", 3))
+        other = table(("queue", 1), ("lamp", 2), ("road", 3), ("rung", 4), ("ceiling", 5))
+        numbers = [table(*((n, n + k) for n in range(8))) for k in (1, 2)]
+        for first, second, count in ((one, one, 1), (one, reworded, 1), (one, half, 1), (one, other, 0), (*numbers, 0)):
+            found = list(page_rules.same_tables({"docs/A.md": first, "docs/B.md": f"text\n\n{second}\n"}))
+            self.assertEqual(["docs/B.md:3: the table of docs/A.md:1, once more"] * count, found, second)
+        self.assertEqual([], list(page_rules.same_tables({"docs/A.md": f"{one}\n\n{reworded}"})))
+        self.assertEqual(["docs/A.md:9: the table of docs/A.md:1, once more"], list(page_rules.same_tables({"docs/A.md": f"{one}\n\n{one}"})))
+
+    def test_a_page_that_no_other_names(self):
+        pages = {"README.md": "`docs/A.md`", "docs/A.md": "`B.md`, `C.md`", "docs/B.md": "", "docs/D.md": "`D.md`", "tools/README.md": ""}
+        self.assertEqual(["docs/D.md:1: no other page names it", "tools/README.md:1: no other page names it"], list(page_rules.unlinked(pages)))
+
+    def test_a_definition_that_is_not_as_in_its_source(self):
+        page = "```antt\npub a : b\n  pub c : d\n\n```\n\n```\nanything\n```\n"
+        source = "-- a comment\npub a : b\n    pub c : d\n"
+        self.assertEqual([], list(page_rules.misquoted({"docs/THEOREMS.md": page}, [source])))
+        self.assertEqual(["docs/THEOREMS.md:3: in no source: pub c : d"], list(page_rules.misquoted({"docs/THEOREMS.md": page}, [source.replace("d", "e")])))
