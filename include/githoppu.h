@@ -1,23 +1,27 @@
-/* Githoppu for C99, C11 and C++: a document store and a bounded queue that 1 to 8 sessions share, without a lock; what a loss of power leaves
- * of them, as words; and recovery from words.
+/* Githoppu for C99, C11 and C++: a document store and a bounded queue that 1 to 8 sessions share without a lock; an image of what a crash (a power
+ * failure) leaves of them; and recovery from an image. Nothing is durable by itself: persistent memory is simulated in RAM, and the data end with the
+ * process unless the store was closed and its image was written to a file (githoppu_file.h does that).
  *
- * Link the program with libgithoppu_c.a and with liblibc_c.a of the toolchain, in that order (docs/REFERENCE.md).
+ * Link the program with libgithoppu_c.a and with liblibc_c.a of the toolchain, in that order (docs/REFERENCE.md; `pkg-config githoppu` prints both).
  *
- * THE THREE RULES, which a caller keeps and no code checks:
- *   1. A session is a pointer that an open, a recovery or a call of a session gave, and so is a closed store. It goes to no other library; and
- *      once a call took it, only the pointer that this call put out goes to a further one.
- *   2. One call at a time has a session. It goes from one thread to another by a lock, the start or the end of a thread, or an atomic with
- *      sequential consistency, and to no signal handler, nor to a forked child of a program with threads.
- *   3. Words lie where the caller says, for the whole call: an operation and a reply each in 144 words of the caller's own, an image in as many
- *      as are told, sessions in as many slots. No two of the places that one call is told overlap, and none is null, also where it has no words.
+ * THREE RULES, which the caller has to keep and no code checks:
+ *   1. A session is a pointer that githoppu_open, githoppu_recover or a call of a session put out, and so is a closed store. Pass it to this library
+ *      alone. After a call took it, pass on only the pointer that this call put into *out.
+ *   2. One call at a time uses a session. It passes from one thread to another by a lock, the start or the end of a thread, or an atomic with
+ *      sequential consistency. It goes to no signal handler, and to no forked child of a program with threads.
+ *   3. What the arguments point to is the caller's for the whole call: an operation and a reply have 144 words each, an image and the slots for
+ *      sessions have the number that is passed with them. No two of these areas overlap, and no pointer is null, also where it points to no words.
  *
- * WHO OWNS WHAT. A session is the library's, and so is a closed store, until they are given up. Keys, documents, operations, replies and the
- * words of images are the caller's, and nothing of them is kept. Memory is taken of the program's malloc, in the opens, the recoveries and
- * the closing of the last session alone, and is given back by giving up, by its free; malloc has to align a block of n bytes to each power
- * of two up to 16 that divides n.
+ * WHO OWNS WHAT. Sessions and closed stores are the library's until they are dropped. Keys, documents, operations, replies and the words of images are
+ * the caller's, and the library keeps no pointer to them. The library calls malloc in the opens, the recoveries and the
+ * closing of the last session only, and frees in those and when the last session or a closed store is dropped. A malloc of the program's own has to
+ * align a block of n bytes to each power of two up to 16 that divides n.
  *
- * THREADS. Different sessions may be used by different threads at once, and any thread may make any call under rule 2. The library starts
- * no thread, takes no lock and waits for nobody: a call makes at most so many tries, and says where others were in the way.
+ * THREADS. Different threads may use different sessions at once, and any thread may make any call under rule 2. The library starts no thread and
+ * takes no lock. A call makes at most the given number of tries and answers AGAIN, FULL or PENDING where other sessions were in the way.
+ *
+ * LOOK AT BOTH, the status and the kind of the reply (word 0): a malformed operation, as one with an empty key, is answered DONE with a reply whose 144
+ * words are all 0, so its kind is GITHOPPU_NO_OPERATION; nothing is changed.
  */
 #ifndef GITHOPPU_H
 #define GITHOPPU_H
@@ -35,56 +39,75 @@
 #endif
 #endif
 
+/* The version of this header. GITHOPPU_VERSION is a million times the first number, a thousand times the second, and the third. */
+#define GITHOPPU_VERSION_MAJOR 0
+#define GITHOPPU_VERSION_MINOR 2
+#define GITHOPPU_VERSION_PATCH 0
+#define GITHOPPU_VERSION (GITHOPPU_VERSION_MAJOR * 1000000 + GITHOPPU_VERSION_MINOR * 1000 + GITHOPPU_VERSION_PATCH)
+#define GITHOPPU_VERSION_TEXT "0.2.0"
+
 #ifdef __cplusplus
 extern "C" {
 #endif
 
 /* What a call answers. */
 enum githoppu_status {
-    GITHOPPU_DONE = 0,        /* it is answered, and the reply is there */
-    GITHOPPU_PENDING = 1,     /* the operation is linked and not answered yet: finish it, and call nothing else before */
-    GITHOPPU_AGAIN = 2,       /* others were in the way, and nothing is linked: call again */
-    GITHOPPU_FULL = 3,        /* nothing is linked: another session still needs the last 16 operations of this one; yield, and call again */
-    GITHOPPU_WORN = 4,        /* nothing is linked: the store has had 2^40 operations, and takes no more; it can still be read */
-    GITHOPPU_STOPPED = 5,     /* the session has come to its limit of steps; sessions here have none, so it does not come */
-    GITHOPPU_OUT_OF_TURN = 6, /* a call while an operation is pending, a finish while none is, either of a closed store, an image of a session, or
-                                 a closing of what is closed: nothing is changed */
-    GITHOPPU_BAD_SIZE = 7,    /* the lines are not 64 to 16,384, the sessions not 1 to 8, or an image has not as many words as are given */
-    GITHOPPU_NO_MEMORY = 8,   /* malloc gave no memory; what was taken is given back, and nothing else is changed */
-    GITHOPPU_NO_SESSION = 9,  /* the functions below: the pointer is null */
-    GITHOPPU_TOO_LONG = 10,   /* the functions below: a key above 64 bytes, a document above 1,024, or a text above 56 */
-    GITHOPPU_OTHERS = 11,     /* a closing: the session is closed, and other sessions of the store are not */
-    GITHOPPU_LOST = 12,       /* a closing: the last session did not find all that were closed before. No run of the library comes to it */
-    /* a recovery: why words are refused, the first check that they do not pass */
-    GITHOPPU_NO_IMAGE = 13,      /* they are no image: fewer than 8 words, another name or format, or numbers that no store has */
+    GITHOPPU_DONE = 0,        /* it is answered, and the reply is written: look at its kind too */
+    GITHOPPU_PENDING = 1,     /* the operation is in the log and will take effect, but is not acknowledged yet: call githoppu_finish until DONE, and make
+                                 no other call of the session before; do not submit the operation again */
+    GITHOPPU_AGAIN = 2,       /* other sessions were in the way. The operation is not in the log: call again */
+    GITHOPPU_FULL = 3,        /* the operation is not in the log: another session still reads the last 16 updates of this one; yield, and call again. Where a
+                                 thread is stopped for good inside a writing call, each other session can make at most 16 more updates, and after
+                                 that every update answers FULL; reads go on */
+    GITHOPPU_WORN = 4,        /* the operation is not in the log: the store has had 2^40 updates and takes no more; it can still be read */
+    GITHOPPU_STOPPED = 5,     /* the session has reached its limit of steps. Sessions of this library have none, so this is never answered */
+    GITHOPPU_OUT_OF_TURN = 6, /* a call while an operation is pending, a finish while none is, a call or a finish of a closed store, an image of what is not
+                                 closed, or a closing of what is closed: nothing is changed */
+    GITHOPPU_BAD_SIZE = 7,    /* the lines are not 64 to 16,384, the sessions not 1 to 8, or an image has another number of
+                                 words than was passed: nothing is changed */
+    GITHOPPU_NO_MEMORY = 8,   /* malloc gave no memory. What the call had taken is freed, and nothing else is changed */
+    GITHOPPU_NO_SESSION = 9,  /* of the functions in this header: the session's pointer is null */
+    GITHOPPU_TOO_LONG = 10,   /* of the functions in this header: a key above 64 bytes, a document above 1,024, or a text above 56 */
+    GITHOPPU_OTHERS = 11,     /* of a closing: this session is closed, and other sessions of the store are not */
+    GITHOPPU_LOST = 12,       /* of a closing: the last session did not find all that were closed before. No run of the library is known to answer it */
+    /* of a recovery: why the words are refused. The first check that fails is answered, in this order */
+    GITHOPPU_NO_IMAGE = 13,      /* they are no image: fewer than 8 words, another name or format, a kind that is neither 1 nor 2, numbers of sessions or lines
+                                    that no store has, or a last head word that is not 0 */
     GITHOPPU_OTHER_KIND = 14,    /* the image is of a queue where a store is asked for, or of a store where a queue is */
-    GITHOPPU_IMAGE_SIZE = 15,    /* it has not as many words as its sessions and lines make */
+    GITHOPPU_IMAGE_SIZE = 15,    /* it has another number of words than its sessions and lines make */
     GITHOPPU_IMAGE_ROOT = 16,    /* the root's place is above 2^40 */
     GITHOPPU_IMAGE_VERSION = 17, /* the object's version is not known */
     GITHOPPU_IMAGE_PLACE = 18,   /* the place in the replica that the root names is not the root's */
-    GITHOPPU_IMAGE_BODY = 19,    /* the results in that replica, or its documents or texts, are none that the library writes */
+    GITHOPPU_IMAGE_BODY = 19,    /* a session without a number has a result in that replica, or its documents or texts are none that the library writes. The
+                                    words of a kept reply are not looked at */
     GITHOPPU_IMAGE_NUMBERS = 20, /* a result there has a number above the place */
-    GITHOPPU_BEHIND = 23         /* catching up: the current place is below the one asked for, so no session of this store was answered at it */
+    /* of githoppu_check_version */
+    GITHOPPU_OLD_HEADER = 21,    /* the library is newer than this header */
+    GITHOPPU_OLD_LIBRARY = 22,   /* this header is newer than the library */
+    GITHOPPU_BEHIND = 23         /* of catching up: the current place is below the one asked for, so no session of this store was answered at it */
 };
 
-/* ---- The library's own functions. The functions further below are made of these, and easier to use. ---- */
+/* ---- The library's own functions. The functions further below call these, and are easier to use. ---- */
 
 /* A session as an argument: one pointer, by value. The call puts it back into *out. */
 typedef struct githoppu_handle {
     void *at;
 } githoppu_handle;
 
-/* Opens an empty document store, or an empty queue, in so many lines of 64 bytes, with so many sessions, which it puts into
+/* The version of the library, as GITHOPPU_VERSION is of the header. githoppu_check_version compares both. */
+uint64_t githoppu_version(void);
+
+/* Opens an empty document store, or an empty queue, in the given number of lines of 64 bytes, with count sessions, which it puts into
  * sessions[0] to sessions[count - 1]. A document takes a line and one for each 56 bytes of its key and of its text; a text in a queue
  * takes one line; the first line is the object's own. DONE, BAD_SIZE or NO_MEMORY; where it is not DONE no slot is written. */
 int32_t githoppu_open(uint64_t lines, void **sessions, size_t count);
 int32_t githoppu_open_queue(uint64_t lines, void **sessions, size_t count);
 
-/* Does an operation, in so many tries (at least 1 and at most 2^20 of them are made). DONE, PENDING, AGAIN, FULL, WORN, STOPPED or OUT_OF_TURN. The
- * reply is written where it is DONE. What is no operation has the reply of words that are all 0. */
+/* Does an operation, with the given number of tries (0 counts as 1, and more than 2^20 as 2^20). DONE, PENDING, AGAIN, FULL, WORN, STOPPED or
+ * OUT_OF_TURN. The reply is written where it is DONE. A malformed operation is DONE with a reply of 144 zeros, and changes nothing. */
 int32_t githoppu_call(githoppu_handle session, const uint64_t op[144], uint64_t reply[144], uint64_t tries, void **out);
 
-/* Drives the pending operation on, in so many turns. DONE, PENDING, STOPPED or OUT_OF_TURN. The reply is written where it is DONE. */
+/* Goes on with the pending operation, for the given number of turns. DONE, PENDING, STOPPED or OUT_OF_TURN. The reply is written where it is DONE. */
 int32_t githoppu_finish(githoppu_handle session, uint64_t reply[144], uint64_t tries, void **out);
 
 /* The place that tells another session of the store what this one has seen: behind the operation that it was answered last, of a read the place
@@ -97,34 +120,74 @@ int32_t githoppu_finish(githoppu_handle session, uint64_t reply[144], uint64_t t
 int32_t githoppu_place_of(githoppu_handle session, uint64_t *place, void **out);
 int32_t githoppu_see_place(githoppu_handle session, uint64_t place, void **out);
 
-/* Closes a session, in whatever state it is: its last operation may be pending. In any order, and by any thread: nobody waits for the others.
- * DONE: it was the last, and *out is the closed store, of which an image can be had. OTHERS: other sessions are not closed, and *out is null. AGAIN:
+/* Closes a session, in any state: its last operation may be pending. Sessions are closed in any order, by any threads; no closing waits for another.
+ * DONE: it was the last, and *out is the closed store, of which githoppu_image writes an image. OTHERS: other sessions are open, and *out is null. AGAIN:
  * others were in the way, and *out is the session. NO_MEMORY: it was the last, and *out is the store with all its sessions; close that again, or
- * drop it. LOST: *out is null, and the store is given up. OUT_OF_TURN: it is a closed store, and *out is that. Where a session was dropped, every other
- * closing answers OTHERS, and the last one gives the store up. */
+ * drop it. LOST: *out is null, and the store is dropped. OUT_OF_TURN: it is a closed store, and *out is that. After a session was dropped, every other
+ * closing answers OTHERS, and the last one drops the store. */
 int32_t githoppu_close(githoppu_handle session, void **out);
 
-/* Writes what a loss of power leaves of a closed store or queue into so many words, and tells in *needed how many it takes: DONE where these are as
- * many, and else BAD_SIZE, and no word is written (so ask once with count 0). Choice 0 leaves of each word what was durable, choice 1 what was
- * stored last, and every other choice a mixture of these and of numbers that nobody stored, where a word was neither; the root is one of those that
- * may be left. The same choice gives the same words. OUT_OF_TURN where it is not closed: *needed is 0. The closed store is at *out again.
+/* Writes an image of a closed store or queue, what a crash at the moment of closing leaves, into the given words, and its number of words into *needed. DONE
+ * where count is that number, and else BAD_SIZE, and no word is written (so ask once with count 0). Choice 0 leaves of each word its durable value, choice
+ * 1 the value that was stored last, and each other choice a mixture of these and, where they differ, of numbers that nobody stored; the root is one of
+ * those that may be left. All of them hold every acknowledged update; only what was pending may be there or not. The same choice gives the same words.
+ * OUT_OF_TURN where it is not closed: *needed is 0. The closed store is at *out again.
  *
  * An image is 8 words (the name "githoppu" in bytes, the format 1, the kind 1 of a store or 2 of a queue, the sessions, the lines, the root, 0 and 0)
- * and those of all replicas: 128 * (146 + lines) bytes for each session, and 64. Words in a file have the machine's byte order. No sum over them is kept: a
- * byte that was turned in a document, or in a replica that the root does not name, is not seen. */
+ * and those of all replicas: 128 * (146 + lines) bytes for each session, and 64. Its words have the machine's byte order. An image has no checksum: a
+ * byte that is changed in a document, or in a replica that the root does not name, is not seen. A file of githoppu_file.h has one. */
 int32_t githoppu_image(githoppu_handle closed, uint64_t choice, uint64_t *words, size_t count, uint64_t *needed, void **out);
 
-/* Takes up a store, or a queue, from the words of an image, with so many sessions, which need not be as many as the image is of: DONE, BAD_SIZE,
- * NO_MEMORY, or one of NO_IMAGE to IMAGE_NUMBERS. Where it is not DONE no slot is written. All that was answered before the loss of power is there. */
+/* Opens a store, or a queue, from the words of an image, with count sessions, which may be more or fewer than the image is of: DONE, BAD_SIZE,
+ * NO_MEMORY, or one of NO_IMAGE to IMAGE_NUMBERS. Where it is not DONE no slot is written. Every update that was acknowledged before is there. */
 int32_t githoppu_recover(const uint64_t *words, size_t words_count, void **sessions, size_t count);
 int32_t githoppu_recover_queue(const uint64_t *words, size_t words_count, void **sessions, size_t count);
 
-/* Gives up a session, in whatever state it is, or a closed store. The last session gives up the store or the queue. */
+/* Drops a session, in any state, or a closed store. Dropping the last session frees the store or the queue. */
 void githoppu_drop(githoppu_handle session);
 
 #ifdef __cplusplus
 }
 #endif
+
+/* Whether the header and the library that is linked are of one version: DONE, OLD_HEADER or OLD_LIBRARY. */
+static inline int githoppu_check_version(void) {
+    uint64_t library = githoppu_version();
+    if (library == GITHOPPU_VERSION)
+        return GITHOPPU_DONE;
+    return library > GITHOPPU_VERSION ? GITHOPPU_OLD_HEADER : GITHOPPU_OLD_LIBRARY;
+}
+
+/* What a status says, in one line. */
+static inline const char *githoppu_status_text(int status) {
+    switch (status) {
+    case GITHOPPU_DONE: return "done";
+    case GITHOPPU_PENDING: return "the operation is in the log and not acknowledged yet";
+    case GITHOPPU_AGAIN: return "other sessions were in the way";
+    case GITHOPPU_FULL: return "another session still reads the last 16 updates of this one";
+    case GITHOPPU_WORN: return "the store has had 2^40 updates and takes no more";
+    case GITHOPPU_STOPPED: return "the session has reached its limit of steps";
+    case GITHOPPU_OUT_OF_TURN: return "the session or the closed store does not take this call now";
+    case GITHOPPU_BAD_SIZE: return "a number of lines, sessions or words is out of range";
+    case GITHOPPU_NO_MEMORY: return "out of memory";
+    case GITHOPPU_NO_SESSION: return "the pointer to the session is null";
+    case GITHOPPU_TOO_LONG: return "a key, a document or a text is too long";
+    case GITHOPPU_OTHERS: return "the session is closed, and other sessions are not";
+    case GITHOPPU_LOST: return "the last session did not find all that were closed before";
+    case GITHOPPU_NO_IMAGE: return "the words are no image";
+    case GITHOPPU_OTHER_KIND: return "the image is of the other kind of object";
+    case GITHOPPU_IMAGE_SIZE: return "the image has a wrong number of words";
+    case GITHOPPU_IMAGE_ROOT: return "the image's root has a place above 2^40";
+    case GITHOPPU_IMAGE_VERSION: return "the version of the object in the image is not known";
+    case GITHOPPU_IMAGE_PLACE: return "the image's root and its replica have different places";
+    case GITHOPPU_IMAGE_BODY: return "the image's results or contents are not valid";
+    case GITHOPPU_IMAGE_NUMBERS: return "a result in the image has a number above the place";
+    case GITHOPPU_OLD_HEADER: return "the library is newer than the header";
+    case GITHOPPU_OLD_LIBRARY: return "the header is newer than the library";
+    case GITHOPPU_BEHIND: return "the current place is below the one asked for";
+    default: return "no status of this version of the library";
+    }
+}
 
 /* ---- Functions over the words of operations and replies. ---- */
 
@@ -137,7 +200,7 @@ typedef struct githoppu_words {
 
 /* Word 0 of a reply of a document store. */
 enum githoppu_reply {
-    GITHOPPU_NO_OPERATION = 0, /* the words were none: a key is 1 to 64 visible characters, a document 1 to 1,024 bytes from 32 on */
+    GITHOPPU_NO_OPERATION = 0, /* the operation is malformed: a key is 1 to 64 visible ASCII characters, a document 1 to 1,024 bytes from 32 on */
     GITHOPPU_NEW = 1,          /* of put: the key had no document */
     GITHOPPU_REPLACED = 2,     /* of put: it had one */
     GITHOPPU_DELETED = 3,      /* of del */
@@ -145,18 +208,18 @@ enum githoppu_reply {
     GITHOPPU_DOC = 5,          /* of get: the document */
     GITHOPPU_SUM = 6,          /* of add: the sum, which is the key's document now */
     GITHOPPU_NOT_NUMBER = 7,   /* of add: the document is no whole number; nothing is changed */
-    GITHOPPU_OVERFLOW = 8,     /* of add: the sum has no 64 bits; nothing is changed */
-    GITHOPPU_NO_ROOM = 9,      /* of put and add: there are not as many lines; nothing is changed */
+    GITHOPPU_OVERFLOW = 8,     /* of add: the sum does not fit a signed 64-bit number; nothing is changed */
+    GITHOPPU_NO_ROOM = 9,      /* of put, putif and add: not enough lines are free; nothing is changed */
     GITHOPPU_KEY = 10,         /* of next: the key */
     GITHOPPU_COUNT = 11,       /* of count: how many documents there are */
     GITHOPPU_SET = 12,         /* of putif: the document is put; its new revision */
-    GITHOPPU_STALE = 13,       /* of putif: the key has another revision, which is told, 0 where it is missing; nothing is changed */
+    GITHOPPU_STALE = 13,       /* of putif: the key has another revision, which is in the reply, 0 where it is missing; nothing is changed */
     GITHOPPU_REVISION = 14     /* of rev: the key's revision */
 };
 
 /* Word 0 of a reply of a queue. */
 enum githoppu_queue_reply {
-    GITHOPPU_NO_QUEUE_OPERATION = 0, /* the words were none: a text is 1 to 56 visible characters */
+    GITHOPPU_NO_QUEUE_OPERATION = 0, /* the operation is malformed: a text is 1 to 56 visible ASCII characters */
     GITHOPPU_PUSHED = 1,
     GITHOPPU_QUEUE_FULL = 2,         /* of push: each line holds a text; nothing is changed */
     GITHOPPU_TEXT = 3,               /* of pop and peek: the text at the front */
@@ -164,7 +227,41 @@ enum githoppu_queue_reply {
     GITHOPPU_LENGTH = 5              /* of len: how many texts there are */
 };
 
-/* How often githoppu_do calls before it gives up with the last answer. */
+/* What the kind of a reply says, word 0 of it, in one line: of a document store, and of a queue. */
+static inline const char *githoppu_reply_text(uint64_t kind) {
+    switch (kind) {
+    case GITHOPPU_NO_OPERATION: return "the operation is malformed";
+    case GITHOPPU_NEW: return "put, the key was new";
+    case GITHOPPU_REPLACED: return "put, a document was replaced";
+    case GITHOPPU_DELETED: return "deleted";
+    case GITHOPPU_ABSENT: return "there is no such key";
+    case GITHOPPU_DOC: return "the document";
+    case GITHOPPU_SUM: return "the sum";
+    case GITHOPPU_NOT_NUMBER: return "the document is no whole number";
+    case GITHOPPU_OVERFLOW: return "the sum does not fit a signed 64-bit number";
+    case GITHOPPU_NO_ROOM: return "not enough lines are free";
+    case GITHOPPU_KEY: return "the key";
+    case GITHOPPU_COUNT: return "the number of documents";
+    case GITHOPPU_SET: return "put, with its new revision";
+    case GITHOPPU_STALE: return "the key has another revision";
+    case GITHOPPU_REVISION: return "the revision";
+    default: return "no reply of this version of the library";
+    }
+}
+
+static inline const char *githoppu_queue_reply_text(uint64_t kind) {
+    switch (kind) {
+    case GITHOPPU_NO_QUEUE_OPERATION: return "the operation is malformed";
+    case GITHOPPU_PUSHED: return "pushed";
+    case GITHOPPU_QUEUE_FULL: return "the queue is full";
+    case GITHOPPU_TEXT: return "the text at the front";
+    case GITHOPPU_EMPTY: return "the queue is empty";
+    case GITHOPPU_LENGTH: return "the number of texts";
+    default: return "no reply of this version of the library";
+    }
+}
+
+/* How often githoppu_do calls before it returns the last answer. */
 #ifndef GITHOPPU_ROUNDS
 #define GITHOPPU_ROUNDS 1048576
 #endif
@@ -176,7 +273,7 @@ static inline void githoppu_pack(uint64_t *words, const char *bytes, size_t leng
         words[i / 8] |= (uint64_t)(unsigned char)bytes[i] << (8 * (i % 8));
 }
 
-/* Unpacks so many bytes of words, and puts a 0 behind them: into has room for length + 1. */
+/* Unpacks the first length bytes of words, and puts a 0 after them: into has room for length + 1. */
 static inline void githoppu_unpack(char *into, const uint64_t *words, size_t length) {
     size_t i;
     for (i = 0; i < length; i++)
@@ -184,7 +281,7 @@ static inline void githoppu_unpack(char *into, const uint64_t *words, size_t len
     into[length] = 0;
 }
 
-/* Finishes a pending operation. What githoppu_finish answers, or NO_SESSION; PENDING only after so many rounds. */
+/* Finishes a pending operation. What githoppu_finish answers, or NO_SESSION; PENDING only after GITHOPPU_ROUNDS rounds. */
 static inline int githoppu_end(void **session, githoppu_words *reply) {
     int status = GITHOPPU_PENDING;
     long round;
@@ -200,8 +297,8 @@ static inline int githoppu_end(void **session, githoppu_words *reply) {
     return status;
 }
 
-/* Does an operation, and tries again until it is answered. What githoppu_call answers, or NO_SESSION; AGAIN, FULL and PENDING only after so
- * many rounds. After PENDING the operation stands: finish it by githoppu_end. */
+/* Does an operation, and tries again until it is answered. What githoppu_call answers, or NO_SESSION; AGAIN, FULL and PENDING only after
+ * GITHOPPU_ROUNDS rounds. After PENDING the operation is in the log: finish it by githoppu_end. */
 static inline int githoppu_do(void **session, const githoppu_words *op, githoppu_words *reply) {
     int status = GITHOPPU_AGAIN;
     long round;
@@ -234,7 +331,7 @@ static inline int githoppu_catch_up(void **session, uint64_t place) {
     return handle.at == NULL ? GITHOPPU_NO_SESSION : githoppu_see_place(handle, place, session);
 }
 
-/* Closes a session, and tries again while others are in the way. What githoppu_close answers, or NO_SESSION; AGAIN only after so many rounds. At
+/* Closes a session, and tries again while others are in the way. What githoppu_close answers, or NO_SESSION; AGAIN only after GITHOPPU_ROUNDS rounds. At
  * DONE the closed store is at *closed, else nothing is written there. *session is null where the session is closed, and else what is to be closed again. */
 static inline int githoppu_close_one(void **session, void **closed) {
     int status = GITHOPPU_AGAIN;
@@ -255,7 +352,7 @@ static inline int githoppu_close_one(void **session, void **closed) {
     return status;
 }
 
-/* Closes sessions in turn; a slot that is null is passed over. What the last closing answered, or NO_SESSION where all are null: DONE where that closed
+/* Closes sessions in turn; a slot that is null is skipped. What the last closing answered, or NO_SESSION where all are null: DONE where that closed
  * the store, OTHERS where other sessions of it are open. It ends at the first answer that is not OTHERS; what is left in the slots is open. After
  * NO_MEMORY call it again. */
 static inline int githoppu_close_all(void **sessions, size_t count, void **closed) {
@@ -287,7 +384,7 @@ static inline int githoppu_image_into(void **closed, uint64_t choice, uint64_t *
     return handle.at == NULL ? GITHOPPU_NO_SESSION : githoppu_image(handle, choice, words, count, &needed, closed);
 }
 
-/* Gives up sessions of a store or a queue, or closed stores. Each slot is null afterwards; one that is null is passed over. */
+/* Drops sessions of a store or a queue, or closed stores. Each slot is null afterwards; one that is null is skipped. */
 static inline void githoppu_give_up(void **sessions, size_t count) {
     size_t i;
     for (i = 0; i < count; i++) {
@@ -379,7 +476,7 @@ static inline int githoppu_queue_call(void **session, uint64_t kind, const char 
     return status == GITHOPPU_DONE ? githoppu_do(session, &op, reply) : status;
 }
 
-/* Puts a text behind the last one: PUSHED or QUEUE_FULL. */
+/* Puts a text after the last one: PUSHED or QUEUE_FULL. */
 static inline int githoppu_push(void **session, const char *text, githoppu_words *reply) {
     return githoppu_queue_call(session, 1, text, reply);
 }

@@ -1,10 +1,7 @@
-/* A power loss: a store and a queue are closed, what is left of them is written to a file, a byte of it is turned and refused, and both are taken up
- * again.
+/* A crash: a store and a queue are closed and saved to files, a byte of one is changed and refused, and both are opened again from their files.
  *
- *   power_loss FILE */
-#include "githoppu.h"
-#include <stdio.h>
-#include <stdlib.h>
+ *   power_loss PATH       makes PATH.store and PATH.queue */
+#include "githoppu_file.h"
 
 static void must(int right, const char *what) {
     if (!right) {
@@ -13,46 +10,19 @@ static void must(int right, const char *what) {
     }
 }
 
-/* Writes what a loss of power leaves of a closed store to a file, and gives the store up. */
-static void lose(void **closed, uint64_t choice, const char *path) {
-    uint64_t count = 0, *words;
-    FILE *file = fopen(path, "wb");
-    must(file != NULL, "there is no file");
-    must(githoppu_image_size(closed, &count) == GITHOPPU_DONE, "it is not closed");
-    words = malloc(count * sizeof *words);
-    must(words != NULL, "no memory");
-    must(githoppu_image_into(closed, choice, words, count) == GITHOPPU_DONE, "no image");
-    must(fwrite(words, sizeof *words, count, file) == count && fclose(file) == 0, "the file is not written");
-    free(words);
-    githoppu_give_up(closed, 1);
+static void saved(int status) {
+    if (status != GITHOPPU_DONE) {
+        fprintf(stderr, "power_loss: %s: %s\n", githoppu_file_text(status), strerror(errno));
+        exit(1);
+    }
 }
 
-static uint64_t *read_words(const char *path, size_t *count) {
-    uint64_t *words;
-    long size;
-    FILE *file = fopen(path, "rb");
-    must(file != NULL && fseek(file, 0, SEEK_END) == 0 && (size = ftell(file)) >= 0, "there is no file");
-    rewind(file);
-    *count = (size_t)size / sizeof *words;
-    words = malloc(*count * sizeof *words);
-    must(words != NULL && fread(words, sizeof *words, *count, file) == *count && fclose(file) == 0, "the file is not read");
-    return words;
-}
-
-/* Turns bits of one byte of the file. */
-static void turn(const char *path, long at, int bits) {
+/* Changes bits of one byte of a file. */
+static void change(const char *path, long at, int bits) {
     FILE *file = fopen(path, "r+b");
     int byte;
     must(file != NULL && fseek(file, at, SEEK_SET) == 0 && (byte = fgetc(file)) != EOF, "the file is not read");
     must(fseek(file, at, SEEK_SET) == 0 && fputc(byte ^ bits, file) != EOF && fclose(file) == 0, "the file is not written");
-}
-
-static int recover(const char *path, int queue, void **sessions, size_t count) {
-    size_t length;
-    uint64_t *words = read_words(path, &length);
-    int status = queue ? githoppu_recover_queue(words, length, sessions, count) : githoppu_recover(words, length, sessions, count);
-    free(words);
-    return status;
 }
 
 static void sell(const char *path) {
@@ -61,19 +31,20 @@ static void sell(const char *path) {
     must(githoppu_open(256, sessions, 3) == GITHOPPU_DONE, "no store");
     must(githoppu_put(&sessions[0], "fruit", "\"apple\"", 7, &reply) == GITHOPPU_DONE, "no put");
     must(githoppu_put(&sessions[1], "fruit", "\"pear\"", 6, &reply) == GITHOPPU_DONE, "no put");
-    must(githoppu_add(&sessions[2], "sold", 41, &reply) == GITHOPPU_DONE, "no addition");
+    must(githoppu_add(&sessions[1], "sold", 41, &reply) == GITHOPPU_DONE, "no addition");
     /* in any order; the last one closes the store */
     must(githoppu_close_one(&sessions[1], &closed) == GITHOPPU_OTHERS, "no closing");
     must(githoppu_close_one(&sessions[2], &closed) == GITHOPPU_OTHERS, "no closing");
     must(githoppu_close_one(&sessions[0], &closed) == GITHOPPU_DONE, "no closing");
-    lose(&closed, 2, path);
+    saved(githoppu_save(path, &closed));
+    githoppu_give_up(&closed, 1);
 }
 
 static void go_on(const char *path) {
     void *sessions[2];
     githoppu_words reply;
     char text[1025];
-    must(recover(path, 0, sessions, 2) == GITHOPPU_DONE, "no recovery");
+    must(githoppu_load(path, sessions, 2) == GITHOPPU_DONE, "no store");
     must(githoppu_get(&sessions[0], "fruit", &reply) == GITHOPPU_DONE && reply.word[0] == GITHOPPU_DOC, "no document");
     githoppu_document(&reply, text);
     must(githoppu_rev(&sessions[1], "fruit", &reply) == GITHOPPU_DONE && reply.word[0] == GITHOPPU_REVISION, "no revision");
@@ -95,8 +66,9 @@ static void queue_up(const char *path) {
     }
     must(githoppu_pop(&sessions[0], &reply) == GITHOPPU_DONE, "no pop");
     must(githoppu_close_all(sessions, 2, &closed) == GITHOPPU_DONE, "no closing");
-    lose(&closed, 0, path);
-    must(recover(path, 1, sessions, 1) == GITHOPPU_DONE, "no recovery");
+    saved(githoppu_save(path, &closed));
+    githoppu_give_up(&closed, 1);
+    must(githoppu_load_queue(path, sessions, 1) == GITHOPPU_DONE, "no queue");
     for (;;) {
         must(githoppu_pop(sessions, &reply) == GITHOPPU_DONE, "no pop");
         if (reply.word[0] != GITHOPPU_TEXT)
@@ -108,16 +80,16 @@ static void queue_up(const char *path) {
 }
 
 int main(int count, char **words) {
-    const char *path = count > 1 ? words[1] : "image";
+    char store[4096], queue[4096];
     void *sessions[1];
-    sell(path);
-    turn(path, 0, 1);
-    printf("the name turned: %d\n", recover(path, 0, sessions, 1));
-    turn(path, 0, 1);
-    turn(path, 5 * 8 + 7, 128);
-    printf("the root turned: %d\n", recover(path, 0, sessions, 1));
-    turn(path, 5 * 8 + 7, 128);
-    go_on(path);
-    queue_up(path);
+    must(count == 2 && strlen(words[1]) < 4000, "power_loss PATH");
+    sprintf(store, "%s.store", words[1]);
+    sprintf(queue, "%s.queue", words[1]);
+    sell(store);
+    change(store, 20000, 1);
+    printf("a byte changed: %s\n", githoppu_file_text(githoppu_load(store, sessions, 1)));
+    change(store, 20000, 1);
+    go_on(store);
+    queue_up(queue);
     return 0;
 }

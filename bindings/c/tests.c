@@ -427,6 +427,8 @@ static void test_refusals(void) {
         {words, 1, GITHOPPU_NO_IMAGE},                            /* the name */
         {words + 1, 2, GITHOPPU_NO_IMAGE},                        /* the format */
         {words + 2, 3, GITHOPPU_OTHER_KIND},                      /* the kind */
+        {words + 2, 2, GITHOPPU_NO_IMAGE},                        /* a kind that there is not */
+        {words + 2, 1, GITHOPPU_NO_IMAGE},                        /* no kind */
         {words + 3, 2, GITHOPPU_NO_IMAGE},                        /* no sessions */
         {words + 3, 8, GITHOPPU_NO_IMAGE},                        /* ten sessions */
         {words + 3, 1, GITHOPPU_IMAGE_SIZE},                      /* three sessions */
@@ -438,7 +440,8 @@ static void test_refusals(void) {
         {region + 3, 1, GITHOPPU_IMAGE_BODY},                     /* a word of the results that is 0 */
         {region + 1169, (uint64_t)1 << 40, GITHOPPU_IMAGE_BODY},  /* the index */
         {region + 8, (uint64_t)1 << 41, GITHOPPU_IMAGE_NUMBERS},  /* a result's number */
-        {words + 6, 1, GITHOPPU_DONE},                            /* a word that is not read */
+        {words + 6, 1, GITHOPPU_NO_IMAGE},                        /* a last word of the head */
+        {words + 7, (uint64_t)1 << 63, GITHOPPU_NO_IMAGE},        /* the other */
     };
     size_t i;
     for (i = 0; i < sizeof turned / sizeof *turned; i++) {
@@ -458,6 +461,23 @@ static void test_refusals(void) {
     githoppu_give_up(nine, 8);
     githoppu_give_up(&closed, 1);
     __real_free(words);
+}
+
+/* Every status and every kind of reply has a text of its own, and what is none has another. */
+static void test_texts(void) {
+    int i, k;
+    CHECK(githoppu_check_version() == GITHOPPU_DONE && githoppu_version() == GITHOPPU_VERSION);
+    CHECK(strcmp(GITHOPPU_VERSION_TEXT, "0.2.0") == 0 && GITHOPPU_VERSION == 2000);
+    for (i = GITHOPPU_DONE; i <= GITHOPPU_OLD_LIBRARY + 1; i++)
+        for (k = GITHOPPU_DONE; k < i; k++)
+            CHECK(strcmp(githoppu_status_text(i), githoppu_status_text(k)) != 0);
+    for (i = 0; i <= GITHOPPU_REVISION + 1; i++)
+        for (k = 0; k < i; k++)
+            CHECK(strcmp(githoppu_reply_text((uint64_t)i), githoppu_reply_text((uint64_t)k)) != 0);
+    for (i = 0; i <= GITHOPPU_LENGTH + 1; i++)
+        for (k = 0; k < i; k++)
+            CHECK(strcmp(githoppu_queue_reply_text((uint64_t)i), githoppu_queue_reply_text((uint64_t)k)) != 0);
+    CHECK(githoppu_status_text(-1) == githoppu_status_text(99) && githoppu_reply_text(UINT64_MAX) == githoppu_reply_text(99));
 }
 
 static void test_queue_image(void) {
@@ -680,6 +700,7 @@ static void test_closing_refused(void) {
 int main(int count, char **words) {
     if (count > 1 && strcmp(words[1], "short") == 0)
         adds = texts = 300;
+    test_texts();
     test_sizes();
     test_documents();
     test_revisions();

@@ -1,8 +1,13 @@
 //! A document store and a bounded queue that 1 to 8 sessions share, from Rust: safe types over the library's functions.
 //!
-//! A session is `Send` and not `Sync`: it goes to a thread, and one call at a time has it. Calls try again while others are in the way; they
-//! take no lock. Dropping the last session drops the store. Closing the last one hands out what a loss of power leaves of it, from which it is
-//! recovered.
+//! A session is `Send` and not `Sync`: it can move to a thread, and one call at a time uses it. Calls try again while other sessions are in the way;
+//! they take no lock. Dropping the last session drops the store. Closing the last one gives the closed store, of which an image can be taken or saved to a
+//! file, and from an image it is opened again.
+//!
+//! Nothing is durable by itself: persistent memory is simulated in RAM, and the data end with the process unless the store was closed and saved.
+//!
+//! If a thread is stopped for good inside a writing call, each other session can make at most 16 more updates, and after that updates answer
+//! [`Error::Busy`]; reads go on.
 //!
 //! ```
 //! let mut sessions = githoppu::Store::open(64, 2)?;
@@ -15,19 +20,32 @@
 //! let mut last = githoppu::Store::open(64, 1)?.pop().unwrap();
 //! last.add("sold", 4)?;
 //! let githoppu::Closing::Closed(mut closed) = last.close() else { panic!() };
-//! let words = closed.image(0)?;
-//! let mut again = githoppu::Store::recover(&words, 2)?;
+//! let image = closed.image(0)?;
+//! let mut again = githoppu::Store::recover(&image, 2)?;
 //! assert_eq!(again[1].get("sold")?, Some("4".to_string()));
 //! # Ok::<(), githoppu::Error>(())
 //! ```
 
+mod file;
 mod raw;
 mod session;
 mod words;
 
+pub use file::FileError;
 use session::{Ended, Pointer};
 use std::fmt;
+use std::ops::{Deref, DerefMut};
+use std::path::Path;
 use words::{document_in, document_op, key_in, queue_op, text_in};
+
+/// The version of this crate.
+pub const VERSION: &str = env!("CARGO_PKG_VERSION");
+
+/// The version of the library that is linked, as `VERSION` is of this crate.
+pub fn library_version() -> String {
+    let version = raw::library_version();
+    format!("{}.{}.{}", version / 1_000_000, version / 1000 % 1000, version % 1000)
+}
 
 /// Why there is no answer. Nothing is changed by a call that ends with one.
 #[derive(Clone, Copy, Debug, PartialEq, Eq)]
@@ -41,11 +59,12 @@ pub enum Error {
     /// A key is 1 to 64 visible ASCII characters, a document 1 to 1,024 bytes of which none is a control character, and a text of a queue 1 to 56
     /// visible ASCII characters.
     NoOperation,
-    /// Others were in the way more than a million times.
+    /// Other sessions were in the way more than a million times. So it is for good where a thread is stopped inside a writing call and this session has
+    /// made 16 updates since.
     Busy,
     /// The store has had 2^40 operations, and takes no more.
     Worn,
-    /// The session has come to its limit of steps. Sessions here have none.
+    /// The session has reached its limit of steps. Sessions here have none.
     Stopped,
     /// The document is no UTF-8; `get_bytes` gives it.
     NoText,
@@ -63,7 +82,7 @@ pub enum Error {
     ImageVersion,
     /// The place in the replica that the root names is not the root's.
     ImagePlace,
-    /// The results in that replica, or its documents or texts, are none that the library writes.
+    /// A session without a number has a result in that replica, or its documents or texts are none that the library writes.
     ImageBody,
     /// A result there has a number above the place.
     ImageNumbers,
@@ -120,29 +139,29 @@ impl fmt::Display for Error {
 
 impl std::error::Error for Error {}
 
-/// What a put comes to.
+/// What a put did.
 #[derive(Clone, Copy, Debug, PartialEq, Eq)]
 pub enum Put {
     New,
     Replaced,
-    /// There are not as many lines; nothing is changed.
+    /// Not enough lines are free; nothing is changed.
     NoRoom,
 }
 
-/// What an addition comes to.
+/// What an addition did.
 #[derive(Clone, Copy, Debug, PartialEq, Eq)]
 pub enum Add {
     /// The sum, which is the key's document now.
     Sum(i64),
     /// The document is no whole number; nothing is changed.
     NotNumber,
-    /// The sum has no 64 bits; nothing is changed.
+    /// The sum does not fit a signed 64-bit number; nothing is changed.
     Overflow,
-    /// There are not as many lines; nothing is changed.
+    /// Not enough lines are free; nothing is changed.
     NoRoom,
 }
 
-/// What closing a session comes to.
+/// What closing a session did.
 pub enum Closing<S> {
     /// The session is closed, and other sessions of the store are not. Where one was dropped this is every other session's answer.
     Others,
@@ -150,7 +169,7 @@ pub enum Closing<S> {
     Closed(Closed),
     /// It is not closed. After `NoMemory` it takes no other call than a further closing.
     Not(S, Error),
-    /// The last session did not find all that were closed before; the store is given up. No run of the library comes to it.
+    /// The last session did not find all that were closed before; the store is dropped. No run of the library is known to answer it.
     Lost,
 }
 
@@ -169,10 +188,56 @@ impl<S> Closing<S> {
 pub struct Closed(Pointer);
 
 impl Closed {
-    /// What a loss of power leaves of it, as words: by choice 0 what was durable of each word, by choice 1 what was stored last, and by every other
-    /// choice a mixture. The same choice gives the same words.
-    pub fn image(&mut self, choice: u64) -> Result<Vec<u64>, Error> {
-        self.0.image(choice)
+    /// What a crash (a power failure) at the moment of closing leaves of it: by choice 0 the durable value of each word, by choice 1 the value that was
+    /// stored last, and by every other choice a mixture. Each holds every acknowledged update. The same choice gives the same words.
+    pub fn image(&mut self, choice: u64) -> Result<Image, Error> {
+        self.0.image(choice).map(Image)
+    }
+
+    /// Saves its image by choice 0 to a file: to a new one, which is synced and renamed to the path, and the folder is synced.
+    pub fn save(&mut self, path: impl AsRef<Path>) -> Result<(), FileError> {
+        self.image(0)?.save(path)
+    }
+}
+
+/// The words of an image. Any words can be made one; what is none is refused where it is recovered.
+#[derive(Clone, Debug, PartialEq, Eq)]
+pub struct Image(Vec<u64>);
+
+impl Image {
+    /// Saves it to a file, as `Closed::save` does.
+    pub fn save(&self, path: impl AsRef<Path>) -> Result<(), FileError> {
+        file::save(path.as_ref(), &self.0)
+    }
+
+    /// The image in a file that was saved, from here or from C. That its words are an image is not looked at here.
+    pub fn load(path: impl AsRef<Path>) -> Result<Image, FileError> {
+        file::load(path.as_ref()).map(Image)
+    }
+
+    /// Its words.
+    pub fn into_words(self) -> Vec<u64> {
+        self.0
+    }
+}
+
+impl From<Vec<u64>> for Image {
+    fn from(words: Vec<u64>) -> Image {
+        Image(words)
+    }
+}
+
+impl Deref for Image {
+    type Target = [u64];
+
+    fn deref(&self) -> &[u64] {
+        &self.0
+    }
+}
+
+impl DerefMut for Image {
+    fn deref_mut(&mut self) -> &mut [u64] {
+        &mut self.0
     }
 }
 
@@ -180,17 +245,22 @@ impl Closed {
 pub struct Store;
 
 impl Store {
-    /// So many sessions of an empty store in so many lines of 64 bytes. A document takes one line, and one for each 56 bytes of its key and of its
-    /// text; the first line is the store's own.
+    /// The given number of sessions, 1 to 8, of an empty store in 64 to 16,384 lines of 64 bytes. A document takes one line, and one for each 56 bytes of its
+    /// key and of its text; the first line is the store's own.
     pub fn open(lines: u64, sessions: usize) -> Result<Vec<Session>, Error> {
         let pointers = Pointer::open(raw::githoppu_open, lines, sessions)?;
         Ok(pointers.into_iter().map(Session).collect())
     }
 
-    /// So many sessions of the store that the words of an image say.
+    /// Sessions of the store that the words of an image say.
     pub fn recover(words: &[u64], sessions: usize) -> Result<Vec<Session>, Error> {
         let pointers = Pointer::recover(raw::githoppu_recover, words, sessions)?;
         Ok(pointers.into_iter().map(Session).collect())
+    }
+
+    /// Sessions of the store in a file that was saved, from here or from C.
+    pub fn load(path: impl AsRef<Path>, sessions: usize) -> Result<Vec<Session>, FileError> {
+        Ok(Store::recover(&Image::load(path)?, sessions)?)
     }
 }
 
@@ -270,14 +340,14 @@ impl Session {
     }
 }
 
-/// What a put at a revision comes to.
+/// What a put at a revision did.
 #[derive(Clone, Copy, Debug, PartialEq, Eq)]
 pub enum PutIf {
     /// The document is put, and this is its revision.
     Set(u64),
     /// The key has this other revision, 0 where it is missing; nothing is changed.
     Stale(u64),
-    /// There are not as many lines; nothing is changed.
+    /// Not enough lines are free; nothing is changed.
     NoRoom,
 }
 
@@ -308,16 +378,21 @@ impl Session {
 pub struct Queue;
 
 impl Queue {
-    /// So many sessions of an empty queue in so many lines of 64 bytes, each of which but the first holds a text.
+    /// The given number of sessions, 1 to 8, of an empty queue in 64 to 16,384 lines of 64 bytes, each of which but the first holds a text.
     pub fn open(lines: u64, sessions: usize) -> Result<Vec<QueueSession>, Error> {
         let pointers = Pointer::open(raw::githoppu_open_queue, lines, sessions)?;
         Ok(pointers.into_iter().map(QueueSession).collect())
     }
 
-    /// So many sessions of the queue that the words of an image say.
+    /// Sessions of the queue that the words of an image say.
     pub fn recover(words: &[u64], sessions: usize) -> Result<Vec<QueueSession>, Error> {
         let pointers = Pointer::recover(raw::githoppu_recover_queue, words, sessions)?;
         Ok(pointers.into_iter().map(QueueSession).collect())
+    }
+
+    /// Sessions of the queue in a file that was saved, from here or from C.
+    pub fn load(path: impl AsRef<Path>, sessions: usize) -> Result<Vec<QueueSession>, FileError> {
+        Ok(Queue::recover(&Image::load(path)?, sessions)?)
     }
 }
 
@@ -325,7 +400,7 @@ impl Queue {
 pub struct QueueSession(Pointer);
 
 impl QueueSession {
-    /// Puts a text behind the last one: whether there was room.
+    /// Puts a text after the last one: whether there was room.
     pub fn push(&mut self, text: &str) -> Result<bool, Error> {
         Ok(self.0.ask(&queue_op(1, text)?)?[0] == 1)
     }

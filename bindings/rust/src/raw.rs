@@ -41,5 +41,11 @@ extern "C" {
     pub fn githoppu_image(closed: Handle, choice: u64, words: *mut u64, count: usize, needed: *mut u64, out: *mut *mut c_void) -> i32;
     pub fn githoppu_recover(words: *const u64, words_count: usize, sessions: *mut *mut c_void, count: usize) -> i32;
     pub fn githoppu_recover_queue(words: *const u64, words_count: usize, sessions: *mut *mut c_void, count: usize) -> i32;
+    pub fn githoppu_version() -> u64;
     pub fn githoppu_drop(session: Handle);
+}
+
+/// A million times the first number of the library's version, a thousand times the second, and the third.
+pub fn library_version() -> u64 {
+    unsafe { githoppu_version() }
 }

@@ -18,7 +18,7 @@ pub type Open = unsafe extern "C" fn(u64, *mut *mut c_void, usize) -> i32;
 /// How they are recovered.
 pub type Recover = unsafe extern "C" fn(*const u64, usize, *mut *mut c_void, usize) -> i32;
 
-/// What closing a session comes to.
+/// What closing a session did.
 pub enum Ended {
     Others,
     Closed(Pointer),
@@ -33,12 +33,12 @@ pub struct Pointer(*mut c_void);
 unsafe impl Send for Pointer {}
 
 impl Pointer {
-    /// So many sessions of a store or a queue in so many lines.
+    /// Sessions of a store or a queue in the given number of lines.
     pub fn open(open: Open, lines: u64, count: usize) -> Result<Vec<Pointer>, Error> {
         Pointer::made(count, |slots| unsafe { open(lines, slots, count) })
     }
 
-    /// So many sessions of the store or the queue that words say.
+    /// Sessions of the store or the queue that words say.
     pub fn recover(recover: Recover, words: &[u64], count: usize) -> Result<Vec<Pointer>, Error> {
         Pointer::made(count, |slots| unsafe { recover(words.as_ptr(), words.len(), slots, count) })
     }
@@ -88,7 +88,7 @@ impl Pointer {
         }
     }
 
-    /// What a loss of power leaves of a closed store, by choice.
+    /// What a crash leaves of a closed store, by choice.
     pub fn image(&mut self, choice: u64) -> Result<Vec<u64>, Error> {
         let mut words = Vec::new();
         let mut needed = 0;

@@ -10,15 +10,17 @@ use Rattle.recovery.specs.Images.{Gives, image_size, image_word}
 use Rattle.recovery.specs.Recovery.{IsFaultOf, IsRecovered, NumbersWithin}
 use Rattle.recovery.specs.declared.recovering.ImageFault.{ImageFault}
 use Rattle.recovery.specs.declared.recovering.ImageFault.TheVariants.{Memory}
-use Rattle.c_images.specs.Words.{HasNumberAbove, IsHeaded, IsRefused, IsTakenUp, IsWordsFault, IsWritten, Says, kind_in}
+use Rattle.c_images.specs.Words.{HasNumberAbove, IsHeaded, IsRefused, IsTakenUp, IsKind, IsWordsFault, IsWritten, Says, kind_in}
 use Rattle.c_images.specs.declared.reading.WordsFault.{WordsFault}
 use Rattle.c_images.specs.declared.reading.WordsFault.TheVariants.{Head, Kind, Image as ImageRefused, Numbers}
 
-pub headed : (kind choice : ℕ) (r : Remains) (words : List ℕ) → IsWhole r → IsWritten kind r choice words → IsHeaded words
-headed kind choice r words whole is = record {
+pub headed : (kind choice : ℕ) (r : Remains) (words : List ℕ) → IsKind kind → IsWhole r → IsWritten kind r choice words → IsHeaded words
+headed kind choice r words known whole is = record {
   enough = omega (arith, is.left.long);
   name = is.name;
   format = is.format;
+  kind = subst IsKind (sym is.kind_is) known;
+  zeros = is.zeros;
   some = subst (λ n. 1 ≤ n) (sym is.callers) whole.some;
   few = subst (λ n. n ≤ 8) (sym is.callers) whole.few;
   least = subst (λ n. 64 ≤ n) (sym is.lines) whole.enough;

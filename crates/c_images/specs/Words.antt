@@ -1,5 +1,5 @@
 -- An image in words: eight of head, and then the words of all replicas.
-use Rattle.std.specs.Prelude.{◌≡◌, ◌≢◌, ◌+◌, ◌<◌, ◌≤◌, ℕ, List, length, slice_index}
+use Rattle.std.specs.Prelude.{◌≡◌, ◌≢◌, ◌⊎◌, ◌+◌, ◌<◌, ◌≤◌, ℕ, List, length, slice_index}
 use Rattle.cx_base.specs.OldFormat.{OldFormat}
 use Rattle.cx_core.specs.declared.entry.Base.{Base}
 use Rattle.cx_core.specs.declared.entry.Image.{Image}
@@ -26,11 +26,21 @@ lines_in words = slice_index words 4
 abbrev pub root_in : List ℕ → ℕ
 root_in words = slice_index words 5
 
--- words that begin with the head of some image: "githoppu", format 1, 1 to 8 callers, 64 to 16,384 lines
+-- the kinds of objects: a document store and a queue
+abbrev pub IsKind : ℕ → Type 0
+IsKind kind = (kind ≡ 1) ⊎ (kind ≡ 2)
+
+-- the last words of a head are 0
+abbrev pub AreZeros : List ℕ → Type 0
+AreZeros words = (slice_index words 6 ≡ 0) × (slice_index words 7 ≡ 0)
+
+-- words that begin with the head of some image: "githoppu", format 1, a kind, 1 to 8 callers, 64 to 16,384 lines, and two words that are 0
 pub record IsHeaded (words : List ℕ) : Type 0 where
   pub enough : 8 ≤ length words
   pub name : slice_index words 0 ≡ 8462387323625302375
   pub format : slice_index words 1 ≡ 1
+  pub kind : IsKind (kind_in words)
+  pub zeros : AreZeros words
   pub some : 1 ≤ callers_in words
   pub few : callers_in words ≤ 8
   pub least : 64 ≤ lines_in words
@@ -74,6 +84,7 @@ pub record IsWritten (kind : ℕ) (r : Remains) (choice : ℕ) (words : List ℕ
   pub callers : callers_in words ≡ r.callers
   pub lines : lines_in words ≡ r.lines
   pub root : root_in words ≡ left_root r choice
+  pub zeros : AreZeros words
   pub left : AreLeftWords r choice (image_size r.callers r.lines) (image_size r.callers r.lines) words
 
 -- The base that is taken up from words, for an object with this version, these lawful images and this old format: the one that recovery gives for the image

@@ -44,6 +44,9 @@ fn is_headed(words: &[u64]) -> bool
     words.len() >= HEAD
         && words[0] == NAME
         && words[1] == FORMAT
+        && (words[2] == 1 || words[2] == 2)
+        && words[6] == 0
+        && words[7] == 0
         && words[3] >= 1
         && words[3] <= 8
         && words[4] >= 64

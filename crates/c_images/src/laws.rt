@@ -7,7 +7,7 @@ ghost use Rattle.cx_table.specs.Remains.{Leaves};
 ghost use Rattle.recovery.specs.Crashes.{IsWhole};
 ghost use Rattle.recovery.specs.Kept.{IsKeptBy, IsOpened};
 ghost use Rattle.recovery.specs.declared.recovering.ImageFault.TheVariants.{Memory};
-ghost use Rattle.c_images.specs.Words.{IsHeaded, IsTakenUp, IsWordsFault, IsWritten, kind_in};
+ghost use Rattle.c_images.specs.Words.{IsHeaded, IsKind, IsTakenUp, IsWordsFault, IsWritten, kind_in};
 ghost use Rattle.c_images.specs.declared.reading.WordsFault.TheVariants.{Image};
 
 use cx_base::Object;
@@ -16,7 +16,7 @@ use recovery::{closed_tables_are_whole, closed_tables_recover};
 /// Words that `write_image` wrote of a closed service have a head of that kind, and `base_of` refuses them only for want of memory. What it takes up
 /// holds each answer that the service's callers were given: it is the full image of the history after the root's place.
 pub fn written_images_are_taken_up<O: Object>()
-    ensures headed { (r : _) (kind choice : ℕ) (words : List ℕ) → IsWhole r → IsWritten kind r choice words → IsHeaded words × (kind_in words ≡ kind) }
+    ensures headed { (r : _) (kind choice : ℕ) (words : List ℕ) → IsKind kind → IsWhole r → IsWritten kind r choice words → IsHeaded words × (kind_in words ≡ kind) }
     ensures taken_up { (table : Running O) (seats : List Seated) (r : _) (kind choice : ℕ) (words : List ℕ) (answer : _) →
         IsOpened O.line_count O.lawful table → Leaves table (instance_at table O.step O.only_reads) seats r → IsWritten kind r choice words →
         MatchResult answer

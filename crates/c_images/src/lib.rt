@@ -1,7 +1,7 @@
 //! Images in words of a caller's, for a caller that is no part of these proofs, as a C program.
 //!
 //! The words are eight of head and then those of all replicas, one after another. The head is "githoppu" in its bytes, the format 1, the kind of
-//! object, the callers, the lines of the object and the root; the last two words are 0, and are not read.
+//! object, the callers, the lines of the object and the root; the last two words are 0.
 //!
 //! - `write_image` writes what a loss of power leaves of a closed service, by choice, as recovery's `crash_image` has it, and takes no memory.
 //! - `head_of`, `base_of`: the base from which a service may start again, or why there is none: recovery's refusals, and what it does not look at.

@@ -2,7 +2,7 @@
 //! service, and C gives each to one call at a time.
 #![tactic(auto)]
 
-ghost use Rattle.std.specs.Prelude.{length};
+ghost use Rattle.std.specs.Prelude.{◌≡◌, length};
 ghost use Rattle.githoppu_c.specs.Closings.{ClosesAs, Images};
 ghost use Rattle.githoppu_c.specs.Contents.{Answers, Calls, Finishes, IsCallable, IsTriesFor, Opens};
 ghost use Rattle.githoppu_c.specs.Places.{AnswersSight, TellsPlace};
@@ -29,6 +29,9 @@ use std::{mem, ptr};
 
 /// The most tries of a call.
 const MOST: u64 = 1 << 20;
+
+/// The version of the library: a million times the first number, a thousand times the second, and the third. Here 0.2.0.
+const VERSION: u64 = 2000;
 
 /// As many tries as are asked for, but at least one and not too many.
 fn tries_of(asked: u64) -> Tries
@@ -169,6 +172,14 @@ pub extern "C" fn githoppu_recover_queue(
         }
         Err(code) => code,
     }
+}
+
+/// The version of the library.
+#[unsafe(no_mangle)]
+pub extern "C" fn githoppu_version() -> u64
+    ensures { result ≡ 2000 }
+{
+    VERSION
 }
 
 /// Tells the place that a session has seen, and of what is no session 0, out of turn. The session stands at `out` afterwards.

@@ -1,0 +1,413 @@
+/* Tests of files of images, in C11 and in C++: a saved store and queue are loaded; each byte of a file changed, and the file cut at each length, is refused and
+ * named; each call of the system fails in turn, and so do a full disk, a folder that is not there and one without rights: the path has the old file then,
+ * and no new file is left. The calls of the system are wrapped, so that one of them can fail.
+ *
+ *   file_tests FOLDER [full]      the files are made in this folder, which has to be there; saved.store and saved.queue are left in it, for the Rust
+ *                                   tests. With `full` it does one thing alone: a save into a folder on a disk that is full, which has to be refused */
+#include "githoppu_file.h"
+#include <dirent.h>
+#include <signal.h>
+#include <stdarg.h>
+#include <sys/resource.h>
+#include <sys/wait.h>
+
+#define CHECK(test)                                                       \
+    do {                                                                  \
+        if (!(test)) {                                                    \
+            fprintf(stderr, "%s:%d: %s\n", __FILE__, __LINE__, #test);    \
+            exit(1);                                                      \
+        }                                                                 \
+    } while (0)
+
+/* ---- the calls of the system: the one with number fails_at fails, and a short write writes one byte ---- */
+
+static long calls, fails_at, short_writes;
+
+#ifdef __cplusplus
+extern "C" {
+#endif
+int __real_open(const char *path, int flags, ...);
+ssize_t __real_read(int file, void *into, size_t length);
+ssize_t __real_write(int file, const void *from, size_t length);
+int __real_fsync(int file);
+int __real_close(int file);
+int __real_rename(const char *from, const char *to);
+void *__real_malloc(size_t size);
+int __wrap_open(const char *path, int flags, ...);
+ssize_t __wrap_read(int file, void *into, size_t length);
+ssize_t __wrap_write(int file, const void *from, size_t length);
+int __wrap_fsync(int file);
+int __wrap_close(int file);
+int __wrap_rename(const char *from, const char *to);
+void *__wrap_malloc(size_t size);
+
+static int fails(int why) {
+    if (++calls != fails_at)
+        return 0;
+    errno = why;
+    return 1;
+}
+
+int __wrap_open(const char *path, int flags, ...) {
+    int mode = 0;
+    if (flags & O_CREAT) {
+        va_list more;
+        va_start(more, flags);
+        mode = va_arg(more, int);
+        va_end(more);
+    }
+    return fails(EMFILE) ? -1 : __real_open(path, flags, mode);
+}
+
+ssize_t __wrap_read(int file, void *into, size_t length) { return fails(EIO) ? -1 : __real_read(file, into, length); }
+
+ssize_t __wrap_write(int file, const void *from, size_t length) {
+    if (short_writes > 0 && length > 1) {
+        if (short_writes-- % 2) {
+            errno = EINTR;
+            return -1;
+        }
+        length = 1;
+    }
+    return fails(ENOSPC) ? -1 : __real_write(file, from, length);
+}
+
+int __wrap_fsync(int file) { return fails(EIO) ? -1 : __real_fsync(file); }
+
+int __wrap_close(int file) {
+    if (fails(EIO)) {
+        __real_close(file);
+        errno = EIO;
+        return -1;
+    }
+    return __real_close(file);
+}
+
+int __wrap_rename(const char *from, const char *to) { return fails(EXDEV) ? -1 : __real_rename(from, to); }
+
+void *__wrap_malloc(size_t size) { return fails(ENOMEM) ? NULL : __real_malloc(size); }
+#ifdef __cplusplus
+}
+#endif
+
+/* ---- a folder of files ---- */
+
+static char store_path[4096], queue_path[4096];
+
+/* How many files of the folder end by .new. */
+static int new_files(const char *folder) {
+    DIR *all = opendir(folder);
+    struct dirent *one;
+    int found = 0;
+    CHECK(all != NULL);
+    while ((one = readdir(all)) != NULL) {
+        size_t length = strlen(one->d_name);
+        found += length > 4 && strcmp(one->d_name + length - 4, ".new") == 0;
+    }
+    closedir(all);
+    return found;
+}
+
+static unsigned char *bytes_of(const char *path, size_t *length) {
+    unsigned char *bytes;
+    CHECK(githoppu_read_bytes(path, &bytes, length) == GITHOPPU_DONE);
+    return bytes;
+}
+
+static void put_bytes(const char *path, const unsigned char *bytes, size_t length) {
+    FILE *file = fopen(path, "wb");
+    CHECK(file != NULL && fwrite(bytes, 1, length, file) == length && fclose(file) == 0);
+}
+
+/* A closed store in which "sold" is so much. */
+static void *closed_store(int64_t sold) {
+    void *s[2], *closed = NULL;
+    githoppu_words reply;
+    CHECK(githoppu_open(64, s, 2) == GITHOPPU_DONE);
+    CHECK(githoppu_add(&s[1], "sold", sold, &reply) == GITHOPPU_DONE && reply.word[0] == GITHOPPU_SUM);
+    CHECK(githoppu_close_all(s, 2, &closed) == GITHOPPU_DONE);
+    return closed;
+}
+
+static int64_t sold_in(const char *path) {
+    void *s[1];
+    githoppu_words reply;
+    CHECK(githoppu_load(path, s, 1) == GITHOPPU_DONE);
+    CHECK(githoppu_add(s, "sold", 0, &reply) == GITHOPPU_DONE && reply.word[0] == GITHOPPU_SUM);
+    githoppu_give_up(s, 1);
+    return githoppu_sum(&reply);
+}
+
+/* ---- */
+
+/* The checksum is the one of the standard, and the bytes are those that the Rust tests have. */
+static void test_bytes(void) {
+    static const uint64_t words[3] = {1, UINT64_MAX, UINT64_C(0x0123456789ABCDEF)};
+    static const unsigned char wanted[64] = {
+        'g', 'i', 't', 'h', 'f', 'i', 'l', 'e', 1, 0, 0, 0, 0, 0, 0, 0, 3, 0, 0, 0, 0, 0, 0, 0, 0xAD, 0x3A, 0x75, 0x4F, 0x00, 0x00, 0x00, 0x00,
+        1, 0, 0, 0, 0, 0, 0, 0, 255, 255, 255, 255, 255, 255, 255, 255, 0xEF, 0xCD, 0xAB, 0x89, 0x67, 0x45, 0x23, 1, 0x3A, 0xB1, 0x56, 0xB0, 0x00, 0x00, 0x00, 0x00
+    };
+    unsigned char *bytes = githoppu_file_bytes(words, 3);
+    CHECK(githoppu_crc_of((const unsigned char *)"123456789", 9) == UINT32_C(0xE3069283));
+    CHECK(bytes != NULL && memcmp(bytes, wanted, sizeof wanted) == 0);
+    CHECK(githoppu_file_fault(bytes, sizeof wanted) == GITHOPPU_DONE);
+    free(bytes);
+    /* another format is named, where its head is whole */
+    bytes = githoppu_file_bytes(words, 3);
+    bytes[8] = 2;
+    githoppu_put_word(bytes + 24, githoppu_crc_of(bytes, 24));
+    CHECK(githoppu_file_fault(bytes, sizeof wanted) == GITHOPPU_FILE_FORMAT);
+    free(bytes);
+}
+
+/* A store and a queue are saved and loaded, over and over, and a store is not loaded as a queue. */
+static void test_round_trip(void) {
+    void *closed = closed_store(41), *s[3];
+    githoppu_words reply;
+    uint64_t *words;
+    size_t count;
+    char text[57];
+    unlink(store_path);
+    unlink(queue_path);
+    CHECK(githoppu_save(store_path, &closed) == GITHOPPU_DONE && closed != NULL);
+    CHECK(sold_in(store_path) == 41);
+    short_writes = 40;
+    CHECK(githoppu_save(store_path, &closed) == GITHOPPU_DONE && short_writes == 0);
+    CHECK(sold_in(store_path) == 41);
+    CHECK(githoppu_load_words(store_path, &words, &count) == GITHOPPU_DONE && count == 8 + 2 * 16 * 210);
+    free(words);
+    githoppu_give_up(&closed, 1);
+    s[0] = s;
+    CHECK(githoppu_load_queue(store_path, s, 1) == GITHOPPU_OTHER_KIND && githoppu_load(store_path, s, 9) == GITHOPPU_BAD_SIZE && s[0] == (void *)s);
+    CHECK(githoppu_save(store_path, &closed) == GITHOPPU_NO_SESSION);
+    CHECK(githoppu_open_queue(64, s, 3) == GITHOPPU_DONE);
+    CHECK(githoppu_save(queue_path, &s[0]) == GITHOPPU_OUT_OF_TURN && s[0] != NULL);
+    CHECK(githoppu_push(&s[0], "one", &reply) == GITHOPPU_DONE && githoppu_push(&s[2], "two", &reply) == GITHOPPU_DONE);
+    CHECK(githoppu_close_all(s, 3, &closed) == GITHOPPU_DONE);
+    CHECK(githoppu_save(queue_path, &closed) == GITHOPPU_DONE);
+    githoppu_give_up(&closed, 1);
+    CHECK(githoppu_load_queue(queue_path, s, 1) == GITHOPPU_DONE);
+    CHECK(githoppu_pop(s, &reply) == GITHOPPU_DONE && githoppu_text(&reply, text) == 3 && strcmp(text, "one") == 0);
+    githoppu_give_up(s, 1);
+}
+
+/* Each bit of a small file changed is named so, and so is the file cut at each length, or with bytes after its end. */
+static void test_small_file(void) {
+    uint64_t words[50];
+    size_t length = 40 + sizeof words, at;
+    unsigned char *bytes;
+    for (at = 0; at < 50; at++)
+        words[at] = at * at * at * UINT64_C(0x9E3779B97F4A7C15);
+    bytes = githoppu_file_bytes(words, 50);
+    CHECK(bytes != NULL && githoppu_file_fault(bytes, length) == GITHOPPU_DONE);
+    for (at = 0; at < 8 * length; at++) {
+        bytes[at / 8] ^= (unsigned char)(1 << at % 8);
+        CHECK(githoppu_file_fault(bytes, length) == GITHOPPU_FILE_CHANGED);
+        bytes[at / 8] ^= (unsigned char)(1 << at % 8);
+    }
+    for (at = 0; at < length; at++) {
+        unsigned char was = bytes[at];
+        bytes[at] = (unsigned char)~was;
+        CHECK(githoppu_file_fault(bytes, length) == GITHOPPU_FILE_CHANGED);
+        bytes[at] = was;
+        CHECK(githoppu_file_fault(bytes, at) == GITHOPPU_FILE_CUT);
+    }
+    free(bytes);
+}
+
+/* The same of a store's file, of which some bytes are changed: those of both ends, and one in 31. */
+static void test_changed(const char *folder) {
+    char path[4096];
+    size_t length, at;
+    unsigned char *bytes = bytes_of(store_path, &length), *more = (unsigned char *)malloc(length + 16);
+    void *s[1];
+    CHECK(length == 40 + 8 * (8 + 2 * 16 * 210) && more != NULL);
+    for (at = 0; at < length; at++) {
+        CHECK(githoppu_file_fault(bytes, at) == GITHOPPU_FILE_CUT);
+        if (at >= 64 && at < length - 64 && at % 31 != 0)
+            continue;
+        bytes[at] ^= (unsigned char)(1 << at % 8);
+        CHECK(githoppu_file_fault(bytes, length) == GITHOPPU_FILE_CHANGED);
+        bytes[at] ^= (unsigned char)(1 << at % 8);
+    }
+    memset(more, 0, length + 16);
+    memcpy(more, bytes, length);
+    for (at = 1; at <= 16; at++)
+        CHECK(githoppu_file_fault(more, length + at) == GITHOPPU_FILE_CUT);
+    memcpy(more + length, bytes, 16);
+    CHECK(githoppu_file_fault(more, length + 16) == GITHOPPU_FILE_CUT);
+    /* what a save never wrote */
+    CHECK(githoppu_file_fault(bytes + GITHOPPU_FILE_HEAD, length - GITHOPPU_FILE_HEAD) == GITHOPPU_NO_FILE);
+    CHECK(githoppu_file_fault((const unsigned char *)"text", 4) == GITHOPPU_NO_FILE);
+    memset(more, 0, length);
+    CHECK(githoppu_file_fault(more, length) == GITHOPPU_NO_FILE);
+    /* and by files */
+    snprintf(path, sizeof path, "%s/changed", folder);
+    s[0] = s;
+    for (at = 0; at < length; at += 997) {
+        bytes[at] ^= 16;
+        put_bytes(path, bytes, length);
+        bytes[at] ^= 16;
+        CHECK(githoppu_load(path, s, 1) == GITHOPPU_FILE_CHANGED);
+        put_bytes(path, bytes, at);
+        CHECK(githoppu_load(path, s, 1) == GITHOPPU_FILE_CUT && s[0] == (void *)s);
+    }
+    put_bytes(path, bytes, length);
+    CHECK(sold_in(path) == 41);
+    unlink(path);
+    free(bytes);
+    free(more);
+}
+
+/* Each call of the system and each allocation of a save fails in turn: the path has the old file, until the new one is renamed. */
+static void test_failing_saves(const char *folder) {
+    static const int in_order[] = {GITHOPPU_NO_MEMORY, GITHOPPU_NOT_MADE, GITHOPPU_NOT_WRITTEN, GITHOPPU_NOT_SYNCED, GITHOPPU_NOT_RENAMED,
+                                   GITHOPPU_FOLDER_NOT_SYNCED, GITHOPPU_DONE};
+    void *closed = closed_store(42);
+    int status = GITHOPPU_NO_MEMORY, at = 0;
+    long which;
+    for (which = 1; status != GITHOPPU_DONE; which++) {
+        errno = 0;
+        calls = 0;
+        fails_at = which;
+        status = githoppu_save(store_path, &closed);
+        fails_at = 0;
+        CHECK(closed != NULL && new_files(folder) == 0);
+        CHECK(status == GITHOPPU_DONE || errno != 0);
+        CHECK(sold_in(store_path) == (status == GITHOPPU_DONE || status == GITHOPPU_FOLDER_NOT_SYNCED ? 42 : 41));
+        while (in_order[at] != status)
+            CHECK(in_order[at++] != GITHOPPU_DONE);
+        if (status == GITHOPPU_FOLDER_NOT_SYNCED) {
+            void *old = closed_store(41);
+            CHECK(githoppu_save(store_path, &old) == GITHOPPU_DONE);
+            githoppu_give_up(&old, 1);
+        }
+    }
+    /* each status of the list came */
+    CHECK(at == 6 && which > 9);
+    githoppu_give_up(&closed, 1);
+}
+
+/* Each call of the system and each allocation of a load fails in turn. */
+static void test_failing_loads(void) {
+    int status = GITHOPPU_NO_MEMORY, opened = 0, read = 0, memory = 0;
+    long which, whole;
+    size_t count;
+    uint64_t *words;
+    calls = 0;
+    CHECK(githoppu_load_words(store_path, &words, &count) == GITHOPPU_DONE);
+    free(words);
+    whole = calls;
+    for (which = 1; which <= whole; which++) {
+        calls = 0;
+        fails_at = which;
+        status = githoppu_load_words(store_path, &words, &count);
+        fails_at = 0;
+        opened += status == GITHOPPU_NOT_OPENED;
+        read += status == GITHOPPU_NOT_READ;
+        memory += status == GITHOPPU_NO_MEMORY;
+        CHECK(status == GITHOPPU_DONE || words == NULL);
+        free(words);
+    }
+    CHECK(opened == 1 && read == 2 && memory == 2);
+}
+
+/* In a process of its own that is nobody, who has no rights in the folder. */
+static int without_rights(const char *folder) {
+    char path[4096];
+    void *closed = closed_store(43);
+    size_t count;
+    uint64_t *words;
+    pid_t child;
+    int status, end;
+    CHECK(chmod(folder, 0555) == 0 && chmod(store_path, 0000) == 0);
+    fflush(NULL);
+    child = fork();
+    CHECK(child >= 0);
+    if (child == 0) {
+        if (geteuid() == 0 && (setgid(65534) != 0 || setuid(65534) != 0))
+            _exit(2);
+        snprintf(path, sizeof path, "%s/other", folder);
+        status = githoppu_save(path, &closed);
+        CHECK(status == GITHOPPU_NOT_MADE && errno == EACCES);
+        status = githoppu_load_words(store_path, &words, &count);
+        CHECK(status == GITHOPPU_NOT_OPENED && errno == EACCES);
+        _exit(0);
+    }
+    CHECK(waitpid(child, &end, 0) == child && WIFEXITED(end));
+    CHECK(chmod(folder, 0755) == 0 && chmod(store_path, 0644) == 0);
+    githoppu_give_up(&closed, 1);
+    return WEXITSTATUS(end);
+}
+
+/* A disk on which there is no more room, by the limit of a file's size: writing fails in the middle. */
+static void test_full(const char *folder) {
+    struct rlimit was, least;
+    void *closed = closed_store(43);
+    CHECK(getrlimit(RLIMIT_FSIZE, &was) == 0);
+    least = was;
+    least.rlim_cur = 20000;
+    signal(SIGXFSZ, SIG_IGN);
+    CHECK(setrlimit(RLIMIT_FSIZE, &least) == 0);
+    CHECK(githoppu_save(store_path, &closed) == GITHOPPU_NOT_WRITTEN && errno == EFBIG);
+    CHECK(setrlimit(RLIMIT_FSIZE, &was) == 0);
+    CHECK(new_files(folder) == 0 && sold_in(store_path) == 42);
+    githoppu_give_up(&closed, 1);
+}
+
+/* Paths that are none. */
+static void test_paths(const char *folder) {
+    char path[4096];
+    void *closed = closed_store(43);
+    size_t count;
+    uint64_t *words;
+    snprintf(path, sizeof path, "%s/no folder/file", folder);
+    CHECK(githoppu_save(path, &closed) == GITHOPPU_NOT_MADE && errno == ENOENT);
+    CHECK(githoppu_load_words(path, &words, &count) == GITHOPPU_NOT_OPENED && errno == ENOENT && words == NULL && count == 0);
+    CHECK(githoppu_load_words(folder, &words, &count) == GITHOPPU_NOT_OPENED && errno == EISDIR);
+    CHECK(githoppu_load_words("/dev/null", &words, &count) == GITHOPPU_NOT_OPENED && errno == EINVAL);
+    snprintf(path, sizeof path, "%s/folder", folder);
+    CHECK(mkdir(path, 0755) == 0);
+    CHECK(githoppu_save(path, &closed) == GITHOPPU_NOT_RENAMED && errno == EISDIR);
+    CHECK(rmdir(path) == 0 && new_files(folder) == 0);
+    /* a path without a folder is in this one */
+    CHECK(chdir(folder) == 0);
+    CHECK(githoppu_save("here", &closed) == GITHOPPU_DONE && sold_in("here") == 43 && unlink("here") == 0);
+    githoppu_give_up(&closed, 1);
+}
+
+static void test_texts(void) {
+    int i, k;
+    for (i = GITHOPPU_NOT_OPENED; i <= GITHOPPU_FOLDER_NOT_SYNCED + 1; i++)
+        for (k = GITHOPPU_NOT_OPENED; k < i; k++)
+            CHECK(strcmp(githoppu_file_text(i), githoppu_file_text(k)) != 0);
+    CHECK(githoppu_file_text(GITHOPPU_NO_MEMORY) == githoppu_status_text(GITHOPPU_NO_MEMORY));
+}
+
+int main(int count, char **words) {
+    char folder[3000];
+    if (count == 3) {
+        void *closed = closed_store(1);
+        snprintf(store_path, sizeof store_path, "%s/saved.store", words[1]);
+        CHECK(githoppu_save(store_path, &closed) == GITHOPPU_NOT_WRITTEN && errno == ENOSPC && new_files(words[1]) == 0);
+        githoppu_give_up(&closed, 1);
+        return 0;
+    }
+    CHECK(count == 2 && realpath(words[1], NULL) != NULL && strlen(realpath(words[1], NULL)) < sizeof folder);
+    strcpy(folder, realpath(words[1], NULL));
+    snprintf(store_path, sizeof store_path, "%s/saved.store", folder);
+    snprintf(queue_path, sizeof queue_path, "%s/saved.queue", folder);
+    test_bytes();
+    test_texts();
+    test_round_trip();
+    test_small_file();
+    test_changed(folder);
+    test_failing_saves(folder);
+    test_failing_loads();
+    test_full(folder);
+    test_paths(folder);
+    if (without_rights(folder) != 0)
+        puts("without rights: not tried, this process cannot become nobody");
+    puts("the C tests of files passed");
+    return 0;
+}

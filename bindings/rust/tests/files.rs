@@ -1,0 +1,143 @@
+//! Images in files.
+
+use githoppu::{Add, Closed, Closing, Error, FileError, Image, Queue, Store};
+use std::fs;
+use std::io;
+use std::path::PathBuf;
+
+/// A folder of a test's own, which is empty.
+fn folder(name: &str) -> PathBuf {
+    let path = PathBuf::from(env!("CARGO_TARGET_TMPDIR")).join(name);
+    let _ = fs::remove_dir_all(&path);
+    fs::create_dir_all(&path).unwrap();
+    path
+}
+
+fn closed_store(sold: i64) -> Closed {
+    let mut sessions = Store::open(64, 2).unwrap();
+    assert_eq!(sessions[1].add("sold", sold), Ok(Add::Sum(sold)));
+    last_closed(sessions.into_iter().map(|session| session.close()))
+}
+
+fn last_closed<S>(closings: impl Iterator<Item = Closing<S>>) -> Closed {
+    match closings.last() {
+        Some(Closing::Closed(closed)) => closed,
+        _ => panic!("the last session closes the store"),
+    }
+}
+
+fn sold_in(path: &PathBuf) -> Option<String> {
+    Store::load(path, 1).unwrap()[0].get("sold").unwrap()
+}
+
+/// The files of a folder that a save has made and not renamed.
+fn new_files(folder: &PathBuf) -> usize {
+    fs::read_dir(folder).unwrap().filter(|entry| entry.as_ref().unwrap().file_name().to_string_lossy().ends_with(".new")).count()
+}
+
+#[test]
+fn bytes_are_those_of_c() {
+    let folder = folder("bytes");
+    let path = folder.join("file");
+    let wanted: [u8; 64] = [
+        103, 105, 116, 104, 102, 105, 108, 101, 1, 0, 0, 0, 0, 0, 0, 0, 3, 0, 0, 0, 0, 0, 0, 0, 0xAD, 0x3A, 0x75, 0x4F, 0, 0, 0, 0, 1, 0, 0, 0, 0, 0,
+        0, 0, 255, 255, 255, 255, 255, 255, 255, 255, 0xEF, 0xCD, 0xAB, 0x89, 0x67, 0x45, 0x23, 1, 0x3A, 0xB1, 0x56, 0xB0, 0, 0, 0, 0,
+    ];
+    let image = Image::from(vec![1, u64::MAX, 0x0123_4567_89AB_CDEF]);
+    image.save(&path).unwrap();
+    assert_eq!(fs::read(&path).unwrap(), wanted);
+    assert_eq!(Image::load(&path).unwrap(), image);
+    // another format is named, where its head is whole: the checksum of this head was made by another program
+    let mut other = wanted;
+    other[8] = 2;
+    other[24..28].copy_from_slice(&[0x5E, 0x5A, 0x8D, 0x5C]);
+    fs::write(&path, other).unwrap();
+    assert!(matches!(Image::load(&path), Err(FileError::Format)));
+}
+
+#[test]
+fn a_store_and_a_queue_are_saved_and_loaded() {
+    let folder = folder("round");
+    let path = folder.join("store");
+    closed_store(41).save(&path).unwrap();
+    assert_eq!(sold_in(&path), Some("41".to_string()));
+    closed_store(42).save(&path).unwrap();
+    assert_eq!(sold_in(&path), Some("42".to_string()));
+    assert_eq!(new_files(&folder), 0);
+    assert!(matches!(Queue::load(&path, 1), Err(FileError::Refused(Error::OtherKind))));
+    assert!(matches!(Store::load(&path, 9), Err(FileError::Refused(Error::BadSize))));
+    let mut sessions = Queue::open(64, 2).unwrap();
+    assert_eq!(sessions[0].push("one"), Ok(true));
+    assert_eq!(sessions[1].push("two"), Ok(true));
+    let path = folder.join("queue");
+    last_closed(sessions.into_iter().map(|session| session.close())).save(&path).unwrap();
+    assert_eq!(Queue::load(&path, 1).unwrap()[0].pop(), Ok(Some("one".to_string())));
+}
+
+/// The files that the C tests left, where they ran.
+#[test]
+fn files_of_c_are_read() {
+    let files = PathBuf::from(env!("CARGO_MANIFEST_DIR")).join("../c/out/files");
+    if !files.join("saved.store").is_file() {
+        println!("no files of the C tests");
+        return;
+    }
+    let (store, queue) = (files.join("saved.store"), files.join("saved.queue"));
+    assert_eq!(sold_in(&store), Some("42".to_string()));
+    assert_eq!(Queue::load(&queue, 2).unwrap()[1].pop(), Ok(Some("one".to_string())));
+    // and saved again they have the same bytes
+    let again = folder("of_c").join("again");
+    for path in [store, queue] {
+        Image::load(&path).unwrap().save(&again).unwrap();
+        assert_eq!(fs::read(&again).unwrap(), fs::read(&path).unwrap());
+    }
+}
+
+#[test]
+fn each_byte_changed_and_each_length_is_named() {
+    let folder = folder("changed");
+    let path = folder.join("file");
+    let image = Image::from((0..20u64).map(|at| at.wrapping_mul(0x9E37_79B9_7F4A_7C15)).collect::<Vec<_>>());
+    image.save(&path).unwrap();
+    let bytes = fs::read(&path).unwrap();
+    for at in 0..bytes.len() {
+        let mut changed = bytes.clone();
+        changed[at] ^= 1 << (at % 8);
+        fs::write(&path, &changed).unwrap();
+        assert!(matches!(Image::load(&path), Err(FileError::Changed)), "byte {at}");
+        fs::write(&path, &bytes[..at]).unwrap();
+        assert!(matches!(Image::load(&path), Err(FileError::Cut)), "length {at}");
+    }
+    for more in [1, 8, 40] {
+        fs::write(&path, [&bytes[..], &bytes[..more]].concat()).unwrap();
+        assert!(matches!(Image::load(&path), Err(FileError::Cut)));
+    }
+    fs::write(&path, "a text").unwrap();
+    assert!(matches!(Image::load(&path), Err(FileError::NoFile)));
+    fs::write(&path, [0; 400]).unwrap();
+    assert!(matches!(Image::load(&path), Err(FileError::NoFile)));
+    fs::write(&path, &bytes).unwrap();
+    assert_eq!(Image::load(&path).unwrap(), image);
+}
+
+#[test]
+fn faults_of_the_system_are_told() {
+    let folder = folder("faults");
+    let mut closed = closed_store(1);
+    let missing = folder.join("no folder").join("file");
+    assert!(matches!(closed.save(&missing), Err(FileError::NotMade(why)) if why.kind() == io::ErrorKind::NotFound));
+    assert!(matches!(Store::load(&missing, 1), Err(FileError::NotOpened(why)) if why.kind() == io::ErrorKind::NotFound));
+    assert!(matches!(Store::load(&folder, 1), Err(FileError::NotOpened(_))));
+    let taken = folder.join("taken");
+    fs::create_dir(&taken).unwrap();
+    assert!(matches!(closed.save(&taken), Err(FileError::NotRenamed(_))));
+    assert_eq!(new_files(&folder), 0);
+    // nothing is made of a fault, and the store is still there
+    closed.save(folder.join("file")).unwrap();
+    assert_eq!(sold_in(&folder.join("file")), Some("1".to_string()));
+}
+
+#[test]
+fn the_versions_are_one() {
+    assert_eq!(githoppu::library_version(), githoppu::VERSION);
+}
