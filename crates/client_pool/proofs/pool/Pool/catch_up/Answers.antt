@@ -1,4 +1,4 @@
-use Rattle.std.proofs.Common.{max, refl}
+use Rattle.std.proofs.Common.{refl}
 use Rattle.client_pool.specs.declared.client.Client.{Client}
 use Rattle.client_pool.proofs.Calling.{given_more, no_more}
 use Rattle.client_pool.proofs.pool.Pool.catch_up.Goals as goal
@@ -8,11 +8,11 @@ returns-in-Caught g c =
     let r = c.args.self.now.service in
     let table = c.args.self.now.line.table.shared.table_id in
     let before = c.args.client.now in
-    let after : Client = record { number = before.number; floor = before.floor; caught_up = max before.caught_up c.args.place; answers = before.answers; lent = c.see.new.lent; closing = before.closing } in
+    let after : Client = record { number = before.number; floor = before.floor; caught_up = c.max-client.result; answers = before.answers; lent = c.see.new.lent; closing = before.closing } in
     let sees = c.in-Caught.ensures in
     record {
       made = given_more r table before after sees.given (record { number = refl; limits = sees.given.limits; closing = refl }) refl refl;
-      seen = refl;
+      seen = c.max-client.ensures;
       asked = sees.asked;
       now = sees.now;
       caught = sees.caught;
