@@ -44,7 +44,7 @@ module _ {O : Type 0} (r : Running O) (place : ℕ) where
       subst (λ (c : Called). Goes r place (place_after c place) after) (sym is) (subst (λ (h : Handed). Goes r place place h) (sym same) (stays before seen))
 
   same_ticket : (u v : Seated) → v.known.local.own ≡ u.known.local.own → v.known.local.answered ≡ u.known.local.answered → unanswered_ticket v.known.local ≡ unanswered_ticket u.known.local
-  same_ticket u v own answered = ap₂ (λ (xs : List OwnEntry) (as : List Answer). option_map (λ (x : OwnEntry). x.ticket) (slice_get xs (length as))) own answered
+  same_ticket u v own answered = ap₂ (λ (xs : List OwnEntry) (given : List Answer). option_map (λ (x : OwnEntry). x.ticket) (slice_get xs (length given))) own answered
 
   drives_goes : (tries : ℕ) (u : Seated) (called : Called) (after : Handed) (reply : List ℕ) → HasPlace r place (Linked u) → DrivesTo r tries u called after reply → Goes r place (place_after called place) after
   drives_goes tries u (Done p) (Idle v) reply low told =
