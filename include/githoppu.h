@@ -84,7 +84,7 @@ enum githoppu_status {
     /* of githoppu_check_version */
     GITHOPPU_OLD_HEADER = 21,    /* the library is newer than this header */
     GITHOPPU_OLD_LIBRARY = 22,   /* this header is newer than the library */
-    GITHOPPU_BEHIND = 24         /* of catching up: the current place is below the one asked for, so no session of this store was answered at it */
+    GITHOPPU_BEHIND = 23         /* of catching up: the current place is below the one asked for, so no session of this store was answered at it */
 };
 
 /* ---- The library's own functions. The functions further below call these, and are easier to use. ---- */

@@ -468,7 +468,7 @@ static void test_texts(void) {
     int i, k;
     CHECK(githoppu_check_version() == GITHOPPU_DONE && githoppu_version() == GITHOPPU_VERSION);
     CHECK(strcmp(GITHOPPU_VERSION_TEXT, "0.2.0") == 0 && GITHOPPU_VERSION == 2000);
-    for (i = GITHOPPU_DONE; i <= GITHOPPU_OLD_LIBRARY + 1; i++)
+    for (i = GITHOPPU_DONE; i <= GITHOPPU_BEHIND + 1; i++)
         for (k = GITHOPPU_DONE; k < i; k++)
             CHECK(strcmp(githoppu_status_text(i), githoppu_status_text(k)) != 0);
     for (i = 0; i <= GITHOPPU_REVISION + 1; i++)

@@ -28,7 +28,7 @@ pub const IMAGE_VERSION: i32 = 17;
 pub const IMAGE_PLACE: i32 = 18;
 pub const IMAGE_BODY: i32 = 19;
 pub const IMAGE_NUMBERS: i32 = 20;
-pub const BEHIND: i32 = 24;
+pub const BEHIND: i32 = 23;
 
 extern "C" {
     pub fn githoppu_open(lines: u64, sessions: *mut *mut c_void, count: usize) -> i32;

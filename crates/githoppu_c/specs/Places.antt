@@ -10,7 +10,7 @@ use Rattle.githoppu_c.specs.declared.content.Content.TheVariants.{Documents, Que
 -- the number of what catching up came to
 abbrev pub sight_code : Sight → ℤ
 sight_code Caught = pos 0
-sight_code (Behind found) = pos 24
+sight_code (Behind found) = pos 23
 sight_code Stopped = pos 5
 sight_code OutOfTurn = pos 6
 

@@ -63,7 +63,7 @@ pub fn code_of(called: Called) -> i32
 }
 
 /// The current place is below the one that a session was to catch up with.
-pub const BEHIND: i32 = 24;
+pub const BEHIND: i32 = 23;
 
 /// The number of what catching up came to.
 pub fn sight_code(sight: Sight) -> i32
