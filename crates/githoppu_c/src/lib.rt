@@ -196,10 +196,12 @@ pub extern "C" fn githoppu_outcome(
             *reply = [0; 144];
             DONE
         }
-        Ok(Outcome::Applied {
-            number: last,
-            reply: answer,
-        }) => {
+        Ok(
+            Outcome::Applied {
+                number: last,
+                reply: answer,
+            },
+        ) => {
             *number = last;
             *reply = answer;
             DONE
