@@ -8,7 +8,7 @@ README, GLOSSARY, THEOREMS = "README.md", "docs/GLOSSARY.md", "docs/THEOREMS.md"
 LENGTHS = {
     README: 70,
     "CONTRIBUTING.md": 120,
-    "crates/README.md": 100,
+    "crates/README.md": 102,
     "docs/ARCHITECTURE.md": 150,
     "docs/CONTRACTS.md": 180,
     "docs/DECISIONS.md": 120,

@@ -1,6 +1,6 @@
 //! Says where the static library is, and the functions of the heap that it calls. GITHOPPU_LIBRARY is the folder of libgithoppu_c.a, and KIT the folder of
-//! the toolchain; without them they are searched: the library in crates/githoppu_c/out of each folder above this one, and the toolchain by the `rt`
-//! on the path.
+//! the toolchain; without them they are searched: the library in crates/githoppu_c/out of each folder above this one, else the one built without a
+//! proof in out/unproved there, and the toolchain by the `rt` on the path.
 
 use std::env;
 use std::fs;
@@ -28,7 +28,8 @@ fn main() {
 
 /// The folder of the library in the nearest folder above one that has it.
 fn library_above(here: &Path) -> Option<PathBuf> {
-    here.ancestors().map(|folder| folder.join("crates/githoppu_c/out")).find(|folder| folder.join(LIBRARY).is_file())
+    let folders = ["crates/githoppu_c/out", "crates/githoppu_c/out/unproved"];
+    here.ancestors().flat_map(|above| folders.map(|folder| above.join(folder))).find(|folder| folder.join(LIBRARY).is_file())
 }
 
 /// The folder above the one in which `rt` is.

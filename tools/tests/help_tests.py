@@ -8,8 +8,6 @@ from pathlib import Path
 
 ROOT = Path(__file__).resolve().parent.parent.parent
 IN_SHELLS = ("tools/run", "tools/build", "tools/check", "tools/bindings")
-# a second: it is said where that page is written anew
-WITHOUT_A_TIME = ("check_documents.py",)
 TIME = re.compile(r"\btakes?\b.* (?:seconds?|minutes?|hours?)\b", re.DOTALL)
 
 
@@ -37,7 +35,7 @@ class Helps(unittest.TestCase):
                 with self.subTest(name):
                     self.assertEqual((0, ""), (ended.returncode, ended.stderr))
                     self.assertIn(name, ended.stdout)
-                    if Path(words[-1]).parent.name != "bench" and name not in WITHOUT_A_TIME:
+                    if Path(words[-1]).parent.name != "bench":
                         self.assertRegex(ended.stdout, TIME)
                     lines = ended.stdout.splitlines()
                     examples = [line for line in lines if line.startswith("Example: ")]

@@ -1,7 +1,8 @@
 -- What a session has seen stands through its calls.
-use Rattle.std.proofs.Common.{◌≡◌, ◌+◌, ◌*◌, ◌≤◌, ℕ, max, Bool, true, false, List, Some, Option, length, inl, inr, arith, ap, ap₂, subst, sym, ◌∙◌}
+use Rattle.std.proofs.Common.{◌≡◌, ◌+◌, ◌*◌, ◌≤◌, ℕ, max, Bool, true, false, List, Some, Option, IfSome, length, inl, inr, arith, ap, ap₂, refl, subst, sym, ◌∙◌}
 use Rattle.std.proofs.lemmas.Bool.{cases_lt}
 use Rattle.std.proofs.lemmas.Option.{same_Some}
+use Rattle.std.specs.Arc.{arc_value}
 use Rattle.std.specs.List.{slice_get}
 use Rattle.std.specs.Option.{option_map}
 use Rattle.cx_core.specs.declared.local.Answer.{Answer}
@@ -20,6 +21,8 @@ use Rattle.c_sessions.specs.declared.steps.Called.{Called}
 use Rattle.c_sessions.specs.declared.steps.Called.TheVariants.{Done, Pending, Again, Full, Worn, Stopped as CalledStopped, OutOfTurn}
 use Rattle.c_sessions.specs.Calls.{AsksBy, CallsFrom, DrivesTo, EntersNot, EntersTo, FinishesFrom, IsHanded, LooksTo, place_after}
 use Rattle.c_sessions.specs.Places.{HasPlace, SeesFrom, SeesTo, place_seen}
+use Rattle.c_sessions.specs.Sessions.{IsReady, Stands}
+use Rattle.c_sessions.specs.declared.session.Session.{Session}
 
 -- nothing is below 0
 pub none_seen : {O : Type 0} (r : Running O) (handed : Handed) → HasPlace r 0 handed
@@ -114,3 +117,31 @@ module _ {O : Type 0} (r : Running O) (place : ℕ) where
   sees_go wanted (Idle u) sight after caller was told = sees_goes wanted u sight after caller was told
   sees_go wanted (Linked u) sight after caller was told = no_sight wanted sight (Linked u) after was told.0 told.1
   sees_go wanted (Stopped u) sight after caller was told = no_sight wanted sight (Stopped u) after was told.0 told.1
+
+-- a session of which this stands after a call, and which tells this place
+module _ {O : Type 0} (s : Session O) (b h : Handed) (service : Running O) (same : service ≡ arc_value s.service) (ready : IsReady s) (at : s.handed ≡ Some b) (place : ℕ) where
+  abbrev next : Session O
+  next = record { service = s.service; exit = s.exit; handed = Some h; place = place }
+
+  -- what stood before the call, and what it had seen
+  pub stood : IsHanded service b × HasPlace service s.place b
+  stood =
+      let was : ready.handed ≡ b = same_Some ready.handed b (sym ready.is ∙ at) in
+      subst (λ (r : Running O). IsHanded r b × HasPlace r s.place b) (sym same) (subst (λ (x : Handed). IsHanded (arc_value s.service) x × HasPlace (arc_value s.service) s.place x) was (ready.of, ready.seen))
+
+  pub ready_next : IsHanded service h → Goes service s.place place h → IsReady next
+  ready_next of goes = record {
+    handed = h;
+    is = refl;
+    of = subst (λ (r : Running O). IsHanded r h) same of;
+    seen = subst (λ (r : Running O). HasPlace r place h) same goes.seen;
+    exit = ready.exit;
+  }
+
+  pub stands_next : (come_to : Running O → Handed → Handed → Type 0) → come_to service b h → Goes service s.place place h → (told : ℕ) → place ≡ told → Stands s next told (come_to (arc_value s.service))
+  stands_next come_to came goes told is = record {
+    same = refl;
+    told = subst (λ (o : Option Handed). IfSome o (λ x. come_to (arc_value s.service) x h)) (sym at) (subst (λ (r : Running O). come_to r b h) same came);
+    is = is;
+    rises = goes.rises;
+  }

@@ -8,6 +8,7 @@ use Rattle.cx_service.specs.declared.close.Kept.{Kept}
 use Rattle.cx_table.specs.declared.remains.Remains.{Remains}
 use Rattle.cx_table.specs.Remains.{AreSeats, Leaves}
 use Rattle.recovery.specs.Kept.{IsOpened}
+use Rattle.table_order.specs.Closings.{IsClosedLinearizable}
 use Rattle.c_sessions.specs.Sessions.{IsReady}
 use Rattle.c_sessions.specs.declared.closing.Closing.{Closing}
 use Rattle.c_sessions.specs.declared.closing.Closing.TheVariants.{Others, Again, Closed, Kept as ClosingKept, Lost}
@@ -18,12 +19,14 @@ abbrev pub IsKeptOf : {O : Type 0} → Running O → Kept O → Type 0
 IsKeptOf r kept = (kept.service ≡ r) × AreSeats r (seats_of kept.callers.items)
 
 module _ {O : Type 0} (line_count : O → ℕ) (lawful : O → List ℕ → Type 0) (step : O → List ℕ → List ℕ → List ℕ × List ℕ) (reads : O → List ℕ → Bool) where
-  -- what this service leaves that was closed with all its callers
+  -- What this service leaves that was closed with all its callers. By the order of their steps its history is a linearization of the sessions'
+  -- calls.
   pub record IsClosedOf (r : Running O) (remains : Remains) : Type 0 where
     pub opened : IsOpened line_count lawful r
     pub seats : List Seated
     pub all : AreSeats r seats
     pub leaves : Leaves r (instance_at r step reads) seats remains
+    pub order : IsClosedLinearizable (instance_at r step reads) seats remains
 
   -- the last session closes the service; where there are others, the service has further callers
   abbrev pub ClosesTo : Running O → Closing O → Type 0

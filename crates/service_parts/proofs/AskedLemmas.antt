@@ -1,15 +1,62 @@
 -- What a caller has seen before it asks for an operation, it has seen then.
-use Rattle.std.proofs.Common.{◌≡◌, ◌+◌, ◌≤◌, ℕ, List, arith}
+use Rattle.std.proofs.Common.{◌≡◌, ◌∙◌, ◌+◌, ◌≤◌, inr, ℕ, List, [], ◌∷◌, ◌++◌, length, ap, arith}
 use Rattle.cx_core.specs.declared.local.Answer.{Answer}
+use Rattle.cx_core.specs.declared.local.Linked.{Linked as OwnEntry}
+use Rattle.cx_core.specs.Region.{slot_number}
 use Rattle.cx_rule.specs.Running.{Running}
 use Rattle.cx_rule.specs.Seats.{Seated}
 use Rattle.cx_service.specs.Callers.{IsCallerOf}
 use Rattle.cx_service.specs.CatchUps.{HasSeen}
-use Rattle.cx_service.specs.Lookups.{ReadAnswered}
+use Rattle.cx_service.specs.Lookups.{ReadAnswered, ReadPending}
+use Rattle.cx_service.specs.Submits.{entry_at}
 use Rattle.cx_service.specs.Updates.{KeepsLists, ReadQueues, UpdateDone, UpdateWorn}
 use Rattle.cx_service.specs.declared.update.Updated.TheVariants.{Done, Worn}
 use Rattle.cx_service.proofs.Seeing.{lists_seen, queued_sees, read_behind, update_behind}
 use Rattle.cx_turns.specs.declared.lookup.Seen.{Seen}
+use Rattle.cx_turns.specs.Answering.{with_answer}
+use Rattle.service_parts.specs.Asking.{IsAnswered, IsAsked}
+use Rattle.service_parts.specs.declared.asking.Asked.TheVariants.{Told}
+
+-- an update behind tries that changed nothing of the caller's lists
+module _ {O : Type 0} (r : Running O) (op : List ℕ) (before u : Seated) (keeps : KeepsLists before u) where
+  -- the caller's next entry is the same
+  same_entry : (ticket : ℕ) → entry_at r u.known.local op ticket ≡ entry_at r before.known.local op ticket
+  same_entry ticket =
+      ap (λ (n : ℕ). (let e : OwnEntry = record { ticket = ticket; entry = record { caller = n; number = slot_number n r.base.words + length u.known.local.own + 1; op = op } } in e)) keeps.number
+      ∙ ap (λ (xs : List OwnEntry). (let e : OwnEntry = record { ticket = ticket; entry = record { caller = before.known.local.number; number = slot_number before.known.local.number r.base.words + length xs + 1; op = op } } in e)) keeps.own
+
+  done_answered : (after : Seated) (answer : Answer) → UpdateDone r op u after answer → IsAnswered r op answer.ticket answer.reply before after
+  done_answered after answer done = record {
+    links = record {
+      number = done.links.number ∙ keeps.number;
+      limit = done.links.limit ∙ keeps.limit;
+      own = done.links.own ∙ ap (λ (xs : List OwnEntry). xs ++ entry_at r u.known.local op answer.ticket ∷ []) keeps.own ∙ ap (λ (x : OwnEntry). before.known.local.own ++ x ∷ []) (same_entry answer.ticket);
+      reads = done.links.reads ∙ keeps.reads;
+    };
+    answered = done.answered ∙ ap (with_answer answer.ticket answer.reply) keeps.answered;
+  }
+
+  pub done_asked : (after : Seated) (answer : Answer) (place : ℕ) → UpdateDone r op u after answer → place ≡ answer.ticket + 1 → IsAsked r op before (Told after answer.reply place)
+  done_asked after answer place done is = (
+    record { caller = done.caller; number = done.links.number ∙ keeps.number },
+    inr (answer.ticket, is, done_answered after answer done),
+  )
+
+-- the same of a read that entered the queue
+module _ {O : Type 0} (r : Running O) (op : List ℕ) (before u : Seated) (keeps : KeepsLists before u) where
+  pending_keeps : (v : Seated) → ReadPending r 8 u v → KeepsLists before v
+  pending_keeps v p = record {
+    number = p.keeps.number ∙ keeps.number;
+    limit = p.keeps.limit ∙ keeps.limit;
+    own = p.keeps.own ∙ keeps.own;
+    answered = p.keeps.answered ∙ keeps.answered;
+    reads = p.reads ∙ keeps.reads;
+    front = (let first = keeps.front in let more = p.keeps.front in omega (arith, first, more));
+    cur = (let first = keeps.cur in let more = p.keeps.cur in omega (arith, first, more));
+  }
+
+  pub queued_asked : (after : Seated) (answer : Answer) (place : ℕ) → ReadQueues r op u (Done after answer) → place ≡ answer.ticket + 1 → IsAsked r op before (Told after answer.reply place)
+  queued_asked after answer place queues is = done_asked r op before queues.refused (pending_keeps queues.refused queues.pending) after answer place queues.entered is
 
 module _ {O : Type 0} (r : Running O) (op : List ℕ) (before u : Seated) (caller : IsCallerOf r before) (now : IsCallerOf r u) (keeps : KeepsLists before u) where
   abbrev Sees : ℕ → Seated → Type 0

@@ -1,18 +1,26 @@
 -- What an operation comes to that is asked for until it is answered.
-use Rattle.std.specs.Prelude.{◌≡◌, ◌+◌, ◌<◌, ◌≤◌, ◌⊎◌, ℕ, List, Result, MatchResult, length}
+use Rattle.std.specs.Prelude.{◌≡◌, ◌+◌, ◌≤◌, ◌⊎◌, ℕ, List, [], ◌∷◌, ◌++◌, Result, MatchResult, length}
 use Rattle.cx_rule.specs.Running.{Running}
 use Rattle.cx_rule.specs.Seats.{Seated}
 use Rattle.cx_service.specs.Callers.{IsCallerOf, IsStoppedOf, StoppedSeat}
 use Rattle.cx_service.specs.CatchUps.{HasSeen}
-use Rattle.cx_service.specs.Updates.{KeepsLists, LinksEntry}
+use Rattle.cx_service.specs.Submits.{entry_at}
+use Rattle.cx_service.specs.Updates.{KeepsLists}
 use Rattle.cx_turns.specs.Answering.{with_answer, with_read}
 use Rattle.service_parts.specs.Callers.{IsBack}
 use Rattle.service_parts.specs.declared.asking.Asked.{Asked}
 use Rattle.service_parts.specs.declared.asking.Asked.TheVariants.{Told, Worn, Stopped}
 
+-- an entry of this operation was linked at a ticket, and no other
+pub record LinksOne {O : Type 0} (r : Running O) (op : List ℕ) (ticket : ℕ) (before after : Seated) : Type 0 where
+  pub number : after.known.local.number ≡ before.known.local.number
+  pub limit : after.known.local.limit ≡ before.known.local.limit
+  pub own : after.known.local.own ≡ before.known.local.own ++ entry_at r before.known.local op ticket ∷ []
+  pub reads : after.known.local.seen_reads ≡ before.known.local.seen_reads
+
 -- the operation is done, and nothing else: the caller has one entry more, and one answer more, which is told
 pub record IsAnswered {O : Type 0} (r : Running O) (op : List ℕ) (ticket : ℕ) (reply : List ℕ) (before after : Seated) : Type 0 where
-  pub links : LinksEntry r op ticket before after
+  pub links : LinksOne r op ticket before after
   pub answered : after.known.local.answered ≡ with_answer ticket reply before.known.local.answered
 
 -- nothing is done

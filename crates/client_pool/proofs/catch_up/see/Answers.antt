@@ -26,8 +26,8 @@ returns-in-Caught g c =
       caught = caught;
     }
 
-pub give-2-requires-clause-caller : goal.give-2-requires-clause-caller
-give-2-requires-clause-caller g c =
+pub give-requires-in-Behind-clause-caller : goal.give-requires-in-Behind-clause-caller
+give-requires-in-Behind-clause-caller g c =
     let behind = c.in-Behind.ensures in
     idle_back c.args.pool.now.service c.args.pool.now.line.table.shared.table_id c.take_for-caller.new.lent c.take_for-caller.result c.in-Behind.back c.take_for-caller.ensures.out behind.caller behind.keeps
 
@@ -40,9 +40,9 @@ returns-in-Behind g c =
     let x = c.take_for-caller.result in
     let y = c.in-Behind.back in
     let behind = c.in-Behind.ensures in
-    let after : Lent = record { pass = c.give-2.new.pass; kept = mid.kept } in
+    let after : Lent = record { pass = c.give-in-Behind.new.pass; kept = mid.kept } in
     record {
-      given = given_since r table c.args.lent.now mid after out.same (given_back r table mid after x y out.out (caught_on r x y behind.caller behind.keeps) out.out.none c.give-2.ensures.0 c.give-2.ensures.1);
+      given = given_since r table c.args.lent.now mid after out.same (given_back r table mid after x y out.out (caught_on r x y behind.caller behind.keeps) out.out.none c.give-in-Behind.ensures.0 c.give-in-Behind.ensures.1);
       asked = x;
       now = y;
       behind = behind;
@@ -54,8 +54,8 @@ returns-in-Halted g c =
     let table = c.args.pool.now.line.table.shared.table_id in
     let out = c.take_for-caller.ensures in
     let mid = c.take_for-caller.new.lent in
-    let after = c.keep_stopped-_none.new.lent in
-    let kept = c.keep_stopped-_none.ensures in
+    let after = c.keep_stopped-none.new.lent in
+    let kept = c.keep_stopped-none.ensures in
     let s = c.in-Halted.stopped in
     let halted = c.in-Halted.ensures in
     subst (λ l. KeepsStopped r table c.args.lent.now after l) halted.linked
