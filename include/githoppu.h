@@ -13,7 +13,7 @@
  *      sessions have the number that is passed with them. No two of these areas overlap, and no pointer is null, also where it points to no words.
  *
  * WHO OWNS WHAT. Sessions and closed stores are the library's until they are dropped. Keys, documents, operations, replies and the words of images are
- * the caller's, and the library keeps no pointer to them. The library calls malloc in the opens, the recoveries and the
+ * the caller's, and the library keeps no pointer to them. The library calls malloc in the opens, the recoveries, githoppu_outcome and the
  * closing of the last session only, and frees in those and when the last session or a closed store is dropped. A malloc of the program's own has to
  * align a block of n bytes to each power of two up to 16 that divides n.
  *
@@ -63,14 +63,15 @@ enum githoppu_status {
     GITHOPPU_STOPPED = 5,     /* the session has reached its limit of steps. Sessions of this library have none, so this is never answered */
     GITHOPPU_OUT_OF_TURN = 6, /* a call while an operation is pending, a finish while none is, a call or a finish of a closed store, an image of what is not
                                  closed, or a closing of what is closed: nothing is changed */
-    GITHOPPU_BAD_SIZE = 7,    /* the lines are not 64 to 16,384, the sessions not 1 to 8, or an image has another number of
-                                 words than was passed: nothing is changed */
+    GITHOPPU_BAD_SIZE = 7,    /* the lines are not 64 to 16,384, the sessions not 1 to 8, a session's number not 0 to 7, or an image has another
+                                 number of words than was passed: nothing is changed */
     GITHOPPU_NO_MEMORY = 8,   /* malloc gave no memory. What the call had taken is freed, and nothing else is changed */
     GITHOPPU_NO_SESSION = 9,  /* of the functions in this header: the session's pointer is null */
     GITHOPPU_TOO_LONG = 10,   /* of the functions in this header: a key above 64 bytes, a document above 1,024, or a text above 56 */
     GITHOPPU_OTHERS = 11,     /* of a closing: this session is closed, and other sessions of the store are not */
     GITHOPPU_LOST = 12,       /* of a closing: the last session did not find all that were closed before. No run of the library is known to answer it */
-    /* of a recovery: why the words are refused. The first check that fails is answered, in this order */
+    /* of a recovery and of githoppu_outcome: why the words are refused. The first check that fails is answered, in this order; that a result is a reply
+       is checked last, after 20 */
     GITHOPPU_NO_IMAGE = 13,      /* they are no image: fewer than 8 words, another name or format, a kind that is neither 1 nor 2, numbers of sessions or lines
                                     that no store has, or a last head word that is not 0 */
     GITHOPPU_OTHER_KIND = 14,    /* the image is of a queue where a store is asked for, or of a store where a queue is */
@@ -78,8 +79,8 @@ enum githoppu_status {
     GITHOPPU_IMAGE_ROOT = 16,    /* the root's place is above 2^40 */
     GITHOPPU_IMAGE_VERSION = 17, /* the object's version is not known */
     GITHOPPU_IMAGE_PLACE = 18,   /* the place in the replica that the root names is not the root's */
-    GITHOPPU_IMAGE_BODY = 19,    /* a session without a number has a result in that replica, or its documents or texts are none that the library writes. The
-                                    words of a kept reply are not looked at */
+    GITHOPPU_IMAGE_BODY = 19,    /* a result in that replica is no reply of such an object (144 zeros are, of a malformed operation), or its documents or
+                                    texts are none that the library writes */
     GITHOPPU_IMAGE_NUMBERS = 20, /* a result there has a number above the place */
     /* of githoppu_check_version */
     GITHOPPU_OLD_HEADER = 21,    /* the library is newer than this header */
@@ -142,6 +143,15 @@ int32_t githoppu_image(githoppu_handle closed, uint64_t choice, uint64_t *words,
  * NO_MEMORY, or one of NO_IMAGE to IMAGE_NUMBERS. Where it is not DONE no slot is written. Every update that was acknowledged before is there. */
 int32_t githoppu_recover(const uint64_t *words, size_t words_count, void **sessions, size_t count);
 int32_t githoppu_recover_queue(const uint64_t *words, size_t words_count, void **sessions, size_t count);
+
+/* What became of the last update of a session, as the words of an image of a store or a queue say. Sessions are numbered from 0, in the order in which
+ * githoppu_open or githoppu_recover put them out. DONE: *number counts the updates of that session that took effect, over all runs since the store was
+ * opened empty, and reply is the reply to the last of them; where there was none, *number is 0 and so is each word of the reply. Reads are not counted;
+ * malformed operations are. So a program that counts the updates that it submits knows after a crash whether the one that was not acknowledged took
+ * effect: it did where *number is one more than the last acknowledged, and then its reply is here. What githoppu_recover opens from these words has the
+ * updates that are counted here, and no others. BAD_SIZE, NO_MEMORY, NO_IMAGE, or one of IMAGE_SIZE to IMAGE_NUMBERS; where it is not DONE nothing is
+ * written. */
+int32_t githoppu_outcome(const uint64_t *words, size_t words_count, uint64_t session, uint64_t *number, uint64_t reply[144]);
 
 /* Drops a session, in any state, or a closed store. Dropping the last session frees the store or the queue. */
 void githoppu_drop(githoppu_handle session);

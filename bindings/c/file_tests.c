@@ -164,7 +164,7 @@ static void test_bytes(void) {
 static void test_round_trip(void) {
     void *closed = closed_store(41), *s[3];
     githoppu_words reply;
-    uint64_t *words;
+    uint64_t *words, number;
     size_t count;
     char text[57];
     unlink(store_path);
@@ -175,6 +175,7 @@ static void test_round_trip(void) {
     CHECK(githoppu_save(store_path, &closed) == GITHOPPU_DONE && short_writes == 0);
     CHECK(sold_in(store_path) == 41);
     CHECK(githoppu_load_words(store_path, &words, &count) == GITHOPPU_DONE && count == 8 + 2 * 16 * 210);
+    CHECK(githoppu_outcome(words, count, 1, &number, reply.word) == GITHOPPU_DONE && number == 1 && githoppu_sum(&reply) == 41);
     free(words);
     githoppu_give_up(&closed, 1);
     s[0] = s;

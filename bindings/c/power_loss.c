@@ -1,4 +1,5 @@
-/* A crash: a store and a queue are closed and saved to files, a byte of one is changed and refused, and both are opened again from their files.
+/* A crash: a store and a queue are closed and saved to files, a byte of one is changed and refused, and both are opened again from their files. Then what became of
+ * each session's last update is read from the image.
  *
  *   power_loss PATH       makes PATH.store and PATH.queue */
 #include "githoppu_file.h"
@@ -54,6 +55,22 @@ static void go_on(const char *path) {
     githoppu_give_up(sessions, 2);
 }
 
+/* What became of the last update of each session. */
+static void outcomes(const char *path) {
+    githoppu_words reply;
+    uint64_t *words, number, session;
+    size_t count;
+    saved(githoppu_load_words(path, &words, &count));
+    for (session = 0; session < 3; session++) {
+        must(githoppu_outcome(words, count, session, &number, reply.word) == GITHOPPU_DONE, "no outcome");
+        if (number == 0)
+            printf("session %d made no update\n", (int)session);
+        else
+            printf("session %d: update %d: %s\n", (int)session, (int)number, githoppu_reply_text(reply.word[0]));
+    }
+    free(words);
+}
+
 static void queue_up(const char *path) {
     void *sessions[2], *closed = NULL;
     githoppu_words reply;
@@ -89,6 +106,7 @@ int main(int count, char **words) {
     change(store, 20000, 1);
     printf("a byte changed: %s\n", githoppu_file_text(githoppu_load(store, sessions, 1)));
     change(store, 20000, 1);
+    outcomes(store);
     go_on(store);
     queue_up(queue);
     return 0;

@@ -201,6 +201,7 @@ struct worker {
     void *session;
     int number, wrong;
     long pending;
+    uint64_t answered;
 };
 
 /* Adds 1 in one try at a time, and is out of turn wherever an addition stands. */
@@ -253,6 +254,7 @@ static void on_threads(struct worker *workers, void **sessions, void *(*work)(vo
         workers[i].number = i;
         workers[i].wrong = 0;
         workers[i].pending = 0;
+        workers[i].answered = 0;
         CHECK(pthread_create(&threads[i], NULL, work, &workers[i]) == 0);
     }
     for (i = 0; i < THREADS; i++) {
@@ -419,7 +421,7 @@ static void test_refusals(void) {
     static const int order[] = {1, 0};
     void *closed = closed_store(order, 2), *one[1], *nine[9];
     uint64_t count, *words = image_of(&closed, 0, &count), root = words[5];
-    uint64_t *region = words + HEAD + REGION * (root % 4);
+    uint64_t *region = words + HEAD + REGION * (root % 4), *other = words + HEAD + REGION * ((root + 1) % 4);
     struct {
         uint64_t *word, mask;
         int status;
@@ -442,7 +444,14 @@ static void test_refusals(void) {
         {region + 8, (uint64_t)1 << 41, GITHOPPU_IMAGE_NUMBERS},  /* a result's number */
         {words + 6, 1, GITHOPPU_NO_IMAGE},                        /* a last word of the head */
         {words + 7, (uint64_t)1 << 63, GITHOPPU_NO_IMAGE},        /* the other */
+        {region + 9, 99 ^ GITHOPPU_SUM, GITHOPPU_IMAGE_BODY},     /* the kind of a kept reply */
+        {region + 13, 1, GITHOPPU_IMAGE_BODY},                    /* a word of it that is 0 */
+        {region + 152, UINT64_MAX, GITHOPPU_IMAGE_BODY},          /* its last word */
+        {region + 145 + 9, 4 ^ GITHOPPU_REPLACED, GITHOPPU_DONE}, /* another reply is one */
+        {other + 9, 99, GITHOPPU_DONE},                           /* a replica that the root does not name is not read */
     };
+    uint64_t kept[144], number;
+    githoppu_words reply;
     size_t i;
     for (i = 0; i < sizeof turned / sizeof *turned; i++) {
         one[0] = one;
@@ -453,6 +462,13 @@ static void test_refusals(void) {
         if (turned[i].status == GITHOPPU_DONE)
             githoppu_give_up(one, 1);
     }
+    /* the words of a malformed operation's reply are a reply */
+    memcpy(kept, region + 9, sizeof kept);
+    memset(region + 9, 0, sizeof kept);
+    CHECK(recover_one(words, count, one) == GITHOPPU_DONE);
+    githoppu_give_up(one, 1);
+    CHECK(githoppu_outcome(words, count, 0, &number, reply.word) == GITHOPPU_DONE && number == 2 && reply.word[0] == GITHOPPU_NO_OPERATION);
+    memcpy(region + 9, kept, sizeof kept);
     CHECK(recover_one(words, count - 1, one) == GITHOPPU_IMAGE_SIZE);
     CHECK(recover_one(words, 7, one) == GITHOPPU_NO_IMAGE && recover_one(words, 0, one) == GITHOPPU_NO_IMAGE);
     CHECK(githoppu_recover_queue(words, count, one, 1) == GITHOPPU_OTHER_KIND);
@@ -463,12 +479,150 @@ static void test_refusals(void) {
     __real_free(words);
 }
 
+/* A refusal of an outcome writes nothing, and is the number of the recovery's. */
+static void test_outcome_refusals(void) {
+    static const int order[] = {0};
+    void *closed = closed_store(order, 1);
+    uint64_t count, *words = image_of(&closed, 0, &count), number = 7;
+    uint64_t *region = words + HEAD + REGION * (words[5] % 2);
+    githoppu_words reply;
+    reply.word[143] = 7;
+    CHECK(githoppu_outcome(words, count, 8, &number, reply.word) == GITHOPPU_BAD_SIZE);
+    CHECK(githoppu_outcome(words, count, UINT64_MAX, &number, reply.word) == GITHOPPU_BAD_SIZE);
+    CHECK(githoppu_outcome(words, 7, 0, &number, reply.word) == GITHOPPU_NO_IMAGE);
+    CHECK(githoppu_outcome(words, count - 1, 0, &number, reply.word) == GITHOPPU_IMAGE_SIZE);
+    words[2] = 2;
+    CHECK(githoppu_outcome(words, count, 0, &number, reply.word) == GITHOPPU_IMAGE_VERSION);
+    words[2] = 3;
+    CHECK(githoppu_outcome(words, count, 0, &number, reply.word) == GITHOPPU_NO_IMAGE);
+    words[2] = 1;
+    region[9] = 99;
+    CHECK(githoppu_outcome(words, count, 1, &number, reply.word) == GITHOPPU_IMAGE_BODY);
+    CHECK(number == 7 && reply.word[143] == 7);
+    githoppu_give_up(&closed, 1);
+    __real_free(words);
+}
+
+/* The number and the kind of a session's last update. */
+static int is_outcome(const uint64_t *words, uint64_t count, uint64_t session, uint64_t number, int kind) {
+    uint64_t found = 99;
+    githoppu_words reply;
+    memset(&reply, 99, sizeof reply);
+    CHECK(githoppu_outcome(words, count, session, &found, reply.word) == GITHOPPU_DONE);
+    return found == number && reply.word[0] == (uint64_t)kind;
+}
+
+/* Updates are counted, malformed ones too and reads not; the numbers go on after a recovery, with other sessions. */
+static void test_outcomes(void) {
+    void *s[3], *closed;
+    githoppu_words reply;
+    uint64_t count, *words;
+    int i;
+    CHECK(githoppu_open(LINES, s, 3) == GITHOPPU_DONE);
+    DO(githoppu_put(&s[0], "fruit", "1", 1, &reply), GITHOPPU_NEW);
+    DO(githoppu_get(&s[0], "fruit", &reply), GITHOPPU_DOC);
+    DO(githoppu_add(&s[0], "fruit", 4, &reply), GITHOPPU_SUM);
+    DO(githoppu_count(&s[0], &reply), GITHOPPU_COUNT);
+    DO(githoppu_put(&s[1], "", "1", 1, &reply), GITHOPPU_NO_OPERATION);
+    CHECK(githoppu_close_all(s, 3, &closed) == GITHOPPU_DONE);
+    words = image_of(&closed, 1, &count);
+    githoppu_give_up(&closed, 1);
+    CHECK(is_outcome(words, count, 0, 2, GITHOPPU_SUM));
+    CHECK(is_outcome(words, count, 1, 1, GITHOPPU_NO_OPERATION));
+    for (i = 2; i < 8; i++)
+        CHECK(is_outcome(words, count, (uint64_t)i, 0, GITHOPPU_NO_OPERATION));
+    CHECK(recover_one(words, count, s) == GITHOPPU_DONE);
+    __real_free(words);
+    DO(githoppu_del(s, "fruit", &reply), GITHOPPU_DELETED);
+    CHECK(githoppu_close_all(s, 1, &closed) == GITHOPPU_DONE);
+    words = image_of(&closed, 0, &count);
+    githoppu_give_up(&closed, 1);
+    CHECK(is_outcome(words, count, 0, 3, GITHOPPU_DELETED));
+    CHECK(is_outcome(words, count, 1, 1, GITHOPPU_NO_OPERATION));
+    __real_free(words);
+    /* of a queue */
+    CHECK(githoppu_open_queue(LINES, s, 2) == GITHOPPU_DONE);
+    DO(githoppu_push(&s[0], "text", &reply), GITHOPPU_PUSHED);
+    DO(githoppu_peek(&s[1], &reply), GITHOPPU_TEXT);
+    DO(githoppu_pop(&s[1], &reply), GITHOPPU_TEXT);
+    DO(githoppu_pop(&s[0], &reply), GITHOPPU_EMPTY);
+    CHECK(githoppu_close_all(s, 2, &closed) == GITHOPPU_DONE);
+    words = image_of(&closed, 0, &count);
+    githoppu_give_up(&closed, 1);
+    CHECK(is_outcome(words, count, 0, 2, GITHOPPU_EMPTY));
+    CHECK(is_outcome(words, count, 1, 1, GITHOPPU_TEXT));
+    __real_free(words);
+}
+
+/* Adds in one try at a time until an addition is pending, and leaves it so: a crash in the middle of an update. */
+static void *add_until_pending(void *at) {
+    struct worker *w = (struct worker *)at;
+    githoppu_words op, reply;
+    void *closed = NULL;
+    int i, status;
+    githoppu_document_op(&op, 3, "sold", "", 0, 1);
+    for (i = 0; i < 200 && w->pending == 0;) {
+        githoppu_handle handle;
+        handle.at = w->session;
+        status = githoppu_call(handle, op.word, reply.word, 1, &w->session);
+        if (status == GITHOPPU_DONE)
+            w->answered++;
+        else if (status == GITHOPPU_PENDING)
+            w->pending = 1;
+        else if (status != GITHOPPU_AGAIN && status != GITHOPPU_FULL)
+            w->wrong = 6;
+        i += status == GITHOPPU_DONE;
+    }
+    status = githoppu_close_one(&w->session, &closed);
+    if (status != GITHOPPU_OTHERS && status != GITHOPPU_DONE)
+        w->wrong = 7;
+    w->session = closed;
+    return NULL;
+}
+
+/* After crashes in the middle of updates, the outcomes say of each session which of its updates took effect: all that were acknowledged, perhaps the pending one,
+ * and together as many as the recovered store says. */
+static void test_outcomes_after_crashes(void) {
+    int round, i, some = 0;
+    for (round = 0; round < (adds < ADDS ? 10 : 100); round++) {
+        void *sessions[THREADS], *one[1], *closed = NULL;
+        struct worker workers[THREADS];
+        githoppu_words reply;
+        uint64_t count, *words, choice;
+        CHECK(githoppu_open(LINES, sessions, THREADS) == GITHOPPU_DONE);
+        on_threads(workers, sessions, add_until_pending);
+        for (i = 0; i < THREADS; i++)
+            if (sessions[i] != NULL)
+                closed = sessions[i];
+        CHECK(closed != NULL);
+        for (choice = 0; choice < 6; choice++) {
+            uint64_t number, sum = 0;
+            words = image_of(&closed, choice, &count);
+            for (i = 0; i < THREADS; i++) {
+                CHECK(githoppu_outcome(words, count, (uint64_t)i, &number, reply.word) == GITHOPPU_DONE);
+                CHECK(number == workers[i].answered || (workers[i].pending && number == workers[i].answered + 1));
+                CHECK(reply.word[0] == (uint64_t)(number == 0 ? GITHOPPU_NO_OPERATION : GITHOPPU_SUM));
+                some += number > workers[i].answered;
+                sum += number;
+            }
+            CHECK(recover_one(words, count, one) == GITHOPPU_DONE);
+            DO(githoppu_add(one, "sold", 0, &reply), GITHOPPU_SUM);
+            CHECK((uint64_t)githoppu_sum(&reply) == sum);
+            githoppu_give_up(one, 1);
+            __real_free(words);
+        }
+        githoppu_give_up(&closed, 1);
+    }
+    /* some update was pending and took effect: else this test would show nothing */
+    CHECK(some > 0);
+}
+
 /* Every status and every kind of reply has a text of its own, and what is none has another. */
 static void test_texts(void) {
     int i, k;
     CHECK(githoppu_check_version() == GITHOPPU_DONE && githoppu_version() == GITHOPPU_VERSION);
     CHECK(strcmp(GITHOPPU_VERSION_TEXT, "0.2.0") == 0 && GITHOPPU_VERSION == 2000);
-    for (i = GITHOPPU_DONE; i <= GITHOPPU_OLD_LIBRARY + 1; i++)
+    for (i = GITHOPPU_DONE; i <= GITHOPPU_BEHIND + 1; i++)
         for (k = GITHOPPU_DONE; k < i; k++)
             CHECK(strcmp(githoppu_status_text(i), githoppu_status_text(k)) != 0);
     for (i = 0; i <= GITHOPPU_REVISION + 1; i++)
@@ -686,6 +840,18 @@ static void test_closing_refused(void) {
     DO(githoppu_get(s, "sold", &reply), GITHOPPU_DOC);
     githoppu_give_up(s, 1);
     CHECK(taken - given == before);
+    status = GITHOPPU_NO_MEMORY;
+    for (which = 1; status == GITHOPPU_NO_MEMORY; which++) {
+        uint64_t number = 7;
+        refused_at = taken + which;
+        status = githoppu_outcome(words, count, 0, &number, reply.word);
+        if (status == GITHOPPU_NO_MEMORY) {
+            CHECK(taken >= refused_at && taken - given == before + 1 && number == 7);
+            given++;
+        }
+    }
+    refused_at = 0;
+    CHECK(status == GITHOPPU_DONE && which > 2 && taken - given == before);
     __real_free(words);
     /* a store that is not closed for want of memory is given up */
     CHECK(githoppu_open_queue(LINES, s, 1) == GITHOPPU_DONE);
@@ -713,11 +879,14 @@ int main(int count, char **words) {
     test_closing_orders();
     test_closing_turns();
     test_refusals();
+    test_outcome_refusals();
+    test_outcomes();
     test_queue_image();
     test_places_in_turn();
     test_catching_up();
     test_closing_refused();
     test_closing_threads();
+    test_outcomes_after_crashes();
     test_adding_threads();
     test_queue_threads();
     puts("the C tests passed");

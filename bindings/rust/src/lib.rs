@@ -21,17 +21,20 @@
 //! last.add("sold", 4)?;
 //! let githoppu::Closing::Closed(mut closed) = last.close() else { panic!() };
 //! let image = closed.image(0)?;
+//! assert_eq!(image.outcome(0)?.unwrap().number, 1);
 //! let mut again = githoppu::Store::recover(&image, 2)?;
 //! assert_eq!(again[1].get("sold")?, Some("4".to_string()));
 //! # Ok::<(), githoppu::Error>(())
 //! ```
 
 mod file;
+mod outcome;
 mod raw;
 mod session;
 mod words;
 
 pub use file::FileError;
+pub use outcome::{Outcome, Reply};
 use session::{Ended, Pointer};
 use std::fmt;
 use std::ops::{Deref, DerefMut};
@@ -50,7 +53,7 @@ pub fn library_version() -> String {
 /// Why there is no answer. Nothing is changed by a call that ends with one.
 #[derive(Clone, Copy, Debug, PartialEq, Eq)]
 pub enum Error {
-    /// The lines are not 64 to 16,384, or the sessions not 1 to 8.
+    /// The lines are not 64 to 16,384, the sessions not 1 to 8, or a session's number not 0 to 7.
     BadSize,
     /// There is no memory.
     NoMemory,
@@ -82,7 +85,7 @@ pub enum Error {
     ImageVersion,
     /// The place in the replica that the root names is not the root's.
     ImagePlace,
-    /// A session without a number has a result in that replica, or its documents or texts are none that the library writes.
+    /// A result in that replica is no reply of such an object, or its documents or texts are none that the library writes.
     ImageBody,
     /// A result there has a number above the place.
     ImageNumbers,
@@ -205,6 +208,14 @@ impl Closed {
 pub struct Image(Vec<u64>);
 
 impl Image {
+    /// What became of the last update of a session, 0 to 7: which it was, and its reply, or `None` where it had none. After a crash this tells
+    /// whether an update that was not acknowledged took effect.
+    pub fn outcome(&self, session: usize) -> Result<Option<Outcome>, Error> {
+        let kind = self.0.get(2).copied().unwrap_or(0);
+        let (number, reply) = raw::outcome_of(&self.0, session as u64).map_err(Error::of)?;
+        Ok((number > 0).then(|| Outcome { number, reply: outcome::reply_in(kind, &reply) }))
+    }
+
     /// Saves it to a file, as `Closed::save` does.
     pub fn save(&self, path: impl AsRef<Path>) -> Result<(), FileError> {
         file::save(path.as_ref(), &self.0)

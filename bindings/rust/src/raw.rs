@@ -41,6 +41,7 @@ extern "C" {
     pub fn githoppu_image(closed: Handle, choice: u64, words: *mut u64, count: usize, needed: *mut u64, out: *mut *mut c_void) -> i32;
     pub fn githoppu_recover(words: *const u64, words_count: usize, sessions: *mut *mut c_void, count: usize) -> i32;
     pub fn githoppu_recover_queue(words: *const u64, words_count: usize, sessions: *mut *mut c_void, count: usize) -> i32;
+    pub fn githoppu_outcome(words: *const u64, words_count: usize, session: u64, number: *mut u64, reply: *mut Words) -> i32;
     pub fn githoppu_version() -> u64;
     pub fn githoppu_drop(session: Handle);
 }
@@ -48,4 +49,14 @@ extern "C" {
 /// A million times the first number of the library's version, a thousand times the second, and the third.
 pub fn library_version() -> u64 {
     unsafe { githoppu_version() }
+}
+
+/// The number of a session's last update and its reply, as the words of an image say, or the status with which the words are refused.
+pub fn outcome_of(words: &[u64], session: u64) -> Result<(u64, Words), i32> {
+    let mut number = 0;
+    let mut reply = [0; 144];
+    match unsafe { githoppu_outcome(words.as_ptr(), words.len(), session, &mut number, &mut reply) } {
+        DONE => Ok((number, reply)),
+        status => Err(status),
+    }
 }

@@ -1,6 +1,6 @@
-//! Images in files.
+//! Images in files, and what became of updates.
 
-use githoppu::{Add, Closed, Closing, Error, FileError, Image, Queue, Store};
+use githoppu::{Add, Closed, Closing, Error, FileError, Image, Outcome, Put, Queue, Reply, Store};
 use std::fs;
 use std::io;
 use std::path::PathBuf;
@@ -135,6 +135,34 @@ fn faults_of_the_system_are_told() {
     // nothing is made of a fault, and the store is still there
     closed.save(folder.join("file")).unwrap();
     assert_eq!(sold_in(&folder.join("file")), Some("1".to_string()));
+}
+
+#[test]
+fn outcomes_are_told() {
+    let mut sessions = Store::open(64, 3).unwrap();
+    assert_eq!(sessions[0].put("fruit", "1"), Ok(Put::New));
+    assert_eq!(sessions[0].get("fruit"), Ok(Some("1".to_string())));
+    assert_eq!(sessions[0].add("fruit", 4), Ok(Add::Sum(5)));
+    assert_eq!(sessions[1].put("", "1"), Err(Error::NoOperation));
+    let mut closed = last_closed(sessions.into_iter().map(|session| session.close()));
+    let mut image = closed.image(1).unwrap();
+    assert_eq!(image.outcome(0), Ok(Some(Outcome { number: 2, reply: Reply::Sum(5) })));
+    assert_eq!(image.outcome(1), Ok(Some(Outcome { number: 1, reply: Reply::NoOperation })));
+    assert_eq!(image.outcome(2), Ok(None));
+    assert_eq!(image.outcome(7), Ok(None));
+    assert_eq!(image.outcome(8), Err(Error::BadSize));
+    assert_eq!(Image::from(vec![]).outcome(0), Err(Error::NoImage));
+    image[2] = 3;
+    assert_eq!(image.outcome(0), Err(Error::NoImage));
+    let mut sessions = Queue::open(64, 2).unwrap();
+    assert_eq!(sessions[0].push("text"), Ok(true));
+    assert_eq!(sessions[1].peek(), Ok(Some("text".to_string())));
+    assert_eq!(sessions[1].pop(), Ok(Some("text".to_string())));
+    assert_eq!(sessions[1].pop(), Ok(None));
+    let image = last_closed(sessions.into_iter().map(|session| session.close())).image(0).unwrap();
+    assert_eq!(image.outcome(0), Ok(Some(Outcome { number: 1, reply: Reply::Pushed })));
+    assert_eq!(image.outcome(1), Ok(Some(Outcome { number: 2, reply: Reply::Empty })));
+    assert_eq!(Queue::recover(&image, 1).unwrap()[0].push("more"), Ok(true));
 }
 
 #[test]

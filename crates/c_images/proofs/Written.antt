@@ -1,16 +1,16 @@
 -- What is written is what a loss of power leaves, and is taken up.
-use Rattle.std.proofs.Common.{◌≡◌, ◌≢◌, ◌+◌, ◌<◌, ◌≤◌, ◌∙◌, ℕ, List, Bool, Result, Ok, Err, length, ap, sym, subst, refl, arith}
-use Rattle.std.specs.Prelude.{MatchResult, slice_index}
+use Rattle.std.proofs.Common.{◌≡◌, ◌<◌, ◌≤◌, ◌∙◌, ℕ, List, Result, Ok, Err, ap, sym, subst, refl, arith}
+use Rattle.std.specs.Prelude.{MatchResult}
 use Rattle.cx_base.specs.OldFormat.{OldFormat}
 use Rattle.cx_core.specs.declared.entry.Base.{Base}
 use Rattle.cx_core.specs.declared.entry.Image.{Image}
 use Rattle.cx_table.specs.declared.remains.Remains.{Remains}
-use Rattle.recovery.specs.Crashes.{IsLeftOf, IsWhole, left_word}
-use Rattle.recovery.specs.Images.{Gives, image_size, image_word}
+use Rattle.recovery.specs.Crashes.{IsLeftOf, IsWhole}
+use Rattle.recovery.specs.Images.{image_size}
 use Rattle.recovery.specs.Recovery.{IsFaultOf, IsRecovered, NumbersWithin}
 use Rattle.recovery.specs.declared.recovering.ImageFault.{ImageFault}
 use Rattle.recovery.specs.declared.recovering.ImageFault.TheVariants.{Memory}
-use Rattle.c_images.specs.Words.{HasNumberAbove, IsHeaded, IsRefused, IsTakenUp, IsKind, IsWordsFault, IsWritten, Says, kind_in}
+use Rattle.c_images.specs.Words.{IsHeaded, IsTakenUp, IsKind, IsWordsFault, IsWritten, Says}
 use Rattle.c_images.specs.declared.reading.WordsFault.{WordsFault}
 use Rattle.c_images.specs.declared.reading.WordsFault.TheVariants.{Head, Kind, Image as ImageRefused, Numbers}
 

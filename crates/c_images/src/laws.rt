@@ -1,17 +1,18 @@
 //! That what is written is taken up.
 
-ghost use Rattle.std.specs.Prelude.{◌≡◌, ℕ, List, MatchResult};
+ghost use Rattle.std.specs.Prelude.{◌≡◌, ◌<◌, ℕ, List, MatchResult};
 ghost use Rattle.cx_rule.specs.Running.{Running, instance_at};
 ghost use Rattle.cx_rule.specs.Seats.{Seated};
 ghost use Rattle.cx_table.specs.Remains.{Leaves};
 ghost use Rattle.recovery.specs.Crashes.{IsWhole};
 ghost use Rattle.recovery.specs.Kept.{IsKeptBy, IsOpened};
+ghost use Rattle.recovery.specs.Outcomes.{TellsOutcome};
 ghost use Rattle.recovery.specs.declared.recovering.ImageFault.TheVariants.{Memory};
 ghost use Rattle.c_images.specs.Words.{IsHeaded, IsKind, IsTakenUp, IsWordsFault, IsWritten, kind_in};
 ghost use Rattle.c_images.specs.declared.reading.WordsFault.TheVariants.{Image};
 
 use cx_base::Object;
-use recovery::{closed_tables_are_whole, closed_tables_recover};
+use recovery::{closed_tables_are_whole, closed_tables_recover, kept_bases_tell_outcomes};
 
 /// Words that `write_image` wrote of a closed service have a head of that kind, and `base_of` refuses them only for want of memory. What it takes up
 /// holds each answer that the service's callers were given: it is the full image of the history after the root's place.
@@ -26,4 +27,16 @@ pub fn written_images_are_taken_up<O: Object>()
 {
     closed_tables_are_whole::<O>();
     closed_tables_recover::<O>();
+}
+
+/// What is taken up of words that `write_image` wrote of a closed service says of each caller the number of its last entry below the root's place and the
+/// history's reply to it, and of a caller that has none there what the service was opened with.
+pub fn written_images_tell_outcomes<O: Object>()
+    ensures { (table : Running O) (seats : List Seated) (r : _) (kind choice caller : ℕ) (words : List ℕ) (base : _) →
+        IsOpened O.line_count O.lawful table → Leaves table (instance_at table O.step O.only_reads) seats r → IsWritten kind r choice words →
+        IsTakenUp (O.version_number table.object) (O.lawful table.object) (O.old_format table.object) words base → caller < 8 →
+        TellsOutcome (O.step table.object) table.base r.trail.history base caller }
+{
+    written_images_are_taken_up::<O>();
+    kept_bases_tell_outcomes::<O>();
 }

@@ -12,9 +12,11 @@
 mod head;
 mod laws;
 mod reading;
+mod replies;
 mod writing;
 
 pub use head::{Head, head_of};
-pub use laws::written_images_are_taken_up;
+pub use laws::{written_images_are_taken_up, written_images_tell_outcomes};
 pub use reading::{WordsFault, base_of};
+pub use replies::{holds_document_replies, holds_queue_replies};
 pub use writing::{image_words, write_image};

@@ -1,11 +1,14 @@
 -- What the definitions of sessions and of images say of the two objects.
-use Rattle.std.specs.Prelude.{ℕ, List}
+use Rattle.std.specs.Prelude.{◌≡◌, ◌⊎◌, ℕ, List}
 use Rattle.cx_base.specs.OldFormat.{no_old_format}
 use Rattle.cx_core.specs.declared.entry.Base.{Base}
 use Rattle.cx_rule.specs.Running.{Running}
 use Rattle.cx_table.specs.declared.remains.Remains.{Remains}
+use Rattle.c_images.specs.Replies.{HoldsReplies, IsDocumentReply, IsQueueReply}
 use Rattle.c_images.specs.Words.{IsTakenUp, IsWordsFault, lines_in}
 use Rattle.c_images.specs.declared.reading.WordsFault.{WordsFault}
+use Rattle.c_images.specs.declared.reading.WordsFault.TheVariants.{Image}
+use Rattle.recovery.specs.declared.recovering.ImageFault.TheVariants.{Body}
 use Rattle.c_sessions.specs.Closings.{ClosesTo, Closes, IsClosedOf}
 use Rattle.c_sessions.specs.declared.closing.Closing.{Closing}
 use Rattle.c_sessions.specs.declared.session.Session.{Session}
@@ -28,15 +31,26 @@ ClosesStore = Closes (λ (s : DocStore). s.lines) (λ s. IsImage s.lines) (λ s.
 abbrev pub ClosesQueue : Session Fifo → Closing Fifo → Type 0
 ClosesQueue = Closes (λ (f : Fifo). f.lines) (λ f. IsFifo f.lines) (λ f. fifo_step f.lines) (λ _. fifo_reads)
 
--- what is taken up from words of a store and of a queue, and why nothing is
+-- what is taken up from words: what `c_images` takes up, in which each result with a number keeps a reply of this kind
+abbrev pub IsBaseWith : (List ℕ → Type 0) → (Base → Type 0) → Base → Type 0
+IsBaseWith is taken base = taken base × HoldsReplies is base.words
+
+-- why nothing is: the words are refused, or a result of what they say is no reply
+abbrev pub IsFaultOr : (List ℕ → Type 0) → (Base → Type 0) → (WordsFault → Type 0) → WordsFault → Type 0
+IsFaultOr is taken faulty fault = faulty fault ⊎ ((fault ≡ Image Body) × ((base : Base) × taken base × (¬ HoldsReplies is base.words)))
+
+-- of a store and of a queue
 abbrev pub IsStoreIn : List ℕ → Base → Type 0
-IsStoreIn words = IsTakenUp 2 (IsImage (lines_in words)) (first_format (lines_in words)) words
+IsStoreIn words = IsBaseWith IsDocumentReply (IsTakenUp 2 (IsImage (lines_in words)) (first_format (lines_in words)) words)
 
 abbrev pub IsStoreFault : List ℕ → WordsFault → Type 0
-IsStoreFault words = IsWordsFault 2 (IsImage (lines_in words)) (first_format (lines_in words)) words
+IsStoreFault words =
+    IsFaultOr IsDocumentReply (IsTakenUp 2 (IsImage (lines_in words)) (first_format (lines_in words)) words)
+    (IsWordsFault 2 (IsImage (lines_in words)) (first_format (lines_in words)) words)
 
 abbrev pub IsQueueIn : List ℕ → Base → Type 0
-IsQueueIn words = IsTakenUp 16 (IsFifo (lines_in words)) no_old_format words
+IsQueueIn words = IsBaseWith IsQueueReply (IsTakenUp 16 (IsFifo (lines_in words)) no_old_format words)
 
 abbrev pub IsQueueFault : List ℕ → WordsFault → Type 0
-IsQueueFault words = IsWordsFault 16 (IsFifo (lines_in words)) no_old_format words
+IsQueueFault words =
+    IsFaultOr IsQueueReply (IsTakenUp 16 (IsFifo (lines_in words)) no_old_format words) (IsWordsFault 16 (IsFifo (lines_in words)) no_old_format words)

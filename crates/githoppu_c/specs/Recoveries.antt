@@ -21,6 +21,10 @@ pub record IsRefusedBy (kind : ℕ) (faulty : WordsFault → Type 0) (words : Li
   pub because : IsHeadFault kind words fault ⊎ faulty fault
   pub is : code ≡ fault_code fault
 
+-- words with a head are refused, with the number of their fault
+abbrev pub IsRefusal : (WordsFault → Type 0) → ℤ → Type 0
+IsRefusal faulty code = (fault : WordsFault) × faulty fault × (code ≡ fault_code fault)
+
 -- why nothing is recovered: there would be no sessions or too many, the words are refused, or there is no memory
 abbrev pub RefusesWords : ℕ → (WordsFault → Type 0) → List ℕ → ℕ → ℤ → Type 0
 RefusesWords kind faulty words count code = ((¬ AreFew count) × (code ≡ pos 7)) ⊎ (AreFew count × (IsRefusedBy kind faulty words code ⊎ (code ≡ pos 8)))

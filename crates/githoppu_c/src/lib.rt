@@ -7,6 +7,7 @@ ghost use Rattle.githoppu_c.specs.Closings.{ClosesAs, Images};
 ghost use Rattle.githoppu_c.specs.Contents.{Answers, Calls, Finishes, IsCallable, IsTriesFor, Opens};
 ghost use Rattle.githoppu_c.specs.Places.{AnswersSight, TellsPlace};
 ghost use Rattle.githoppu_c.specs.Objects.{IsQueueFault, IsQueueIn, IsStoreFault, IsStoreIn};
+ghost use Rattle.githoppu_c.specs.Outcomes.{TellsOutcome};
 ghost use Rattle.githoppu_c.specs.Recoveries.{Recovers};
 ghost use Rattle.githoppu_c.specs.declared.content.Content as content_type;
 
@@ -15,6 +16,7 @@ mod content;
 mod handle;
 mod images;
 mod opening;
+mod outcomes;
 mod raw_box;
 mod recovering;
 
@@ -22,8 +24,10 @@ use crate::codes::{DONE, LOST, OTHERS, OUT_OF_TURN, code_of, sight_code};
 use crate::content::Content;
 use crate::handle::Handle;
 use crate::opening::{hand_out, open_documents, open_queue};
+use crate::outcomes::outcome_in;
 use crate::recovering::{recover_documents, recover_queue};
 use c_sessions::Tries;
+use recovery::Outcome;
 use std::alloc::Global;
 use std::{mem, ptr};
 
@@ -168,6 +172,38 @@ pub extern "C" fn githoppu_recover_queue(
     match recover_queue(alloc, words, sessions.len()) {
         Ok(made) => {
             hand_out(made, sessions);
+            DONE
+        }
+        Err(code) => code,
+    }
+}
+
+/// What became of the last operation of a session, as the words of an image of a store or a queue say: its number among the session's operations and its
+/// reply, or number 0 and no reply where it had none. Where it is refused, nothing is written.
+#[unsafe(no_mangle)]
+pub extern "C" fn githoppu_outcome(
+    alloc: Global,
+    words: &[u64],
+    session: u64,
+    number: &mut u64,
+    reply: &mut [u64; 144],
+) -> i32
+    ensures { TellsOutcome words.now session number.old number.new reply.old reply.new result }
+{
+    match outcome_in(alloc, words, session) {
+        Ok(Outcome::Never) => {
+            *number = 0;
+            *reply = [0; 144];
+            DONE
+        }
+        Ok(
+            Outcome::Applied {
+                number: last,
+                reply: answer,
+            },
+        ) => {
+            *number = last;
+            *reply = answer;
             DONE
         }
         Err(code) => code,

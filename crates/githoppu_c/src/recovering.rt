@@ -1,16 +1,21 @@
 //! Sessions of a service that is taken up from words.
 
-ghost use Rattle.std.specs.Prelude.{◌↔◌, IsTrue, MatchResult, length};
+ghost use Rattle.std.specs.Prelude.{◌≡◌, ◌↔◌, IfOk, IsTrue, MatchResult, length};
+ghost use Rattle.cx_core.specs.Base.{LawfulBase};
+ghost use Rattle.doc_store.specs.ExactStep.{IsImage};
+ghost use Rattle.fifo_object.specs.Fifo.{IsFifo};
+ghost use Rattle.c_images.specs.Words.{IsSaid, lines_in};
 ghost use Rattle.githoppu_c.specs.Contents.{IsQueueOf, IsStoreOf};
 ghost use Rattle.githoppu_c.specs.Objects.{IsQueueFault, IsQueueIn, IsStoreFault, IsStoreIn};
-ghost use Rattle.githoppu_c.specs.Recoveries.{AreFew, AreRecovered, RefusesWords};
+ghost use Rattle.githoppu_c.specs.Recoveries.{AreFew, AreRecovered, IsRefusal, RefusesWords};
 
-use crate::codes::{BAD_SIZE, NO_MEMORY, fault_code};
+use crate::codes::{BAD_SIZE, IMAGE_BODY, NO_MEMORY, fault_code};
 use crate::content::Content;
 use crate::images::{DOCUMENTS, QUEUE};
 use crate::opening::{as_documents, as_queue};
-use c_images::{base_of, head_of};
+use c_images::{Head, base_of, head_of, holds_document_replies, holds_queue_replies};
 use c_sessions::open_from;
+use cx_core::Base;
 use doc_store::DocStore;
 use fifo_object::Fifo;
 use std::alloc::Global;
@@ -30,12 +35,8 @@ pub fn recover_documents(
         Ok(head) => head,
         Err(fault) => return Err(fault_code(fault)),
     };
-    let object = DocStore::of(head.lines);
-    let base = match base_of(alloc, &object, words, head) {
-        Ok(base) => base,
-        Err(fault) => return Err(fault_code(fault)),
-    };
-    let Ok(sessions) = open_from(alloc, object, count as u32, &base) else {
+    let base = documents_in(alloc, words, head)?;
+    let Ok(sessions) = open_from(alloc, DocStore::of(head.lines), count as u32, &base) else {
         return Err(NO_MEMORY);
     };
     match as_documents(alloc, sessions) {
@@ -55,16 +56,46 @@ pub fn recover_queue(alloc: Global, words: &[u64], count: usize) -> Result<Vec<B
         Ok(head) => head,
         Err(fault) => return Err(fault_code(fault)),
     };
-    let object = Fifo::of(head.lines);
-    let base = match base_of(alloc, &object, words, head) {
-        Ok(base) => base,
-        Err(fault) => return Err(fault_code(fault)),
-    };
-    let Ok(sessions) = open_from(alloc, object, count as u32, &base) else {
+    let base = queue_in(alloc, words, head)?;
+    let Ok(sessions) = open_from(alloc, Fifo::of(head.lines), count as u32, &base) else {
         return Err(NO_MEMORY);
     };
     match as_queue(alloc, sessions) {
         Ok(contents) => Ok(contents),
+        Err(_) => Err(NO_MEMORY),
+    }
+}
+
+/// The base that words with this head say of a document store.
+pub(crate) fn documents_in(alloc: Global, words: &[u64], head: Head) -> Result<Base, i32>
+    requires { IsSaid words.now head }
+    ensures told { MatchResult result (IsStoreIn words.now) (IsRefusal (IsStoreFault words.now)) }
+    ensures lawful { IfOk result (LawfulBase head.lines (IsImage head.lines)) }
+{
+    let base = match base_of(alloc, &DocStore::of(head.lines), words, head) {
+        Ok(base) => base,
+        Err(fault) => return Err(fault_code(fault)),
+    };
+    match holds_document_replies(alloc, &base) {
+        Ok(true) => Ok(base),
+        Ok(false) => Err(IMAGE_BODY),
+        Err(_) => Err(NO_MEMORY),
+    }
+}
+
+/// The base that words with this head say of a queue.
+pub(crate) fn queue_in(alloc: Global, words: &[u64], head: Head) -> Result<Base, i32>
+    requires { IsSaid words.now head }
+    ensures told { MatchResult result (IsQueueIn words.now) (IsRefusal (IsQueueFault words.now)) }
+    ensures lawful { IfOk result (LawfulBase head.lines (IsFifo head.lines)) }
+{
+    let base = match base_of(alloc, &Fifo::of(head.lines), words, head) {
+        Ok(base) => base,
+        Err(fault) => return Err(fault_code(fault)),
+    };
+    match holds_queue_replies(alloc, &base) {
+        Ok(true) => Ok(base),
+        Ok(false) => Err(IMAGE_BODY),
         Err(_) => Err(NO_MEMORY),
     }
 }

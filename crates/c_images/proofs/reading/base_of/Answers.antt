@@ -1,5 +1,4 @@
-use Rattle.std.proofs.Common.{rules}
-use Rattle.c_images.proofs.Written.{refused, within}
+use Rattle.c_images.proofs.Written.{within}
 use Rattle.c_images.proofs.reading.base_of.Goals as goal
 
 pub returns-in-Ok-recover-clause-told : goal.returns-in-Ok-recover-clause-told

@@ -1,0 +1,24 @@
+-- The results that a base keeps: replies of its object, or the words that answer words of no operation.
+use Rattle.std.specs.Prelude.{◌≡◌, ◌≢◌, ◌⊎◌, ◌<◌, ℕ, List, replicate}
+use Rattle.cx_core.specs.Region.{slot_number, slot_reply}
+use Rattle.doc_model.specs.Words.{AreOfNoReply as AreOfNoDocumentReply}
+use Rattle.fifo_model.specs.Words.{AreOfNoReply as AreOfNoQueueReply}
+
+-- some reply of a document store within the limits has these words, or of a queue
+abbrev pub IsDocumentReply : List ℕ → Type 0
+IsDocumentReply words = ¬ AreOfNoDocumentReply words
+
+abbrev pub IsQueueReply : List ℕ → Type 0
+IsQueueReply words = ¬ AreOfNoQueueReply words
+
+-- what a result may keep: the words of a reply, or 144 zeros, which answer words of no operation
+abbrev pub IsKeptReply : (List ℕ → Type 0) → List ℕ → Type 0
+IsKeptReply is words = (words ≡ replicate 144 0) ⊎ is words
+
+-- a caller's result that has a number keeps such words
+abbrev pub IsSlot : (List ℕ → Type 0) → ℕ → List ℕ → Type 0
+IsSlot is caller region = slot_number caller region ≢ 0 → IsKeptReply is (slot_reply caller region)
+
+-- and so does each caller's
+abbrev pub HoldsReplies : (List ℕ → Type 0) → List ℕ → Type 0
+HoldsReplies is region = (caller : ℕ) → caller < 8 → IsSlot is caller region

@@ -1,0 +1,42 @@
+-- What became of a session's last operation, as the words of an image say.
+use Rattle.std.specs.Prelude.{◌≡◌, ◌⊎◌, ◌<◌, ◌≤◌, ℕ, ℤ, pos, List, replicate}
+use Rattle.cx_core.specs.declared.entry.Base.{Base}
+use Rattle.recovery.specs.Outcomes.{outcome_of}
+use Rattle.recovery.specs.declared.applied.Outcome.{Outcome}
+use Rattle.recovery.specs.declared.applied.Outcome.TheVariants.{Applied, Never}
+use Rattle.c_images.specs.Words.{IsHeadFault, IsHeaded, kind_in}
+use Rattle.c_images.specs.declared.reading.WordsFault.{WordsFault}
+use Rattle.githoppu_c.specs.Codes.{fault_code}
+use Rattle.githoppu_c.specs.Objects.{IsQueueFault, IsQueueIn, IsStoreFault, IsStoreIn}
+
+-- the base that words say, of a store or of a queue, as their head has it
+abbrev pub IsBaseIn : List ℕ → Base → Type 0
+IsBaseIn words base = IsHeaded words × (((kind_in words ≡ 1) × IsStoreIn words base) ⊎ ((kind_in words ≡ 2) × IsQueueIn words base))
+
+-- why there is none: they begin with no head, or are refused as those of their kind
+abbrev pub IsBaseFault : List ℕ → WordsFault → Type 0
+IsBaseFault words fault =
+    IsHeadFault (kind_in words) words fault ⊎ (IsHeaded words × (((kind_in words ≡ 1) × IsStoreFault words fault) ⊎ ((kind_in words ≡ 2) × IsQueueFault words fault)))
+
+-- what this base says of the session
+abbrev pub IsOutcomeIn : List ℕ → ℕ → Outcome → Type 0
+IsOutcomeIn words session outcome = (session < 8) × ((base : Base) × IsBaseIn words base × (outcome ≡ outcome_of session base))
+
+-- the words are refused, with the number of their fault
+abbrev pub RefusesBase : List ℕ → ℤ → Type 0
+RefusesBase words code = (fault : WordsFault) × IsBaseFault words fault × (code ≡ fault_code fault)
+
+-- why nothing is told: there is no such session, or the words are refused
+abbrev pub RefusesOutcome : List ℕ → ℕ → ℤ → Type 0
+RefusesOutcome words session code = ((8 ≤ session) × (code ≡ pos 7)) ⊎ ((session < 8) × RefusesBase words code)
+
+-- a number and a reply say an outcome: 0 and 144 zeros where there was no operation
+abbrev pub AreOf : Outcome → ℕ → List ℕ → Type 0
+AreOf Never number reply = (number ≡ 0) × (reply ≡ replicate 144 0)
+AreOf (Applied last answer) number reply = (number ≡ last) × (reply ≡ answer)
+
+-- the answer: the outcome is written, or what was there is left
+abbrev pub TellsOutcome : List ℕ → ℕ → ℕ → ℕ → List ℕ → List ℕ → ℤ → Type 0
+TellsOutcome words session number_before number reply_before reply code =
+    ((outcome : Outcome) × IsOutcomeIn words session outcome × AreOf outcome number reply × (code ≡ pos 0))
+    ⊎ (RefusesOutcome words session code × (number ≡ number_before) × (reply ≡ reply_before))

@@ -1,0 +1,47 @@
+//! What became of a session's last operation, as the words of an image say.
+
+ghost use Rattle.std.specs.Prelude.{◌≢◌, MatchResult};
+ghost use Rattle.c_images.specs.Words.{IsHeaded, kind_in};
+ghost use Rattle.githoppu_c.specs.Outcomes.{IsBaseIn, IsOutcomeIn, RefusesBase, RefusesOutcome};
+
+use crate::codes::{BAD_SIZE, fault_code};
+use crate::images::{DOCUMENTS, QUEUE};
+use crate::recovering::{documents_in, queue_in};
+use c_images::{WordsFault, head_of};
+use cx_core::Base;
+use recovery::{Outcome, outcome};
+use std::alloc::Global;
+
+/// What became of the last operation of a session.
+pub fn outcome_in(alloc: Global, words: &[u64], session: u64) -> Result<Outcome, i32>
+    ensures { MatchResult result (IsOutcomeIn words.now session) (RefusesOutcome words.now session) }
+{
+    if session >= 8 {
+        return Err(BAD_SIZE);
+    }
+    let base = base_in(alloc, words)?;
+    Ok(outcome(&base, session as u32))
+}
+
+/// The base that words say, of a document store or of a queue.
+fn base_in(alloc: Global, words: &[u64]) -> Result<Base, i32>
+    ensures { MatchResult result (IsBaseIn words.now) (RefusesBase words.now) }
+{
+    match head_of(words, DOCUMENTS) {
+        Ok(head) => documents_in(alloc, words, head),
+        Err(WordsFault::Kind { .. }) => queue_base(alloc, words),
+        Err(fault) => Err(fault_code(fault)),
+    }
+}
+
+/// The base that words of another kind than a store say.
+fn queue_base(alloc: Global, words: &[u64]) -> Result<Base, i32>
+    requires headed { IsHeaded words.now }
+    requires other { kind_in words.now ≢ 1 }
+    ensures { MatchResult result (IsBaseIn words.now) (RefusesBase words.now) }
+{
+    match head_of(words, QUEUE) {
+        Ok(head) => queue_in(alloc, words, head),
+        Err(fault) => Err(fault_code(fault)),
+    }
+}
