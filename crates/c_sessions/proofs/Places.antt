@@ -14,7 +14,6 @@ use Rattle.cx_service.specs.CatchUps.{HasSeen}
 use Rattle.cx_service.specs.declared.close.Handed.{Handed}
 use Rattle.cx_service.specs.declared.close.Handed.TheVariants.{Idle, Linked, Stopped}
 use Rattle.cx_service.proofs.Seeing.{answered_read_seen, catch_up_seen, driven_seen, read_behind, read_seen, submit_linked_behind, submit_seen}
-use Rattle.cx_turns.specs.declared.lookup.Seen.{Seen}
 use Rattle.c_sessions.specs.declared.seeing.Sight.{Sight}
 use Rattle.c_sessions.specs.declared.seeing.Sight.TheVariants.{Caught, Behind, Stopped as SightStopped, OutOfTurn as SightOutOfTurn}
 use Rattle.c_sessions.specs.declared.steps.Called.{Called}
@@ -60,8 +59,7 @@ module _ {O : Type 0} (r : Running O) (place : ℕ) where
   looks_goes : (op : List ℕ) (tries : ℕ) (u : Seated) (called : Called) (after : Handed) (reply : List ℕ) → IsCallerOf r u → HasSeen r.callers place u.known.local → LooksTo r op tries u called after reply →
       Goes r place (place_after called place) after
   looks_goes op tries u (Done p) (Idle v) reply caller was told =
-      let seen : Seen = record { place = p; reply = reply } in
-      record { rises = (read_behind r op u v place seen was told.0).0; seen = answered_read_seen r op u v seen told.0 }
+      record { rises = (read_behind r op u v place (record { place = p; reply = reply }) was told.0).0; seen = answered_read_seen r op u v (record { place = p; reply = reply }) told.0 }
   looks_goes op tries u Again (Idle v) reply caller was told = stays (Idle v) (read_seen r place u v caller was told.keeps)
   looks_goes op tries u CalledStopped (Stopped v) reply caller was told = stays (Stopped v) tt
   looks_goes op tries u called after reply caller was told = absurd told

@@ -10,17 +10,17 @@ returns-clause-ready g c =
     let s = c.args.self.now in
     let service = c.deref.result.now in
     let b = c.in-Some.handed in
-    let h = c.go_on.result.0 in
-    let was = stood s b h service c.deref.ensures c.requires.ready c.in-Some.is c.place_after.result in
-    let goes = subst (λ n. Goes service s.place n h) (sym c.place_after.ensures) (calls_go service s.place g.O.Object.only_reads c.args.op.now c.args.tries.count b c.go_on.result.1 h c.go_on.new.reply was.0 was.1 c.go_on.ensures.calls) in
-    ready_next s b h service c.deref.ensures c.requires.ready c.in-Some.is c.place_after.result c.go_on.ensures.ready goes
+    let h = c.go_on-handed.result.0 in
+    let was = stood s b h service c.deref.ensures c.requires.ready c.in-Some.is c.place_after-self.result in
+    let goes = subst (λ n. Goes service s.place n h) (sym c.place_after-self.ensures) (calls_go service s.place g.O.Object.only_reads c.args.op.now c.args.tries.count b c.go_on-handed.result.1 h c.go_on-handed.new.reply was.0 was.1 c.go_on-handed.ensures.calls) in
+    ready_next s b h service c.deref.ensures c.requires.ready c.in-Some.is c.place_after-self.result c.go_on-handed.ensures.ready goes
 
 pub returns-clause-calls : goal.returns-clause-calls
 returns-clause-calls g c =
     let s = c.args.self.now in
     let service = c.deref.result.now in
     let b = c.in-Some.handed in
-    let h = c.go_on.result.0 in
-    let was = stood s b h service c.deref.ensures c.requires.ready c.in-Some.is c.place_after.result in
-    let goes = subst (λ n. Goes service s.place n h) (sym c.place_after.ensures) (calls_go service s.place g.O.Object.only_reads c.args.op.now c.args.tries.count b c.go_on.result.1 h c.go_on.new.reply was.0 was.1 c.go_on.ensures.calls) in
-    stands_next s b h service c.deref.ensures c.requires.ready c.in-Some.is c.place_after.result (λ (r : Running _) x y. CallsFrom g.O.Object.only_reads r c.args.op.now c.args.tries.count x c.go_on.result.1 y c.go_on.new.reply) c.go_on.ensures.calls goes _ c.place_after.ensures
+    let h = c.go_on-handed.result.0 in
+    let was = stood s b h service c.deref.ensures c.requires.ready c.in-Some.is c.place_after-self.result in
+    let goes = subst (λ n. Goes service s.place n h) (sym c.place_after-self.ensures) (calls_go service s.place g.O.Object.only_reads c.args.op.now c.args.tries.count b c.go_on-handed.result.1 h c.go_on-handed.new.reply was.0 was.1 c.go_on-handed.ensures.calls) in
+    stands_next s b h service c.deref.ensures c.requires.ready c.in-Some.is c.place_after-self.result (λ (r : Running _) x y. CallsFrom g.O.Object.only_reads r c.args.op.now c.args.tries.count x c.go_on-handed.result.1 y c.go_on-handed.new.reply) c.go_on-handed.ensures.calls goes _ c.place_after-self.ensures

@@ -10,17 +10,17 @@ returns-clause-ready g c =
     let s = c.args.self.now in
     let service = c.deref.result.now in
     let b = c.in-Some.handed in
-    let h = c.see.result.0 in
-    let was = stood s b h service c.deref.ensures c.requires.ready c.in-Some.is c.place_seen.result in
-    let goes = subst (λ n. Goes service s.place n h) (sym c.place_seen.ensures) (sees_go service s.place c.args.place b c.see.result.1 h was.0 was.1 c.see.ensures.sees) in
-    ready_next s b h service c.deref.ensures c.requires.ready c.in-Some.is c.place_seen.result c.see.ensures.ready goes
+    let h = c.see-handed.result.0 in
+    let was = stood s b h service c.deref.ensures c.requires.ready c.in-Some.is c.place_seen-self.result in
+    let goes = subst (λ n. Goes service s.place n h) (sym c.place_seen-self.ensures) (sees_go service s.place c.args.place b c.see-handed.result.1 h was.0 was.1 c.see-handed.ensures.sees) in
+    ready_next s b h service c.deref.ensures c.requires.ready c.in-Some.is c.place_seen-self.result c.see-handed.ensures.ready goes
 
 pub returns-clause-sees : goal.returns-clause-sees
 returns-clause-sees g c =
     let s = c.args.self.now in
     let service = c.deref.result.now in
     let b = c.in-Some.handed in
-    let h = c.see.result.0 in
-    let was = stood s b h service c.deref.ensures c.requires.ready c.in-Some.is c.place_seen.result in
-    let goes = subst (λ n. Goes service s.place n h) (sym c.place_seen.ensures) (sees_go service s.place c.args.place b c.see.result.1 h was.0 was.1 c.see.ensures.sees) in
-    stands_next s b h service c.deref.ensures c.requires.ready c.in-Some.is c.place_seen.result (λ (r : Running _) x y. SeesFrom r c.args.place x c.see.result.1 y) c.see.ensures.sees goes _ c.place_seen.ensures
+    let h = c.see-handed.result.0 in
+    let was = stood s b h service c.deref.ensures c.requires.ready c.in-Some.is c.place_seen-self.result in
+    let goes = subst (λ n. Goes service s.place n h) (sym c.place_seen-self.ensures) (sees_go service s.place c.args.place b c.see-handed.result.1 h was.0 was.1 c.see-handed.ensures.sees) in
+    stands_next s b h service c.deref.ensures c.requires.ready c.in-Some.is c.place_seen-self.result (λ (r : Running _) x y. SeesFrom r c.args.place x c.see-handed.result.1 y) c.see-handed.ensures.sees goes _ c.place_seen-self.ensures

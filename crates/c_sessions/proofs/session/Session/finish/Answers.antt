@@ -10,17 +10,17 @@ returns-clause-ready g c =
     let s = c.args.self.now in
     let service = c.deref.result.now in
     let b = c.in-Some.handed in
-    let h = c.end.result.0 in
-    let was = stood s b h service c.deref.ensures c.requires.ready c.in-Some.is c.place_after.result in
-    let goes = subst (λ n. Goes service s.place n h) (sym c.place_after.ensures) (finishes_go service s.place c.args.tries.count b c.end.result.1 h c.end.new.reply was.1 c.end.ensures.finishes) in
-    ready_next s b h service c.deref.ensures c.requires.ready c.in-Some.is c.place_after.result c.end.ensures.ready goes
+    let h = c.end-handed.result.0 in
+    let was = stood s b h service c.deref.ensures c.requires.ready c.in-Some.is c.place_after-self.result in
+    let goes = subst (λ n. Goes service s.place n h) (sym c.place_after-self.ensures) (finishes_go service s.place c.args.tries.count b c.end-handed.result.1 h c.end-handed.new.reply was.1 c.end-handed.ensures.finishes) in
+    ready_next s b h service c.deref.ensures c.requires.ready c.in-Some.is c.place_after-self.result c.end-handed.ensures.ready goes
 
 pub returns-clause-finishes : goal.returns-clause-finishes
 returns-clause-finishes g c =
     let s = c.args.self.now in
     let service = c.deref.result.now in
     let b = c.in-Some.handed in
-    let h = c.end.result.0 in
-    let was = stood s b h service c.deref.ensures c.requires.ready c.in-Some.is c.place_after.result in
-    let goes = subst (λ n. Goes service s.place n h) (sym c.place_after.ensures) (finishes_go service s.place c.args.tries.count b c.end.result.1 h c.end.new.reply was.1 c.end.ensures.finishes) in
-    stands_next s b h service c.deref.ensures c.requires.ready c.in-Some.is c.place_after.result (λ (r : Running _) x y. FinishesFrom r c.args.tries.count x c.end.result.1 y c.end.new.reply) c.end.ensures.finishes goes _ c.place_after.ensures
+    let h = c.end-handed.result.0 in
+    let was = stood s b h service c.deref.ensures c.requires.ready c.in-Some.is c.place_after-self.result in
+    let goes = subst (λ n. Goes service s.place n h) (sym c.place_after-self.ensures) (finishes_go service s.place c.args.tries.count b c.end-handed.result.1 h c.end-handed.new.reply was.1 c.end-handed.ensures.finishes) in
+    stands_next s b h service c.deref.ensures c.requires.ready c.in-Some.is c.place_after-self.result (λ (r : Running _) x y. FinishesFrom r c.args.tries.count x c.end-handed.result.1 y c.end-handed.new.reply) c.end-handed.ensures.finishes goes _ c.place_after-self.ensures
