@@ -1,4 +1,4 @@
-use Rattle.std.proofs.Common.{subst, sym}
+use Rattle.std.proofs.Common.{subst, sym, ◌∙◌}
 use Rattle.std.specs.Arc.{arc_value}
 use Rattle.cx_rule.specs.Running.{Running}
 use Rattle.c_sessions.specs.Places.{SeesFrom}
@@ -11,9 +11,9 @@ returns-clause-ready g c =
     let service = c.deref.result.now in
     let b = c.in-Some.handed in
     let h = c.see-handed.result.0 in
-    let was = stood s b h service c.deref.ensures c.requires.ready c.in-Some.is c.place_seen-self.result in
+    let was = stood s b h service c.deref.ensures c.requires.ready (sym c.take.ensures.value ∙ c.in-Some.is) c.place_seen-self.result in
     let goes = subst (λ n. Goes service s.place n h) (sym c.place_seen-self.ensures) (sees_go service s.place c.args.place b c.see-handed.result.1 h was.0 was.1 c.see-handed.ensures.sees) in
-    ready_next s b h service c.deref.ensures c.requires.ready c.in-Some.is c.place_seen-self.result c.see-handed.ensures.ready goes
+    ready_next s b h service c.deref.ensures c.requires.ready (sym c.take.ensures.value ∙ c.in-Some.is) c.place_seen-self.result c.see-handed.ensures.ready goes
 
 pub returns-clause-sees : goal.returns-clause-sees
 returns-clause-sees g c =
@@ -21,6 +21,6 @@ returns-clause-sees g c =
     let service = c.deref.result.now in
     let b = c.in-Some.handed in
     let h = c.see-handed.result.0 in
-    let was = stood s b h service c.deref.ensures c.requires.ready c.in-Some.is c.place_seen-self.result in
+    let was = stood s b h service c.deref.ensures c.requires.ready (sym c.take.ensures.value ∙ c.in-Some.is) c.place_seen-self.result in
     let goes = subst (λ n. Goes service s.place n h) (sym c.place_seen-self.ensures) (sees_go service s.place c.args.place b c.see-handed.result.1 h was.0 was.1 c.see-handed.ensures.sees) in
-    stands_next s b h service c.deref.ensures c.requires.ready c.in-Some.is c.place_seen-self.result (λ (r : Running _) x y. SeesFrom r c.args.place x c.see-handed.result.1 y) c.see-handed.ensures.sees goes _ c.place_seen-self.ensures
+    stands_next s b h service c.deref.ensures c.requires.ready (sym c.take.ensures.value ∙ c.in-Some.is) c.place_seen-self.result (λ (r : Running _) x y. SeesFrom r c.args.place x c.see-handed.result.1 y) c.see-handed.ensures.sees goes _ c.place_seen-self.ensures

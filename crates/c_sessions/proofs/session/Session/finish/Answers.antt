@@ -1,4 +1,4 @@
-use Rattle.std.proofs.Common.{subst, sym}
+use Rattle.std.proofs.Common.{subst, sym, ◌∙◌}
 use Rattle.std.specs.Arc.{arc_value}
 use Rattle.cx_rule.specs.Running.{Running}
 use Rattle.c_sessions.specs.Calls.{FinishesFrom}
@@ -11,9 +11,9 @@ returns-clause-ready g c =
     let service = c.deref.result.now in
     let b = c.in-Some.handed in
     let h = c.end-handed.result.0 in
-    let was = stood s b h service c.deref.ensures c.requires.ready c.in-Some.is c.place_after-self.result in
+    let was = stood s b h service c.deref.ensures c.requires.ready (sym c.take.ensures.value ∙ c.in-Some.is) c.place_after-self.result in
     let goes = subst (λ n. Goes service s.place n h) (sym c.place_after-self.ensures) (finishes_go service s.place c.args.tries.count b c.end-handed.result.1 h c.end-handed.new.reply was.1 c.end-handed.ensures.finishes) in
-    ready_next s b h service c.deref.ensures c.requires.ready c.in-Some.is c.place_after-self.result c.end-handed.ensures.ready goes
+    ready_next s b h service c.deref.ensures c.requires.ready (sym c.take.ensures.value ∙ c.in-Some.is) c.place_after-self.result c.end-handed.ensures.ready goes
 
 pub returns-clause-finishes : goal.returns-clause-finishes
 returns-clause-finishes g c =
@@ -21,6 +21,6 @@ returns-clause-finishes g c =
     let service = c.deref.result.now in
     let b = c.in-Some.handed in
     let h = c.end-handed.result.0 in
-    let was = stood s b h service c.deref.ensures c.requires.ready c.in-Some.is c.place_after-self.result in
+    let was = stood s b h service c.deref.ensures c.requires.ready (sym c.take.ensures.value ∙ c.in-Some.is) c.place_after-self.result in
     let goes = subst (λ n. Goes service s.place n h) (sym c.place_after-self.ensures) (finishes_go service s.place c.args.tries.count b c.end-handed.result.1 h c.end-handed.new.reply was.1 c.end-handed.ensures.finishes) in
-    stands_next s b h service c.deref.ensures c.requires.ready c.in-Some.is c.place_after-self.result (λ (r : Running _) x y. FinishesFrom r c.args.tries.count x c.end-handed.result.1 y c.end-handed.new.reply) c.end-handed.ensures.finishes goes _ c.place_after-self.ensures
+    stands_next s b h service c.deref.ensures c.requires.ready (sym c.take.ensures.value ∙ c.in-Some.is) c.place_after-self.result (λ (r : Running _) x y. FinishesFrom r c.args.tries.count x c.end-handed.result.1 y c.end-handed.new.reply) c.end-handed.ensures.finishes goes _ c.place_after-self.ensures
