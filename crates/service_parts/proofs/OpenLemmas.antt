@@ -4,12 +4,13 @@ use Rattle.std.proofs.lemmas.List.FromFn.{length-map-range_with_len}
 use Rattle.cx_base.specs.declared.object.Object.{Ghosts}
 use Rattle.cx_core.specs.declared.entry.Base.{Base}
 use Rattle.cx_core.specs.Base.{LawfulBase}
-use Rattle.cx_rule.specs.Running.{Running}
+use Rattle.cx_rule.specs.Running.{Running, instance_at}
 use Rattle.cx_rule.specs.Seats.{Seated}
 use Rattle.cx_service.specs.Starts.{Starts}
 use Rattle.cx_table.specs.declared.remains.Remains.{Remains}
-use Rattle.cx_table.specs.Remains.{opening_seat}
-use Rattle.service_parts.specs.Lives.{IsOpen, IsServed, MayServe}
+use Rattle.cx_table.specs.Remains.{Leaves, opening_seat}
+use Rattle.service_parts.specs.Callers.{AreNew, TellsEach}
+use Rattle.service_parts.specs.Lives.{IsOpen, IsServed, IsServedBy, MayServe}
 
 module _ {O : Type 0} (o : Ghosts O) (object : O) where
   pub open_of : (callers : ℕ) (limits : List ℕ) (base : Base) (service : Running O) (seats : List Seated) → MayServe o object base → Starts object (o.line_count object) callers limits base service seats → IsOpen o object callers base service
@@ -39,3 +40,21 @@ module _ {O : Type 0} (o : Ghosts O) (object : O) where
 -- as many callers as were asked for
 pub count_of : {O : Type 0} (object : O) (lines callers : ℕ) (limits : List ℕ) (base : Base) (service : Running O) (seats : List Seated) → Starts object lines callers limits base service seats → length seats ≡ callers
 count_of object lines callers limits base service seats starts = ap length starts.opened ∙ length-map-range_with_len (opening_seat service limits) 0 callers
+
+-- which have made no step
+pub new_of : {O : Type 0} (object : O) (lines callers : ℕ) (limits : List ℕ) (base : Base) (service : Running O) (seats : List Seated) → Starts object lines callers limits base service seats → AreNew service callers seats
+new_of object lines callers limits base service seats starts = (limits, starts.opened)
+
+-- a service that was started from a base is served, and what was told of its callers is so
+pub told_of : {O T : Type 0} (o : Ghosts O) (object : O) (callers : ℕ) (base : Base) (tells : Running O → Seated → Seated → T → Type 0) (service : Running O) (new seats : List Seated) (told : List T) (r : Remains) → IsOpen o object callers base service
+    → AreNew service callers new → Leaves service (instance_at service o.step o.only_reads) seats r → TellsEach (tells service) new seats told → IsServedBy o object callers base tells r told
+told_of o object callers base tells service new seats told r is are_new leaves tells_so = record {
+  served = record {
+    left = record { table = service; seats = seats; object_is = is.object_is; opened = is.opened; leaves = leaves };
+    callers_are = is.callers_are;
+    base_is = is.base_is;
+  };
+  new = new;
+  are_new = are_new;
+  tells_so = tells_so;
+}

@@ -1,12 +1,13 @@
 -- Callers that are lent to workers and handed back.
-use Rattle.std.specs.Prelude.{◌≡◌, List, All}
+use Rattle.std.specs.Prelude.{◌≡◌, ℕ, List, [], ◌∷◌, All, map}
+use Rattle.std.specs.List.{range_with_len}
 use Rattle.cx_rule.specs.Running.{IsSeatOf, Running}
 use Rattle.cx_rule.specs.Seats.{Seated}
 use Rattle.cx_service.specs.Callers.{IsCallerOf}
 use Rattle.cx_service.specs.Closes.{seat_of}
 use Rattle.cx_service.specs.declared.close.Handed.{Handed}
 use Rattle.cx_service.specs.declared.close.Handed.TheVariants.{Idle, Linked, Stopped}
-use Rattle.cx_table.specs.Remains.{AreSeats}
+use Rattle.cx_table.specs.Remains.{AreSeats, opening_seat}
 
 -- the same caller of a service, in no call
 pub record IsBack {O : Type 0} (r : Running O) (before after : Seated) : Type 0 where
@@ -33,3 +34,18 @@ pub record IsHandedBy {O : Type 0} (r : Running O) (before : Seated) (handed : H
 pub record AreCallers {O : Type 0} (r : Running O) (seats : List Seated) : Type 0 where
   pub each : All (IsCallerOf r) seats
   pub all : AreSeats r seats
+
+-- What a worker comes to that was lent a caller: the caller is handed back, and what is told is so of it.
+pub record IsWorked {O T : Type 0} (r : Running O) (tells : Running O → Seated → Seated → T → Type 0) (before : Seated) (handed : Handed) (told : T) : Type 0 where
+  pub back : IsHandedBy r before handed
+  pub tells_so : tells r before (seat_of handed) told
+
+-- what is told is so of each caller in turn, by its seat as it was lent and as it was handed back
+abbrev pub TellsEach : {T : Type 0} → (Seated → Seated → T → Type 0) → List Seated → List Seated → List T → Type 0
+TellsEach tells [] [] [] = Unit {0}
+TellsEach tells (before ∷ befores) (after ∷ afters) (told ∷ tolds) = tells before after told × TellsEach tells befores afters tolds
+TellsEach tells befores afters tolds = ⊥
+
+-- all the callers of a service, of caller 0 first, none of which has made a step
+abbrev pub AreNew : {O : Type 0} → Running O → ℕ → List Seated → Type 0
+AreNew r callers seats = (limits : List ℕ) × (seats ≡ map (opening_seat r limits) (range_with_len 0 callers))

@@ -7,6 +7,7 @@ use Rattle.cx_rule.specs.Seats.{Seated}
 use Rattle.cx_table.specs.declared.remains.Remains.{Remains}
 use Rattle.cx_table.specs.Remains.{Leaves}
 use Rattle.recovery.specs.Kept.{IsKeptBy, IsOpened}
+use Rattle.service_parts.specs.Callers.{AreNew, TellsEach}
 use Rattle.cx_base.specs.declared.object.Object.{Ghosts}
 
 -- what a service may start with: an object of 64 to 16,384 lines, and a base that is lawful for it
@@ -35,6 +36,13 @@ pub record IsServed {O : Type 0} (o : Ghosts O) (object : O) (callers : ℕ) (ba
   pub left : IsLeftBy o object r
   pub callers_are : left.table.callers ≡ callers
   pub base_is : left.table.base ≡ base
+
+-- It was so, and what was told is so of each of its callers, of caller 0 first, by its seat as it was before any step and as it was handed in.
+pub record IsServedBy {O T : Type 0} (o : Ghosts O) (object : O) (callers : ℕ) (base : Base) (tells : Running O → Seated → Seated → T → Type 0) (r : Remains) (told : List T) : Type 0 where
+  pub served : IsServed o object callers base r
+  pub new : List Seated
+  pub are_new : AreNew served.left.table callers new
+  pub tells_so : TellsEach (tells served.left.table) new served.left.seats told
 
 -- What is recovered by choice of what such a service left: the object after a front of its history, which has all that was answered.
 abbrev pub IsKeptOf : {O : Type 0} {o : Ghosts O} {object : O} {r : Remains} → IsLeftBy o object r → ℕ → Base → Type 0

@@ -4,10 +4,11 @@ ghost use Rattle.std.specs.Prelude.{◌≡◌, IfOk, length};
 ghost use Rattle.cx_core.specs.Merge.{IsHistory};
 ghost use Rattle.cx_service.specs.Closes.{seats_of};
 ghost use Rattle.cx_service.specs.Starts.{AreFewCallers};
-ghost use Rattle.cx_table.specs.Remains.{AreSeats, locals_of};
+ghost use Rattle.cx_table.specs.Remains.{AreSeats, Leaves, locals_of};
 ghost use Rattle.recovery.specs.Kept.{IsOpened};
-ghost use Rattle.service_parts.specs.Callers.{AreCallers};
-ghost use Rattle.service_parts.specs.Lives.{IsOpen, IsServed, MayServe};
+ghost use Rattle.cx_rule.specs.Running.{instance_at};
+ghost use Rattle.service_parts.specs.Callers.{AreCallers, AreNew};
+ghost use Rattle.service_parts.specs.Lives.{IsOpen, IsServed, IsServedBy, MayServe};
 
 use crate::working::{Worker, work_together};
 use cx_base::Object;
@@ -33,6 +34,7 @@ pub fn started<O: Object>(
     ensures service { IfOk result (λ r. IsOpen O.Object object callers base.now r.0) }
     ensures callers { IfOk result (λ r. AreCallers r.0 r.1.items) }
     ensures count { IfOk result (λ r. length r.1.items ≡ callers) }
+    ensures new { IfOk result (λ r. AreNew r.0 callers r.1.items) }
 {
     let limits = &NO_LIMITS[..callers as usize];
     match Service::start(alloc, object, callers, limits, base) {
@@ -54,6 +56,7 @@ pub fn closed<O: Object>(
     ensures history { IfOk result (λ r. IsHistory service.base.place r.trail.history (locals_of (seats_of callers.items))) }
     ensures left { IfOk result (IsServed O.Object service.object service.callers service.base) }
     ensures locals { IfOk result (λ r. r.trail.locals ≡ locals_of (seats_of callers.items)) }
+    ensures leaves { IfOk result (Leaves service (instance_at service O.step O.only_reads) (seats_of callers.items)) }
 {
     match service.close(alloc, callers) {
         Ok(remains) => Ok(remains),
@@ -62,7 +65,8 @@ pub fn closed<O: Object>(
 }
 
 /// One life of a service of 1 to 8 callers: it starts from a base, the worker does each caller's work on a thread of its own, and it is
-/// closed. What each told, of caller 0 first, and what is left. `Err` is want of memory, and gives nothing back.
+/// closed. What each told, of caller 0 first, and what is left: what the worker says of a telling is so of each caller. `Err` is want of memory,
+/// and gives nothing back.
 pub fn serve<O: Object + Send + Sync, R: Threads + Wait + Sync, W: Worker<O> + Sync>(
     rt: &R,
     alloc: Global,
@@ -75,6 +79,7 @@ pub fn serve<O: Object + Send + Sync, R: Threads + Wait + Sync, W: Worker<O> + S
     requires may { MayServe O.Object object base.now }
     ensures told { IfOk result (λ r. length r.0.items ≡ callers) }
     ensures served { IfOk result (λ r. IsServed O.Object object callers base.now r.1) }
+    ensures tells { IfOk result (λ r. IsServedBy O.Object object callers base.now (W.tells worker.now) r.1 r.0.items) }
 {
     let (service, callers) = started(alloc, object, callers, base)?;
     let (handed, told) = work_together(rt, alloc, &service, callers, worker)?;

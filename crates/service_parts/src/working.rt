@@ -1,10 +1,12 @@
 //! A worker for each caller, each on a thread of its own.
 
 ghost use Rattle.std.specs.Prelude.{◌≡◌, ◌<◌, ℕ, IfOk, length, map, slice_index_or, vec_len};
+ghost use Rattle.cx_rule.specs.Running.{Running};
+ghost use Rattle.cx_rule.specs.Seats.{Seated};
 ghost use Rattle.cx_service.specs.Callers.{IsCallerOf};
 ghost use Rattle.cx_service.specs.Closes.{seats_of};
 ghost use Rattle.cx_table.specs.Remains.{AreSeats};
-ghost use Rattle.service_parts.specs.Callers.{AreCallers, IsHandedBy};
+ghost use Rattle.service_parts.specs.Callers.{AreCallers, IsWorked, TellsEach};
 
 use cx_base::Object;
 use cx_service::{Caller, Handed, Service};
@@ -24,10 +26,13 @@ pub trait Worker<O: Object> {
     /// What each has to tell.
     type Told: Send + Drop;
 
+    /// What is so of a caller of which this is told: of its service, and its seat as it was lent and as it is handed back.
+    ghost tells: { Self → Running O → Seated → Seated → Self.Told → Type 0 };
+
     /// Does it for one caller, and hands that caller back. Each caller's runs on a thread of its own.
     fn work<R: Wait>(&self, rt: &R, service: &Service<O>, caller: Caller) -> Worked<Self::Told>
         requires { IsCallerOf service.now caller }
-        ensures { IsHandedBy service.now caller result.caller };
+        ensures { IsWorked service.now (tells self.now) caller result.caller result.told };
 }
 
 /// Gives each caller to the worker, all at once, and joins them: the callers, and what was told, in order. Where a thread cannot be started
@@ -41,10 +46,12 @@ pub fn work_together<O: Object + Send + Sync, R: Threads + Wait + Sync, W: Worke
 ) -> Result<(Vec<Handed>, Vec<W::Told>), AllocError>
     requires { AreCallers service.now callers.items }
     ensures handed { IfOk result (λ r. AreSeats service.now (seats_of r.0.items)) }
-    ensures told { IfOk result (λ r. length r.1.items ≡ length callers.items) }
+    ensures count { IfOk result (λ r. length r.1.items ≡ length callers.items) }
+    ensures tells { IfOk result (λ r. TellsEach (W.tells worker.now service.now) callers.items (seats_of r.0.items) r.1.items) }
 {
     let all = all_work(rt, service, callers, worker)?;
-    parted(alloc, all)
+    let (handed, told) = parted(alloc, all)?;
+    Ok((handed, told))
 }
 
 /// What the workers come to.
@@ -57,6 +64,7 @@ fn all_work<O: Object + Send + Sync, R: Threads + Wait + Sync, W: Worker<O> + Sy
     requires { AreCallers service.now callers.items }
     ensures handed { IfOk result (λ v. AreSeats service.now (seats_of (map (λ w. w.caller) v.items))) }
     ensures count { IfOk result (λ v. length v.items ≡ length callers.items) }
+    ensures tells { IfOk result (λ v. TellsEach (W.tells worker.now service.now) callers.items (seats_of (map (λ w. w.caller) v.items)) (map (λ w. w.told) v.items)) }
 {
     let all = each_works(rt, service, callers, worker)?;
     Ok(all)
@@ -71,14 +79,14 @@ fn each_works<O: Object + Send + Sync, R: Threads + Wait + Sync, W: Worker<O> + 
 ) -> Result<Vec<Worked<W::Told>>, AllocError>
     requires { AreCallers service.now callers.items }
     ensures long { IfOk result (λ v. vec_len v ≡ vec_len callers) }
-    ensures each { IfOk result (λ v. (i : ℕ) (d : _) (e : _) → i < vec_len callers → IsHandedBy service.now (slice_index_or callers.items i d) (slice_index_or v.items i e).caller) }
+    ensures each { IfOk result (λ v. (i : ℕ) (d : _) (e : _) → i < vec_len callers → IsWorked service.now (W.tells worker.now) (slice_index_or callers.items i d) (slice_index_or v.items i e).caller (slice_index_or v.items i e).told) }
 {
     map_vec(
         rt,
         callers,
         &|caller: Caller| -> Worked<W::Told>
             requires { IsCallerOf service.now caller }
-            ensures { IsHandedBy service.entry.now caller result.caller }
+            ensures { IsWorked service.entry.now (W.tells worker.entry.now) caller result.caller result.told }
         { worker.work(rt, service, caller) },
     )
 }
@@ -86,7 +94,7 @@ fn each_works<O: Object + Send + Sync, R: Threads + Wait + Sync, W: Worker<O> + 
 /// The callers and what was told, taken apart.
 fn parted<T: Drop>(alloc: Global, all: Vec<Worked<T>>) -> Result<(Vec<Handed>, Vec<T>), AllocError>
     ensures callers { IfOk result (λ r. r.0.items ≡ map (λ w. w.caller) all.items) }
-    ensures told { IfOk result (λ r. length r.1.items ≡ length all.items) }
+    ensures told { IfOk result (λ r. r.1.items ≡ map (λ w. w.told) all.items) }
 {
     let mut callers = Vec::new(alloc);
     let mut tellings = Vec::new(alloc);

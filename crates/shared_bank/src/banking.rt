@@ -124,6 +124,8 @@ struct Mover {
 impl Worker<Bank> for Mover {
     type Told = Counts;
 
+    ghost tells = { λ _ _ _ _ _. Unit {0} };
+
     fn work<R: Wait>(&self, rt: &R, service: &Service<Bank>, caller: Caller) -> Worked<Counts> {
         let number = caller.number();
         let mut caller = caller;
@@ -151,6 +153,8 @@ struct Looker;
 
 impl Worker<Bank> for Looker {
     type Told = Found;
+
+    ghost tells = { λ _ _ _ _ _. Unit {0} };
 
     fn work<R: Wait>(&self, rt: &R, service: &Service<Bank>, caller: Caller) -> Worked<Found> {
         let Worked {

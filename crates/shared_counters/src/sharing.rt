@@ -38,6 +38,8 @@ struct Adder;
 impl Worker<Counters> for Adder {
     type Told = u64;
 
+    ghost tells = { λ _ _ _ _ _. Unit {0} };
+
     fn work<R: Wait>(&self, rt: &R, service: &Service<Counters>, caller: Caller) -> Worked<u64> {
         let mut caller = caller;
         let mut told = 0;
