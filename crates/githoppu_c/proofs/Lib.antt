@@ -1,2 +1,3 @@
 mod Boxed
+pub mod Bases
 pub mod Closed

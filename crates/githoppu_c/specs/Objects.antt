@@ -1,5 +1,5 @@
 -- What the definitions of sessions and of images say of the two objects.
-use Rattle.std.specs.Prelude.{◌≡◌, ◌⊎◌, ℕ, List}
+use Rattle.std.specs.Prelude.{◌≡◌, ◌⊎◌, ℕ, ℤ, pos, List}
 use Rattle.cx_base.specs.OldFormat.{no_old_format}
 use Rattle.cx_core.specs.declared.entry.Base.{Base}
 use Rattle.cx_rule.specs.Running.{Running}
@@ -38,6 +38,13 @@ IsBaseWith is taken base = taken base × HoldsReplies is base.words
 -- why nothing is: the words are refused, or a result of what they say is no reply
 abbrev pub IsFaultOr : (List ℕ → Type 0) → (Base → Type 0) → (WordsFault → Type 0) → WordsFault → Type 0
 IsFaultOr is taken faulty fault = faulty fault ⊎ ((fault ≡ Image Body) × ((base : Base) × taken base × (¬ HoldsReplies is base.words)))
+
+-- the base, in which each result with a number keeps a reply of this kind; and the number of why it is not given: one does not, or there is no memory
+abbrev pub IsSameWith : (List ℕ → Type 0) → Base → Base → Type 0
+IsSameWith is base same = (same ≡ base) × HoldsReplies is base.words
+
+abbrev pub IsNoneWith : (List ℕ → Type 0) → Base → ℤ → Type 0
+IsNoneWith is base code = ((code ≡ pos 19) × (¬ HoldsReplies is base.words)) ⊎ (code ≡ pos 8)
 
 -- of a store and of a queue
 abbrev pub IsStoreIn : List ℕ → Base → Type 0

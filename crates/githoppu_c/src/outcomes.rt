@@ -1,6 +1,6 @@
 //! What became of a session's last operation, as the words of an image say.
 
-ghost use Rattle.std.specs.Prelude.{◌≢◌, MatchResult};
+ghost use Rattle.std.specs.Prelude.{◌≢◌, ◌≤◌, IfOk, MatchResult, length};
 ghost use Rattle.c_images.specs.Words.{IsHeaded, kind_in};
 ghost use Rattle.githoppu_c.specs.Outcomes.{IsBaseIn, IsOutcomeIn, RefusesBase, RefusesOutcome};
 
@@ -25,7 +25,8 @@ pub fn outcome_in(alloc: Global, words: &[u64], session: u64) -> Result<Outcome,
 
 /// The base that words say, of a document store or of a queue.
 fn base_in(alloc: Global, words: &[u64]) -> Result<Base, i32>
-    ensures { MatchResult result (IsBaseIn words.now) (RefusesBase words.now) }
+    ensures told { MatchResult result (IsBaseIn words.now) (RefusesBase words.now) }
+    ensures long { IfOk result (λ base. 1168 ≤ length base.words) }
 {
     match head_of(words, DOCUMENTS) {
         Ok(head) => documents_in(alloc, words, head),
@@ -38,7 +39,8 @@ fn base_in(alloc: Global, words: &[u64]) -> Result<Base, i32>
 fn queue_base(alloc: Global, words: &[u64]) -> Result<Base, i32>
     requires headed { IsHeaded words.now }
     requires other { kind_in words.now ≢ 1 }
-    ensures { MatchResult result (IsBaseIn words.now) (RefusesBase words.now) }
+    ensures told { MatchResult result (IsBaseIn words.now) (RefusesBase words.now) }
+    ensures long { IfOk result (λ base. 1168 ≤ length base.words) }
 {
     match head_of(words, QUEUE) {
         Ok(head) => queue_in(alloc, words, head),

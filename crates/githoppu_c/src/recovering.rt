@@ -1,12 +1,13 @@
 //! Sessions of a service that is taken up from words.
 
-ghost use Rattle.std.specs.Prelude.{◌≡◌, ◌↔◌, IfOk, IsTrue, MatchResult, length};
+ghost use Rattle.std.specs.Prelude.{◌≤◌, ◌↔◌, IfOk, IsTrue, MatchResult, length};
 ghost use Rattle.cx_core.specs.Base.{LawfulBase};
 ghost use Rattle.doc_store.specs.ExactStep.{IsImage};
 ghost use Rattle.fifo_object.specs.Fifo.{IsFifo};
-ghost use Rattle.c_images.specs.Words.{IsSaid, lines_in};
+ghost use Rattle.c_images.specs.Replies.{IsDocumentReply, IsQueueReply};
+ghost use Rattle.c_images.specs.Words.{IsSaid};
 ghost use Rattle.githoppu_c.specs.Contents.{IsQueueOf, IsStoreOf};
-ghost use Rattle.githoppu_c.specs.Objects.{IsQueueFault, IsQueueIn, IsStoreFault, IsStoreIn};
+ghost use Rattle.githoppu_c.specs.Objects.{IsNoneWith, IsQueueFault, IsQueueIn, IsSameWith, IsStoreFault, IsStoreIn};
 ghost use Rattle.githoppu_c.specs.Recoveries.{AreFew, AreRecovered, IsRefusal, RefusesWords};
 
 use crate::codes::{BAD_SIZE, IMAGE_BODY, NO_MEMORY, fault_code};
@@ -72,10 +73,17 @@ pub(crate) fn documents_in(alloc: Global, words: &[u64], head: Head) -> Result<B
     ensures told { MatchResult result (IsStoreIn words.now) (IsRefusal (IsStoreFault words.now)) }
     ensures lawful { IfOk result (LawfulBase head.lines (IsImage head.lines)) }
 {
-    let base = match base_of(alloc, &DocStore::of(head.lines), words, head) {
-        Ok(base) => base,
-        Err(fault) => return Err(fault_code(fault)),
-    };
+    match base_of(alloc, &DocStore::of(head.lines), words, head) {
+        Ok(base) => with_document_replies(alloc, base),
+        Err(fault) => Err(fault_code(fault)),
+    }
+}
+
+/// The base, where its results are replies of a document store.
+fn with_document_replies(alloc: Global, base: Base) -> Result<Base, i32>
+    requires { 1168 ≤ length base.words }
+    ensures { MatchResult result (IsSameWith IsDocumentReply base) (IsNoneWith IsDocumentReply base) }
+{
     match holds_document_replies(alloc, &base) {
         Ok(true) => Ok(base),
         Ok(false) => Err(IMAGE_BODY),
@@ -89,10 +97,17 @@ pub(crate) fn queue_in(alloc: Global, words: &[u64], head: Head) -> Result<Base,
     ensures told { MatchResult result (IsQueueIn words.now) (IsRefusal (IsQueueFault words.now)) }
     ensures lawful { IfOk result (LawfulBase head.lines (IsFifo head.lines)) }
 {
-    let base = match base_of(alloc, &Fifo::of(head.lines), words, head) {
-        Ok(base) => base,
-        Err(fault) => return Err(fault_code(fault)),
-    };
+    match base_of(alloc, &Fifo::of(head.lines), words, head) {
+        Ok(base) => with_queue_replies(alloc, base),
+        Err(fault) => Err(fault_code(fault)),
+    }
+}
+
+/// The base, where its results are replies of a queue.
+fn with_queue_replies(alloc: Global, base: Base) -> Result<Base, i32>
+    requires { 1168 ≤ length base.words }
+    ensures { MatchResult result (IsSameWith IsQueueReply base) (IsNoneWith IsQueueReply base) }
+{
     match holds_queue_replies(alloc, &base) {
         Ok(true) => Ok(base),
         Ok(false) => Err(IMAGE_BODY),

@@ -1,8 +1,6 @@
-use Rattle.std.proofs.Common.{rules, ap, subst, sym, ◌∙◌}
+use Rattle.std.proofs.Common.{rules, ap, subst, sym}
 use Rattle.cx_rule.specs.Running.{Running}
 use Rattle.doc_store.specs.declared.store.DocStore.{DocStore}
-use Rattle.doc_store.specs.ExactStep.{IsImage, first_format}
-use Rattle.c_images.specs.Words.{IsTakenUp}
 use Rattle.githoppu_c.specs.Contents.{AreBoxes, IsStoreOf}
 use Rattle.githoppu_c.specs.Objects.{IsStoreIn}
 use Rattle.githoppu_c.proofs.recovering.recover_documents.Goals as goal
@@ -15,7 +13,6 @@ returns-in-Ok-as_documents c =
       few = search rules;
       service = ready.service;
       callers_are = ap (λ (r : Running DocStore). r.callers) ready.is;
-      said = subst (IsStoreIn words) (sym (ap (λ (r : Running DocStore). r.base) ready.is))
-          (subst (λ n. IsTakenUp 2 (IsImage n) (first_format n) words c.in-Ok-base_of.base) (c.of-object.ensures ∙ c.in-Ok.ensures.1.lines) c.in-Ok-base_of.ensures.told);
+      said = subst (IsStoreIn words) (sym (ap (λ (r : Running DocStore). r.base) ready.is)) c.in_ok-base.ensures.told;
       of = subst (λ n. AreBoxes (IsStoreOf ready.service) n c.in-Ok-as_documents.contents.items) ready.all (c.in-Ok-as_documents.ensures ready.service ready.each);
     }

@@ -1,9 +1,6 @@
-use Rattle.std.proofs.Common.{rules, ap, subst, sym, ◌∙◌}
+use Rattle.std.proofs.Common.{rules, ap, subst, sym}
 use Rattle.cx_rule.specs.Running.{Running}
 use Rattle.fifo_object.specs.declared.fifo.Fifo.{Fifo}
-use Rattle.cx_base.specs.OldFormat.{no_old_format}
-use Rattle.fifo_object.specs.Fifo.{IsFifo}
-use Rattle.c_images.specs.Words.{IsTakenUp}
 use Rattle.githoppu_c.specs.Contents.{AreBoxes, IsQueueOf}
 use Rattle.githoppu_c.specs.Objects.{IsQueueIn}
 use Rattle.githoppu_c.proofs.recovering.recover_queue.Goals as goal
@@ -16,7 +13,6 @@ returns-in-Ok-as_queue c =
       few = search rules;
       service = ready.service;
       callers_are = ap (λ (r : Running Fifo). r.callers) ready.is;
-      said = subst (IsQueueIn words) (sym (ap (λ (r : Running Fifo). r.base) ready.is))
-          (subst (λ n. IsTakenUp 16 (IsFifo n) no_old_format words c.in-Ok-base_of.base) (c.of-object.ensures ∙ c.in-Ok.ensures.1.lines) c.in-Ok-base_of.ensures.told);
+      said = subst (IsQueueIn words) (sym (ap (λ (r : Running Fifo). r.base) ready.is)) c.in_ok-base.ensures.told;
       of = subst (λ n. AreBoxes (IsQueueOf ready.service) n c.in-Ok-as_queue.contents.items) ready.all (c.in-Ok-as_queue.ensures ready.service ready.each);
     }
