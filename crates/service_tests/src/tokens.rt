@@ -31,6 +31,8 @@ struct Pair {
 impl Worker<Tally> for Pair {
     type Told = u64;
 
+    ghost tells = { λ _ _ _ _ _. Unit {0} };
+
     fn work<R: Wait>(&self, rt: &R, service: &Service<Tally>, caller: Caller) -> Worked<u64> {
         if caller.number() == 0 {
             write_all(rt, service, caller, &self.sender)
