@@ -25,8 +25,6 @@ mod meeting;
 #[cfg(test)]
 mod no_memory;
 #[cfg(test)]
-mod places;
-#[cfg(test)]
 mod playing;
 #[cfg(test)]
 mod reopened;
@@ -44,8 +42,6 @@ mod taken;
 mod tasks;
 #[cfg(test)]
 mod threads;
-#[cfg(test)]
-mod tokens;
 #[cfg(test)]
 mod upgraded;
 #[cfg(test)]
