@@ -81,7 +81,7 @@ class ProgramOnTraces(unittest.TestCase):
 
     def test_random_traces(self):
         seen = random_traces.Seen()
-        self.assertIsNone(random_traces.compare(map(random_traces.random_trace, range(1, 41)), seen))
+        self.assertIsNone(random_traces.compare(map(random_traces.random_trace, range(1, 201)), seen))
         self.assertEqual(set(random_traces.NUMBERS) | {"crash"}, set(seen.kinds))
         self.assertLessEqual({"yes", "guard", "place"}, set(seen.found))
 
