@@ -4,7 +4,7 @@
     fresh_checkout.py
 
 Clones this repository, as it is committed, into a new folder, and runs there, one after another: the two commands of README.md, which run the main job
-and the quick test; a load of 8,000 updates; the library without a proof, from nothing; and a C program that is linked with it as docs/FROM_C.md has
+and the quick test; a load of 8,000 updates; the library without a proof, from nothing; and a C program that is linked with it as docs/REFERENCE.md has
 it. Of each it prints the seconds of the clock and of all processors, and how many seconds of the clock it may take on four processors that do
 nothing else. More than that is told and is no failure, since other work makes it so.
 
