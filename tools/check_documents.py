@@ -24,8 +24,6 @@ from told import asked_words
 
 PAGES = ("README.md", "CHANGELOG.md", "CONTRIBUTING.md", "docs/*.md", "crates/README.md", "examples/README.md", "tools/README.md")
 HEADS = "crates/*/src/lib.rt"
-# pages that are gone, which heads of crates still name: a head is mended when its crate is proved anew
-GONE = {"docs/CALLING.md"}
 HEAD = re.compile(r"^//!.*$", re.M)
 SOURCE = re.compile(r"/(crates/.*\.(rt|antt|edit)|crates\.txt|(tools|bench|bindings)/.*\.(py|txt|rs|json|c|h|toml)|include/.*\.h|examples/.*|\.ci/run)")
 WORD = re.compile(r"[^\W\d]\w*")
@@ -86,10 +84,9 @@ def names_lacking(root):
     words = words_of(root, paths)
     for page in sorted(path for pattern in (*PAGES, HEADS) for path in root.glob(pattern)):
         for number, line in enumerate(page.read_text(encoding="utf-8").split("\n"), 1):
-            is_head = page.suffix == ".rt"
-            if is_head and not HEAD.match(line):
+            if page.suffix == ".rt" and not HEAD.match(line):
                 continue
-            found = [word for text in TICKED.findall(line) for word in lacks(text, paths, words) if not (is_head and word in GONE)]
+            found = [word for text in TICKED.findall(line) for word in lacks(text, paths, words)]
             found += [link for link in LINK.findall(line) if "://" not in link and not is_path(paths, link)]
             faults += [f"{page.relative_to(root)}:{number}: {name}" for name in found]
     return faults

@@ -24,7 +24,7 @@ class Documents(unittest.TestCase):
             root = Path(folder)
             source = root / "crates" / "one" / "src" / "lib.rt"
             source.parent.mkdir(parents=True)
-            source.write_text("//! As `docs/CALLING.md` has it.\npub fn made() -> Made\n    ensures whole { true }\n")
+            source.write_text("pub fn made() -> Made\n    ensures whole { true }\n")
             page = root / "README.md"
             rows = [
                 ("`made` (`whole`), `crates/one/src/lib.rt`, `lib.rt`, `one/src/*.rt`, `crates/NAME/out/NAME`", []),

@@ -1,4 +1,4 @@
-//! An object to copy: the highest number that it was given. `docs/CALLING.md` says in which order its parts are changed.
+//! An object to copy: the highest number that it was given. `docs/TUTORIAL.md` changes it step by step.
 #![tactic(auto)]
 
 mod object;

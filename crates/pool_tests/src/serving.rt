@@ -1,4 +1,4 @@
-//! A server over a pool, as `docs/CALLING.md` has it: threads take connections one after another, and answer their requests, each by its own client.
+//! A server over a pool: threads take connections one after another, and answer their requests, each by its own client.
 
 ghost use Rattle.std.specs.Prelude.{◌≡◌, ◌<◌, ℕ, IfOk, slice_index_or, true, vec_len};
 ghost use Rattle.client_pool.specs.Lending.{is_live};
