@@ -1,7 +1,7 @@
 /* Threads call a document store at once, and each call is written with the times between which it was made: a history, which
  * tools/linearizable.py judges.
  *
- *     history THREADS CALLS SEED       1 to 8 threads, each with so many calls
+ *     history THREADS CALLS SEED       1 to 8 threads, and the calls of each
  */
 #include "githoppu.h"
 #include <inttypes.h>
