@@ -44,6 +44,7 @@ module _ {O : Type 0} (r : Running O) (s v : Seated) (kept : beside_submit v ≡
     answered = ap (λ (x : Seated). x.known.local.answered) kept;
     reads = ap (λ (x : Seated). x.known.local.seen_reads) kept;
     met = ap (λ (x : Seated). x.known.local.met) kept;
+    sets = ap (λ (x : Seated). x.known.sets) kept;
     front = front;
     cur = cur;
     steps = steps;

@@ -103,6 +103,7 @@ module _ {O : Type 0} (r : Running O) (more : ℕ) (s t : Seated) (first : Prece
     answered = after.answered ∙ ap (λ (x : Seated). x.known.local.answered) first.kept;
     reads = after.reads ∙ ap (λ (x : Seated). x.known.local.seen_reads) first.kept;
     met = after.met ∙ ap (λ (x : Seated). x.known.local.met) first.kept;
+    sets = after.sets ∙ ap (λ (x : Seated). x.known.sets) first.kept;
     front = omega (arith, after.front, first.front);
     cur = omega (arith, after.cur, first.cur);
     steps = omega (arith, after.steps, first.steps, most);

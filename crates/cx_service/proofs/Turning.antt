@@ -21,6 +21,8 @@ use Rattle.cx_service.specs.Lookups.{ReadAnswered, ReadDue, ReadHalted, ReadKeep
 use Rattle.cx_service.proofs.Cells.{default, own_kept}
 use Rattle.cx_turns.specs.Answering.{AnswersEntry, AnswersRead, HaltsFor, HaltsLookup, beside_lookup, beside_update, with_answer, with_read}
 use Rattle.cx_turns.specs.declared.lookup.Seen.{Seen}
+use Rattle.cx_turns.specs.Bringing.{BringsEntries}
+use Rattle.cx_turns.proofs.Bringing.{brings_around}
 use Rattle.cx_turns.specs.Turns.{IsAtRest, StepsAtMost, StepsOn, TurnRefused}
 use Rattle.replica_sets.specs.Own.{but_set}
 
@@ -76,27 +78,29 @@ module _ {O : Type 0} (r : Running O) (s v : Seated) (linked : IsLinkedOf r s) (
   stands m at answered =
       between_after r 1 m s v linked (ap (λ (x : Seated). x.known.local.own) rest) (ap (λ (x : Seated). x.known.local.cells) rest) front of at answered
 
-  pub turn_done : (ticket : ℕ) (reply : List ℕ) → unanswered_ticket s.known.local ≡ Some ticket → ¬ IsAtLimit s.known.local → AnswersEntry 1 ticket reply s v → DriveDone r s v (record { ticket = ticket; reply = reply })
-  turn_done ticket reply is allowed answers = record {
+  pub turn_done : (ticket : ℕ) (reply : List ℕ) → unanswered_ticket s.known.local ≡ Some ticket → ¬ IsAtLimit s.known.local → BringsEntries s v → AnswersEntry 1 ticket reply s v → DriveDone r s v (record { ticket = ticket; reply = reply })
+  turn_done ticket reply is allowed brought answers = record {
     caller = stands 0 answers.rest (ap (λ (xs : List Answer). length xs + 0) answers.answered ∙ ap (λ n. n + 0) (length-append s.known.local.answered _) ∙ zero_more (length s.known.local.answered + 1));
     keeps = drive_keeps;
     allowed = allowed;
     met = answers.met;
     ticket = is;
     answered = answers.answered;
+    brought = brought;
     ended = answers.ended;
   }
     where
       zero_more : (n : ℕ) → n + 0 ≡ n
       zero_more n = omega arith
 
-  pub turn_refused : ¬ IsAtLimit s.known.local → s.known.local.met ≤ max_word → TurnRefused s v → DrivePending r 1 s v
-  turn_refused allowed small refused = record {
+  pub turn_refused : ¬ IsAtLimit s.known.local → s.known.local.met ≤ max_word → v.known.sets ≡ s.known.sets → TurnRefused s v → DrivePending r 1 s v
+  turn_refused allowed small sets refused = record {
     caller = stands 1 refused.rest (ap (λ (xs : List Answer). length xs + 1) refused.refusal.answered);
     keeps = drive_keeps;
     allowed = allowed;
     rises = rises_one s v small refused.refusal.met;
     answered = refused.refusal.answered;
+    sets = sets;
     ended = refused.refusal.times.answered;
     met = meets_one s v refused.refusal.met;
     most = most_one s v refused.refusal.met;
@@ -135,6 +139,7 @@ module _ {O : Type 0} (r : Running O) (n : ℕ) (s u : Seated) (before : DrivePe
     keeps = keeps_then v p.keeps;
     allowed = before.allowed;
     answered = p.answered ∙ before.answered;
+    sets = p.sets ∙ before.sets;
     ended = p.ended ∙ before.ended;
     rises = omega (arith, before.rises, p.rises);
     met = meets_then n m s u v before.met p.met;
@@ -149,6 +154,7 @@ module _ {O : Type 0} (r : Running O) (n : ℕ) (s u : Seated) (before : DrivePe
     met = omega (arith, before.rises, d.met);
     ticket = same_ticket ∙ d.ticket;
     answered = d.answered ∙ ap (with_answer answer.ticket answer.reply) before.answered;
+    brought = brings_around s u v v before.sets d.brought refl;
     ended = record { at = d.ended.at; to = d.ended.to; is = d.ended.is ∙ ap (λ ts. ts ++ d.ended.at ∷ []) before.ended };
   }
 
@@ -241,6 +247,7 @@ module _ {O : Type 0} (r : Running O) (op : List ℕ) (s v : Seated) (caller : I
     own = ap (λ (x : Seated). x.known.local.own) rest;
     answered = ap (λ (x : Seated). x.known.local.answered) rest;
     scans = ap (λ (x : Seated). x.known.local.scans) rest;
+    sets = ap (λ (x : Seated). x.known.sets) rest;
     front = front;
     cur = rises;
     linked = ap (λ (x : Seated). x.known.times.linked) rest;
@@ -298,7 +305,7 @@ all_answered r s caller = ap (option_map (λ (x : Linked). x.ticket)) (slice_get
 
 module _ {O : Type 0} (r : Running O) (op : List ℕ) (n : ℕ) (s u : Seated) (before : ReadPending r n s u) where
   read_keeps_then : (v : Seated) → ReadKeeps u v → ReadKeeps s v
-  read_keeps_then v k = record { number = k.number ∙ before.keeps.number; limit = k.limit ∙ before.keeps.limit; own = k.own ∙ before.keeps.own; answered = k.answered ∙ before.keeps.answered; scans = k.scans ∙ before.keeps.scans; front = omega (arith, before.keeps.front, k.front); cur = omega (arith, before.keeps.cur, k.cur); linked = k.linked ∙ before.keeps.linked; ended = k.ended ∙ before.keeps.ended }
+  read_keeps_then v k = record { number = k.number ∙ before.keeps.number; limit = k.limit ∙ before.keeps.limit; own = k.own ∙ before.keeps.own; answered = k.answered ∙ before.keeps.answered; scans = k.scans ∙ before.keeps.scans; sets = k.sets ∙ before.keeps.sets; front = omega (arith, before.keeps.front, k.front); cur = omega (arith, before.keeps.cur, k.cur); linked = k.linked ∙ before.keeps.linked; ended = k.ended ∙ before.keeps.ended }
 
   -- reads with one more, in terms of the first seat
   more_reads : (place : ℕ) (reply : List ℕ) → with_read place op reply (length u.known.local.answered) u.known.local.seen_reads ≡ with_read place op reply (length s.known.local.answered) s.known.local.seen_reads

@@ -24,6 +24,7 @@ pub record ReadKeeps (before after : Seated) : Type 0 where
   pub own : after.known.local.own ≡ before.known.local.own
   pub answered : after.known.local.answered ≡ before.known.local.answered
   pub scans : after.known.local.scans ≡ before.known.local.scans
+  pub sets : after.known.sets ≡ before.known.sets
   pub front : before.known.local.front ≤ after.known.local.front
   pub cur : before.known.local.seen_cur ≤ after.known.local.seen_cur
   pub linked : after.known.times.linked ≡ before.known.times.linked

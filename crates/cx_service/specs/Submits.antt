@@ -43,6 +43,7 @@ pub record SubmitKeeps (most : ℕ) (before after : Seated) : Type 0 where
   pub answered : after.known.local.answered ≡ before.known.local.answered
   pub reads : after.known.local.seen_reads ≡ before.known.local.seen_reads
   pub met : after.known.local.met ≡ before.known.local.met
+  pub sets : after.known.sets ≡ before.known.sets
   pub front : before.known.local.front ≤ after.known.local.front
   pub cur : before.known.local.seen_cur ≤ after.known.local.seen_cur
   pub steps : after.known.local.steps ≤ before.known.local.steps + most

@@ -17,6 +17,7 @@ use Rattle.cx_service.specs.Drives.{DriveDone, DriveHalted, EndsOrNot, MeetsFewe
 use Rattle.cx_service.specs.Lookups.{ReadAnswered, ReadDue, ReadHalted, ReadPending}
 use Rattle.cx_service.specs.Submits.{NamesHolder, Submits, entry_at}
 use Rattle.cx_turns.specs.Answering.{with_answer}
+use Rattle.cx_turns.specs.Bringing.{BringsEntries}
 
 -- the caller's number, its limit and its lists are as they were, and its front and what it found in CUR do not fall
 pub record KeepsLists (before after : Seated) : Type 0 where
@@ -38,13 +39,15 @@ pub record LinksEntry {O : Type 0} (r : Running O) (op : List ℕ) (ticket : ℕ
   pub read : after.known.times.reads ≡ before.known.times.reads
 
 -- The entry is linked and answered, and nothing else: the caller has one entry more and one answer more, at the answer's ticket, which is not
--- below the caller's front. It was linked and answered by steps of this call.
+-- below the caller's front. It was linked and answered by steps of this call. The count of others' entries that were brought on by their sets
+-- rises by those of this call.
 pub record UpdateDone {O : Type 0} (r : Running O) (op : List ℕ) (before after : Seated) (answer : Answer) : Type 0 where
   pub caller : IsCallerOf r after
   pub allowed : ¬ IsAtLimit before.known.local
   pub from : before.known.local.front ≤ answer.ticket
   pub links : LinksEntry r op answer.ticket before after
   pub answered : after.known.local.answered ≡ with_answer answer.ticket answer.reply before.known.local.answered
+  pub brought : BringsEntries before after
   pub ended : EndsIn after.known.local.steps before.known.times.answered after.known.times.answered
 
 -- No cell is idle after a scan of this call: another caller's need keeps them. The caller linked at least 16 entries in this
@@ -56,6 +59,7 @@ pub record UpdateFull {O : Type 0} (r : Running O) (before after : Seated) (note
   pub full : 16 ≤ length before.known.local.own
   pub scans : (before.known.local.scans < after.known.local.scans) ⊎ (after.known.local.scans ≡ max_word)
   pub names : NamesHolder r.callers after.known.local note
+  pub sets : after.known.sets ≡ before.known.sets
   pub times : KeepsTimes before.known.times after.known.times
 
 -- A cell is idle, and there is no further ticket.
@@ -65,6 +69,7 @@ pub record UpdateWorn {O : Type 0} (r : Running O) (before after : Seated) : Typ
   pub keeps : KeepsLists before after
   pub front : after.known.local.front ≡ 2 ^ 40
   pub idle : (j : ℕ) × (j < 16) × IsIdle after.known.local j
+  pub sets : after.known.sets ≡ before.known.sets
   pub times : KeepsTimes before.known.times after.known.times
 
 -- Submits of an operation in 16 tries, none or more, each of which found another's link in every try and handed the caller back.

@@ -2,7 +2,8 @@
 //! calls wait for nobody, but for `update` and `read`, which try again.
 //!
 //! A caller that drives its entry brings a replica up to it. Another's entry it applies by its write set, where its caller offered that,
-//! and else by its step: `Caller::taken` counts the sets that it took.
+//! and else by its step: `Caller::taken` counts the sets that it took. Of each the drive that took it tells a seat from which to a next
+//! just its pairs were stored (`DriveDone`: `brought`), and no other call takes one.
 #![tactic(auto)]
 
 mod callers;

@@ -5,5 +5,6 @@ pub mod ReadSteps
 mod Refusals
 mod Taken
 pub mod Working
+pub mod Bringing
 pub mod Renewed
 pub mod Answered

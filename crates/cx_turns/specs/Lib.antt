@@ -1,4 +1,5 @@
 pub mod Turns
+pub mod Bringing
 pub mod Taking
 pub mod Replaying
 pub mod Keeping

@@ -7,7 +7,9 @@
 //!   set, where the caller has that in an own cell or takes it from another's, or by its step, the caller's own from its seat, and each other read
 //!   under a protection. Which of these it is, and whether the set of an own step is offered, is in no contract. But the sets of others that were
 //!   taken are counted, and own ones are not: where no call halts the count is right up to 2^64 - 1, where it stays (`counted`, of `replay_to`,
-//!   `prepare` and `update_turn`).
+//!   `prepare` and `update_turn`). As many sets were read as entries were brought on by them: of each there is a seat from which to a
+//!   next just its pairs were stored (`by_sets`: `BringsEntries`), which of one entry are those before and behind it (`BringsAtMost`, within the
+//!   crate). A turn that gives nothing reads no word of a set.
 //!   The reply to the caller's last entry there, for whatever fits what was noted, is the one that the step of that entry gave (`replied`), or is
 //!   loaded where the last entry was applied otherwise: `own_outcome`. Where cells from the replica's place on are closed it is a copy of the
 //!   current one first. It is made durable and downgraded: `prepare` (`prepared`).
