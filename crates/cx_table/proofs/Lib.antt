@@ -4,3 +4,4 @@ mod Marking
 mod Opening
 pub mod Runs
 mod SetOffers
+mod Taking
