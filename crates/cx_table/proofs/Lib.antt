@@ -1,4 +1,5 @@
 mod Closing
+mod GapSteps
 mod Handing
 mod Marking
 mod Opening
