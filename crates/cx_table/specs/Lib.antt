@@ -7,6 +7,7 @@ pub use Rattle.cx_rule.specs.Raises
 pub use Rattle.cx_rule.specs.Ending
 pub use Rattle.cx_rule.specs.Fitting
 pub mod Calls
+pub mod OwnCells
 pub mod Right
 pub mod Tokens
 pub mod Remains
