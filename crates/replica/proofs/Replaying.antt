@@ -30,7 +30,7 @@ use Rattle.replica.specs.Replays.{Accessed, CanStep, ComesNext, IsImage, IsReady
 
 -- ---- the place that was noted
 
-place_one : (at w place : ℕ) (P : ℕ → Type 0) → (at ≡ 0 → P w) → (at ≢ 0 → P place) → P (cond (at == 0) w place)
+pub place_one : (at w place : ℕ) (P : ℕ → Type 0) → (at ≡ 0 → P w) → (at ≢ 0 → P place) → P (cond (at == 0) w place)
 place_one at w place P here there = elim (cases_eq at 0) [
   | inl is ↦ subst (λ b. P (cond b w place)) (sym (eq-eqb at 0 is)) (here is)
   | inr off ↦ subst (λ b. P (cond b w place)) (sym (ne_eqb at 0 off)) (there off)
@@ -49,7 +49,7 @@ place_told ((true, a, w) ∷ accesses) ws now place at some leads =
     (subst (λ n. 0 < n) (sym (length-set ws a w)) some) leads.1
 
 -- what accesses without a store lead to is what was there
-unchanged : (accesses : List Note) (ws now : List ℕ) → StoresNone accesses → NotesLead accesses ws now → now ≡ ws
+pub unchanged : (accesses : List Note) (ws now : List ℕ) → StoresNone accesses → NotesLead accesses ws now → now ≡ ws
 unchanged [] ws now none leads = leads
 unchanged ((false, a, w) ∷ accesses) ws now none leads = unchanged accesses ws now (All-tail (λ (note : Note). note.0 ≡ false) (false, a, w) accesses none) leads.1
 unchanged ((true, a, w) ∷ accesses) ws now none leads = absurd (true≢false (All-head (λ (note : Note). note.0 ≡ false) (true, a, w) accesses none))
