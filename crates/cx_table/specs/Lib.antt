@@ -9,6 +9,7 @@ pub use Rattle.cx_rule.specs.Fitting
 pub use Rattle.cx_rule.specs.Listed
 pub mod Calls
 pub mod Gaps
+pub mod OwnCells
 pub mod Right
 pub mod Tokens
 pub mod Remains
