@@ -169,6 +169,11 @@ module _ {O : Type 0} (o : Ghosts O) (r : Running O) (held : Right) where
       record { is_held = made.still; image = image.0; place = image.1 }
   begins_ready before after (Err e) none made = tt
 
+  -- and nothing is stored by it
+  pub begins_unstored : {E : Type 0} (before after : Seated) (result : Result ℕ E) → StoresNone before.known.accesses → IfOk result (λ v. Accesses (o.line_count r.object) r (o.lawful r.object) (o.step r.object) held (false, 0, v) before after) → OnOk result (StoresNone after.known.accesses)
+  begins_unstored before after (Ok v) none made = subst StoresNone (sym made.accesses) (All-push (λ (note : Note). note.0 ≡ false) before.known.accesses (false, 0, v) none refl)
+  begins_unstored before after (Err e) none made = tt
+
   -- a full step can be done on an image before the last place
   pub can_step : (at : ℕ) (seat : Seated) → IsReady o r held at seat → place_noted 0 seat.known.accesses < 2 ^ 40 → CanStep o r seat
   can_step at seat ready small = record {
