@@ -1,2 +1,2 @@
-mod Loads
+pub mod Loads
 pub mod Walks

@@ -103,3 +103,9 @@ module _ {O : Type 0} (o : Ghosts O) (r : Running O) where
       let tells = subst (λ (x : Seated). TellsSet r.lines (o.lawful r.object) r.base (o.step r.object) x.known ticket pairs) (sym leaves.seat) (tells_still o r ticket after.known.local.steps pairs before may.tells) in
       let told : TellsGap r.lines (o.lawful r.object) r.base (o.step r.object) after.known g pairs = record { tells = tells; off = gap } in
       (pairs, subst (λ (x : Gap). TellsGap r.lines (o.lawful r.object) r.base (o.step r.object) after.known x pairs) (sym names) told)
+
+  -- the set is told still once gaps were noted
+  pub told_still : (pairs : List ℕ) (ticket : ℕ) (before after : Seated) → LeavesNoting o r before after → TellsSet r.lines (o.lawful r.object) r.base (o.step r.object) before.known ticket pairs →
+      TellsSet r.lines (o.lawful r.object) r.base (o.step r.object) after.known ticket pairs
+  told_still pairs ticket before after leaves tells =
+      subst (λ (x : Seated). TellsSet r.lines (o.lawful r.object) r.base (o.step r.object) x.known ticket pairs) (sym leaves.seat) (tells_still o r ticket after.known.local.steps pairs before tells)
