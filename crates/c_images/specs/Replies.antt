@@ -1,5 +1,6 @@
 -- The results that a base keeps: replies of its object, or the words that answer words of no operation.
 use Rattle.std.specs.Prelude.{◌≡◌, ◌≢◌, ◌⊎◌, ◌<◌, ℕ, List, replicate}
+use Rattle.cx_base.specs.Memory.{Words}
 use Rattle.cx_core.specs.Region.{slot_number, slot_reply}
 use Rattle.doc_model.specs.Words.{AreOfNoReply as AreOfNoDocumentReply}
 use Rattle.fifo_model.specs.Words.{AreOfNoReply as AreOfNoQueueReply}
@@ -22,3 +23,11 @@ IsSlot is caller region = slot_number caller region ≢ 0 → IsKeptReply is (sl
 -- and so does each caller's
 abbrev pub HoldsReplies : (List ℕ → Type 0) → List ℕ → Type 0
 HoldsReplies is region = (caller : ℕ) → caller < 8 → IsSlot is caller region
+
+-- an object's step answers each 144 words, from each lawful image, by what a result may keep
+abbrev pub GivesReplies : (List ℕ → Type 0) → (List ℕ → Type 0) → (List ℕ → List ℕ → List ℕ × List ℕ) → Type 0
+GivesReplies is lawful step = (image op : List ℕ) → lawful image → Words 144 op → IsKeptReply is (step image op).1
+
+-- where an object's step answers so, and the results of one region keep such replies, those of another do
+abbrev pub RepliesGoOn : (List ℕ → Type 0) → (List ℕ → Type 0) → (List ℕ → List ℕ → List ℕ × List ℕ) → List ℕ → List ℕ → Type 0
+RepliesGoOn is lawful step earlier region = GivesReplies is lawful step → HoldsReplies is earlier → HoldsReplies is region

@@ -7,6 +7,8 @@
 //! - `head_of`, `base_of`: the base from which a service may start again, or why there is none: recovery's refusals, and what it does not look at.
 //! - `written_images_are_taken_up`: what `write_image` wrote is never refused, but for want of memory, and what is taken up of it holds each
 //!   answer (`IsKeptBy`).
+//! - `holds_document_replies`, `holds_queue_replies`: whether its results keep replies. Those of a closed service do where those of the base did that it
+//!   was opened from: `written_images_keep_replies`.
 #![tactic(auto)]
 
 mod head;
@@ -16,7 +18,9 @@ mod replies;
 mod writing;
 
 pub use head::{Head, head_of};
-pub use laws::{written_images_are_taken_up, written_images_tell_outcomes};
+pub use laws::{
+    written_images_are_taken_up, written_images_keep_replies, written_images_tell_outcomes,
+};
 pub use reading::{WordsFault, base_of};
 pub use replies::{holds_document_replies, holds_queue_replies};
 pub use writing::{image_words, write_image};

@@ -74,17 +74,19 @@ module _ {O : Type 0} (r : Running O) (op : List ℕ) (s u : Seated) (same : Kee
       | inl below ↦ inl (let e = f.scans in omega (arith, e, below, rise))
       | inr above ↦ inr (let e = f.scans in omega (arith, e, above))
     ];
+    steps = (let count = f.steps in omega (arith, count, since));
     names = f.names;
     sets = f.keeps.sets ∙ still;
     times = record { linked = f.linked ∙ times.linked; answered = f.keeps.times.answered ∙ times.answered; reads = f.keeps.times.reads ∙ times.reads };
   }
 
-  pub update_worn : (most : ℕ) (v : Seated) → u.known.sets ≡ s.known.sets → SubmitWorn r most u v → UpdateWorn r s v
+  pub update_worn : (most : ℕ) (v : Seated) → u.known.sets ≡ s.known.sets → SubmitWorn r 2 most u v → UpdateWorn r s v
   update_worn most v still w = record {
     caller = w.caller;
     allowed = allowed_first w.allowed;
     keeps = keeps_on most v w.own w.keeps;
     front = w.front;
+    steps = (let least = w.steps in omega (arith, least, since));
     idle = w.idle;
     sets = w.keeps.sets ∙ still;
     times = record { linked = w.linked ∙ times.linked; answered = w.keeps.times.answered ∙ times.answered; reads = w.keeps.times.reads ∙ times.reads };

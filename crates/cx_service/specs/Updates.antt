@@ -1,5 +1,5 @@
 -- What an update comes to, and a read that may enter the queue.
-use Rattle.std.specs.Prelude.{◌≡◌, ◌≢◌, ◌^◌, ◌<◌, ◌≤◌, ◌⊎◌, ℕ, List, [], ◌∷◌, ◌++◌, length, Some, None}
+use Rattle.std.specs.Prelude.{◌≡◌, ◌≢◌, ◌+◌, ◌^◌, ◌<◌, ◌≤◌, ◌⊎◌, ℕ, min, List, [], ◌∷◌, ◌++◌, length, Some, None}
 use Rattle.cx_core.specs.declared.local.Answer.{Answer}
 use Rattle.cx_core.specs.Layout.{max_word}
 use Rattle.cx_core.specs.QueueEvents.{IsIdle}
@@ -50,24 +50,26 @@ pub record UpdateDone {O : Type 0} (r : Running O) (op : List ℕ) (before after
   pub brought : BringsEntries before after
   pub ended : EndsIn after.known.local.steps before.known.times.answered after.known.times.answered
 
--- No cell is idle after a scan of this call: another caller's need keeps them. The caller linked at least 16 entries in this
--- service.
+-- No cell is idle after FREE was loaded and a scan made in this call: another caller's need keeps them. The caller linked at least 16
+-- entries in this service.
 pub record UpdateFull {O : Type 0} (r : Running O) (before after : Seated) (note : FullNote) : Type 0 where
   pub caller : IsCallerOf r after
   pub allowed : ¬ IsAtLimit before.known.local
   pub keeps : KeepsLists before after
   pub full : 16 ≤ length before.known.local.own
   pub scans : (before.known.local.scans < after.known.local.scans) ⊎ (after.known.local.scans ≡ max_word)
+  pub steps : min (before.known.local.steps + (r.callers + 4)) max_word ≤ after.known.local.steps
   pub names : NamesHolder r.callers after.known.local note
   pub sets : after.known.sets ≡ before.known.sets
   pub times : KeepsTimes before.known.times after.known.times
 
--- A cell is idle, and there is no further ticket.
+-- A cell is idle, and there is no further ticket: CUR was loaded in this call, and the operation written there.
 pub record UpdateWorn {O : Type 0} (r : Running O) (before after : Seated) : Type 0 where
   pub caller : IsCallerOf r after
   pub allowed : ¬ IsAtLimit before.known.local
   pub keeps : KeepsLists before after
   pub front : after.known.local.front ≡ 2 ^ 40
+  pub steps : min (before.known.local.steps + 2) max_word ≤ after.known.local.steps
   pub idle : (j : ℕ) × (j < 16) × IsIdle after.known.local j
   pub sets : after.known.sets ≡ before.known.sets
   pub times : KeepsTimes before.known.times after.known.times

@@ -1,5 +1,5 @@
 -- What is left by a closing may be called.
-use Rattle.std.proofs.Common.{◌≡◌, subst, sym}
+use Rattle.std.proofs.Common.{subst, sym}
 use Rattle.std.specs.Arc.{arc_value}
 use Rattle.cx_rule.specs.Running.{Running}
 use Rattle.cx_service.specs.Closes.{seats_of}
@@ -11,18 +11,18 @@ use Rattle.doc_store.specs.declared.store.DocStore.{DocStore}
 use Rattle.fifo_object.specs.declared.fifo.Fifo.{Fifo}
 use Rattle.githoppu_c.specs.Closings.{queue_left, store_left}
 use Rattle.githoppu_c.specs.Contents.{IsCallable}
-use Rattle.githoppu_c.specs.Objects.{ClosesQueue, ClosesStore}
+use Rattle.githoppu_c.specs.Objects.{ClosesQueue, ClosesStore, KeepsDocumentReplies, KeepsQueueReplies}
 
-pub store_callable : (session : Session DocStore) (closing : Closing DocStore) → ClosesStore session closing → IsCallable (store_left closing)
-store_callable session Others is = tt
-store_callable session (Again other) is = is.0
-store_callable session (Closed remains) is = (arc_value session.service, is)
-store_callable session (Kept kept) is = subst (λ (r : Running DocStore). AreSeats r (seats_of kept.callers.items)) (sym is.0) is.1
-store_callable session Lost is = tt
+pub store_callable : (session : Session DocStore) (closing : Closing DocStore) → KeepsDocumentReplies (arc_value session.service) → ClosesStore session closing → IsCallable (store_left closing)
+store_callable session Others keeps is = tt
+store_callable session (Again other) keeps is = (is.0, subst KeepsDocumentReplies (sym is.1) keeps)
+store_callable session (Closed remains) keeps is = (arc_value session.service, is, keeps)
+store_callable session (Kept kept) keeps is = (subst (λ (r : Running DocStore). AreSeats r (seats_of kept.callers.items)) (sym is.0) is.1, subst KeepsDocumentReplies (sym is.0) keeps)
+store_callable session Lost keeps is = tt
 
-pub queue_callable : (session : Session Fifo) (closing : Closing Fifo) → ClosesQueue session closing → IsCallable (queue_left closing)
-queue_callable session Others is = tt
-queue_callable session (Again other) is = is.0
-queue_callable session (Closed remains) is = (arc_value session.service, is)
-queue_callable session (Kept kept) is = subst (λ (r : Running Fifo). AreSeats r (seats_of kept.callers.items)) (sym is.0) is.1
-queue_callable session Lost is = tt
+pub queue_callable : (session : Session Fifo) (closing : Closing Fifo) → KeepsQueueReplies (arc_value session.service) → ClosesQueue session closing → IsCallable (queue_left closing)
+queue_callable session Others keeps is = tt
+queue_callable session (Again other) keeps is = (is.0, subst KeepsQueueReplies (sym is.1) keeps)
+queue_callable session (Closed remains) keeps is = (arc_value session.service, is, keeps)
+queue_callable session (Kept kept) keeps is = (subst (λ (r : Running Fifo). AreSeats r (seats_of kept.callers.items)) (sym is.0) is.1, subst KeepsQueueReplies (sym is.0) keeps)
+queue_callable session Lost keeps is = tt

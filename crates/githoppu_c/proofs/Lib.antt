@@ -1,3 +1,5 @@
 mod Boxed
 pub mod Bases
 pub mod Closed
+pub mod Replies
+pub mod TakenUp

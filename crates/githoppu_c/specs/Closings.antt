@@ -1,11 +1,10 @@
 -- What C is answered where it closes a session, and where it asks for an image.
 use Rattle.std.specs.Prelude.{◌≡◌, ◌≢◌, ◌⊎◌, ◌+◌, ℕ, ℤ, pos, List, length}
-use Rattle.cx_rule.specs.Running.{Running}
 use Rattle.cx_table.specs.declared.remains.Remains.{Remains}
 use Rattle.recovery.specs.Images.{image_size}
 use Rattle.c_images.specs.Words.{IsWritten}
 use Rattle.c_sessions.specs.declared.closing.Closing.{Closing}
-use Rattle.c_sessions.specs.declared.closing.Closing.TheVariants.{Others, Again, Closed, Kept, Lost}
+use Rattle.c_sessions.specs.declared.closing.Closing.TheVariants.{Again, Closed, Kept}
 use Rattle.doc_store.specs.declared.store.DocStore.{DocStore}
 use Rattle.fifo_object.specs.declared.fifo.Fifo.{Fifo}
 use Rattle.githoppu_c.specs.Codes.{closing_code}

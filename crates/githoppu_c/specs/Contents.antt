@@ -1,5 +1,6 @@
 -- What C holds, and what a call of it answers.
 use Rattle.std.specs.Prelude.{◌≡◌, ◌⊎◌, ◌≤◌, ◌^◌, ℕ, ℤ, pos, All, List, length}
+use Rattle.std.specs.Arc.{arc_value}
 use Rattle.std.specs.Global.{Global}
 use Rattle.std_alloc.specs.declared.boxed.Box.{Box}
 use Rattle.doc_store.specs.ExactStep.{reads_in}
@@ -13,18 +14,19 @@ use Rattle.c_sessions.specs.Sessions.{CallsIn, FinishesIn, IsReady, IsReadyOf}
 use Rattle.c_sessions.specs.declared.steps.Called.{Called}
 use Rattle.c_sessions.specs.declared.steps.Called.TheVariants.{OutOfTurn}
 use Rattle.githoppu_c.specs.Codes.{code_of}
-use Rattle.githoppu_c.specs.Objects.{IsClosedQueue, IsClosedStore}
+use Rattle.githoppu_c.specs.Objects.{IsClosedQueue, IsClosedStore, KeepsDocumentReplies, KeepsQueueReplies}
 use Rattle.githoppu_c.specs.declared.content.Content.{Content}
 use Rattle.githoppu_c.specs.declared.content.Content.TheVariants.{Documents, Queue, KeptDocuments, KeptQueue, ClosedDocuments, ClosedQueue, Gone}
 
--- what C may call: a session that is ready, a service with all its callers that is still to be closed, and what a closed one left
+-- What C may call: a session that is ready, a service with all its callers that is still to be closed, and what a closed one left. The service was opened
+-- with results that keep replies.
 abbrev pub IsCallable : Content → Type 0
-IsCallable (Documents session) = IsReady session
-IsCallable (Queue session) = IsReady session
-IsCallable (KeptDocuments kept) = AreSeats kept.service (seats_of kept.callers.items)
-IsCallable (KeptQueue kept) = AreSeats kept.service (seats_of kept.callers.items)
-IsCallable (ClosedDocuments remains) = (r : Running DocStore) × IsClosedStore r remains
-IsCallable (ClosedQueue remains) = (r : Running Fifo) × IsClosedQueue r remains
+IsCallable (Documents session) = IsReady session × KeepsDocumentReplies (arc_value session.service)
+IsCallable (Queue session) = IsReady session × KeepsQueueReplies (arc_value session.service)
+IsCallable (KeptDocuments kept) = AreSeats kept.service (seats_of kept.callers.items) × KeepsDocumentReplies kept.service
+IsCallable (KeptQueue kept) = AreSeats kept.service (seats_of kept.callers.items) × KeepsQueueReplies kept.service
+IsCallable (ClosedDocuments remains) = (r : Running DocStore) × IsClosedStore r remains × KeepsDocumentReplies r
+IsCallable (ClosedQueue remains) = (r : Running Fifo) × IsClosedQueue r remains × KeepsQueueReplies r
 IsCallable Gone = Unit {0}
 
 -- a session of this store, or of this queue
@@ -36,10 +38,10 @@ abbrev pub IsQueueOf : Running Fifo → Content → Type 0
 IsQueueOf r (Queue session) = IsReadyOf r session
 IsQueueOf r content = ⊥
 
--- so many boxes, with this in each
+-- so many boxes, with this in each, which C may call
 pub record AreBoxes (is : Content → Type 0) (count : ℕ) (boxes : List (Box Content Global)) : Type 0 where
   pub all : length boxes ≡ count
-  pub each : All (λ (b : Box Content Global). is b.value) boxes
+  pub each : All (λ (b : Box Content Global). is b.value × IsCallable b.value) boxes
 
 -- what may be opened: an object of 64 to 16,384 lines, with 1 to 8 sessions
 pub record MayOpen (lines count : ℕ) : Type 0 where

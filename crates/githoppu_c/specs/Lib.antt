@@ -1,3 +1,4 @@
+pub mod Again
 pub mod Closings
 pub mod Codes
 pub mod Contents

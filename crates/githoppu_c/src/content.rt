@@ -1,11 +1,13 @@
 //! What C holds.
 
 ghost use Rattle.std.specs.Prelude.{◌≡◌};
+ghost use Rattle.githoppu_c.specs.Again.{ComesBack};
 ghost use Rattle.githoppu_c.specs.Closings.{ClosesAs, Images, queue_left, store_left};
 ghost use Rattle.githoppu_c.specs.Codes.{closing_code};
 ghost use Rattle.githoppu_c.specs.Contents.{Calls, Finishes, IsCallable};
 ghost use Rattle.githoppu_c.specs.Places.{HasPlace, Sees};
 
+use crate::again::{queues_are_taken_up_again, stores_are_taken_up_again};
 use crate::codes::{AGAIN, DONE, LOST, NO_MEMORY, OTHERS, OUT_OF_TURN};
 use crate::images::{DOCUMENTS, QUEUE, write_to};
 use c_sessions::{Called, Closing, Session, Sight, Tries, close_kept};
@@ -100,16 +102,21 @@ impl Content {
         }
     }
 
-    /// Writes what a loss of power leaves, by choice, where there are as many words as it takes, which are told.
+    /// Writes what a loss of power leaves, by choice, where there are as many words as it takes, which are told. What is written is taken up again.
     pub fn image(&self, choice: u64, words: &mut [u64], needed: &mut u64) -> i32
         requires callable { IsCallable self.now }
-        ensures { Images self.now choice words.old words.new needed.new result }
+        ensures images { Images self.now choice words.old words.new needed.new result }
+        ensures back { ComesBack self.now choice words.new result }
     {
         match self {
             Content::ClosedDocuments(remains) => {
+                stores_are_taken_up_again();
                 write_to(remains, DOCUMENTS, choice, words, needed)
             }
-            Content::ClosedQueue(remains) => write_to(remains, QUEUE, choice, words, needed),
+            Content::ClosedQueue(remains) => {
+                queues_are_taken_up_again();
+                write_to(remains, QUEUE, choice, words, needed)
+            }
             _ => {
                 *needed = 0;
                 OUT_OF_TURN

@@ -3,6 +3,7 @@
 #![tactic(auto)]
 
 ghost use Rattle.std.specs.Prelude.{◌≡◌, length};
+ghost use Rattle.githoppu_c.specs.Again.{ComesBack};
 ghost use Rattle.githoppu_c.specs.Closings.{ClosesAs, Images};
 ghost use Rattle.githoppu_c.specs.Contents.{Answers, Calls, Finishes, IsCallable, IsTriesFor, Opens};
 ghost use Rattle.githoppu_c.specs.Places.{AnswersSight, TellsPlace};
@@ -11,6 +12,7 @@ ghost use Rattle.githoppu_c.specs.Outcomes.{TellsOutcome};
 ghost use Rattle.githoppu_c.specs.Recoveries.{Recovers};
 ghost use Rattle.githoppu_c.specs.declared.content.Content as content_type;
 
+mod again;
 mod codes;
 mod content;
 mod handle;
@@ -128,7 +130,8 @@ pub extern "C" fn githoppu_close(alloc: Global, session: Handle, out: &mut *mut 
     code
 }
 
-/// Writes what a loss of power leaves of a closed store or queue, by choice, where there are as many words as it takes, which are told.
+/// Writes what a loss of power leaves of a closed store or queue, by choice, where there are as many words as it takes, which are told. From what is
+/// written the store or the queue is recovered, and what became of each session is told, unless there is no memory.
 #[unsafe(no_mangle)]
 pub extern "C" fn githoppu_image(
     closed: Handle,
@@ -138,7 +141,8 @@ pub extern "C" fn githoppu_image(
     out: &mut *mut u8,
 ) -> i32
     requires { IsCallable closed.content }
-    ensures { Images closed.content choice words.old words.new needed.new result }
+    ensures images { Images closed.content choice words.old words.new needed.new result }
+    ensures back { ComesBack closed.content choice words.new result }
 {
     let content = closed.into_box();
     let code = content.image(choice, words, needed);

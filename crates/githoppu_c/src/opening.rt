@@ -6,6 +6,7 @@ ghost use Rattle.doc_store.specs.declared.store.DocStore as doc_store_type;
 ghost use Rattle.fifo_object.specs.declared.fifo.Fifo as fifo_type;
 ghost use Rattle.c_sessions.specs.Sessions.{IsReadyOf};
 ghost use Rattle.githoppu_c.specs.Contents.{AreBoxes, AreOpened, IsQueueOf, IsStoreOf, MayOpen, Refuses};
+ghost use Rattle.githoppu_c.specs.Objects.{KeepsDocumentReplies, KeepsQueueReplies};
 
 use crate::codes::{BAD_SIZE, NO_MEMORY};
 use crate::content::Content;
@@ -66,12 +67,12 @@ fn may_open(lines: u64, count: usize) -> bool
     lines >= 64 && lines <= 16384 && count >= 1 && count <= 8
 }
 
-/// A box for each session of a document store.
+/// A box for each session of a document store that was opened with results that keep replies.
 pub(crate) fn as_documents(
     alloc: Global,
     sessions: Vec<Session<DocStore>>,
 ) -> Result<Vec<Box<Content>>, AllocError>
-    ensures { (r : Running doc_store_type.DocStore) → All (IsReadyOf r) sessions.items → IfOk result (λ boxes. AreBoxes (IsStoreOf r) (length sessions.items) boxes.items) }
+    ensures { (r : Running doc_store_type.DocStore) → KeepsDocumentReplies r → All (IsReadyOf r) sessions.items → IfOk result (λ boxes. AreBoxes (IsStoreOf r) (length sessions.items) boxes.items) }
 {
     let mut contents = Vec::new(alloc);
     for session in sessions {
@@ -80,12 +81,12 @@ pub(crate) fn as_documents(
     Ok(contents)
 }
 
-/// A box for each session of a queue.
+/// A box for each session of a queue that was.
 pub(crate) fn as_queue(
     alloc: Global,
     sessions: Vec<Session<Fifo>>,
 ) -> Result<Vec<Box<Content>>, AllocError>
-    ensures { (r : Running fifo_type.Fifo) → All (IsReadyOf r) sessions.items → IfOk result (λ boxes. AreBoxes (IsQueueOf r) (length sessions.items) boxes.items) }
+    ensures { (r : Running fifo_type.Fifo) → KeepsQueueReplies r → All (IsReadyOf r) sessions.items → IfOk result (λ boxes. AreBoxes (IsQueueOf r) (length sessions.items) boxes.items) }
 {
     let mut contents = Vec::new(alloc);
     for session in sessions {

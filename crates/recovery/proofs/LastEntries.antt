@@ -1,4 +1,4 @@
--- A full image tells of each caller its last entry below the place.
+-- A full image tells of each caller its last entry below the place, and its results are replies of the object's step or those of the base.
 use Rattle.std.proofs.Common.{◌≡◌, ◌≢◌, ◌+◌, ◌-◌, ◌^◌, ◌<◌, ◌≤◌, ◌⊎◌, inl, inr, ℕ, zero, suc, Bool, List, length, Some, refl, ap, sym, subst, ◌∙◌, arith, if◌then◌else◌}
 use Rattle.std.proofs.lemmas.Bool.{cases_eq, cases_order, ne_eqb}
 use Rattle.std.proofs.lemmas.Option.{same_Some}
@@ -17,6 +17,7 @@ use Rattle.cx_core.proofs.Locals.{linked_below, linked_within}
 use Rattle.cx_rule.proofs.Replies.{reply_of_full}
 use Rattle.recovery.specs.declared.applied.Outcome.TheVariants.{Applied, Never}
 use Rattle.recovery.specs.Outcomes.{TellsOutcome, outcome_in, outcome_of}
+use Rattle.recovery.specs.Results.{HasResultsFrom, IsEarlierResult, IsStepsReply}
 
 -- a slot with a number says that an entry was applied
 applied_in : (number : ℕ) (reply : List ℕ) → 0 < number → outcome_in number reply ≡ Applied number reply
@@ -27,12 +28,18 @@ module _ (lines : ℕ) (lawful : List ℕ → Type 0) (instance : Instance) (law
   abbrev at_place : ℕ → Base
   at_place place = record { place = place; words = full_image instance.step instance.base history place }
 
+  -- the full image at the ticket of a linked entry is a lawful base
+  lawful_at : (ticket : ℕ) (entry : Entry) → IsLinked instance.base.place history ticket entry → LawfulBase lines lawful (at_place ticket)
+  lawful_at ticket entry linked =
+      let within = linked_within instance.base.place history ticket entry linked in
+      full_lawful lines lawful instance laws history base entries small ticket linked.from (omega (arith, within))
+
   -- what the full step of a linked entry keeps
   kept_at : (ticket : ℕ) (entry : Entry) → IsLinked instance.base.place history ticket entry → Keeps lines lawful instance.step (at_place ticket) entry (at_place (ticket + 1))
   kept_at ticket entry linked =
       let from = linked.from in
       let within = linked_within instance.base.place history ticket entry linked in
-      let before = full_lawful lines lawful instance laws history base entries small ticket from (omega (arith, within)) in
+      let before = lawful_at ticket entry linked in
       let back : instance.base.place + (ticket - instance.base.place) ≡ ticket = omega (arith, from) in
       let is = entries (ticket - instance.base.place) entry linked.at in
       let most = is.most in
@@ -96,3 +103,39 @@ module _ (lines : ℕ) (lawful : List ℕ → Type 0) (instance : Instance) (law
 
   pub full_tells : (place caller : ℕ) → instance.base.place ≤ place → place ≤ instance.base.place + length history → caller < 8 → TellsOutcome instance.step instance.base history (at_place place) caller
   full_tells place caller from to few = tells_on (place - instance.base.place) place caller (omega (arith, from)) (omega (arith, from, to)) few
+
+  -- the result of an entry's caller keeps the reply of the entry's step
+  replied_by : (ticket : ℕ) (entry : Entry) → IsLinked instance.base.place history ticket entry → IsStepsReply lawful instance.step (slot_reply entry.caller (at_place (ticket + 1)).words)
+  replied_by ticket entry linked = record {
+    image = object_part (at_place ticket).words;
+    op = entry.op;
+    of = (lawful_at ticket entry linked).object;
+    fits = (entries (ticket - instance.base.place) entry linked.at).op;
+    is = (kept_at ticket entry linked).reply;
+  }
+
+  -- another's result stays
+  stays_from : (caller : ℕ) (before after : List ℕ) → IsEarlierResult before after caller
+      → IsEarlierResult instance.base.words before caller ⊎ IsStepsReply lawful instance.step (slot_reply caller before)
+      → IsEarlierResult instance.base.words after caller ⊎ IsStepsReply lawful instance.step (slot_reply caller after)
+  stays_from caller before after stay (inl same) = inl (stay.0 ∙ same.0, stay.1 ∙ same.1)
+  stays_from caller before after stay (inr told) = inr (subst (IsStepsReply lawful instance.step) (sym stay.1) told)
+
+  results_on : (n place : ℕ) → place ≡ instance.base.place + n → n ≤ length history → HasResultsFrom lawful instance.step instance.base.words (at_place place).words
+  results_on zero place is within caller few =
+      let here : place ≡ instance.base.place = omega (arith, is) in
+      let words : (at_place place).words ≡ instance.base.words = ap (full_image instance.step instance.base history) here ∙ begins instance.step instance.base history in
+      inl (ap (slot_number caller) words, ap (slot_reply caller) words)
+  results_on (suc n) place is within caller few =
+      let before = instance.base.place + n in
+      let next : before + 1 ≡ place = omega (arith, is) in
+      let l = linked_below instance.base.place history before (omega arith) (omega (arith, within)) in
+      let From = λ (p : ℕ). IsEarlierResult instance.base.words (at_place p).words caller ⊎ IsStepsReply lawful instance.step (slot_reply caller (at_place p).words) in
+      subst From next (elim (cases_order caller l.0.caller) [
+        | inl own ↦ inr (subst (λ c. IsStepsReply lawful instance.step (slot_reply c (at_place (before + 1)).words)) (sym own) (replied_by before l.0 l.1))
+        | inr apart ↦ stays_from caller (at_place before).words (at_place (before + 1)).words ((kept_at before l.0 l.1).others caller few apart)
+            (results_on n before refl (omega (arith, within)) caller few)
+      ])
+
+  pub full_results : (place : ℕ) → instance.base.place ≤ place → place ≤ instance.base.place + length history → HasResultsFrom lawful instance.step instance.base.words (at_place place).words
+  full_results place from to = results_on (place - instance.base.place) place (omega (arith, from)) (omega (arith, from, to))

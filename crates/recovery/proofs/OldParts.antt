@@ -1,5 +1,5 @@
 -- The version that the object part of a region begins with.
-use Rattle.std.proofs.Common.{◌≡◌, ◌-◌, ◌∙◌, ℕ, Bool, true, false, cond, List, [], ◌++◌, Option, None, Some, IfSome, ap, arith, drop, eqb-true, length, nat_eq, slice_index, sym, take}
+use Rattle.std.proofs.Common.{◌≡◌, ◌-◌, ◌∙◌, ℕ, Bool, true, false, cond, List, ◌++◌, Option, None, Some, IfSome, ap, arith, drop, eqb-true, length, nat_eq, slice_index, take}
 use Rattle.std.proofs.lemmas.Bool.{false≢true}
 use Rattle.std.proofs.lemmas.List.{append-nil, drop_all, length-drop}
 use Rattle.std.specs.Option.{option_eq}

@@ -4,3 +4,4 @@ pub mod Kept
 pub mod Outcomes
 pub mod Recovery
 pub mod Reopened
+pub mod Results

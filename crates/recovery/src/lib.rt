@@ -19,6 +19,8 @@ pub use laws::{
     closed_tables_are_whole, closed_tables_recover, closed_tables_stay, crash_images_are_accepted,
     crash_images_are_left,
 };
-pub use outcomes::{full_images_tell_outcomes, kept_bases_tell_outcomes, outcome};
+pub use outcomes::{
+    full_images_tell_outcomes, kept_bases_have_results, kept_bases_tell_outcomes, outcome,
+};
 pub use recovering::{ImageFault, recover};
 pub use reopening::{reopen, reopen_image};

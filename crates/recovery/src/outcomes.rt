@@ -9,6 +9,7 @@ ghost use Rattle.cx_rule.specs.Seats.{Seated};
 ghost use Rattle.cx_table.specs.Remains.{Leaves};
 ghost use Rattle.recovery.specs.Kept.{IsKeptBy, IsOpened};
 ghost use Rattle.recovery.specs.Outcomes.{TellsOutcome, outcome_of};
+ghost use Rattle.recovery.specs.Results.{HasResultsFrom};
 
 use crate::applied::Outcome;
 use crate::region::reply_words;
@@ -55,4 +56,11 @@ pub fn kept_bases_tell_outcomes<O: Object>()
     ensures { (table : Running O) (seats : List Seated) (r : _) (choice caller : ℕ) (base : _) → IsOpened O.line_count O.lawful table →
         Leaves table (instance_at table O.step O.only_reads) seats r → IsKeptBy O.line_count O.lawful O.step table seats r choice base →
         caller < 8 → TellsOutcome (O.step table.object) table.base r.trail.history base caller }
+{}
+
+/// Each result in it is the one that the table was opened with, or keeps a reply of the object's step.
+pub fn kept_bases_have_results<O: Object>()
+    ensures { (table : Running O) (seats : List Seated) (r : _) (choice : ℕ) (base : _) → IsOpened O.line_count O.lawful table →
+        Leaves table (instance_at table O.step O.only_reads) seats r → IsKeptBy O.line_count O.lawful O.step table seats r choice base →
+        HasResultsFrom (O.lawful table.object) (O.step table.object) table.base.words base.words }
 {}

@@ -8,4 +8,5 @@ mod Runs
 pub mod Replaying
 pub mod Persisting
 mod Renewing
+mod Listing
 pub mod Stepping

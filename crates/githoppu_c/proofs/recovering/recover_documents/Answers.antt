@@ -9,10 +9,11 @@ pub returns-in-Ok-as_documents : goal.returns-in-Ok-as_documents
 returns-in-Ok-as_documents c =
     let words = c.args.words.now in
     let ready = c.in-Ok-open_from.ensures in
+    let said = subst (IsStoreIn words) (sym (ap (λ (r : Running DocStore). r.base) ready.is)) c.in_ok-base.ensures.told in
     record {
       few = search rules;
       service = ready.service;
       callers_are = ap (λ (r : Running DocStore). r.callers) ready.is;
-      said = subst (IsStoreIn words) (sym (ap (λ (r : Running DocStore). r.base) ready.is)) c.in_ok-base.ensures.told;
-      of = subst (λ n. AreBoxes (IsStoreOf ready.service) n c.in-Ok-as_documents.contents.items) ready.all (c.in-Ok-as_documents.ensures ready.service ready.each);
+      said = said;
+      of = subst (λ n. AreBoxes (IsStoreOf ready.service) n c.in-Ok-as_documents.contents.items) ready.all (c.in-Ok-as_documents.ensures ready.service said.1 ready.each);
     }

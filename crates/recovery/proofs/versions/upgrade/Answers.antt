@@ -1,4 +1,4 @@
-use Rattle.std.proofs.Common.{◌≡◌, ◌-◌, ◌∙◌, List, ℕ, ◌++◌, ap, drop, length, subst, sym, take}
+use Rattle.std.proofs.Common.{◌-◌, ◌∙◌, List, ℕ, ◌++◌, ap, drop, length, subst, sym, take}
 use Rattle.cx_core.proofs.Upgrading.{old_lawful}
 use Rattle.recovery.proofs.Slots.{part_is}
 use Rattle.recovery.proofs.OldParts.{can_upgrade, named_old, named_other, put_behind, version_is}

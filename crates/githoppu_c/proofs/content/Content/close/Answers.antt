@@ -1,16 +1,27 @@
 use Rattle.std.proofs.Common.{inl, pos, refl, subst, sym}
+use Rattle.cx_service.specs.declared.close.Kept.{Kept}
+use Rattle.doc_store.specs.declared.store.DocStore.{DocStore}
 use Rattle.githoppu_c.specs.Closings.{ClosesAs}
 use Rattle.githoppu_c.specs.Contents.{IsCallable}
 use Rattle.githoppu_c.specs.declared.content.Content.{Content}
-use Rattle.githoppu_c.specs.declared.content.Content.TheVariants.{ClosedDocuments, ClosedQueue}
+use Rattle.githoppu_c.specs.declared.content.Content.TheVariants.{ClosedDocuments, ClosedQueue, KeptDocuments}
 use Rattle.githoppu_c.proofs.Closed.{queue_callable, store_callable}
 use Rattle.githoppu_c.proofs.content.Content.close.Goals as goal
 
 pub returns-in-Documents-clause-callable : goal.returns-in-Documents-clause-callable
-returns-in-Documents-clause-callable c = subst IsCallable (sym c.store_closed.ensures.0) (store_callable c.in-Documents.session c.close.result c.close.ensures)
+returns-in-Documents-clause-callable c = subst IsCallable (sym c.store_closed.ensures.0) (store_callable c.in-Documents.session c.close.result (subst IsCallable c.in-Documents.is c.requires.callable).1 c.close.ensures)
 
 pub returns-in-Queue-clause-callable : goal.returns-in-Queue-clause-callable
-returns-in-Queue-clause-callable c = subst IsCallable (sym c.queue_closed.ensures.0) (queue_callable c.in-Queue.session c.close-in-Queue.result c.close-in-Queue.ensures)
+returns-in-Queue-clause-callable c = subst IsCallable (sym c.queue_closed.ensures.0) (queue_callable c.in-Queue.session c.close-in-Queue.result (subst IsCallable c.in-Queue.is c.requires.callable).1 c.close-in-Queue.ensures)
+
+pub returns-in-Ok-clause-callable : goal.returns-in-Ok-clause-callable
+returns-in-Ok-clause-callable c = (c.in-KeptDocuments.kept.service, c.in-Ok.ensures, (subst IsCallable c.in-KeptDocuments.is c.requires.callable).1)
+
+pub returns-in-Err-clause-callable : goal.returns-in-Err-clause-callable
+returns-in-Err-clause-callable c = subst (λ (k : Kept DocStore). IsCallable (KeptDocuments k)) (sym c.in-Err.ensures) (subst IsCallable c.in-KeptDocuments.is c.requires.callable)
+
+pub returns-in-Ok-close_kept-clause-callable : goal.returns-in-Ok-close_kept-clause-callable
+returns-in-Ok-close_kept-clause-callable c = (c.in-KeptQueue.kept.service, c.in-Ok-close_kept.ensures, (subst IsCallable c.in-KeptQueue.is c.requires.callable).1)
 
 pub returns-in-Ok-clause-closes : goal.returns-in-Ok-clause-closes
 returns-in-Ok-clause-closes c = subst (λ (before : Content). ClosesAs before (ClosedDocuments c.in-Ok.remains) (pos 0)) (sym c.in-KeptDocuments.is) (inl (c.in-Ok.remains, c.in-Ok.ensures, refl, refl))

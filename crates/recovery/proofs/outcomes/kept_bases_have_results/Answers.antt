@@ -1,0 +1,26 @@
+use Rattle.std.proofs.Common.{◌+◌, ◌≤◌, List, length, sym, subst}
+use Rattle.cx_core.specs.declared.entry.Entry.{Entry}
+use Rattle.cx_core.specs.History.{full_image}
+use Rattle.cx_core.specs.State.{State}
+use Rattle.cx_rule.specs.Running.{instance_at}
+use Rattle.core_runs.proofs.WholeLaws.{entries_of}
+use Rattle.recovery.specs.Results.{HasResultsFrom}
+use Rattle.recovery.proofs.LastEntries.{full_results}
+use Rattle.recovery.proofs.outcomes.kept_bases_have_results.Goals as goal
+
+pub returns : goal.returns
+returns g c = λ table seats r choice base opened leaves kept.
+    let o = table.object in
+    let step = g.O.Object.step o in
+    let lawful = g.O.Object.lawful o in
+    let instance = instance_at table g.O.Object.step g.O.Object.only_reads in
+    let closed : State = record { words = leaves.words; locals = leaves.whole } in
+    let law = leaves.state in
+    let entries = entries_of instance closed law opened.base.numbers in
+    let at = base.place in
+    let to = subst (λ (es : List Entry). at ≤ table.base.place + length es) (sym leaves.history) kept.to in
+    let results = full_results (g.O.Object.line_count o) lawful instance
+    (record { keeps = g.met.O.Object.keeps o; shape = λ words fits. (g.met.O.Object.shape o words fits).0; replies = g.met.O.Object.replies o })
+    opened.base law.history law.tickets.below entries at kept.from to in
+    let here = subst (λ (es : List Entry). HasResultsFrom lawful step table.base.words (full_image step table.base es at)) leaves.history results in
+    subst (HasResultsFrom lawful step table.base.words) (sym kept.words) here
