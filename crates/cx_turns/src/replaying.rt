@@ -22,7 +22,9 @@ use cx_base::{Halt, Object};
 use cx_core::Entry;
 use cx_table::{CallerSeat, Exclusive, Shared};
 use mutation_queue::entry;
-use replica::{Region, apply, flush, outcome};
+use noting_region::apply_noting;
+use redo_set::WriteSet;
+use replica::{Region, flush, outcome};
 use replica_sets::{replay_offered, replay_own, step_and_offer};
 
 /// Brings a replica that was kept for the entries up to a ticket up to it, removes the protection, and makes it durable. The reply to the
@@ -196,8 +198,10 @@ fn replay_another<O: Object>(
         scratch.taken = scratch.taken.saturating_add(1);
         return Ok(());
     }
-    let Scratch { words, next, .. } = scratch;
-    step_another(shared, seat, held, at, words, next, reply)?;
+    let Scratch {
+        words, next, set, ..
+    } = scratch;
+    step_another(shared, seat, held, at, words, next, set, reply)?;
     Ok(())
 }
 
@@ -209,6 +213,7 @@ fn step_another<O: Object>(
     at: u64,
     words: &mut [u64; 145],
     next: &mut Entry,
+    set: &mut WriteSet,
     reply: &mut [u64; 144],
 ) -> Result<(), Halt>
     requires ready { IsReady O.Object shared.now held.now at seat.old }
@@ -218,7 +223,7 @@ fn step_another<O: Object>(
     ensures keeps { Keeps shared.now beside_work seat.old seat.new }
 {
     read_next(shared, seat, at, words, next)?;
-    apply(shared, seat, held, next, reply)?;
+    apply_noting(shared, seat, held, next, set, reply)?;
     Ok(())
 }
 
