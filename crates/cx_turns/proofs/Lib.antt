@@ -7,3 +7,4 @@ mod Taken
 pub mod Working
 pub mod Renewed
 pub mod Answered
+pub mod Images

@@ -5,3 +5,4 @@ pub mod Keeping
 pub mod Preparing
 pub mod Reads
 pub mod Answering
+pub mod Checkpointing

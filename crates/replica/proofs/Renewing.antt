@@ -40,7 +40,7 @@ loads_there [] first now leads = All-nil (λ (x : ℕ × ℕ). slice_index first
 loads_there (x ∷ loaded) first now leads = All-cons (λ (y : ℕ × ℕ). slice_index first y.0 ≡ y.1) x loaded leads.0 (loads_there loaded first now leads.1)
 
 -- so all loads of one place give the same word
-loaded_once : (lines : ℕ) (lawful : List ℕ → Type 0) (base : Base) (loaded : List (ℕ × ℕ)) (v p : ℕ) → SomeReadFits lines lawful base loaded → word_noted None 0 (loads_of loaded) ≡ Some v → Contains loaded (0, p) → v ≡ p
+pub loaded_once : (lines : ℕ) (lawful : List ℕ → Type 0) (base : Base) (loaded : List (ℕ × ℕ)) (v p : ℕ) → SomeReadFits lines lawful base loaded → word_noted None 0 (loads_of loaded) ≡ Some v → Contains loaded (0, p) → v ≡ p
 loaded_once lines lawful base loaded v p some last has = ∥∥₁_elim some (hlevel props) (λ f. (
     let first = f.0 in
     let fits = f.2.fits in
