@@ -161,6 +161,7 @@ module _ {O : Type 0} (r : Running O) where
         };
         reads = inl keeps.reads;
         times = inl keeps.times.reads;
+        images = keeps.images;
       }
 
   -- its new entry is below its front

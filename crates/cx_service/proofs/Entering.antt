@@ -50,6 +50,7 @@ module _ {O : Type 0} (r : Running O) (s v : Seated) (kept : beside_submit v ≡
     steps = steps;
     idle = idle;
     times = record { answered = ap (λ (x : Seated). x.known.times.answered) kept; reads = ap (λ (x : Seated). x.known.times.reads) kept };
+    images = ap (λ (x : Seated). x.known.images) kept;
   }
 
   -- it is still the seat of its caller

@@ -113,6 +113,7 @@ module _ {O : Type 0} (r : Running O) (more : ℕ) (s t : Seated) (first : Prece
         let last = after.idle j within still in
         record { free = last.free ∙ none.free; scans = last.scans ∙ none.scans });
     times = record { answered = after.times.answered ∙ ap (λ (x : Seated). x.known.times.answered) first.kept; reads = after.times.reads ∙ ap (λ (x : Seated). x.known.times.reads) first.kept };
+    images = after.images ∙ ap (λ (x : Seated). x.known.images) first.kept;
   }
 
   same_entry : (op : List ℕ) (ticket : ℕ) → entry_at r t.known.local op ticket ≡ entry_at r s.known.local op ticket

@@ -34,7 +34,7 @@ meets_one s v is =
       | inr above ↦ inr (omega (arith, is, above))
     ]
 
-rises_one : (s v : Seated) → s.known.local.met ≤ max_word → v.known.local.met ≡ one_more s.known.local.met → s.known.local.met ≤ v.known.local.met
+pub rises_one : (s v : Seated) → s.known.local.met ≤ max_word → v.known.local.met ≡ one_more s.known.local.met → s.known.local.met ≤ v.known.local.met
 rises_one s v small is = omega (arith, small, is)
 
 pub meets_then : (n m : ℕ) (s u v : Seated) → MeetsMore n s u → MeetsMore m u v → MeetsMore (n + m) s v
@@ -42,7 +42,7 @@ meets_then n m s u v (inl a) (inl b) = inl (omega (arith, a, b))
 meets_then n m s u v (inr a) (inl b) = inr (omega (arith, a, b))
 meets_then n m s u v a (inr b) = inr b
 
-most_one : (s v : Seated) → v.known.local.met ≡ one_more s.known.local.met → MeetsAtMost 1 s v
+pub most_one : (s v : Seated) → v.known.local.met ≡ one_more s.known.local.met → MeetsAtMost 1 s v
 most_one s v is = omega (arith, is)
 
 -- cells that differ in their sets and offers alone have the same tickets
@@ -53,7 +53,7 @@ same_tickets xs ys same j =
     ∙ ap (λ (c : Cell). c.ticket) (get_or-map but_set ys j default)
 
 -- a caller of which turns left the entries as they were, and the cells but for their sets and offers, and of whose answers there are so many
-between_after : {O : Type 0} (r : Running O) (n m : ℕ) (s v : Seated) → IsBetweenCalls n r s → v.known.local.own ≡ s.known.local.own → map but_set v.known.local.cells ≡ map but_set s.known.local.cells →
+pub between_after : {O : Type 0} (r : Running O) (n m : ℕ) (s v : Seated) → IsBetweenCalls n r s → v.known.local.own ≡ s.known.local.own → map but_set v.known.local.cells ≡ map but_set s.known.local.cells →
     s.known.local.front ≤ v.known.local.front → IsSeatOf r v → IsAtRest v.known.local → length v.known.local.answered + m ≡ length s.known.local.answered + n → IsBetweenCalls m r v
 between_after r n m s v was own cells front of rest answered = record {
   of = of;
@@ -72,6 +72,7 @@ module _ {O : Type 0} (r : Running O) (s v : Seated) (linked : IsLinkedOf r s) (
     reads = ap (λ (x : Seated). x.known.local.seen_reads) rest;
     linked = ap (λ (x : Seated). x.known.times.linked) rest;
     read = ap (λ (x : Seated). x.known.times.reads) rest;
+    images = ap (λ (x : Seated). x.known.images) rest;
   }
 
   stands : (m : ℕ) → IsAtRest v.known.local → length v.known.local.answered + m ≡ length s.known.local.answered + 1 → IsBetweenCalls m r v
@@ -126,7 +127,7 @@ module _ {O : Type 0} (r : Running O) (s v : Seated) (linked : IsLinkedOf r s) (
 -- turns after others, in each of which a refusal was met
 module _ {O : Type 0} (r : Running O) (n : ℕ) (s u : Seated) (before : DrivePending r n s u) where
   keeps_then : (v : Seated) → DriveKeeps u v → DriveKeeps s v
-  keeps_then v k = record { number = k.number ∙ before.keeps.number; limit = k.limit ∙ before.keeps.limit; own = k.own ∙ before.keeps.own; reads = k.reads ∙ before.keeps.reads; linked = k.linked ∙ before.keeps.linked; read = k.read ∙ before.keeps.read }
+  keeps_then v k = record { number = k.number ∙ before.keeps.number; limit = k.limit ∙ before.keeps.limit; own = k.own ∙ before.keeps.own; reads = k.reads ∙ before.keeps.reads; linked = k.linked ∙ before.keeps.linked; read = k.read ∙ before.keeps.read; images = k.images ∙ before.keeps.images }
 
   same_ticket : unanswered_ticket s.known.local ≡ unanswered_ticket u.known.local
   same_ticket =
@@ -271,6 +272,7 @@ module _ {O : Type 0} (r : Running O) (op : List ℕ) (s v : Seated) (caller : I
     above = answers.above;
     from = answers.from;
     times = record { begun = s.known.local.steps; ended = answers.times.ended; from = omega arith; to = answers.times.to; is = answers.times.is };
+    images = ap (λ (x : Seated). x.known.images) rest;
   }
 
   pub read_refused : ¬ IsAtLimit s.known.local → s.known.local.met ≤ max_word → TurnRefused s v × StepsAtMost 4 s v × StepsOn s v → ReadPending r 1 s v
@@ -285,6 +287,7 @@ module _ {O : Type 0} (r : Running O) (op : List ℕ) (s v : Seated) (caller : I
     steps = steps;
     since = since;
     times = refused.refusal.times.reads;
+    images = ap (λ (x : Seated). x.known.images) rest;
   }
 
   pub read_ended : HaltsLookup s.known.local.steps op s v → ReadHalted r op s (record { seat = v; linked = None }) × ReadDue 1 s v
@@ -295,6 +298,7 @@ module _ {O : Type 0} (r : Running O) (op : List ℕ) (s v : Seated) (caller : I
       keeps = read_keeps;
       reads = elim h.reads [ inl none ↦ inl none.same | inr one ↦ inr (one.0, one.1, one.2, one.4) ];
       times = elim h.reads [ inl none ↦ inl none.times | inr one ↦ inr (record { begun = s.known.local.steps; ended = one.3.ended; from = omega arith; to = one.3.to; is = one.3.is }) ];
+      images = ap (λ (x : Seated). x.known.images) rest;
     },
     record { most = h.halts.most; due = λ none. (let same = h.halts.due none in omega (arith, same)) },
   )
@@ -304,7 +308,7 @@ pub all_answered : {O : Type 0} (r : Running O) (s : Seated) → IsCallerOf r s 
 all_answered r s caller = ap (option_map (λ (x : Linked). x.ticket)) (slice_get_past s.known.local.own (length s.known.local.answered) (omega (arith, caller.count)))
 
 module _ {O : Type 0} (r : Running O) (op : List ℕ) (n : ℕ) (s u : Seated) (before : ReadPending r n s u) where
-  read_keeps_then : (v : Seated) → ReadKeeps u v → ReadKeeps s v
+  pub read_keeps_then : (v : Seated) → ReadKeeps u v → ReadKeeps s v
   read_keeps_then v k = record { number = k.number ∙ before.keeps.number; limit = k.limit ∙ before.keeps.limit; own = k.own ∙ before.keeps.own; answered = k.answered ∙ before.keeps.answered; scans = k.scans ∙ before.keeps.scans; sets = k.sets ∙ before.keeps.sets; front = omega (arith, before.keeps.front, k.front); cur = omega (arith, before.keeps.cur, k.cur); linked = k.linked ∙ before.keeps.linked; ended = k.ended ∙ before.keeps.ended }
 
   -- reads with one more, in terms of the first seat
@@ -325,6 +329,7 @@ module _ {O : Type 0} (r : Running O) (op : List ℕ) (n : ℕ) (s u : Seated) (
     steps = omega (arith, before.steps, p.steps);
     since = omega (arith, before.since, p.since);
     times = p.times ∙ before.times;
+    images = p.images ∙ before.images;
   }
 
   read_done_then : (v : Seated) (seen : Seen) → ReadAnswered r op u v seen → ReadAnswered r op s v seen
@@ -339,6 +344,7 @@ module _ {O : Type 0} (r : Running O) (op : List ℕ) (n : ℕ) (s u : Seated) (
     above = λ i x at. d.above i x (ap (λ (xs : List Answer). slice_get xs i) before.keeps.answered ∙ at);
     from = λ i x at. d.from i x (ap (λ (xs : List SeenRead). slice_get xs i) before.reads ∙ at);
     times = record { begun = d.times.begun; ended = d.times.ended; from = omega (arith, before.since, d.times.from); to = d.times.to; is = d.times.is ∙ ap (λ ts. ts ++ (d.times.begun, d.times.ended) ∷ []) before.times };
+    images = d.images ∙ before.images;
   }
 
   read_halted_then : (v : StoppedSeat) → ReadHalted r op u v → ReadHalted r op s v
@@ -354,6 +360,7 @@ module _ {O : Type 0} (r : Running O) (op : List ℕ) (n : ℕ) (s u : Seated) (
       | inl none ↦ inl (none ∙ before.times)
       | inr one ↦ inr (record { begun = one.begun; ended = one.ended; from = omega (arith, before.since, one.from); to = one.to; is = one.is ∙ ap (λ ts. ts ++ (one.begun, one.ended) ∷ []) before.times })
     ];
+    images = h.images ∙ before.images;
   }
 
 -- so many turns for a read were made, of which there may be none, and in each a refusal was met
@@ -385,7 +392,7 @@ module _ {O : Type 0} (r : Running O) (op : List ℕ) (n : ℕ) (s u : Seated) (
       ]
 
   -- at most as many refusals
-  looks_met : MeetsAtMost n s u
+  pub looks_met : MeetsAtMost n s u
   looks_met = elim on.turns [ inl none ↦ (let same = ap (λ (x : Seated). x.known.local.met) none.1 in omega (arith, same)) | inr some ↦ some.most ]
 
   pub looks_halted : (tries : ℕ) (v : StoppedSeat) → n < tries → ReadHalted r op u v × ReadDue 1 u v.seat → ReadHalted r op s v × ReadDue tries s v.seat

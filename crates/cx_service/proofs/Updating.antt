@@ -29,7 +29,7 @@ use Rattle.cx_turns.specs.Turns.{StepsOn}
 pub keeps_all : (s : Seated) → KeepsLists s s
 keeps_all s = record { number = refl; limit = refl; own = refl; answered = refl; reads = refl; front = omega arith; cur = omega arith }
 
-module _ {O : Type 0} (r : Running O) (op : List ℕ) (s u : Seated) (same : KeepsLists s u) (times : KeepsTimes s.known.times u.known.times) (since : StepsOn s u) (stood : IsAtLimit s.known.local → u ≡ s) where
+module _ {O : Type 0} (r : Running O) (op : List ℕ) (s u : Seated) (same : KeepsLists s u) (times : KeepsTimes s.known.times u.known.times) (since : StepsOn s u) (stood : IsAtLimit s.known.local → u ≡ s) (images : u.known.images ≡ s.known.images) where
   -- what is allowed after the tries so far was so before them
   allowed_first : ¬ IsAtLimit u.known.local → ¬ IsAtLimit s.known.local
   allowed_first free at = free (subst (λ (x : Seated). IsAtLimit x.known.local) (sym (stood at)) at)
@@ -61,6 +61,9 @@ module _ {O : Type 0} (r : Running O) (op : List ℕ) (s u : Seated) (same : Kee
   pub again_since : (tries most : ℕ) (v : Seated) → SubmitAgain r tries most u v → StepsOn s v
   again_since tries most v a = omega (arith, a.since, since)
 
+  pub again_images : (tries most : ℕ) (v : Seated) → SubmitAgain r tries most u v → v.known.images ≡ s.known.images
+  again_images tries most v a = a.keeps.images ∙ images
+
   pub again_stood : (tries most : ℕ) (v : Seated) → SubmitAgain r tries most u v → IsAtLimit s.known.local → v ≡ s
   again_stood tries most v a at = absurd (allowed_first a.allowed at)
 
@@ -78,6 +81,7 @@ module _ {O : Type 0} (r : Running O) (op : List ℕ) (s u : Seated) (same : Kee
     names = f.names;
     sets = f.keeps.sets ∙ still;
     times = record { linked = f.linked ∙ times.linked; answered = f.keeps.times.answered ∙ times.answered; reads = f.keeps.times.reads ∙ times.reads };
+    images = f.keeps.images ∙ images;
   }
 
   pub update_worn : (most : ℕ) (v : Seated) → u.known.sets ≡ s.known.sets → SubmitWorn r 2 most u v → UpdateWorn r s v
@@ -90,12 +94,14 @@ module _ {O : Type 0} (r : Running O) (op : List ℕ) (s u : Seated) (same : Kee
     idle = w.idle;
     sets = w.keeps.sets ∙ still;
     times = record { linked = w.linked ∙ times.linked; answered = w.keeps.times.answered ∙ times.answered; reads = w.keeps.times.reads ∙ times.reads };
+    images = w.keeps.images ∙ images;
   }
 
   pub update_halted : (most : ℕ) (v : StoppedSeat) → SubmitHalted r most u v → SubmitsAgain r op s u → Submits r op 16 u (SubmitHalts v) → UpdateHalted r op s v
   update_halted most v h tried due = record {
     caller = h.caller;
     number = h.keeps.number ∙ same.number;
+    images = h.keeps.images ∙ images;
     lists = inl (record {
       last = u;
       tried = tried;
@@ -135,12 +141,14 @@ module _ {O : Type 0} (r : Running O) (op : List ℕ) (s u : Seated) (same : Kee
       answered = d.answered ∙ ap (with_answer answer.ticket answer.reply) before_answered;
       brought = brings_around s l v v (linked.keeps.sets ∙ still) d.brought refl;
       ended = record { at = d.ended.at; to = d.ended.to; is = d.ended.is ∙ ap (λ ts. ts ++ d.ended.at ∷ []) before_ended };
+      images = d.keeps.images ∙ linked.keeps.images ∙ images;
     }
 
     pub drive_halted : (v : StoppedSeat) → DriveHalted r l v → UpdateHalted r op s v
     drive_halted v h = record {
       caller = h.caller;
       number = h.keeps.number ∙ linked.keeps.number ∙ same.number;
+      images = h.keeps.images ∙ linked.keeps.images ∙ images;
       lists = inr (record {
         ticket = h.ticket;
         linked = h.linked;
@@ -170,4 +178,4 @@ queued r op s u (Queued v answer) refused entered = record { refused = u; pendin
 queued r op s u (FullRead v note) refused entered = record { refused = u; pending = refused; entered = entered }
 queued r op s u (WornRead v) refused entered = record { refused = u; pending = refused; entered = entered }
 queued r op s u (HaltedRead v) refused entered =
-    record { caller = entered.caller; number = entered.number ∙ refused.keeps.number; lists = inr (record { refused = u; pending = refused; entered = entered }) }
+    record { caller = entered.caller; number = entered.number ∙ refused.keeps.number; images = entered.images ∙ refused.images; lists = inr (record { refused = u; pending = refused; entered = entered }) }

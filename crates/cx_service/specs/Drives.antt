@@ -37,6 +37,7 @@ pub record DriveKeeps (before after : Seated) : Type 0 where
   pub reads : after.known.local.seen_reads ≡ before.known.local.seen_reads
   pub linked : after.known.times.linked ≡ before.known.times.linked
   pub read : after.known.times.reads ≡ before.known.times.reads
+  pub images : after.known.images ≡ before.known.images
 
 -- The entry is answered, and nothing else: the caller has one answer more, at the entry's ticket. The count of others' entries that were
 -- brought on by their sets rises by those of this call. The limit allowed a step.

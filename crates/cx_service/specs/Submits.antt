@@ -49,6 +49,7 @@ pub record SubmitKeeps (most : ℕ) (before after : Seated) : Type 0 where
   pub steps : after.known.local.steps ≤ before.known.local.steps + most
   pub idle : (j : ℕ) → j < 16 → IsIdle before.known.local j → LooksForNothing before after
   pub times : KeepsEnds before.known.times after.known.times
+  pub images : after.known.images ≡ before.known.images
 
 -- the caller's next entry, with this operation and this ticket
 abbrev pub entry_at : {O : Type 0} → Running O → Local → List ℕ → ℕ → OwnEntry

@@ -49,6 +49,7 @@ pub record UpdateDone {O : Type 0} (r : Running O) (op : List ℕ) (before after
   pub answered : after.known.local.answered ≡ with_answer answer.ticket answer.reply before.known.local.answered
   pub brought : BringsEntries before after
   pub ended : EndsIn after.known.local.steps before.known.times.answered after.known.times.answered
+  pub images : after.known.images ≡ before.known.images
 
 -- No cell is idle after FREE was loaded and a scan made in this call: another caller's need keeps them. The caller linked at least 16
 -- entries in this service.
@@ -62,6 +63,7 @@ pub record UpdateFull {O : Type 0} (r : Running O) (before after : Seated) (note
   pub names : NamesHolder r.callers after.known.local note
   pub sets : after.known.sets ≡ before.known.sets
   pub times : KeepsTimes before.known.times after.known.times
+  pub images : after.known.images ≡ before.known.images
 
 -- A cell is idle, and there is no further ticket: CUR was loaded in this call, and the operation written there.
 pub record UpdateWorn {O : Type 0} (r : Running O) (before after : Seated) : Type 0 where
@@ -73,6 +75,7 @@ pub record UpdateWorn {O : Type 0} (r : Running O) (before after : Seated) : Typ
   pub idle : (j : ℕ) × (j < 16) × IsIdle after.known.local j
   pub sets : after.known.sets ≡ before.known.sets
   pub times : KeepsTimes before.known.times after.known.times
+  pub images : after.known.images ≡ before.known.images
 
 -- Submits of an operation in 16 tries, none or more, each of which found another's link in every try and handed the caller back.
 pub data SubmitsAgain {O : Type 0} (r : Running O) (op : List ℕ) (first : Seated) : Seated → Type 0 where
@@ -103,6 +106,7 @@ pub record UpdateHalted {O : Type 0} (r : Running O) (op : List ℕ) (before : S
   pub caller : IsStoppedOf r after.seat
   pub number : after.seat.known.local.number ≡ before.known.local.number
   pub lists : HaltsUnlinked r op before after ⊎ HaltsLinked r op before after
+  pub images : after.seat.known.images ≡ before.known.images
 
 -- what an update of this operation comes to
 abbrev pub Updates : {O : Type 0} → Running O → List ℕ → Seated → Updated → Type 0
@@ -129,6 +133,7 @@ pub record ReadStops {O : Type 0} (r : Running O) (op : List ℕ) (before : Seat
   pub caller : IsStoppedOf r after.seat
   pub number : after.seat.known.local.number ≡ before.known.local.number
   pub lists : (ReadHalted r op before after × ReadDue 8 before after.seat) ⊎ ReadQueues r op before (Halted after)
+  pub images : after.seat.known.images ≡ before.known.images
 
 -- what a read of this operation comes to
 abbrev pub ReadsInAll : {O : Type 0} → Running O → List ℕ → Seated → ReadDone → Type 0

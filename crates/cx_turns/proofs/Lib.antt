@@ -8,3 +8,4 @@ pub mod Working
 pub mod Bringing
 pub mod Renewed
 pub mod Answered
+pub mod Images

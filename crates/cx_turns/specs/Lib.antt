@@ -6,3 +6,4 @@ pub mod Keeping
 pub mod Preparing
 pub mod Reads
 pub mod Answering
+pub mod Checkpointing

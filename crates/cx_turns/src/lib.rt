@@ -1,5 +1,5 @@
 //! The parts of a caller's turn over its seat: a replica is taken, brought up to the caller's own entry and made durable, or
-//! the current one is read beside the queue.
+//! the current one is read, or its image taken, beside the queue.
 //!
 //! - A caller tries each replica once; where all are refused one refusal is met and it has no right: `take_any` (`taken`). Which it tries first
 //!   is in no contract.
@@ -19,11 +19,15 @@
 //! - A turn for a read answers it at the place of a code loaded from CUR in this turn, whose replica is held shared at that place. The place is
 //!   above each ticket and not below any place that the caller was answered before; where it halts the read is not answered, or it is and the
 //!   shared right stands that is still to be given back: `read_turn` (`turned`, `halted`, `turns`), over `read_current`.
+//! - A turn by which the image of the current replica is taken loads all its words under one shared right, raises DUR by its code, and makes them one
+//!   image more that the caller took, a lawful base at that code's place: `checkpoint_turn` (`turned`: `TakesTurn`; `halted`, `turns`). It is refused as a
+//!   read's is, and where it halts no image is taken.
 //! - A turn for a read that is refused makes at most 4 steps: `read_turn` (`turned`: `LooksUp`). Of a turn for an entry each part outside replay,
 //!   copy and flush has a bound: `take_any` makes at most two tries for each caller (`leaves`), and what publishes, answers and retires makes 3
 //!   steps and one for each later code that was found (`hand_over`). What an object loads and stores is not counted.
 #![tactic(auto)]
 
+mod checkpointing;
 mod keeping;
 mod lookup;
 mod preparing;
@@ -33,6 +37,7 @@ mod scratch;
 mod taking;
 mod updating;
 
+pub use checkpointing::checkpoint_turn;
 pub use keeping::{keep, unguard};
 pub use lookup::{Seen, read_turn};
 pub use preparing::prepare;

@@ -19,4 +19,5 @@ invariant-loop g l = record {
   times : KeepsTimes l.fn.caller.known.times l.caller.known.times;
   since : StepsOn l.fn.caller l.caller;
   sets : l.caller.known.sets ≡ l.fn.caller.known.sets;
+  images : l.caller.known.images ≡ l.fn.caller.known.images;
 }
