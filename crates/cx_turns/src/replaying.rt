@@ -199,7 +199,10 @@ fn replay_another<O: Object>(
         return Ok(());
     }
     let Scratch {
-        words, next, set, ..
+        words,
+        next,
+        set,
+        ..
     } = scratch;
     step_another(shared, seat, held, at, words, next, set, reply)?;
     Ok(())

@@ -1,5 +1,5 @@
 -- A replica held exclusively once gaps were noted.
-use Rattle.std.proofs.Common.{◌≡◌, ◌<◌, ◌^◌, All, ℕ, List, ap, refl, sym, subst, ◌∙◌, inl, inr, arith}
+use Rattle.std.proofs.Common.{◌≡◌, ◌<◌, All, ℕ, List, ap, sym, subst, ◌∙◌, arith}
 use Rattle.cx_base.specs.declared.object.Object.{Ghosts}
 use Rattle.cx_core.specs.declared.local.Local.{Local}
 use Rattle.cx_core.specs.Region.{region_words}

@@ -1,4 +1,4 @@
-use Rattle.std.proofs.Common.{◌+◌, ◌<◌, ◌^◌, refl, sym, subst, ◌∙◌}
+use Rattle.std.proofs.Common.{◌+◌, ◌<◌, ◌^◌, sym, subst}
 use Rattle.cx_rule.specs.Offers.{TellsSet}
 use Rattle.noting_region.proofs.GapNotes.{accessed_noting, at_within, ready_noting, replied_noting, tells_noting}
 use Rattle.replica.specs.Replays.{noted_place}
@@ -11,11 +11,13 @@ note_gaps-requires g c =
     let step = g.O.Object.step t.object in
     let lawful = g.O.Object.lawful t.object in
     let tells = subst (λ n. TellsSet n lawful t.base step mid.known (noted_place c.args.seat.now) c.apply_telling.new.set) (sym c.requires.ready.is_held.sized.lines_are) (c.in_ok-whole.ensures.tells (cc)) in
-    record { may = record {
-      of = c.apply_telling.ensures.leaves.still.of;
-      small = subst (λ p. p < 2 ^ 40) (sym c.noted_place-ticket.ensures) c.requires.next.small;
-      tells = subst (λ p. TellsSet t.lines lawful t.base step mid.known p c.apply_telling.new.set) (sym c.noted_place-ticket.ensures) tells;
-    } }
+    record {
+      may = record {
+        of = c.apply_telling.ensures.leaves.still.of;
+        small = subst (λ p. p < 2 ^ 40) (sym c.noted_place-ticket.ensures) c.requires.next.small;
+        tells = subst (λ p. TellsSet t.lines lawful t.base step mid.known p c.apply_telling.new.set) (sym c.noted_place-ticket.ensures) tells;
+      };
+    }
 
 pub returns-in_err-note_gaps-clause-leaves : goal.returns-in_err-note_gaps-clause-leaves
 returns-in_err-note_gaps-clause-leaves g c =
