@@ -1,6 +1,7 @@
 -- A caller that is out with a client.
 use Rattle.std.proofs.Common.{◌≡◌, ◌<◌, ◌≤◌, ◌^◌, ◌⊎◌, inl, inr, ⊎_elim, ℕ, List, [], ◌∷◌, ◌++◌, append_assoc, drop, length, sym, refl, ap, ◌∙◌, subst, arith, Option, Some, None, slice_get}
 use Rattle.std.proofs.lemmas.List.{append-nil}
+use Rattle.std.proofs.lemmas.Option.{none-some}
 use Rattle.atomic_table.specs.Seated.{TableId}
 use Rattle.crossbeam_queue.specs.Passes.{view}
 use Rattle.cx_core.proofs.Locals.{slice_get-last}
@@ -12,6 +13,7 @@ use Rattle.cx_rule.specs.Running.{Running}
 use Rattle.cx_rule.specs.Seats.{Seated}
 use Rattle.cx_service.specs.Callers.{IsCallerOf, StoppedSeat}
 use Rattle.cx_service.specs.CatchUps.{CatchUpHalted, CatchUpKeeps}
+use Rattle.cx_service.specs.Drives.{MeetsFewer}
 use Rattle.cx_service.specs.Lookups.{ReadAnswered, ReadHalted, ReadKeeps, ReadPending}
 use Rattle.cx_service.specs.Submits.{entry_at}
 use Rattle.cx_service.specs.Updates.{KeepsLists, ReadQueues, ReadStops, UpdateDone, UpdateFull, UpdateHalted, UpdateWorn, Updates}
@@ -26,7 +28,25 @@ use Rattle.seat_pool.specs.declared.hand.Told.{Told}
 use Rattle.seat_pool.specs.declared.lent.Lent.{Lent}
 use Rattle.seat_pool.proofs.Poolings.{total_both}
 use Rattle.seat_pool.proofs.Telling.{are_kept, are_shown, are_told, same_calls}
-use Rattle.client_pool.specs.Lending.{ComesTo, HaltsReading, HoldsIdle, HoldsKept, IsGivenBack, IsLentTo, IsOut, IsPart, IsSettled, KeepsFull, KeepsStopped, KeepsWorn, ShowsRead, TellsEntry, TellsSame}
+use Rattle.client_pool.specs.Clients.{HaltsEntering, HaltsReading, IsAnswered}
+use Rattle.client_pool.specs.Lending.{ComesFrom, Enters, GivesBack, HaltsLater, HaltsLooking, HoldsIdle, HoldsKept, IsBegun, IsFirst, IsGivenBack, IsKept, IsLentTo, IsOut, IsPart, IsRefused, KeepsFull, KeepsStopped, KeepsWorn, LooksOn, MayGive, MaySettle, Settles, ShowsRead, TellsSame, limits_of}
+use Rattle.client_pool.specs.declared.lend.Served.TheVariants.{Done, Full, Worn, Halted}
+
+-- The call is answered as an entry of this caller, which was so when it entered the queue: it was told with its answer, whose ticket is not below the floor. The
+-- caller was given back.
+pub record TellsEntry {O : Type 0} (r : Running O) (table : TableId) (op : List ℕ) (floor : ℕ) (asked : Seated) (before after : Lent) (caller : ℕ) (answer : Answer) : Type 0 where
+  pub lent : IsLentTo r table after
+  pub back : after.kept ≡ None
+  pub limits : limits_of after ≡ limits_of before
+  pub told : Told
+  pub entry : told ≡ told_with asked.known.local.number (entry_at r asked.known.local op answer.ticket) answer
+  pub is : (told.caller ≡ caller) × (told.answer ≡ answer)
+  pub op_is : told.entry.entry.op ≡ op
+  pub ticket : told.entry.ticket ≡ answer.ticket
+  pub from : floor ≤ answer.ticket
+  pub small : answer.ticket < 2 ^ 40
+  pub tells : (view after.pass).told ≡ (view before.pass).told ++ told ∷ []
+  pub shows : (h : SeenRead → ℕ) → total h (view before.pass).shown ≤ total h (view after.pass).shown
 
 module _ {O : Type 0} (r : Running O) where
   pub stays : (x : Seated) → IsCallerOf r x → StaysIdle r x x
@@ -59,8 +79,47 @@ module _ {O : Type 0} (r : Running O) where
   read_on op x y z seen idle a =
       stays_on x y z idle (looked y z (record { place = seen.place; op = op; reply = seen.reply; before = length y.known.local.answered } ∷ []) a.caller a.keeps a.reads)
 
-  pub refused_on : (tries : ℕ) (x y z : Seated) → StaysIdle r x y → ReadPending r tries y z → StaysIdle r x z
+  abbrev pub refused_on : (tries : ℕ) (x y z : Seated) → StaysIdle r x y → ReadPending r tries y z → StaysIdle r x z
   refused_on tries x y z idle a = stays_on x y z idle (looked y z [] a.caller a.keeps (still y z a.reads))
+
+  -- no reads
+  none_both : (xs ys : List SeenRead) → xs ++ ys ≡ [] → (xs ≡ []) × (ys ≡ [])
+  none_both [] ys none = (refl, none)
+  none_both (x ∷ xs) ys none = (let long = ap (λ (l : List SeenRead). length l) none in absurd (omega (arith, long)))
+
+  -- a caller that began a call, and is asked then
+  pub comes_first : (x : Seated) → IsCallerOf r x → ComesFrom r x x
+  comes_first x is = record { idle = stays x is; scans = omega arith; met = omega arith; front = omega arith; steps = λ _. omega arith }
+
+  pub comes_on : (x y z : Seated) → ComesFrom r x y → ComesFrom r y z → ComesFrom r x z
+  comes_on x y z a b = record {
+    idle = stays_on x y z a.idle b.idle;
+    scans = omega (arith, a.scans, b.scans);
+    met = omega (arith, a.met, b.met);
+    front = omega (arith, a.front, b.front);
+    steps = λ none. (let both = none_both a.idle.more b.idle.more none in let first = a.steps both.0 in let then = b.steps both.1 in omega (arith, first, then));
+  }
+
+  pub comes_reading : (op : List ℕ) (x y z : Seated) (seen : Seen) → ComesFrom r x y → ReadAnswered r op y z seen → ComesFrom r x z
+  comes_reading op x y z seen from a = record {
+    idle = read_on op x y z seen from.idle a;
+    scans = (let same = a.keeps.scans in omega (arith, same, from.scans));
+    met = omega (arith, from.met, a.met);
+    front = (let kept = a.keeps.front in omega (arith, from.front, kept));
+    steps = λ none. (
+        let one = (none_both from.idle.more (record { place = seen.place; op = op; reply = seen.reply; before = length y.known.local.answered } ∷ []) none).1 in
+        let long = ap (λ (l : List SeenRead). length l) one in
+        absurd (omega (arith, long)));
+  }
+
+  pub comes_refused : (tries : ℕ) (x y z : Seated) → ComesFrom r x y → ReadPending r tries y z → ComesFrom r x z
+  comes_refused tries x y z from a = record {
+    idle = refused_on tries x y z from.idle a;
+    scans = (let same = a.keeps.scans in omega (arith, same, from.scans));
+    met = omega (arith, from.met, a.rises);
+    front = (let kept = a.keeps.front in omega (arith, from.front, kept));
+    steps = λ none. (let first = from.steps (none_both from.idle.more [] none).0 in omega (arith, first, a.since));
+  }
 
   asked : (x y : Seated) → IsCallerOf r y → KeepsLists x y → StaysIdle r x y
   asked x y is keeps = record {
@@ -102,6 +161,7 @@ module _ {O : Type 0} (r : Running O) where
         };
         reads = inl keeps.reads;
         times = inl keeps.times.reads;
+        images = keeps.images;
       }
 
   -- its new entry is below its front
@@ -162,19 +222,28 @@ module _ {O : Type 0} (r : Running O) where
           record { limits = ap (λ (u : Hand). limits_at u.home) w; told = ap (λ (u : Hand). u.told) w; shown = ap (λ (u : Hand). u.shown) w },
         )
 
+    -- the caller that a call begins with
+    pub taken_first : (before after : Lent) (x : Seated) → IsLentTo r table before → before.kept ≡ None → view after.pass ≡ with_taken (view before.pass) x → IsFirst before.kept (view after.pass) x
+    taken_first before after x lent none is =
+        let held : (view before.pass).held ≡ [] = subst (HoldsKept r (view before.pass)) none lent.kept in
+        record { kept = subst (λ k. IsKept k x) (sym none) tt; taken = λ _. ap (λ (u : Hand). u.held) is ∙ ap (λ (l : List Seated). x ∷ l) held }
+
+    pub kept_first : (before after : Lent) (x : Seated) → before.kept ≡ Some (Idle x) → IsFirst before.kept (view after.pass) x
+    kept_first before after x keeps = record { kept = subst (λ k. IsKept k x) (sym keeps) refl; taken = λ none. absurd (none-some (Idle x) (sym none ∙ keeps)) }
+
     pub out_on : (lent : Lent) (x y : Seated) → IsOut r table lent x → StaysIdle r x y → IsOut r table lent y
     out_on lent x y out idle = record { part = out.part; none = out.none; holds = holds_on (view lent.pass) x y out.holds idle }
 
     -- a read was shown
-    pub read_shown : (op : List ℕ) (floor : ℕ) (before after : Lent) (x y : Seated) (seen : Seen) → IsOut r table before x → floor ≤ seen.place → ReadAnswered r op x y seen → after.kept ≡ None
-        → (after.pass.table_id ≡ table) × (after.pass.me.1 ≡ []) → view after.pass ≡ with_given (view before.pass) y → ShowsRead r table op floor before after seen
-    read_shown op floor before after x y seen out from a none pass is =
+    pub read_shown : (op : List ℕ) (floor : ℕ) (before after : Lent) (caller x y : Seated) (seen : Seen) → IsOut r table before x → ComesFrom r caller x → floor ≤ seen.place → ReadAnswered r op x y seen × MeetsFewer 8 x y → after.kept ≡ None
+        → (after.pass.table_id ≡ table) × (after.pass.me.1 ≡ []) → view after.pass ≡ with_given (view before.pass) y → ShowsRead r table op floor caller before after seen
+    read_shown op floor before after caller x y seen out since from shown none pass is =
         let v = view before.pass in
         let holds = out.holds in
         let x_ : SeenRead = record { place = seen.place; op = op; reply = seen.reply; before = length x.known.local.answered } in
-        let idle = read_on op holds.taken x y seen holds.idle a in
+        let idle = read_on op holds.taken x y seen holds.idle shown.0 in
         let given : view after.pass ≡ given_from v (holds.taken ∷ []) y = is ∙ ap (λ l. given_from v l y) holds.held in
-        let shown = are_shown r holds.taken y [] v holds.held idle in
+        let are = are_shown r holds.taken y [] v holds.held idle in
         record {
           lent = record {
             part = part_like before after (given_from v (holds.taken ∷ []) y) out.part pass given refl refl refl;
@@ -182,11 +251,15 @@ module _ {O : Type 0} (r : Running O) where
           };
           back = none;
           limits = ap (λ (u : Hand). limits_at u.home) given;
+          asked = x;
+          since = since;
+          now = y;
+          shown = shown;
           read = x_;
-          is = (refl, refl, refl);
+          is = refl;
           from = from;
-          tells = ap (λ (u : Hand). u.told) is ∙ shown.1;
-          shows = λ h. (let same : total h (view after.pass).shown ≡ total h (v.shown ++ (holds.idle.more ++ x_ ∷ [])) = ap (λ (u : Hand). total h u.shown) is ∙ ap (total h) shown.2 in omega (arith, same, total_both h v.shown (holds.idle.more ++ x_ ∷ []), total_both h holds.idle.more (x_ ∷ [])));
+          tells = ap (λ (u : Hand). u.told) is ∙ are.1;
+          shows = λ h. (let same : total h (view after.pass).shown ≡ total h (v.shown ++ (holds.idle.more ++ x_ ∷ [])) = ap (λ (u : Hand). total h u.shown) is ∙ ap (total h) are.2 in omega (arith, same, total_both h v.shown (holds.idle.more ++ x_ ∷ []), total_both h holds.idle.more (x_ ∷ [])));
         }
 
     -- a caller was given back that was in no call
@@ -212,60 +285,95 @@ module _ {O : Type 0} (r : Running O) where
     tells_on a b c s t = record { limits = t.limits ∙ s.limits; told = t.told ∙ s.told; shown = t.shown ∙ s.shown }
 
     -- a caller is kept with whatever it holds
-    module _ (before after : Lent) (same : after.pass ≡ before.pass) where
-      w : view after.pass ≡ view before.pass
+    module _ (before mid after : Lent) (tells : TellsSame before mid) (first : Seated) (begins : IsFirst before.kept (view mid.pass) first) (same : after.pass ≡ mid.pass) where
+      w : view after.pass ≡ view mid.pass
       w = ap (λ p. view p) same
 
-      part_kept : IsPart r table before → IsPart r table after
-      part_kept part = part_like before after (view before.pass) part (ap (λ p. p.table_id) same ∙ part.pass.0, ap (λ p. p.me.1) same ∙ part.pass.1) w refl refl refl
+      part_kept : IsPart r table mid → IsPart r table after
+      part_kept part = part_like mid after (view mid.pass) part (ap (λ p. p.table_id) same ∙ part.pass.0, ap (λ p. p.me.1) same ∙ part.pass.1) w refl refl refl
 
       tells_kept : TellsSame before after
-      tells_kept = record { limits = ap (λ (u : Hand). limits_at u.home) w; told = ap (λ (u : Hand). u.told) w; shown = ap (λ (u : Hand). u.shown) w }
+      tells_kept = tells_on before mid after tells (record { limits = ap (λ (u : Hand). limits_at u.home) w; told = ap (λ (u : Hand). u.told) w; shown = ap (λ (u : Hand). u.shown) w })
 
-      idle_again : (x y : Seated) → IsOut r table before x → StaysIdle r x y → after.kept ≡ Some (Idle y) → IsLentTo r table after
+      first_kept : IsFirst before.kept (view after.pass) first
+      first_kept = subst (λ (u : Hand). IsFirst before.kept u first) (sym w) begins
+
+      idle_again : (x y : Seated) → IsOut r table mid x → StaysIdle r x y → after.kept ≡ Some (Idle y) → IsLentTo r table after
       idle_again x y out idle keeps = record {
         part = part_kept out.part;
-        kept = subst (HoldsKept r (view after.pass)) (sym keeps) (subst (λ (u : Hand). HoldsIdle r u y) (sym w) (holds_on (view before.pass) x y out.holds idle));
+        kept = subst (HoldsKept r (view after.pass)) (sym keeps) (subst (λ (u : Hand). HoldsIdle r u y) (sym w) (holds_on (view mid.pass) x y out.holds idle));
       }
 
-      pub full_kept : (x y : Seated) (note : FullNote) → IsOut r table before x → UpdateFull r x y note → after.kept ≡ Some (Idle y) → KeepsFull r table before after note
-      full_kept x y note out full keeps = record { lent = idle_again x y out (asked x y full.caller full.keeps) keeps; tells = tells_kept; asked = x; held = subst (λ (u : Hand). HoldsIdle r u x) (sym w) out.holds; now = y; keeps = keeps; full = full }
-
-      pub worn_kept : (x y : Seated) → IsOut r table before x → UpdateWorn r x y → after.kept ≡ Some (Idle y) → KeepsWorn r table before after
-      worn_kept x y out worn keeps = record { lent = idle_again x y out (asked x y worn.caller worn.keeps) keeps; tells = tells_kept; asked = x; held = subst (λ (u : Hand). HoldsIdle r u x) (sym w) out.holds; now = y; keeps = keeps; worn = worn }
-
-      pub stopped_kept : (s : StoppedSeat) (x : Seated) (out : IsOut r table before x) → Gathers r (out.holds.taken ∷ []) (Stopped s ∷ []) → HasLimit (limits_at (view before.pass).home) s.seat → after.kept ≡ Some (Stopped s) → KeepsStopped r table before after s.linked
-      stopped_kept s x out g limit keeps = record {
-        lent = record {
-          part = part_kept out.part;
-          kept = subst (HoldsKept r (view after.pass)) (sym keeps) (subst (λ l. Gathers r l (Stopped s ∷ [])) (sym (ap (λ (u : Hand). u.held) w ∙ out.holds.held)) g, subst (λ (u : Hand). HasLimit (limits_at u.home) s.seat) (sym w) limit);
-        };
+      pub full_kept : (way : Seated → Seated → Type 0) (x y : Seated) (note : FullNote) → way first x → IsOut r table mid x → UpdateFull r x y note → after.kept ≡ Some (Idle y) → KeepsFull r table way before after note
+      full_kept way x y note came out full keeps = record {
+        lent = idle_again x y out (asked x y full.caller full.keeps) keeps;
         tells = tells_kept;
-        stopped = s;
+        first = first;
+        is = first_kept;
+        asked = x;
+        came = came;
+        held = subst (λ (u : Hand). HoldsIdle r u x) (sym w) out.holds;
+        now = y;
         keeps = keeps;
-        is = refl;
+        full = full;
       }
 
-      pub read_stopped : (op : List ℕ) (s : StoppedSeat) (x : Seated) → IsOut r table before x → HaltsReading r op x s → after.kept ≡ Some (Stopped s) → KeepsStopped r table before after s.linked
-      read_stopped op s x out halts keeps =
-          stopped_kept s x out (are_kept r op out.holds.taken halts.between s (stays_on out.holds.taken x halts.between out.holds.idle halts.idle) (inr halts.halted))
-          (limit_of (view before.pass) x s.seat out.holds (halts.halted.keeps.number ∙ halts.idle.number) (halts.halted.keeps.limit ∙ halts.idle.limit)) keeps
+      pub worn_kept : (way : Seated → Seated → Type 0) (x y : Seated) → way first x → IsOut r table mid x → UpdateWorn r x y → after.kept ≡ Some (Idle y) → KeepsWorn r table way before after
+      worn_kept way x y came out worn keeps = record {
+        lent = idle_again x y out (asked x y worn.caller worn.keeps) keeps;
+        tells = tells_kept;
+        first = first;
+        is = first_kept;
+        asked = x;
+        came = came;
+        held = subst (λ (u : Hand). HoldsIdle r u x) (sym w) out.holds;
+        now = y;
+        keeps = keeps;
+        worn = worn;
+      }
 
-      pub settled_stopped : (op : List ℕ) (s : StoppedSeat) (x : Seated) → IsOut r table before x → UpdateHalted r op x s ⊎ ReadHalted r op x s → after.kept ≡ Some (Stopped s) → KeepsStopped r table before after s.linked
-      settled_stopped op s x out halted keeps =
-          let same : (s.seat.known.local.number ≡ x.known.local.number) × (s.seat.known.local.limit ≡ x.known.local.limit) = halted_same op x s halted in
-          stopped_kept s x out (are_kept r op out.holds.taken x s out.holds.idle halted) (limit_of (view before.pass) x s.seat out.holds same.0 same.1) keeps
+      -- one is stopped, which was asked and may have met refusals since
+      pub stopped_kept : (halts : Seated → StoppedSeat → Type 0) (op : List ℕ) (a x : Seated) (s : StoppedSeat) → ComesFrom r first a → halts a s → IsOut r table mid x → UpdateHalted r op x s ⊎ ReadHalted r op x s → after.kept ≡ Some (Stopped s)
+          → KeepsStopped r table halts before after s.linked
+      stopped_kept halts op a x s since halted out how keeps =
+          let like : (s.seat.known.local.number ≡ x.known.local.number) × (s.seat.known.local.limit ≡ x.known.local.limit) = halted_same op x s how in
+          let g = are_kept r op out.holds.taken x s out.holds.idle how in
+          let limit = limit_of (view mid.pass) x s.seat out.holds like.0 like.1 in
+          record {
+            lent = record {
+              part = part_kept out.part;
+              kept = subst (HoldsKept r (view after.pass)) (sym keeps) (subst (λ l. Gathers r l (Stopped s ∷ [])) (sym (ap (λ (u : Hand). u.held) w ∙ out.holds.held)) g, subst (λ (u : Hand). HasLimit (limits_at u.home) s.seat) (sym w) limit);
+            };
+            tells = tells_kept;
+            first = first;
+            begins = first_kept;
+            asked = a;
+            since = since;
+            stopped = s;
+            halted = halted;
+            keeps = keeps;
+            is = refl;
+          }
 
-      pub caught_stopped : (s : StoppedSeat) (x : Seated) → IsOut r table before x → CatchUpHalted r x s → after.kept ≡ Some (Stopped s) → KeepsStopped r table before after s.linked
-      caught_stopped s x out halted keeps = settled_stopped [] s x out (inr (caught_halted [] x s halted)) keeps
+      -- by a read beside the queue
+      pub looking_stopped : (x : Seated) (s : StoppedSeat) → ComesFrom r first x → IsOut r table mid x → HaltsLater r x s → after.kept ≡ Some (Stopped s) → KeepsStopped r table (HaltsLooking r) before after s.linked
+      looking_stopped x s since out halts keeps =
+          stopped_kept (HaltsLooking r) halts.halts.op halts.asked halts.asked s (comes_on first x halts.asked since halts.since) halts.halts (out_on mid x halts.asked out halts.since.idle) (inr halts.halts.halted) keeps
+
+      pub caught_stopped : (s : StoppedSeat) → IsOut r table mid first → CatchUpHalted r first s → after.kept ≡ Some (Stopped s) → KeepsStopped r table (CatchUpHalted r) before after s.linked
+      caught_stopped s out halted keeps = stopped_kept (CatchUpHalted r) [] first first s (comes_first first out.holds.idle.caller) halted out (inr (caught_halted [] first s halted)) keeps
+
+    -- one way to be stopped is another
+    pub stopped_so : (halts more : Seated → StoppedSeat → Type 0) → ((x : Seated) (s : StoppedSeat) → halts x s → more x s) → (before after : Lent) (linked : Option ℕ) → KeepsStopped r table halts before after linked → KeepsStopped r table more before after linked
+    stopped_so halts more so before after linked k = record { lent = k.lent; tells = k.tells; first = k.first; begins = k.begins; asked = k.asked; since = k.since; stopped = k.stopped; halted = so k.asked k.stopped k.halted; keeps = k.keeps; is = k.is }
 
     -- it may be given back
-    pub done_back : (op : List ℕ) (lent : Lent) (x y : Seated) (answer : Answer) → IsOut r table lent x → UpdateDone r op x y answer → IsCallerOf r y × HasLimit (limits_at (view lent.pass).home) y × IsFirstOf (view lent.pass).held y
-    done_back op lent x y answer out done = (
-      done.caller,
-      limit_of (view lent.pass) x y out.holds done.links.number done.links.limit,
-      (are_told r op out.holds.taken x y [] answer (view lent.pass) out.holds.held out.holds.idle done).0,
-    )
+    done_back : (op : List ℕ) (lent : Lent) (x y : Seated) (answer : Answer) → IsOut r table lent x → UpdateDone r op x y answer → MayGive r lent y
+    done_back op lent x y answer out done = record {
+      caller = done.caller;
+      limit = limit_of (view lent.pass) x y out.holds done.links.number done.links.limit;
+      first = (are_told r op out.holds.taken x y [] answer (view lent.pass) out.holds.held out.holds.idle done).0;
+    }
 
     pub idle_back : (lent : Lent) (x y : Seated) → IsOut r table lent x → IsCallerOf r y → CatchUpKeeps x y → IsCallerOf r y × HasLimit (limits_at (view lent.pass).home) y × IsFirstOf (view lent.pass).held y
     idle_back lent x y out is keeps = (
@@ -281,70 +389,139 @@ module _ {O : Type 0} (r : Running O) where
       (are_shown r out.holds.taken y [] (view lent.pass) out.holds.held (read_on op out.holds.taken x y seen out.holds.idle a)).0,
     )
 
-    comes : (op : List ℕ) (x : Seated) (u : Updated) → Updates r op x u → ComesTo r op x u
-    comes op x (UpdatedDone y answer) is = is
-    comes op x (UpdatedFull y note) is = is
-    comes op x (UpdatedWorn y) is = is
-    comes op x (UpdatedHalted s) is = inl is
+    -- a caller that met refusals beside the queue before it entered it
+    queued_out : (op : List ℕ) (lent : Lent) (x : Seated) (u : Updated) → IsOut r table lent x → (q : ReadQueues r op x u) → IsOut r table lent q.refused
+    queued_out op lent x u out q = out_on lent x q.refused out (refused_on 8 x x q.refused (stays x out.holds.idle.caller) q.pending)
 
-    -- a read that entered the queue
-    pub queues_settled : (op : List ℕ) (floor : ℕ) (lent : Lent) (x : Seated) → IsOut r table lent x → floor ≤ x.known.local.front → (u : Updated) → ReadQueues r op x u → IsSettled r table op floor lent u
-    queues_settled op floor lent x out from u q = record {
-      asked = q.refused;
-      out = out_on lent x q.refused out (refused_on 8 x x q.refused (stays x out.holds.idle.caller) q.pending);
-      from = (let kept = q.pending.keeps.front in omega (arith, from, kept));
-      comes = comes op q.refused u q.entered;
-    }
+    -- what is left of it may be settled
+    pub update_settles : (op : List ℕ) (lent : Lent) (x : Seated) → IsOut r table lent x → (u : Updated) → Updates r op x u → MaySettle r lent u
+    update_settles op lent x out (UpdatedDone y answer) is = done_back op lent x y answer out is
+    update_settles op lent x out (UpdatedFull y note) is = tt
+    update_settles op lent x out (UpdatedWorn y) is = tt
+    update_settles op lent x out (UpdatedHalted s) is = tt
 
-    pub reads_settled : (op : List ℕ) (floor : ℕ) (lent : Lent) (x : Seated) → IsOut r table lent x → floor ≤ x.known.local.front → (s : StoppedSeat) → ReadStops r op x s → IsSettled r table op floor lent (UpdatedHalted s)
-    reads_settled op floor lent x out from s stops =
-        ⊎_elim (λ h. record { asked = x; out = out; from = from; comes = inr h.0 }) (queues_settled op floor lent x out from (UpdatedHalted s)) stops.lists
+    pub read_settles : (op : List ℕ) (lent : Lent) (x : Seated) → IsOut r table lent x → (u : Updated) → Enters r op x u → MaySettle r lent u
+    read_settles op lent x out (UpdatedDone y answer) q = done_back op lent q.refused y answer (queued_out op lent x (UpdatedDone y answer) out q) q.entered
+    read_settles op lent x out (UpdatedFull y note) is = tt
+    read_settles op lent x out (UpdatedWorn y) is = tt
+    read_settles op lent x out (UpdatedHalted s) is = tt
 
     -- it was given back, and its entry told
-    pub entry_told : (op : List ℕ) (floor : ℕ) (before after : Lent) (x y : Seated) (answer : Answer) → IsOut r table before x → floor ≤ x.known.local.front → UpdateDone r op x y answer → y.known.local.front ≤ 2 ^ 40 → after.kept ≡ None
-        → (after.pass.table_id ≡ table) × (after.pass.me.1 ≡ []) → view after.pass ≡ with_given (view before.pass) y → TellsEntry r table op floor before after y.known.local.number answer
-    entry_told op floor before after x y answer out floor_ done front none pass is =
-        let v = view before.pass in
-        let holds = out.holds in
-        let t = told_with x.known.local.number (entry_at r x.known.local op answer.ticket) answer in
-        let given : view after.pass ≡ given_from v (holds.taken ∷ []) y = is ∙ ap (λ l. given_from v l y) holds.held in
-        let told = are_told r op holds.taken x y [] answer v holds.held holds.idle done in
-        let new = drop (length holds.taken.known.local.seen_reads) y.known.local.seen_reads in
-        record {
-          lent = record {
-            part = part_like before after (given_from v (holds.taken ∷ []) y) out.part pass given refl refl refl;
-            kept = subst (HoldsKept r (view after.pass)) (sym none) (ap (λ (u : Hand). u.held) given);
-          };
-          back = none;
-          limits = ap (λ (u : Hand). limits_at u.home) given;
-          told = t;
-          is = (sym done.links.number, refl, refl, refl);
-          from = omega (arith, floor_, done.from);
-          small = (let below = own_below op x y answer done in omega (arith, below, front));
-          tells = ap (λ (u : Hand). u.told) is ∙ told.1;
-          shows = λ h. (let same : total h (view after.pass).shown ≡ total h (v.shown ++ new) = ap (λ (u : Hand). total h u.shown) given in omega (arith, same, total_both h v.shown new));
-        }
+    module _ (op : List ℕ) (floor : ℕ) (before mid after : Lent) where
+      entry_told : (x y : Seated) (caller : ℕ) (answer : Answer) → TellsSame before mid → IsOut r table mid x → floor ≤ x.known.local.front → UpdateDone r op x y answer → caller ≡ y.known.local.number → y.known.local.front ≤ 2 ^ 40 → GivesBack table mid after y
+          → TellsEntry r table op floor x before after caller answer
+      entry_told x y caller answer same out floor_ done number front back =
+          let v = view mid.pass in
+          let holds = out.holds in
+          let t = told_with x.known.local.number (entry_at r x.known.local op answer.ticket) answer in
+          let is = back.view_is in
+          let given : view after.pass ≡ given_from v (holds.taken ∷ []) y = is ∙ ap (λ l. given_from v l y) holds.held in
+          let told = are_told r op holds.taken x y [] answer v holds.held holds.idle done in
+          let new = drop (length holds.taken.known.local.seen_reads) y.known.local.seen_reads in
+          let none : after.kept ≡ None = back.kept ∙ out.none in
+          record {
+            lent = record {
+              part = part_like mid after (given_from v (holds.taken ∷ []) y) out.part back.pass given refl refl refl;
+              kept = subst (HoldsKept r (view after.pass)) (sym none) (ap (λ (u : Hand). u.held) given);
+            };
+            back = none;
+            limits = ap (λ (u : Hand). limits_at u.home) given ∙ same.limits;
+            told = t;
+            entry = refl;
+            is = (sym done.links.number ∙ sym number, refl);
+            op_is = refl;
+            ticket = refl;
+            from = omega (arith, floor_, done.from);
+            small = (let below = own_below op x y answer done in omega (arith, below, front));
+            tells = ap (λ (u : Hand). u.told) is ∙ told.1 ∙ ap (λ (l : List Told). l ++ t ∷ []) same.told;
+            shows = λ h. (let first : total h v.shown ≡ total h (view before.pass).shown = ap (total h) same.shown in let more : total h (view after.pass).shown ≡ total h (v.shown ++ new) = ap (λ (u : Hand). total h u.shown) given in omega (arith, first, more, total_both h v.shown new));
+          }
 
-    -- what was told since a caller was taken out, was told since the call began
-    module _ (before mid after : Lent) (same : TellsSame before mid) where
-      pub entry_since : (op : List ℕ) (floor caller : ℕ) (answer : Answer) → TellsEntry r table op floor mid after caller answer → TellsEntry r table op floor before after caller answer
-      entry_since op floor caller answer t = record {
-        lent = t.lent;
-        back = t.back;
-        limits = t.limits ∙ same.limits;
-        told = t.told;
-        is = t.is;
-        from = t.from;
-        small = t.small;
-        tells = t.tells ∙ ap (λ (l : List Told). l ++ t.told ∷ []) same.told;
-        shows = λ h. (let same_ : total h (view mid.pass).shown ≡ total h (view before.pass).shown = ap (total h) same.shown in omega (arith, same_, t.shows h));
+      -- which is what its caller answered
+      answered : (way : Seated → Seated → Type 0) (first x y : Seated) (caller : ℕ) (answer : Answer) → IsKept before.kept first → way first x → UpdateDone r op x y answer → (t : TellsEntry r table op floor x before after caller answer) → IsAnswered r way op before.kept t.told
+      answered way first x y caller answer is came done t = record {
+        first = first;
+        is = is;
+        asked = x;
+        came = came;
+        now = y;
+        done = subst (UpdateDone r op x y) (sym t.is.1) done;
+        entry = subst (λ (a : Answer). t.told ≡ told_with x.known.local.number (entry_at r x.known.local op a.ticket) a) (sym t.is.1) t.entry;
       }
 
-      pub read_since : (op : List ℕ) (floor : ℕ) (seen : Seen) → ShowsRead r table op floor mid after seen → ShowsRead r table op floor before after seen
-      read_since op floor seen t = record {
+      -- by an update
+      pub update_told : (x : Seated) (caller : ℕ) (answer : Answer) → IsBegun r table floor before mid x → (u : Updated) → Updates r op x u → Settles table mid after u (Done caller answer) → (t : TellsEntry r table op floor x before after caller answer) × IsAnswered r (ComesFrom r) op before.kept t.told
+      update_told x caller answer begun u is s =
+          let done : UpdateDone r op x s.0 answer = subst (Updates r op x) s.1 is in
+          let t = entry_told x s.0 caller answer begun.tells begun.out begun.from done s.2 s.3 s.4 in
+          (t, answered (ComesFrom r) begun.first x s.0 caller answer begun.is.kept begun.since done t)
+
+      -- by a read that entered the queue
+      pub read_told : (x : Seated) (caller : ℕ) (answer : Answer) → IsBegun r table floor before mid x → LooksOn r table op x mid after (Done caller answer) → (a : Seated) × (t : TellsEntry r table op floor a before after caller answer) × IsAnswered r (IsRefused r) op before.kept t.told
+      read_told x caller answer begun l =
+          let s = l.settles in
+          let q : ReadQueues r op l.asked (UpdatedDone s.0 answer) = subst (Enters r op l.asked) s.1 l.enters in
+          let out = queued_out op mid l.asked (UpdatedDone s.0 answer) (out_on mid x l.asked begun.out l.since.idle) q in
+          let front = l.since.front in
+          let kept = q.pending.keeps.front in
+          let t = entry_told q.refused s.0 caller answer begun.tells out (omega (arith, begun.from, front, kept)) q.entered s.2 s.3 s.4 in
+          let came : IsRefused r begun.first q.refused = record { looked = l.asked; since = comes_on begun.first x l.asked begun.since l.since; refused = q.pending } in
+          (q.refused, t, answered (IsRefused r) begun.first q.refused s.0 caller answer begun.is.kept came q.entered t)
+
+      -- what an update comes to that is not answered
+      module _ (x : Seated) (begun : IsBegun r table floor before mid x) where
+        pub update_full : (note : FullNote) (u : Updated) → Updates r op x u → Settles table mid after u (Full note) → KeepsFull r table (ComesFrom r) before after note
+        update_full note u is s = full_kept before mid after begun.tells begun.first begun.is s.2.0 (ComesFrom r) x s.0 note begun.since begun.out (subst (Updates r op x) s.1 is) s.2.1
+
+        pub update_worn : (u : Updated) → Updates r op x u → Settles table mid after u Worn → KeepsWorn r table (ComesFrom r) before after
+        update_worn u is s = worn_kept before mid after begun.tells begun.first begun.is s.2.0 (ComesFrom r) x s.0 begun.since begun.out (subst (Updates r op x) s.1 is) s.2.1
+
+        pub update_stopped : (linked : Option ℕ) (u : Updated) → Updates r op x u → Settles table mid after u (Halted linked) → KeepsStopped r table (HaltsEntering r op) before after linked
+        update_stopped linked u is s =
+            let halted : UpdateHalted r op x s.0 = subst (Updates r op x) s.1 is in
+            subst (KeepsStopped r table (HaltsEntering r op) before after) s.2
+            (stopped_kept before mid after begun.tells begun.first begun.is s.3.0 (HaltsEntering r op) op x x s.0 begun.since (inr halted) begun.out (inl halted) s.3.1)
+
+        -- and a read
+        came_to : (u : Updated) (a : Seated) → ComesFrom r x a → (q : ReadQueues r op a u) → IsRefused r begun.first q.refused
+        came_to u a since q = record { looked = a; since = comes_on begun.first x a begun.since since; refused = q.pending }
+
+        pub read_full : (note : FullNote) → LooksOn r table op x mid after (Full note) → KeepsFull r table (IsRefused r) before after note
+        read_full note l =
+            let s = l.settles in
+            let u = UpdatedFull s.0 note in
+            let q : ReadQueues r op l.asked u = subst (Enters r op l.asked) s.1 l.enters in
+            full_kept before mid after begun.tells begun.first begun.is s.2.0 (IsRefused r) q.refused s.0 note (came_to u l.asked l.since q) (queued_out op mid l.asked u (out_on mid x l.asked begun.out l.since.idle) q) q.entered s.2.1
+
+        pub read_worn : LooksOn r table op x mid after Worn → KeepsWorn r table (IsRefused r) before after
+        read_worn l =
+            let s = l.settles in
+            let u = UpdatedWorn s.0 in
+            let q : ReadQueues r op l.asked u = subst (Enters r op l.asked) s.1 l.enters in
+            worn_kept before mid after begun.tells begun.first begun.is s.2.0 (IsRefused r) q.refused s.0 (came_to u l.asked l.since q) (queued_out op mid l.asked u (out_on mid x l.asked begun.out l.since.idle) q) q.entered s.2.1
+
+        pub read_stopped : (linked : Option ℕ) → LooksOn r table op x mid after (Halted linked) → KeepsStopped r table (HaltsReading r op) before after linked
+        read_stopped linked l =
+            let s = l.settles in
+            let h = UpdatedHalted s.0 in
+            let stops : ReadStops r op l.asked s.0 = subst (Enters r op l.asked) s.1 l.enters in
+            let out = out_on mid x l.asked begun.out l.since.idle in
+            let kept = stopped_kept before mid after begun.tells begun.first begun.is s.3.0 (HaltsReading r op) op l.asked in
+            let since = comes_on begun.first x l.asked begun.since l.since in
+            subst (KeepsStopped r table (HaltsReading r op) before after) s.2
+            (⊎_elim (λ b. kept l.asked s.0 since (inr stops) out (inr b.0) s.3.1) (λ q. kept q.refused s.0 since (inr stops) (queued_out op mid l.asked h out q) (inl q.entered) s.3.1) stops.lists)
+
+    -- what was shown and given back since a caller was taken out, was so since the call began
+    module _ (before mid after : Lent) (same : TellsSame before mid) where
+      pub read_since : (op : List ℕ) (floor : ℕ) (caller : Seated) (seen : Seen) → ShowsRead r table op floor caller mid after seen → ShowsRead r table op floor caller before after seen
+      read_since op floor caller seen t = record {
         lent = t.lent;
         back = t.back;
         limits = t.limits ∙ same.limits;
+        asked = t.asked;
+        since = t.since;
+        now = t.now;
+        shown = t.shown;
         read = t.read;
         is = t.is;
         from = t.from;
@@ -360,12 +537,3 @@ module _ {O : Type 0} (r : Running O) where
         tells = t.tells ∙ same.told;
         shows = λ h. (let same_ : total h (view mid.pass).shown ≡ total h (view before.pass).shown = ap (total h) same.shown in omega (arith, same_, t.shows h));
       }
-
-      pub full_since : (note : FullNote) → KeepsFull r table mid after note → KeepsFull r table before after note
-      full_since note k = record { lent = k.lent; tells = tells_on before mid after same k.tells; asked = k.asked; held = k.held; now = k.now; keeps = k.keeps; full = k.full }
-
-      pub worn_since : KeepsWorn r table mid after → KeepsWorn r table before after
-      worn_since k = record { lent = k.lent; tells = tells_on before mid after same k.tells; asked = k.asked; held = k.held; now = k.now; keeps = k.keeps; worn = k.worn }
-
-      pub stopped_since : (linked : Option ℕ) → KeepsStopped r table mid after linked → KeepsStopped r table before after linked
-      stopped_since linked k = record { lent = k.lent; tells = tells_on before mid after same k.tells; stopped = k.stopped; keeps = k.keeps; is = k.is }

@@ -1,5 +1,5 @@
 -- Where no client of a closed pool keeps a stopped caller, the clients' calls are all that the history has.
-use Rattle.std.proofs.Common.{true≢false, ◌≡◌, ◌+◌, ◌-◌, ◌<◌, ◌≤◌, ℕ, zero, suc, true, List, [], ◌∷◌, ◌++◌, length, length-append, map, slice_get, Option, Some, None, sym, refl, ap, ◌∙◌, subst, arith}
+use Rattle.std.proofs.Common.{true≢false, ◌≡◌, ◌+◌, ◌-◌, ◌<◌, ◌≤◌, ℕ, zero, suc, true, List, [], ◌∷◌, length, length-append, slice_get, Option, Some, None, sym, refl, ap, ◌∙◌, subst, arith}
 use Rattle.std.specs.Prelude.{All}
 use Rattle.std.specs.List.{AllZip}
 use Rattle.std.proofs.lemmas.List.Elements.{All-head, All-tail}
@@ -19,10 +19,9 @@ use Rattle.cx_service.specs.declared.close.Handed.{Handed}
 use Rattle.cx_service.specs.declared.close.Handed.TheVariants.{Idle, Linked, Stopped}
 use Rattle.cx_table.specs.Remains.{Leaves, locals_of}
 use Rattle.cx_table.specs.declared.remains.Remains.{Remains}
-use Rattle.seat_pool.specs.Gathering.{AreTold, IsHandedOf, handed_calls, if_stopped, kept_list, lent_kept, lent_told, one_at}
+use Rattle.seat_pool.specs.Gathering.{AreTold, IsHandedOf, handed_calls, if_stopped, kept_list, lent_kept, one_at}
 use Rattle.seat_pool.specs.Pooling.{calls_from, calls_of, total}
 use Rattle.seat_pool.specs.declared.hand.Told.{Told}
-use Rattle.seat_pool.specs.declared.lent.Lent.{Lent}
 use Rattle.seat_pool.proofs.Poolings.{units}
 use Rattle.client_pool.specs.Answers.{AreWhole, answers_at}
 use Rattle.client_pool.specs.Clients.{HasCalls, entries_of}

@@ -1,25 +1,26 @@
 -- What is lent to a client of a pool, and what a call of its leaves of that.
-use Rattle.std.specs.Prelude.{◌≡◌, ◌+◌, ◌^◌, ◌<◌, ◌≤◌, ◌⊎◌, Bool, true, false, ℕ, List, [], ◌∷◌, ◌++◌, Option, Some, None, Result, Ok, Err, IsTrue}
+use Rattle.std.specs.Prelude.{◌≡◌, ◌+◌, ◌^◌, ◌≤◌, Bool, true, false, ℕ, List, [], ◌∷◌, length, Option, Some, None, Result, Ok, Err, IsTrue}
 use Rattle.atomic_table.specs.Seated.{TableId}
 use Rattle.crossbeam_queue.specs.Passes.{view, ruled_capacity}
-use Rattle.cx_core.specs.declared.local.Answer.{Answer}
 use Rattle.cx_core.specs.declared.local.FullNote.{FullNote}
 use Rattle.cx_core.specs.declared.local.SeenRead.{SeenRead}
 use Rattle.cx_rule.specs.Running.{Running}
 use Rattle.cx_rule.specs.Seats.{Seated}
-use Rattle.cx_service.specs.Callers.{StoppedSeat}
-use Rattle.cx_service.specs.CatchUps.{CatchUpBehind, CatchUpCaught}
-use Rattle.cx_service.specs.Lookups.{ReadHalted}
-use Rattle.cx_service.specs.Updates.{UpdateDone, UpdateFull, UpdateHalted, UpdateWorn}
+use Rattle.cx_service.specs.Callers.{IsCallerOf, StoppedSeat}
+use Rattle.cx_service.specs.CatchUps.{CatchUpBehind, CatchUpCaught, CatchUpHalted}
+use Rattle.cx_service.specs.Closes.{seat_of}
+use Rattle.cx_service.specs.Drives.{MeetsFewer}
+use Rattle.cx_service.specs.Lookups.{ReadAnswered, ReadDue, ReadHalted, ReadPending}
+use Rattle.cx_service.specs.Updates.{ReadQueues, ReadStops, UpdateFull, UpdateWorn}
 use Rattle.cx_service.specs.declared.close.Handed.{Handed}
 use Rattle.cx_service.specs.declared.close.Handed.TheVariants.{Idle, Linked, Stopped}
 use Rattle.cx_service.specs.declared.update.Updated.{Updated}
 use Rattle.cx_service.specs.declared.update.Updated.TheVariants.{Done as UpdatedDone, Full as UpdatedFull, Worn as UpdatedWorn, Halted as UpdatedHalted}
+use Rattle.cx_turns.specs.Turns.{StepsOn}
 use Rattle.cx_turns.specs.declared.lookup.Seen.{Seen}
 use Rattle.seat_pool.specs.Gathering.{Gathers, StaysIdle}
-use Rattle.seat_pool.specs.Pooling.{HasLimit, IsHomeOf, limits_at, total}
+use Rattle.seat_pool.specs.Pooling.{HasLimit, IsFirstOf, IsHomeOf, limits_at, total, with_given}
 use Rattle.seat_pool.specs.declared.hand.Hand.{Hand}
-use Rattle.seat_pool.specs.declared.hand.Told.{Told}
 use Rattle.seat_pool.specs.declared.lent.Lent.{Lent}
 use Rattle.client_pool.specs.declared.pool.Pool.{Pool}
 use Rattle.client_pool.specs.declared.pool.PooledCatchUp.{PooledCatchUp}
@@ -80,65 +81,100 @@ pub record TellsSame (before after : Lent) : Type 0 where
   pub told : (view after.pass).told ≡ (view before.pass).told
   pub shown : (view after.pass).shown ≡ (view before.pass).shown
 
--- The caller was stopped in a read of this operation.
-pub record HaltsReading {O : Type 0} (r : Running O) (op : List ℕ) (before : Seated) (stopped : StoppedSeat) : Type 0 where
-  pub between : Seated
-  pub idle : StaysIdle r before between
-  pub halted : ReadHalted r op between stopped
+-- it is the caller that a client keeps, where it keeps one
+abbrev pub IsKept : Option Handed → Seated → Type 0
+IsKept None x = Unit {0}
+IsKept (Some handed) x = seat_of handed ≡ x
+
+-- The caller that a call begins with: the one that its client keeps, or else one that it took out of the queue, which the pass holds as it was then.
+pub record IsFirst (keeps : Option Handed) (v : Hand) (x : Seated) : Type 0 where
+  pub kept : IsKept keeps x
+  pub taken : keeps ≡ None → v.held ≡ x ∷ []
+
+-- The caller that a call began with, later in it: it answered nothing since but reads beside the queue. Its scans and refusals are no fewer and its front did
+-- not fall, and where it answered no read no step was taken back.
+pub record ComesFrom {O : Type 0} (r : Running O) (first now : Seated) : Type 0 where
+  pub idle : StaysIdle r first now
+  pub scans : first.known.local.scans ≤ now.known.local.scans
+  pub met : first.known.local.met ≤ now.known.local.met
+  pub front : first.known.local.front ≤ now.known.local.front
+  pub steps : idle.more ≡ [] → StepsOn first now
+
+-- A read of such a caller met just eight refusals beside the queue, before it enters it.
+pub record IsRefused {O : Type 0} (r : Running O) (first now : Seated) : Type 0 where
+  pub looked : Seated
+  pub since : ComesFrom r first looked
+  pub refused : ReadPending r 8 looked now
+
+-- The limit was come to in a read beside the queue, in 8 turns of it.
+pub record HaltsLooking {O : Type 0} (r : Running O) (before : Seated) (stopped : StoppedSeat) : Type 0 where
+  pub op : List ℕ
+  pub halted : ReadHalted r op before stopped
+  pub due : ReadDue 8 before stopped.seat
+
+-- The caller was stopped in such a read.
+pub record HaltsLater {O : Type 0} (r : Running O) (before : Seated) (stopped : StoppedSeat) : Type 0 where
+  pub asked : Seated
+  pub since : ComesFrom r before asked
+  pub halts : HaltsLooking r asked stopped
 
 -- what it comes to that a caller sees all that is below a floor
-abbrev pub Catches : {O : Type 0} → Running O → List ℕ → ℕ → Seated → Caught → Type 0
-Catches r probe floor before (Up after) = StaysIdle r before after × (floor ≤ after.known.local.front)
-Catches r probe floor before (Ended stopped) = HaltsReading r probe before stopped
+abbrev pub Catches : {O : Type 0} → Running O → ℕ → Seated → Caught → Type 0
+Catches r floor before (Up after) = ComesFrom r before after × (floor ≤ after.known.local.front)
+Catches r floor before (Ended stopped) = HaltsLater r before stopped
 
--- The call is answered as an entry of this caller: it was told with its answer, whose ticket is not below the floor. The caller was given back.
-pub record TellsEntry {O : Type 0} (r : Running O) (table : TableId) (op : List ℕ) (floor : ℕ) (before after : Lent) (caller : ℕ) (answer : Answer) : Type 0 where
+-- The call is answered beside the queue by the caller that was out, and the read was shown, whose place is not below the floor. The caller was given back.
+pub record ShowsRead {O : Type 0} (r : Running O) (table : TableId) (op : List ℕ) (floor : ℕ) (caller : Seated) (before after : Lent) (seen : Seen) : Type 0 where
   pub lent : IsLentTo r table after
   pub back : after.kept ≡ None
   pub limits : limits_of after ≡ limits_of before
-  pub told : Told
-  pub is : (told.caller ≡ caller) × (told.answer ≡ answer) × (told.entry.ticket ≡ answer.ticket) × (told.entry.entry.op ≡ op)
-  pub from : floor ≤ answer.ticket
-  pub small : answer.ticket < 2 ^ 40
-  pub tells : (view after.pass).told ≡ (view before.pass).told ++ told ∷ []
-  pub shows : (h : SeenRead → ℕ) → total h (view before.pass).shown ≤ total h (view after.pass).shown
-
--- The call is answered beside the queue, and the read was shown, whose place is not below the floor. The caller was given back.
-pub record ShowsRead {O : Type 0} (r : Running O) (table : TableId) (op : List ℕ) (floor : ℕ) (before after : Lent) (seen : Seen) : Type 0 where
-  pub lent : IsLentTo r table after
-  pub back : after.kept ≡ None
-  pub limits : limits_of after ≡ limits_of before
+  pub asked : Seated
+  pub since : ComesFrom r caller asked
+  pub now : Seated
+  pub shown : ReadAnswered r op asked now seen × MeetsFewer 8 asked now
   pub read : SeenRead
-  pub is : (read.place ≡ seen.place) × (read.op ≡ op) × (read.reply ≡ seen.reply)
+  pub is : read ≡ record { place = seen.place; op = op; reply = seen.reply; before = length asked.known.local.answered }
   pub from : floor ≤ seen.place
   pub tells : (view after.pass).told ≡ (view before.pass).told
   pub shows : (h : SeenRead → ℕ) → total h (view before.pass).shown + h read ≤ total h (view after.pass).shown
 
--- no cell of the caller that was asked is idle, and the client keeps it
-pub record KeepsFull {O : Type 0} (r : Running O) (table : TableId) (before after : Lent) (note : FullNote) : Type 0 where
+-- No cell of the caller is idle that was asked, as it was when it entered the queue, and the client keeps it. The caller is the one that the call began
+-- with, and came there in this way.
+pub record KeepsFull {O : Type 0} (r : Running O) (table : TableId) (way : Seated → Seated → Type 0) (before after : Lent) (note : FullNote) : Type 0 where
   pub lent : IsLentTo r table after
   pub tells : TellsSame before after
+  pub first : Seated
+  pub is : IsFirst before.kept (view after.pass) first
   pub asked : Seated
+  pub came : way first asked
   pub held : HoldsIdle r (view after.pass) asked
   pub now : Seated
   pub keeps : after.kept ≡ Some (Idle now)
   pub full : UpdateFull r asked now note
 
--- there is no further ticket for the caller that was asked, and the client keeps it
-pub record KeepsWorn {O : Type 0} (r : Running O) (table : TableId) (before after : Lent) : Type 0 where
+-- There is no further ticket for the caller that was asked, and the client keeps it.
+pub record KeepsWorn {O : Type 0} (r : Running O) (table : TableId) (way : Seated → Seated → Type 0) (before after : Lent) : Type 0 where
   pub lent : IsLentTo r table after
   pub tells : TellsSame before after
+  pub first : Seated
+  pub is : IsFirst before.kept (view after.pass) first
   pub asked : Seated
+  pub came : way first asked
   pub held : HoldsIdle r (view after.pass) asked
   pub now : Seated
   pub keeps : after.kept ≡ Some (Idle now)
   pub worn : UpdateWorn r asked now
 
--- the caller is stopped, with this linked entry that no call has answered, and the client keeps it
-pub record KeepsStopped {O : Type 0} (r : Running O) (table : TableId) (before after : Lent) (linked : Option ℕ) : Type 0 where
+-- The caller that the call began with was asked, and is stopped in this way, with this linked entry that no call has answered. The client keeps it.
+pub record KeepsStopped {O : Type 0} (r : Running O) (table : TableId) (halts : Seated → StoppedSeat → Type 0) (before after : Lent) (linked : Option ℕ) : Type 0 where
   pub lent : IsLentTo r table after
   pub tells : TellsSame before after
+  pub first : Seated
+  pub begins : IsFirst before.kept (view after.pass) first
+  pub asked : Seated
+  pub since : ComesFrom r first asked
   pub stopped : StoppedSeat
+  pub halted : halts asked stopped
   pub keeps : after.kept ≡ Some (Stopped stopped)
   pub is : stopped.linked ≡ linked
 
@@ -147,31 +183,69 @@ pub record IsPool {O : Type 0} (reads : O → List ℕ → Bool) (pool : Pool O)
   pub room : ruled_capacity pool.line ≡ pool.service.callers
   pub probe : IsTrue (reads pool.service.object pool.probe)
 
+-- The caller that the call begins with is out, and has seen all below a floor.
+pub record IsBegun {O : Type 0} (r : Running O) (table : TableId) (floor : ℕ) (before after : Lent) (caller : Seated) : Type 0 where
+  pub out : IsOut r table after caller
+  pub tells : TellsSame before after
+  pub first : Seated
+  pub is : IsFirst before.kept (view after.pass) first
+  pub since : ComesFrom r first caller
+  pub from : floor ≤ caller.known.local.front
+
 -- what it comes to that a caller is taken for a call, which has seen all below a floor
 abbrev pub Begins : {O : Type 0} → Running O → TableId → ℕ → Lent → Lent → Result Seated (Option ℕ) → Type 0
-Begins r table floor before after (Ok caller) = IsOut r table after caller × TellsSame before after × (floor ≤ caller.known.local.front)
-Begins r table floor before after (Err linked) = KeepsStopped r table before after linked
+Begins r table floor before after (Ok caller) = IsBegun r table floor before after caller
+Begins r table floor before after (Err linked) = KeepsStopped r table (HaltsLooking r) before after linked
 
--- what a caller was answered that entered an operation into the queue, or was stopped in a read of it
-abbrev pub ComesTo : {O : Type 0} → Running O → List ℕ → Seated → Updated → Type 0
-ComesTo r op asked (UpdatedDone after answer) = UpdateDone r op asked after answer
-ComesTo r op asked (UpdatedFull after note) = UpdateFull r asked after note
-ComesTo r op asked (UpdatedWorn after) = UpdateWorn r asked after
-ComesTo r op asked (UpdatedHalted stopped) = UpdateHalted r op asked stopped ⊎ ReadHalted r op asked stopped
+-- a caller may be given back to the queue
+pub record MayGive {O : Type 0} (r : Running O) (lent : Lent) (back : Seated) : Type 0 where
+  pub caller : IsCallerOf r back
+  pub limit : HasLimit (limits_of lent) back
+  pub first : IsFirstOf (view lent.pass).held back
 
--- so it was, of the caller that is out, which has seen all below a floor
-pub record IsSettled {O : Type 0} (r : Running O) (table : TableId) (op : List ℕ) (floor : ℕ) (lent : Lent) (updated : Updated) : Type 0 where
+-- so it may once its operation is answered
+abbrev pub MaySettle : {O : Type 0} → Running O → Lent → Updated → Type 0
+MaySettle r lent (UpdatedDone back answer) = MayGive r lent back
+MaySettle r lent (UpdatedFull back note) = Unit {0}
+MaySettle r lent (UpdatedWorn back) = Unit {0}
+MaySettle r lent (UpdatedHalted stopped) = Unit {0}
+
+-- it was given back
+pub record GivesBack (table : TableId) (before after : Lent) (caller : Seated) : Type 0 where
+  pub pass : (after.pass.table_id ≡ table) × (after.pass.me.1 ≡ [])
+  pub view_is : view after.pass ≡ with_given (view before.pass) caller
+  pub kept : after.kept ≡ before.kept
+
+-- the client keeps a caller now
+abbrev pub KeepsNow : Lent → Lent → Handed → Type 0
+KeepsNow before after handed = (after.pass ≡ before.pass) × (after.kept ≡ Some handed)
+
+-- What is left of the caller that was out: it was given back where its operation is answered, and else the client keeps it.
+abbrev pub Settles : TableId → Lent → Lent → Updated → Served → Type 0
+Settles table before after updated (Done caller answer) = (back : Seated) × (updated ≡ UpdatedDone back answer) × (caller ≡ back.known.local.number) × (back.known.local.front ≤ 2 ^ 40) × GivesBack table before after back
+Settles table before after updated (Full note) = (back : Seated) × (updated ≡ UpdatedFull back note) × KeepsNow before after (Idle back)
+Settles table before after updated Worn = (back : Seated) × (updated ≡ UpdatedWorn back) × KeepsNow before after (Idle back)
+Settles table before after updated (Halted linked) = (stopped : StoppedSeat) × (updated ≡ UpdatedHalted stopped) × (stopped.linked ≡ linked) × KeepsNow before after (Stopped stopped)
+
+-- what a read comes to that is not answered beside the queue
+abbrev pub Enters : {O : Type 0} → Running O → List ℕ → Seated → Updated → Type 0
+Enters r op asked (UpdatedDone after answer) = ReadQueues r op asked (UpdatedDone after answer)
+Enters r op asked (UpdatedFull after note) = ReadQueues r op asked (UpdatedFull after note)
+Enters r op asked (UpdatedWorn after) = ReadQueues r op asked (UpdatedWorn after)
+Enters r op asked (UpdatedHalted stopped) = ReadStops r op asked stopped
+
+-- The caller that was out was asked for a read that was not answered beside the queue, and this is left of it.
+pub record LooksOn {O : Type 0} (r : Running O) (table : TableId) (op : List ℕ) (caller : Seated) (before after : Lent) (served : Served) : Type 0 where
   pub asked : Seated
-  pub out : IsOut r table lent asked
-  pub from : floor ≤ asked.known.local.front
-  pub comes : ComesTo r op asked updated
+  pub since : ComesFrom r caller asked
+  pub updated : Updated
+  pub enters : Enters r op asked updated
+  pub settles : Settles table before after updated served
 
--- what an operation that enters the queue comes to
-abbrev pub Serves : {O : Type 0} → Running O → TableId → List ℕ → ℕ → Lent → Lent → Served → Type 0
-Serves r table op floor before after (Done caller answer) = TellsEntry r table op floor before after caller answer
-Serves r table op floor before after (Full note) = KeepsFull r table before after note
-Serves r table op floor before after Worn = KeepsWorn r table before after
-Serves r table op floor before after (Halted linked) = KeepsStopped r table before after linked
+-- what an operation comes to that only reads
+abbrev pub Looks : {O : Type 0} → Running O → TableId → List ℕ → ℕ → Seated → Lent → Lent → Looked → Type 0
+Looks r table op floor caller before after (Found seen) = ShowsRead r table op floor caller before after seen
+Looks r table op floor caller before after (Entered served) = LooksOn r table op caller before after served
 
 -- the caller that was taken is given back, with no call more
 pub record IsGivenBack {O : Type 0} (r : Running O) (table : TableId) (before after : Lent) : Type 0 where
@@ -181,17 +255,19 @@ pub record IsGivenBack {O : Type 0} (r : Running O) (table : TableId) (before af
   pub tells : (view after.pass).told ≡ (view before.pass).told
   pub shows : (h : SeenRead → ℕ) → total h (view before.pass).shown ≤ total h (view after.pass).shown
 
--- a caller was taken that had seen the place, and was given back
+-- a caller was asked that had seen the place, the one that the client kept or else one out of the queue, and was given back
 pub record SeesPlace {O : Type 0} (r : Running O) (table : TableId) (place : ℕ) (before after : Lent) : Type 0 where
   pub given : IsGivenBack r table before after
   pub asked : Seated
+  pub kept : IsKept before.kept asked
   pub now : Seated
   pub caught : CatchUpCaught r place asked now
 
--- a caller was taken that found the place in CUR below the one asked for, and was given back
+-- such a caller found the place in CUR below the one asked for, and was given back
 pub record SeesLess {O : Type 0} (r : Running O) (table : TableId) (place found : ℕ) (before after : Lent) : Type 0 where
   pub given : IsGivenBack r table before after
   pub asked : Seated
+  pub kept : IsKept before.kept asked
   pub now : Seated
   pub behind : CatchUpBehind r place found asked now
 
@@ -199,9 +275,4 @@ pub record SeesLess {O : Type 0} (r : Running O) (table : TableId) (place found 
 abbrev pub Sees : {O : Type 0} → Running O → TableId → ℕ → Lent → Lent → PooledCatchUp → Type 0
 Sees r table place before after PlaceSeen = SeesPlace r table place before after
 Sees r table place before after (PlaceBehind found) = SeesLess r table place found before after
-Sees r table place before after PlaceStopped = KeepsStopped r table before after None
-
--- what an operation comes to that only reads
-abbrev pub Looks : {O : Type 0} → Running O → TableId → List ℕ → ℕ → Lent → Lent → Looked → Type 0
-Looks r table op floor before after (Found seen) = ShowsRead r table op floor before after seen
-Looks r table op floor before after (Entered served) = Serves r table op floor before after served
+Sees r table place before after PlaceStopped = KeepsStopped r table (CatchUpHalted r) before after None

@@ -5,7 +5,7 @@ ghost use Rattle.crossbeam_queue.specs.Passes.{view, IsPassOf};
 ghost use Rattle.cx_service.specs.Callers.{IsCallerOf};
 ghost use Rattle.cx_service.specs.declared.close.Handed.TheVariants as handed_cases;
 ghost use Rattle.seat_pool.specs.Pooling.{HasLimit, IsHomeOf, limits_at, with_taken};
-ghost use Rattle.client_pool.specs.Lending.{Begins, Catches, IsLentTo, IsOut, IsPool, IsSettled, Serves, TellsSame, is_live};
+ghost use Rattle.client_pool.specs.Lending.{Begins, Catches, IsFirst, IsLentTo, IsOut, IsPart, IsPool, MaySettle, Settles, TellsSame, is_live};
 
 use crate::pool::Pool;
 use crossbeam_queue::Pass;
@@ -72,6 +72,7 @@ pub(crate) fn take_for<O: Object, R: Wait>(
     requires live { is_live lent.old.kept ≡ true }
     ensures out { IsOut service.now line.now.table.shared.table_id lent.new result }
     ensures same { TellsSame lent.old lent.new }
+    ensures first { IsFirst lent.old.kept (view lent.new.pass) result }
 {
     match lent.kept.take() {
         None => take_waiting(rt, service, line, &mut lent.pass),
@@ -90,7 +91,7 @@ fn catch_up<O: Object, R: Wait>(
 ) -> Caught
     requires caller { IsCallerOf service.now caller }
     requires probe { IsTrue (O.only_reads service.now.object probe.now) }
-    ensures { Catches service.now probe.now floor caller result }
+    ensures { Catches service.now floor caller result }
 {
     let mut caller = caller;
     for _ in rt.forever() {
@@ -143,16 +144,13 @@ pub(crate) fn settle<O: Object, R: Wait>(
     rt: &R,
     pool: &Pool<O>,
     lent: &mut Lent,
-    floor: u64,
-    op: &[u64; 144],
     updated: Updated,
 ) -> Served
     requires pool { IsPool O.only_reads pool.now }
-    requires updated { IsSettled pool.now.service pool.now.line.table.shared.table_id op.now floor lent.old updated }
-    ensures { Serves pool.now.service pool.now.line.table.shared.table_id op.now floor lent.old lent.new result }
+    requires lent { IsPart pool.now.service pool.now.line.table.shared.table_id lent.old }
+    requires updated { MaySettle pool.now.service lent.old updated }
+    ensures { Settles pool.now.line.table.shared.table_id lent.old lent.new updated result }
 {
-    let _ = op;
-    let _ = floor;
     match updated {
         Updated::Done(back, answer) => {
             let number = back.number();

@@ -35,7 +35,7 @@ fn look<O: Object, R: Wait>(
     requires pool { IsPool O.only_reads pool.now }
     requires out { IsOut pool.now.service pool.now.line.table.shared.table_id lent.old caller × (floor ≤ caller.known.local.front) }
     requires reads { IsTrue (O.only_reads pool.now.service.object op.now) }
-    ensures { Looks pool.now.service pool.now.line.table.shared.table_id op.now floor lent.old lent.new result }
+    ensures { Looks pool.now.service pool.now.line.table.shared.table_id op.now floor caller lent.old lent.new result }
 {
     let mut caller = caller;
     for _ in rt.forever() {
@@ -54,7 +54,7 @@ fn look<O: Object, R: Wait>(
             ReadDone::Worn(back) => Updated::Worn(back),
             ReadDone::Halted(stopped) => Updated::Halted(stopped),
         };
-        return Looked::Entered(settle(rt, pool, lent, floor, op, updated));
+        return Looked::Entered(settle(rt, pool, lent, updated));
     }
     unreachable!()
 }

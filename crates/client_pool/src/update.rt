@@ -1,34 +1,15 @@
 //! An update of a client.
 
-ghost use Rattle.std.specs.Prelude.{◌≡◌, ◌≤◌, true};
+ghost use Rattle.std.specs.Prelude.{◌≡◌, true};
 ghost use Rattle.client_pool.specs.Clients.{IsClientOf, Updates};
-ghost use Rattle.client_pool.specs.Lending.{IsOut, IsPool, Serves, is_live};
+ghost use Rattle.client_pool.specs.Lending.{IsPool, is_live};
 
 use crate::call::Answered;
 use crate::client::Client;
 use crate::lend::{Served, begin, settle};
 use crate::pool::{Pool, Pooled};
 use cx_base::Object;
-use cx_service::Caller;
-use seat_pool::Lent;
 use std::sync::Wait;
-
-/// Enters an operation into the queue by a caller that is out.
-fn enter<O: Object, R: Wait>(
-    rt: &R,
-    pool: &Pool<O>,
-    lent: &mut Lent,
-    caller: Caller,
-    floor: u64,
-    op: &[u64; 144],
-) -> Served
-    requires pool { IsPool O.only_reads pool.now }
-    requires out { IsOut pool.now.service pool.now.line.table.shared.table_id lent.old caller × (floor ≤ caller.known.local.front) }
-    ensures { Serves pool.now.service pool.now.line.table.shared.table_id op.now floor lent.old lent.new result }
-{
-    let updated = pool.service.update(rt, caller, op);
-    settle(rt, pool, lent, floor, op, updated)
-}
 
 impl<O: Object> Pool<O> {
     /// Enters an operation into the queue for a client that was not told `Stopped`, by a caller that has seen all that the client was answered before or caught up with. It
@@ -44,18 +25,21 @@ impl<O: Object> Pool<O> {
         }
         let floor = client.place();
         match begin(rt, self, &mut client.lent, floor) {
-            Ok(caller) => match enter(rt, self, &mut client.lent, caller, floor, op) {
-                Served::Done(caller, answer) => {
-                    client
-                        .answers
-                        .push_reserved(Answered::Updated { caller, answer });
-                    client.floor = answer.ticket + 1;
-                    Pooled::Done(answer)
+            Ok(caller) => {
+                let updated = self.service.update(rt, caller, op);
+                match settle(rt, self, &mut client.lent, updated) {
+                    Served::Done(caller, answer) => {
+                        client
+                            .answers
+                            .push_reserved(Answered::Updated { caller, answer });
+                        client.floor = answer.ticket + 1;
+                        Pooled::Done(answer)
+                    }
+                    Served::Full(note) => Pooled::Full(note),
+                    Served::Worn => Pooled::Worn,
+                    Served::Halted(linked) => Pooled::Stopped { linked },
                 }
-                Served::Full(note) => Pooled::Full(note),
-                Served::Worn => Pooled::Worn,
-                Served::Halted(linked) => Pooled::Stopped { linked },
-            },
+            }
             Err(linked) => Pooled::Stopped { linked },
         }
     }

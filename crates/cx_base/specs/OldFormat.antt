@@ -1,5 +1,6 @@
 -- The format that an object's images had before.
 use Rattle.std.specs.Prelude.{◌≡◌, ◌≢◌, ◌*◌, ℕ, List, Option, None, Some, IfSome, slice_index}
+use Rattle.std.proofs.Common.{refl}
 use Rattle.cx_base.specs.Memory.{Words}
 
 -- its version, whether an image of it may be the object's, and the image that such a one becomes
@@ -18,11 +19,18 @@ CanUpgrade old words = IfSome old.version (λ _. old.lawful words)
 
 -- An object of so many lines takes over its images of another version than its own. A lawful one has 8 words for each line, the first of
 -- which is that version, so there is none where there is no such version. It becomes an image that is lawful for the object, as long as it was.
+-- Where there is no old version, no words are changed.
 pub record TakesOver (lines version : ℕ) (lawful : List ℕ → Type 0) (old : OldFormat) : Type 0 where
   pub another : old.version ≢ Some version
   pub shape : (image : List ℕ) → old.lawful image → Words (8 * lines) image × (old.version ≡ Some (slice_index image 0))
   pub upgrades : (image : List ℕ) → old.lawful image → lawful (old.upgraded image)
+  pub unchanged : (words : List ℕ) → old.version ≡ None → old.upgraded words ≡ words
 
 -- an object without an old format takes over nothing
 pub takes_over_nothing : (lines version : ℕ) (lawful : List ℕ → Type 0) → TakesOver lines version lawful no_old_format
-takes_over_nothing lines version lawful = record { another = λ e. absurd cc; shape = λ image none. absurd none; upgrades = λ image none. absurd none }
+takes_over_nothing lines version lawful = record {
+  another = λ e. absurd cc;
+  shape = λ image none. absurd none;
+  upgrades = λ image none. absurd none;
+  unchanged = λ words none. refl;
+}

@@ -129,6 +129,6 @@ pub trait Object: Drop {
     /// An operation that only reads leaves the image.
     ghost leaves: { (o : Self) (image op : List ℕ) → lawful o image → Words 144 op → IsTrue (only_reads o op) → (step o image op).0 ≡ image };
 
-    /// What an image of the old version becomes is lawful.
+    /// What an image of the old version becomes is lawful, and without an old version `upgrade` changes no words.
     ghost takes_over: { (o : Self) → TakesOver (line_count o) (version_number o) (lawful o) (old_format o) };
 }

@@ -19,7 +19,7 @@ use Rattle.cx_rule.specs.declared.rule.Known.{Known}
 use Rattle.cx_rule.specs.declared.rule.Noted.{Noted}
 use Rattle.cx_rule.specs.Fitting.{Fits, FitsOn, Fitting, Has, IsNoted, ReplayedTo, base_of, has_of, start, with_entry, with_set}
 use Rattle.cx_rule.specs.Having.{IsOfHistory}
-use Rattle.cx_rule.specs.Rule.{IsBehindNotes, IsEntryFrom, IsOrigin, NotesHold}
+use Rattle.cx_rule.specs.Rule.{IsBehindNotes, IsEntryFrom, IsImageOfSome, IsOrigin, NotesHold}
 
 -- entries by their callers' numbers in a lawful base are lawful
 pub entries_lawful : (lines : ℕ) (lawful : List ℕ → Type 0) (instance : Instance) (history : List Entry) → LawfulBase lines lawful instance.base → ((i : ℕ) (entry : Entry) → slice_get history i ≡ Some entry → IsEntryFrom instance i entry) →
@@ -125,6 +125,11 @@ module _ (lines : ℕ) (lawful : List ℕ → Type 0) (instance : Instance) (law
         let r = chain_on has hold first (origin_full first origin) place mid chain in
         subst (λ ws. LawfulBase lines lawful (let b : Base = record { place = place; words = ws } in b)) (sym r.2) (full_at place r.0 r.1));
   }
+
+-- an image of a history from a lawful base on is a lawful base
+pub image_base : (lines : ℕ) (lawful : List ℕ → Type 0) (instance : Instance) → ObjectLaws lines lawful instance.step → LawfulBase lines lawful instance.base → (image : List ℕ) → IsImageOfSome instance image → LawfulBase lines lawful (base_of image)
+image_base lines lawful instance laws base image of =
+    full_base lines lawful instance laws base of.history of.small of.entries image (origin_full lines lawful instance laws base of.history of.small of.entries image of.origin)
 
 -- some pair fits what a caller noted, each entry that is noted whole is lawful, and each set that it has is one of a region
 pub fitting : (lines : ℕ) (lawful : List ℕ → Type 0) (instance : Instance) → ObjectLaws lines lawful instance.step → LawfulBase lines lawful instance.base → (known : Known) → IsBehindNotes instance known → Fitting lines lawful instance.base instance.step known

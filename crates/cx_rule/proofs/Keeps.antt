@@ -28,7 +28,7 @@ use Rattle.core_queue.proofs.QueueFrames.{queue_of}
 use Rattle.core_queue.proofs.SetNotes.{notes_event, notes_read}
 use Rattle.cx_rule.specs.declared.rule.Known.{Known}
 use Rattle.cx_rule.specs.Learns.{Learns, LearnsAnyway, LearnsBy}
-use Rattle.cx_rule.specs.Rule.{RuleHolds, AreImages, IsBehindNotes, IsKnown, IsLawfulLocal, IsTraced, NotesHold, opening_limited}
+use Rattle.cx_rule.specs.Rule.{RuleHolds, AreImages, IsBehindNotes, IsImageOfSome, IsKnown, IsLawfulLocal, IsTraced, NotesHold, opening_limited}
 use Rattle.cx_rule.specs.Running.{Running, instance_at}
 use Rattle.cx_rule.specs.Seats.{IsByShown, WordFits, accesses_after, known_after, known_local, known_of, noted_by, sets_after, times_by, unseen}
 use Rattle.core_runs.proofs.Keeps.{bounds_of, kind_kept}
@@ -39,6 +39,8 @@ use Rattle.cx_rule.specs.Timing.{AddTimes, AreTimes}
 use Rattle.cx_rule.specs.Told.{Told}
 use Rattle.cx_rule.proofs.Telling.{told_holds}
 use Rattle.cx_rule.proofs.Behind.{behind_notes}
+use Rattle.cx_rule.proofs.Entries.{entries_from}
+use Rattle.cx_core.proofs.Locals.{slice_get-last}
 use Rattle.cx_rule.proofs.Reached.{run_push}
 use Rattle.cx_rule.proofs.Timing.{IsTimed, times_added, times_longer, times_next}
 use Rattle.cx_rule.proofs.Traced.{images_added, images_longer, traced_longer, traced_next}
@@ -261,6 +263,15 @@ event_leaves instance kind s id known after word new held view learns =
       behind_notes instance _ then.law then.some mine.local after mine.of_caller mine.shows mine.notes mine.traced (then.sets id 0 (after ∷ []) after there refl) (then.own after.local.number mine.local mine.of_caller),
     )
 
+-- an image that an event adds to those that its caller took is one of a history
+event_image : (instance : Instance) (kind : Kind) (s : atomic.State ℕ (List Known)) (id : ℕ) (known after : Known) (word new : ℕ) → RuleHolds instance s → get_elem? s.views id ≡ some (known ∷ []) → LearnsAnyway instance s.words kind known word new after →
+    (image : List ℕ) → after.images ≡ known.images ++ image ∷ [] → IsImageOfSome instance image
+event_image instance kind s id known after word new held view learns image adds =
+    let then = event_held instance kind s id known after word new held view learns in
+    let there : get_elem? (set s.views id (after ∷ [])) id ≡ some (after ∷ []) = set_here s.views id (after ∷ []) (view_within s.views id (known ∷ []) view) in
+    let last : slice_get after.images (length known.images) ≡ Some image = ap (λ xs. slice_get xs (length known.images)) adds ∙ slice_get-last known.images image in
+    record { history = then.law.history; small = then.law.tickets.below; entries = entries_from instance _ then.law; origin = then.images id 0 (after ∷ []) after there refl (length known.images) image last }
+
 -- what it teaches
 pub event_teaches : (instance : Instance) (kind : Kind) (s : atomic.State ℕ (List Known)) (id : ℕ) (known : Known) (word new : ℕ) → RuleHolds instance s → get_elem? s.views id ≡ some (known ∷ []) →
     LearnsAnyway instance s.words kind known word new (known_after instance kind known (slice_index s.words word)) →
@@ -336,6 +347,7 @@ allows_taking instance kind image known slots id word me f one learn taking =
         knows = refl;
         event = event_teaches instance kind s id known word (f found) held view (learn s.words fits);
         behind = (event_leaves instance kind s id known known' word (f found) held view learns).1;
+        of_some = event_image instance kind s id known known' word (f found) held view learns image refl;
       },
     )))
 

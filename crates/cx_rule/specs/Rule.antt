@@ -107,6 +107,13 @@ pub record IsEntryFrom (instance : Instance) (i : ℕ) (entry : Entry) : Type 0 
   pub most : entry.number ≤ slot_number entry.caller instance.base.words + i + 1
   pub op : Words 144 entry.op
 
+-- words are the full image after their place of some history of entries
+pub record IsImageOfSome (instance : Instance) (image : List ℕ) : Type 0 where
+  pub history : List Entry
+  pub small : instance.base.place + length history ≤ 2 ^ 40
+  pub entries : (i : ℕ) (entry : Entry) → slice_get history i ≡ Some entry → IsEntryFrom instance i entry
+  pub origin : IsOrigin instance history image
+
 -- what really is there, where a caller noted this: a history that has the noted words and what its seat has, the full image that its
 -- accesses lead on from, and the one that was loaded under a shared right
 pub record IsBehindNotes (instance : Instance) (known : Known) : Type 0 where

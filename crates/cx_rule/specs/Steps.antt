@@ -10,7 +10,7 @@ use Rattle.cx_core.specs.declared.kinds.Kind.TheVariants.{BackOff}
 use Rattle.cx_core.specs.declared.local.Local.{Local}
 use Rattle.cx_rule.specs.Fitting.{loaded_of, loads_of}
 use Rattle.cx_rule.specs.Learns.{LearnsAnyway, LearnsBy}
-use Rattle.cx_rule.specs.Rule.{IsBehindNotes, IsLawfulLocal}
+use Rattle.cx_rule.specs.Rule.{IsBehindNotes, IsImageOfSome, IsLawfulLocal}
 use Rattle.cx_rule.specs.Running.{IsSeatOf, Running, instance_at}
 use Rattle.cx_rule.specs.Seats.{IsAtLimit, IsByShown, IsWithinLimit, Seated, WordFits, kind_found, known_after, known_of, stepped, unseen}
 use Rattle.cx_rule.specs.Told.{Told}
@@ -99,11 +99,12 @@ IsImageLearned instance kind image known word put =
     (words : List ℕ) → slice_index words word < 2 ^ 64 →
     LearnsAnyway instance words kind known word (put (slice_index words word)) (known_taken instance kind image known (slice_index words word))
 
--- what it teaches: what the release of a shared right does, and what is behind the notes then
+-- what it teaches: what the release of a shared right does, what is behind the notes then, and a history of which the words are the image
 pub record TeachesImage (instance : Instance) (kind : Kind) (image : List ℕ) (known : Known) (found : ℕ) (after : Me ℕ (List Known)) : Type 0 where
   pub knows : after ≡ (known_taken instance kind image known found ∷ [], [])
   pub event : Teaches instance kind known found (known_after instance kind known found ∷ [], [])
   pub behind : IsBehindNotes instance (known_taken instance kind image known found)
+  pub of_some : IsImageOfSome instance image
 
 -- The shared right on a replica was released, all of whose words had been loaded: the event's step was made, and beside it they are one
 -- image more that the caller took.

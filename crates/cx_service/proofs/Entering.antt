@@ -44,11 +44,13 @@ module _ {O : Type 0} (r : Running O) (s v : Seated) (kept : beside_submit v ≡
     answered = ap (λ (x : Seated). x.known.local.answered) kept;
     reads = ap (λ (x : Seated). x.known.local.seen_reads) kept;
     met = ap (λ (x : Seated). x.known.local.met) kept;
+    sets = ap (λ (x : Seated). x.known.sets) kept;
     front = front;
     cur = cur;
     steps = steps;
     idle = idle;
     times = record { answered = ap (λ (x : Seated). x.known.times.answered) kept; reads = ap (λ (x : Seated). x.known.times.reads) kept };
+    images = ap (λ (x : Seated). x.known.images) kept;
   }
 
   -- it is still the seat of its caller
@@ -205,14 +207,15 @@ module _ {O : Type 0} (r : Running O) (j : ℕ) (op : List ℕ) (s t : Seated) (
     since = omega (arith, links.none.since, since);
   }
 
-  pub worn : (most : ℕ) (v : Seated) → IsWorn t v → ¬ IsAtLimit s.known.local → v.known.local.steps ≤ s.known.local.steps + most → SubmitWorn r most s v
-  worn most v links allowed steps = record {
+  pub worn : (most : ℕ) (v : Seated) → IsWorn t v → ¬ IsAtLimit s.known.local → v.known.local.steps ≤ s.known.local.steps + most → min (s.known.local.steps + 1) max_word ≤ t.known.local.steps → SubmitWorn r 1 most s v
+  worn most v links allowed steps since = record {
     caller = none_caller v links.none;
     keeps = keeps r s v (none_kept v links.none) most (omega (arith, links.none.front, same_front)) (none_cur v links.none) steps (none_looked v links.none);
     allowed = allowed;
     scans = none_scans v links.none;
     own = none_own v links.none;
     front = links.front;
+    steps = omega (arith, links.none.since, since);
     idle = (j, room, subst (IsIdleAt v.known.local.seen_free) (sym (ap (λ (x : Seated). (cell_of x.known.local j).ticket) links.none.same ∙ no_ticket)) tt);
     linked = none_linked v links.none;
   }
@@ -304,4 +307,4 @@ module _ {O : Type 0} (r : Running O) (j : ℕ) (op : List ℕ) (s t : Seated) (
       min (s.known.local.steps + writes s.known.local j (next_number r.base s.known.local ∷ op)) max_word ≤ t.known.local.steps → EntersIn 0 most r op tries s v tried
   entered tries most v (LinkedAt ticket) links allowed steps since = linked_at ticket most v links allowed steps (omega (arith, since))
   entered tries most v Again links allowed steps since = (again tries most v links allowed steps (omega (arith, since)), tries_of (LosesTries r.callers tries) v since links.lost)
-  entered tries most v Worn links allowed steps since = worn most v links allowed steps
+  entered tries most v Worn links allowed steps since = worn most v links allowed steps (omega (arith, since))

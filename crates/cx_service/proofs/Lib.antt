@@ -7,3 +7,4 @@ pub mod Tickets
 pub mod Turning
 pub mod Updating
 pub mod Seeing
+pub mod Imaging

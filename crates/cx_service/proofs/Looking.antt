@@ -103,6 +103,7 @@ module _ {O : Type 0} (r : Running O) (more : ℕ) (s t : Seated) (first : Prece
     answered = after.answered ∙ ap (λ (x : Seated). x.known.local.answered) first.kept;
     reads = after.reads ∙ ap (λ (x : Seated). x.known.local.seen_reads) first.kept;
     met = after.met ∙ ap (λ (x : Seated). x.known.local.met) first.kept;
+    sets = after.sets ∙ ap (λ (x : Seated). x.known.sets) first.kept;
     front = omega (arith, after.front, first.front);
     cur = omega (arith, after.cur, first.cur);
     steps = omega (arith, after.steps, first.steps, most);
@@ -112,6 +113,7 @@ module _ {O : Type 0} (r : Running O) (more : ℕ) (s t : Seated) (first : Prece
         let last = after.idle j within still in
         record { free = last.free ∙ none.free; scans = last.scans ∙ none.scans });
     times = record { answered = after.times.answered ∙ ap (λ (x : Seated). x.known.times.answered) first.kept; reads = after.times.reads ∙ ap (λ (x : Seated). x.known.times.reads) first.kept };
+    images = after.images ∙ ap (λ (x : Seated). x.known.images) first.kept;
   }
 
   same_entry : (op : List ℕ) (ticket : ℕ) → entry_at r t.known.local op ticket ≡ entry_at r s.known.local op ticket
@@ -180,14 +182,15 @@ module _ {O : Type 0} (r : Running O) (more : ℕ) (s t : Seated) (first : Prece
     since = omega (arith, after.since, first.since);
   }
 
-  worn_then : (m n : ℕ) (v : Seated) → m + more ≤ n → SubmitWorn r m t v → SubmitWorn r n s v
-  worn_then m n v most after = record {
+  worn_then : (took k least m n : ℕ) (v : Seated) → m + more ≤ n → least ≤ took + k → min (s.known.local.steps + took) max_word ≤ t.known.local.steps → SubmitWorn r k m t v → SubmitWorn r least n s v
+  worn_then took k least m n v most all from after = record {
     caller = after.caller;
     keeps = keeps_then m n v most after.keeps;
     allowed = allowed after.allowed;
     scans = omega (arith, first.scans, after.scans);
     own = after.own ∙ first.own;
     front = after.front;
+    steps = (let rest = after.steps in omega (arith, rest, from, all));
     idle = after.idle;
     linked = after.linked ∙ first.linked;
   }
@@ -205,7 +208,7 @@ module _ {O : Type 0} (r : Running O) (more : ℕ) (s t : Seated) (first : Prece
   pub enters_then : (op : List ℕ) (k took tries m n : ℕ) (v : Seated) (tried : LinkTried) → m + more ≤ n → min (s.known.local.steps + took) max_word ≤ t.known.local.steps → EntersIn k m r op tries t v tried → EntersIn (took + k) n r op tries s v tried
   enters_then op k took tries m n v (TriedLinked ticket) most least after = linked_then op m n v most after
   enters_then op k took tries m n v TriedAgain most least after = (again_then tries m n v most after.0, tries_then k took (LosesTries r.callers tries) v least after.1)
-  enters_then op k took tries m n v TriedWorn most least after = worn_then m n v most after
+  enters_then op k took tries m n v TriedWorn most least after = worn_then took (k + 1) (took + k + 1) m n v most (omega arith) least after
 
   -- and so is what one in an idle cell does that was found by so many steps
   pub submits_then : (op : List ℕ) (tries m n : ℕ) (result : Submitted) → m + more ≤ n → (cell : ℕ) → FindsIdle r.callers s t cell → Enters m r op tries t result → SubmitsIn n r op tries s result
@@ -217,7 +220,7 @@ module _ {O : Type 0} (r : Running O) (more : ℕ) (s t : Seated) (first : Prece
     tries_then 1 finds.took (LosesTries r.callers tries) v finds.least after.1,
   )
   submits_then op tries m n (Full v note) most cell finds after = absurd after
-  submits_then op tries m n (Worn v) most cell finds after = worn_then m n v most after
+  submits_then op tries m n (Worn v) most cell finds after = worn_then 0 2 2 m n v most (omega arith) (omega (arith, first.since)) after
   submits_then op tries m n (Halted v) most cell finds after = (
     halted_then m n v most after.0,
     inr (
@@ -300,7 +303,14 @@ finds_then callers s t v (Ok cell) used free ends scans one looked finds = recor
   least = (let count = finds.count in omega (arith, one, count));
   most = looked.steps;
 }
-finds_then callers s t v (Err note) used free ends scans one looked finds = record { ends = ends_then s t v ends finds.ends; used = used; scans = finds.scans ∙ ap one_more scans; allowed = free; names = finds.names }
+finds_then callers s t v (Err note) used free ends scans one looked finds = record {
+  ends = ends_then s t v ends finds.ends;
+  used = used;
+  scans = finds.scans ∙ ap one_more scans;
+  count = (let count = finds.count in omega (arith, one, count));
+  allowed = free;
+  names = finds.names;
+}
 
 -- the limit was come to in looking, behind one step
 pub looking_then : (n m : ℕ) (s t v : Seated) → n + 1 ≡ m → t.known.local.scans ≡ s.known.local.scans → t.known.local.steps ≡ one_more s.known.local.steps → IsLooking n t v → IsLooking m s v
@@ -388,7 +398,7 @@ halts_looking r most n s t caller looked few op tries halted =
     (halts r s t (looked_kept n s t looked) most caller (looked_own n s t looked) (ap (λ (x : Seated). x.known.times.linked) looked.same) (omega (arith, front)) (looked_cur n s t looked) (omega (arith, looked.steps, few)) (looked_idle s t (inl halted.used)) halted.limit, inl halted.looking)
 
 -- no cell is idle
-pub full_there : {O : Type 0} (r : Running O) (most n : ℕ) (s t : Seated) (note : FullNote) → LooksForCell n s t → IsCallerOf r s → FindsNone r.callers s t note → n ≤ most → SubmitFull r most s t note
+pub full_there : {O : Type 0} (r : Running O) (most n : ℕ) (s t : Seated) (note : FullNote) → LooksForCell n s t → IsCallerOf r s → FindsNone r.callers (r.callers + 4) s t note → n ≤ most → SubmitFull r most s t note
 full_there r most n s t note looked caller none few =
     let first = looked_first n s t looked none.ends (inl none.used) (λ at. absurd (none.allowed at)) in
     let now = caller_then r n s t first caller none.ends.fresh none.ends.scan in record {
@@ -397,6 +407,7 @@ full_there r most n s t note looked caller none few =
       allowed = none.allowed;
       own = first.own;
       scans = none.scans;
+      steps = none.count;
       full = (
           let many = many_own t.known.local now.cells (λ j within. (let at = none.names.cells.each j within in (at.0, at.1))) in
           let e = ap (λ (xs : List Linked). length xs) first.own in

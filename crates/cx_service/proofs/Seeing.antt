@@ -16,6 +16,8 @@ use Rattle.cx_rule.specs.Raises.{AnswersOf, TellsAnswers, known_answered}
 use Rattle.cx_rule.specs.Running.{IsSeatOf, Running, instance_at}
 use Rattle.cx_rule.specs.Seats.{IsAtLimit, Seated, stepped}
 use Rattle.cx_service.specs.Callers.{IsCallerOf}
+use Rattle.cx_base.specs.declared.object.Object.{Ghosts}
+use Rattle.cx_service.specs.Checkpoints.{CheckpointTaken}
 use Rattle.cx_service.specs.CatchUps.{CatchUpKeeps, CatchUpSees, CatchesUp, HasSeen, ReadSees, SeesCurrent, UpdateSees}
 use Rattle.cx_service.specs.declared.catch_up.CaughtUp.{CaughtUp}
 use Rattle.cx_service.specs.declared.catch_up.CaughtUp.TheVariants.{Caught, Behind, Halted}
@@ -70,6 +72,22 @@ module _ {O : Type 0} (r : Running O) (op : List ℕ) (before after : Seated) wh
 
   pub answered_read_seen : (seen : Seen) → ReadAnswered r op before after seen → HasSeen r.callers seen.place after.known.local
   answered_read_seen seen read = record { front = read.reached; read = inl (let at = read.place in omega (arith, at)) }
+
+module _ {O : Type 0} (o : Ghosts O) (r : Running O) (words : List ℕ) (at : ℕ) (before after : Seated) (taken : CheckpointTaken o r words at before after) where
+  -- so is an image
+  pub image_behind : (place : ℕ) → HasSeen r.callers place before.known.local → (place ≤ at) × HasSeen r.callers place after.known.local
+  image_behind place was =
+      let caller = taken.caller.of.caller in
+      let rises = place_up r.callers before.known.local.seen_cur after.known.local.seen_cur (omega (arith, caller)) taken.keeps.lists.cur in
+      let is = taken.current in
+      let above : place ≤ at = elim was.read [
+        | inl cur ↦ omega (arith, cur, rises, is)
+        | inr one ↦ (let lower = taken.above one.0 one.1 one.2 in let behind = one.3 in omega (arith, lower, behind))
+      ] in
+      (above, record { front = (let a = was.front in let b = taken.keeps.lists.front in omega (arith, a, b)); read = inl (omega (arith, above, is)) })
+
+  pub image_seen : HasSeen r.callers at after.known.local
+  image_seen = record { front = taken.reached; read = inl (let is = taken.current in omega (arith, is)) }
 
 -- what was seen has been seen still where neither the front nor the code found in CUR fell and the answers are as they were
 still_seen : {O : Type 0} (r : Running O) (place : ℕ) (before after : Seated) → IsCallerOf r before → HasSeen r.callers place before.known.local → before.known.local.front ≤ after.known.local.front →
@@ -197,6 +215,7 @@ module _ {O : Type 0} (r : Running O) (step : O → List ℕ → List ℕ → Li
         answered = ap (λ (x : Seated). x.known.times.answered) raised ∙ append-nil mid.known.times.answered ∙ ap (λ (x : Seated). x.known.times.answered) loaded;
         reads = ap (λ (x : Seated). x.known.times.reads) raised ∙ append-nil mid.known.times.reads ∙ ap (λ (x : Seated). x.known.times.reads) loaded;
       };
+      images = ap (λ (x : Seated). x.known.images) raised ∙ ap (λ (x : Seated). x.known.images) loaded;
     }
 
     pub current_sets : v.known.sets ≡ s.known.sets

@@ -21,6 +21,8 @@ use Rattle.cx_service.specs.Lookups.{ReadAnswered, ReadDue, ReadHalted, ReadKeep
 use Rattle.cx_service.proofs.Cells.{default, own_kept}
 use Rattle.cx_turns.specs.Answering.{AnswersEntry, AnswersRead, HaltsFor, HaltsLookup, beside_lookup, beside_update, with_answer, with_read}
 use Rattle.cx_turns.specs.declared.lookup.Seen.{Seen}
+use Rattle.cx_turns.specs.Bringing.{BringsEntries}
+use Rattle.cx_turns.proofs.Bringing.{brings_around}
 use Rattle.cx_turns.specs.Turns.{IsAtRest, StepsAtMost, StepsOn, TurnRefused}
 use Rattle.replica_sets.specs.Own.{but_set}
 
@@ -32,7 +34,7 @@ meets_one s v is =
       | inr above ↦ inr (omega (arith, is, above))
     ]
 
-rises_one : (s v : Seated) → s.known.local.met ≤ max_word → v.known.local.met ≡ one_more s.known.local.met → s.known.local.met ≤ v.known.local.met
+pub rises_one : (s v : Seated) → s.known.local.met ≤ max_word → v.known.local.met ≡ one_more s.known.local.met → s.known.local.met ≤ v.known.local.met
 rises_one s v small is = omega (arith, small, is)
 
 pub meets_then : (n m : ℕ) (s u v : Seated) → MeetsMore n s u → MeetsMore m u v → MeetsMore (n + m) s v
@@ -40,7 +42,7 @@ meets_then n m s u v (inl a) (inl b) = inl (omega (arith, a, b))
 meets_then n m s u v (inr a) (inl b) = inr (omega (arith, a, b))
 meets_then n m s u v a (inr b) = inr b
 
-most_one : (s v : Seated) → v.known.local.met ≡ one_more s.known.local.met → MeetsAtMost 1 s v
+pub most_one : (s v : Seated) → v.known.local.met ≡ one_more s.known.local.met → MeetsAtMost 1 s v
 most_one s v is = omega (arith, is)
 
 -- cells that differ in their sets and offers alone have the same tickets
@@ -51,7 +53,7 @@ same_tickets xs ys same j =
     ∙ ap (λ (c : Cell). c.ticket) (get_or-map but_set ys j default)
 
 -- a caller of which turns left the entries as they were, and the cells but for their sets and offers, and of whose answers there are so many
-between_after : {O : Type 0} (r : Running O) (n m : ℕ) (s v : Seated) → IsBetweenCalls n r s → v.known.local.own ≡ s.known.local.own → map but_set v.known.local.cells ≡ map but_set s.known.local.cells →
+pub between_after : {O : Type 0} (r : Running O) (n m : ℕ) (s v : Seated) → IsBetweenCalls n r s → v.known.local.own ≡ s.known.local.own → map but_set v.known.local.cells ≡ map but_set s.known.local.cells →
     s.known.local.front ≤ v.known.local.front → IsSeatOf r v → IsAtRest v.known.local → length v.known.local.answered + m ≡ length s.known.local.answered + n → IsBetweenCalls m r v
 between_after r n m s v was own cells front of rest answered = record {
   of = of;
@@ -70,33 +72,36 @@ module _ {O : Type 0} (r : Running O) (s v : Seated) (linked : IsLinkedOf r s) (
     reads = ap (λ (x : Seated). x.known.local.seen_reads) rest;
     linked = ap (λ (x : Seated). x.known.times.linked) rest;
     read = ap (λ (x : Seated). x.known.times.reads) rest;
+    images = ap (λ (x : Seated). x.known.images) rest;
   }
 
   stands : (m : ℕ) → IsAtRest v.known.local → length v.known.local.answered + m ≡ length s.known.local.answered + 1 → IsBetweenCalls m r v
   stands m at answered =
       between_after r 1 m s v linked (ap (λ (x : Seated). x.known.local.own) rest) (ap (λ (x : Seated). x.known.local.cells) rest) front of at answered
 
-  pub turn_done : (ticket : ℕ) (reply : List ℕ) → unanswered_ticket s.known.local ≡ Some ticket → ¬ IsAtLimit s.known.local → AnswersEntry 1 ticket reply s v → DriveDone r s v (record { ticket = ticket; reply = reply })
-  turn_done ticket reply is allowed answers = record {
+  pub turn_done : (ticket : ℕ) (reply : List ℕ) → unanswered_ticket s.known.local ≡ Some ticket → ¬ IsAtLimit s.known.local → BringsEntries s v → AnswersEntry 1 ticket reply s v → DriveDone r s v (record { ticket = ticket; reply = reply })
+  turn_done ticket reply is allowed brought answers = record {
     caller = stands 0 answers.rest (ap (λ (xs : List Answer). length xs + 0) answers.answered ∙ ap (λ n. n + 0) (length-append s.known.local.answered _) ∙ zero_more (length s.known.local.answered + 1));
     keeps = drive_keeps;
     allowed = allowed;
     met = answers.met;
     ticket = is;
     answered = answers.answered;
+    brought = brought;
     ended = answers.ended;
   }
     where
       zero_more : (n : ℕ) → n + 0 ≡ n
       zero_more n = omega arith
 
-  pub turn_refused : ¬ IsAtLimit s.known.local → s.known.local.met ≤ max_word → TurnRefused s v → DrivePending r 1 s v
-  turn_refused allowed small refused = record {
+  pub turn_refused : ¬ IsAtLimit s.known.local → s.known.local.met ≤ max_word → v.known.sets ≡ s.known.sets → TurnRefused s v → DrivePending r 1 s v
+  turn_refused allowed small sets refused = record {
     caller = stands 1 refused.rest (ap (λ (xs : List Answer). length xs + 1) refused.refusal.answered);
     keeps = drive_keeps;
     allowed = allowed;
     rises = rises_one s v small refused.refusal.met;
     answered = refused.refusal.answered;
+    sets = sets;
     ended = refused.refusal.times.answered;
     met = meets_one s v refused.refusal.met;
     most = most_one s v refused.refusal.met;
@@ -122,7 +127,7 @@ module _ {O : Type 0} (r : Running O) (s v : Seated) (linked : IsLinkedOf r s) (
 -- turns after others, in each of which a refusal was met
 module _ {O : Type 0} (r : Running O) (n : ℕ) (s u : Seated) (before : DrivePending r n s u) where
   keeps_then : (v : Seated) → DriveKeeps u v → DriveKeeps s v
-  keeps_then v k = record { number = k.number ∙ before.keeps.number; limit = k.limit ∙ before.keeps.limit; own = k.own ∙ before.keeps.own; reads = k.reads ∙ before.keeps.reads; linked = k.linked ∙ before.keeps.linked; read = k.read ∙ before.keeps.read }
+  keeps_then v k = record { number = k.number ∙ before.keeps.number; limit = k.limit ∙ before.keeps.limit; own = k.own ∙ before.keeps.own; reads = k.reads ∙ before.keeps.reads; linked = k.linked ∙ before.keeps.linked; read = k.read ∙ before.keeps.read; images = k.images ∙ before.keeps.images }
 
   same_ticket : unanswered_ticket s.known.local ≡ unanswered_ticket u.known.local
   same_ticket =
@@ -135,6 +140,7 @@ module _ {O : Type 0} (r : Running O) (n : ℕ) (s u : Seated) (before : DrivePe
     keeps = keeps_then v p.keeps;
     allowed = before.allowed;
     answered = p.answered ∙ before.answered;
+    sets = p.sets ∙ before.sets;
     ended = p.ended ∙ before.ended;
     rises = omega (arith, before.rises, p.rises);
     met = meets_then n m s u v before.met p.met;
@@ -149,6 +155,7 @@ module _ {O : Type 0} (r : Running O) (n : ℕ) (s u : Seated) (before : DrivePe
     met = omega (arith, before.rises, d.met);
     ticket = same_ticket ∙ d.ticket;
     answered = d.answered ∙ ap (with_answer answer.ticket answer.reply) before.answered;
+    brought = brings_around s u v v before.sets d.brought refl;
     ended = record { at = d.ended.at; to = d.ended.to; is = d.ended.is ∙ ap (λ ts. ts ++ d.ended.at ∷ []) before.ended };
   }
 
@@ -241,6 +248,7 @@ module _ {O : Type 0} (r : Running O) (op : List ℕ) (s v : Seated) (caller : I
     own = ap (λ (x : Seated). x.known.local.own) rest;
     answered = ap (λ (x : Seated). x.known.local.answered) rest;
     scans = ap (λ (x : Seated). x.known.local.scans) rest;
+    sets = ap (λ (x : Seated). x.known.sets) rest;
     front = front;
     cur = rises;
     linked = ap (λ (x : Seated). x.known.times.linked) rest;
@@ -264,6 +272,7 @@ module _ {O : Type 0} (r : Running O) (op : List ℕ) (s v : Seated) (caller : I
     above = answers.above;
     from = answers.from;
     times = record { begun = s.known.local.steps; ended = answers.times.ended; from = omega arith; to = answers.times.to; is = answers.times.is };
+    images = ap (λ (x : Seated). x.known.images) rest;
   }
 
   pub read_refused : ¬ IsAtLimit s.known.local → s.known.local.met ≤ max_word → TurnRefused s v × StepsAtMost 4 s v × StepsOn s v → ReadPending r 1 s v
@@ -278,6 +287,7 @@ module _ {O : Type 0} (r : Running O) (op : List ℕ) (s v : Seated) (caller : I
     steps = steps;
     since = since;
     times = refused.refusal.times.reads;
+    images = ap (λ (x : Seated). x.known.images) rest;
   }
 
   pub read_ended : HaltsLookup s.known.local.steps op s v → ReadHalted r op s (record { seat = v; linked = None }) × ReadDue 1 s v
@@ -288,6 +298,7 @@ module _ {O : Type 0} (r : Running O) (op : List ℕ) (s v : Seated) (caller : I
       keeps = read_keeps;
       reads = elim h.reads [ inl none ↦ inl none.same | inr one ↦ inr (one.0, one.1, one.2, one.4) ];
       times = elim h.reads [ inl none ↦ inl none.times | inr one ↦ inr (record { begun = s.known.local.steps; ended = one.3.ended; from = omega arith; to = one.3.to; is = one.3.is }) ];
+      images = ap (λ (x : Seated). x.known.images) rest;
     },
     record { most = h.halts.most; due = λ none. (let same = h.halts.due none in omega (arith, same)) },
   )
@@ -297,8 +308,8 @@ pub all_answered : {O : Type 0} (r : Running O) (s : Seated) → IsCallerOf r s 
 all_answered r s caller = ap (option_map (λ (x : Linked). x.ticket)) (slice_get_past s.known.local.own (length s.known.local.answered) (omega (arith, caller.count)))
 
 module _ {O : Type 0} (r : Running O) (op : List ℕ) (n : ℕ) (s u : Seated) (before : ReadPending r n s u) where
-  read_keeps_then : (v : Seated) → ReadKeeps u v → ReadKeeps s v
-  read_keeps_then v k = record { number = k.number ∙ before.keeps.number; limit = k.limit ∙ before.keeps.limit; own = k.own ∙ before.keeps.own; answered = k.answered ∙ before.keeps.answered; scans = k.scans ∙ before.keeps.scans; front = omega (arith, before.keeps.front, k.front); cur = omega (arith, before.keeps.cur, k.cur); linked = k.linked ∙ before.keeps.linked; ended = k.ended ∙ before.keeps.ended }
+  pub read_keeps_then : (v : Seated) → ReadKeeps u v → ReadKeeps s v
+  read_keeps_then v k = record { number = k.number ∙ before.keeps.number; limit = k.limit ∙ before.keeps.limit; own = k.own ∙ before.keeps.own; answered = k.answered ∙ before.keeps.answered; scans = k.scans ∙ before.keeps.scans; sets = k.sets ∙ before.keeps.sets; front = omega (arith, before.keeps.front, k.front); cur = omega (arith, before.keeps.cur, k.cur); linked = k.linked ∙ before.keeps.linked; ended = k.ended ∙ before.keeps.ended }
 
   -- reads with one more, in terms of the first seat
   more_reads : (place : ℕ) (reply : List ℕ) → with_read place op reply (length u.known.local.answered) u.known.local.seen_reads ≡ with_read place op reply (length s.known.local.answered) s.known.local.seen_reads
@@ -318,6 +329,7 @@ module _ {O : Type 0} (r : Running O) (op : List ℕ) (n : ℕ) (s u : Seated) (
     steps = omega (arith, before.steps, p.steps);
     since = omega (arith, before.since, p.since);
     times = p.times ∙ before.times;
+    images = p.images ∙ before.images;
   }
 
   read_done_then : (v : Seated) (seen : Seen) → ReadAnswered r op u v seen → ReadAnswered r op s v seen
@@ -332,6 +344,7 @@ module _ {O : Type 0} (r : Running O) (op : List ℕ) (n : ℕ) (s u : Seated) (
     above = λ i x at. d.above i x (ap (λ (xs : List Answer). slice_get xs i) before.keeps.answered ∙ at);
     from = λ i x at. d.from i x (ap (λ (xs : List SeenRead). slice_get xs i) before.reads ∙ at);
     times = record { begun = d.times.begun; ended = d.times.ended; from = omega (arith, before.since, d.times.from); to = d.times.to; is = d.times.is ∙ ap (λ ts. ts ++ (d.times.begun, d.times.ended) ∷ []) before.times };
+    images = d.images ∙ before.images;
   }
 
   read_halted_then : (v : StoppedSeat) → ReadHalted r op u v → ReadHalted r op s v
@@ -347,6 +360,7 @@ module _ {O : Type 0} (r : Running O) (op : List ℕ) (n : ℕ) (s u : Seated) (
       | inl none ↦ inl (none ∙ before.times)
       | inr one ↦ inr (record { begun = one.begun; ended = one.ended; from = omega (arith, before.since, one.from); to = one.to; is = one.is ∙ ap (λ ts. ts ++ (one.begun, one.ended) ∷ []) before.times })
     ];
+    images = h.images ∙ before.images;
   }
 
 -- so many turns for a read were made, of which there may be none, and in each a refusal was met
@@ -378,7 +392,7 @@ module _ {O : Type 0} (r : Running O) (op : List ℕ) (n : ℕ) (s u : Seated) (
       ]
 
   -- at most as many refusals
-  looks_met : MeetsAtMost n s u
+  pub looks_met : MeetsAtMost n s u
   looks_met = elim on.turns [ inl none ↦ (let same = ap (λ (x : Seated). x.known.local.met) none.1 in omega (arith, same)) | inr some ↦ some.most ]
 
   pub looks_halted : (tries : ℕ) (v : StoppedSeat) → n < tries → ReadHalted r op u v × ReadDue 1 u v.seat → ReadHalted r op s v × ReadDue tries s v.seat

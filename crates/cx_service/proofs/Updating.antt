@@ -18,15 +18,18 @@ use Rattle.cx_service.specs.Submits.{Submits}
 use Rattle.cx_service.specs.declared.submit.Submitted.TheVariants.{Halted as SubmitHalts}
 use Rattle.cx_service.specs.declared.update.ReadDone.{ReadDone}
 use Rattle.cx_service.specs.declared.update.ReadDone.TheVariants.{Read, Queued, Full as FullRead, Worn as WornRead, Halted as HaltedRead}
-use Rattle.cx_service.specs.Updates.{KeepsLists, LinksEntry, QueuesRead, ReadsInAll, UpdateDone, UpdateFull, UpdateHalted, UpdateWorn}
+use Rattle.cx_service.specs.declared.update.Updated.{Updated}
+use Rattle.cx_service.specs.declared.update.Updated.TheVariants.{Done as UpdateIs, Full as FullUpdate, Worn as WornUpdate, Halted as HaltedUpdate}
+use Rattle.cx_service.specs.Updates.{Finishes, KeepsLists, LinksEntry, QueuesRead, ReadsInAll, UpdateDone, UpdateFull, UpdateHalted, UpdateWorn, Updates}
 use Rattle.cx_service.specs.Updates.{SubmitsAgain}
 use Rattle.cx_turns.specs.Answering.{with_answer}
+use Rattle.cx_turns.proofs.Bringing.{brings_around}
 use Rattle.cx_turns.specs.Turns.{StepsOn}
 
 pub keeps_all : (s : Seated) → KeepsLists s s
 keeps_all s = record { number = refl; limit = refl; own = refl; answered = refl; reads = refl; front = omega arith; cur = omega arith }
 
-module _ {O : Type 0} (r : Running O) (op : List ℕ) (s u : Seated) (same : KeepsLists s u) (times : KeepsTimes s.known.times u.known.times) (since : StepsOn s u) (stood : IsAtLimit s.known.local → u ≡ s) where
+module _ {O : Type 0} (r : Running O) (op : List ℕ) (s u : Seated) (same : KeepsLists s u) (times : KeepsTimes s.known.times u.known.times) (since : StepsOn s u) (stood : IsAtLimit s.known.local → u ≡ s) (images : u.known.images ≡ s.known.images) where
   -- what is allowed after the tries so far was so before them
   allowed_first : ¬ IsAtLimit u.known.local → ¬ IsAtLimit s.known.local
   allowed_first free at = free (subst (λ (x : Seated). IsAtLimit x.known.local) (sym (stood at)) at)
@@ -58,11 +61,14 @@ module _ {O : Type 0} (r : Running O) (op : List ℕ) (s u : Seated) (same : Kee
   pub again_since : (tries most : ℕ) (v : Seated) → SubmitAgain r tries most u v → StepsOn s v
   again_since tries most v a = omega (arith, a.since, since)
 
+  pub again_images : (tries most : ℕ) (v : Seated) → SubmitAgain r tries most u v → v.known.images ≡ s.known.images
+  again_images tries most v a = a.keeps.images ∙ images
+
   pub again_stood : (tries most : ℕ) (v : Seated) → SubmitAgain r tries most u v → IsAtLimit s.known.local → v ≡ s
   again_stood tries most v a at = absurd (allowed_first a.allowed at)
 
-  pub update_full : (most : ℕ) (v : Seated) (note : FullNote) → s.known.local.scans ≤ u.known.local.scans → SubmitFull r most u v note → UpdateFull r s v note
-  update_full most v note rise f = record {
+  pub update_full : (most : ℕ) (v : Seated) (note : FullNote) → u.known.sets ≡ s.known.sets → s.known.local.scans ≤ u.known.local.scans → SubmitFull r most u v note → UpdateFull r s v note
+  update_full most v note still rise f = record {
     caller = f.caller;
     allowed = allowed_first f.allowed;
     keeps = keeps_on most v f.own f.keeps;
@@ -71,24 +77,31 @@ module _ {O : Type 0} (r : Running O) (op : List ℕ) (s u : Seated) (same : Kee
       | inl below ↦ inl (let e = f.scans in omega (arith, e, below, rise))
       | inr above ↦ inr (let e = f.scans in omega (arith, e, above))
     ];
+    steps = (let count = f.steps in omega (arith, count, since));
     names = f.names;
+    sets = f.keeps.sets ∙ still;
     times = record { linked = f.linked ∙ times.linked; answered = f.keeps.times.answered ∙ times.answered; reads = f.keeps.times.reads ∙ times.reads };
+    images = f.keeps.images ∙ images;
   }
 
-  pub update_worn : (most : ℕ) (v : Seated) → SubmitWorn r most u v → UpdateWorn r s v
-  update_worn most v w = record {
+  pub update_worn : (most : ℕ) (v : Seated) → u.known.sets ≡ s.known.sets → SubmitWorn r 2 most u v → UpdateWorn r s v
+  update_worn most v still w = record {
     caller = w.caller;
     allowed = allowed_first w.allowed;
     keeps = keeps_on most v w.own w.keeps;
     front = w.front;
+    steps = (let least = w.steps in omega (arith, least, since));
     idle = w.idle;
+    sets = w.keeps.sets ∙ still;
     times = record { linked = w.linked ∙ times.linked; answered = w.keeps.times.answered ∙ times.answered; reads = w.keeps.times.reads ∙ times.reads };
+    images = w.keeps.images ∙ images;
   }
 
   pub update_halted : (most : ℕ) (v : StoppedSeat) → SubmitHalted r most u v → SubmitsAgain r op s u → Submits r op 16 u (SubmitHalts v) → UpdateHalted r op s v
   update_halted most v h tried due = record {
     caller = h.caller;
     number = h.keeps.number ∙ same.number;
+    images = h.keeps.images ∙ images;
     lists = inl (record {
       last = u;
       tried = tried;
@@ -119,20 +132,23 @@ module _ {O : Type 0} (r : Running O) (op : List ℕ) (s u : Seated) (same : Kee
     before_answered : l.known.local.answered ≡ s.known.local.answered
     before_answered = linked.keeps.answered ∙ same.answered
 
-    pub update_done : (v : Seated) (answer : Answer) → s.known.local.front ≤ u.known.local.front → DriveDone r l v answer → UpdateDone r op s v answer
-    update_done v answer rise d = record {
+    pub update_done : (v : Seated) (answer : Answer) → u.known.sets ≡ s.known.sets → s.known.local.front ≤ u.known.local.front → DriveDone r l v answer → UpdateDone r op s v answer
+    update_done v answer still rise d = record {
       caller = d.caller;
       from = (let same = same_Some answer.ticket linked.ticket (sym d.ticket ∙ linked.lends) in omega (arith, same, rise, linked.from));
       allowed = allowed_first linked.allowed;
       links = links v answer.ticket (same_Some answer.ticket linked.ticket (sym d.ticket ∙ linked.lends)) d.keeps.number d.keeps.limit d.keeps.own d.keeps.reads d.keeps.linked d.keeps.read;
       answered = d.answered ∙ ap (with_answer answer.ticket answer.reply) before_answered;
+      brought = brings_around s l v v (linked.keeps.sets ∙ still) d.brought refl;
       ended = record { at = d.ended.at; to = d.ended.to; is = d.ended.is ∙ ap (λ ts. ts ++ d.ended.at ∷ []) before_ended };
+      images = d.keeps.images ∙ linked.keeps.images ∙ images;
     }
 
     pub drive_halted : (v : StoppedSeat) → DriveHalted r l v → UpdateHalted r op s v
     drive_halted v h = record {
       caller = h.caller;
       number = h.keeps.number ∙ linked.keeps.number ∙ same.number;
+      images = h.keeps.images ∙ linked.keeps.images ∙ images;
       lists = inr (record {
         ticket = h.ticket;
         linked = h.linked;
@@ -148,6 +164,13 @@ module _ {O : Type 0} (r : Running O) (op : List ℕ) (s u : Seated) (same : Kee
       });
     }
 
+    -- what it comes to that the linked entry is driven to its end
+    pub finished : (d : Updated) → u.known.sets ≡ s.known.sets → s.known.local.front ≤ u.known.local.front → Finishes r l d → Updates r op s d
+    finished (UpdateIs v answer) still rise done = update_done v answer still rise done
+    finished (FullUpdate v note) still rise none = absurd none
+    finished (WornUpdate v) still rise none = absurd none
+    finished (HaltedUpdate v) still rise halted = drive_halted v halted
+
 -- a read that was refused beside the queue, and entered it
 pub queued : {O : Type 0} (r : Running O) (op : List ℕ) (s u : Seated) (d : ReadDone) → ReadPending r 8 s u → QueuesRead r op u d → ReadsInAll r op s d
 queued r op s u (Read v seen) refused entered = absurd entered
@@ -155,4 +178,4 @@ queued r op s u (Queued v answer) refused entered = record { refused = u; pendin
 queued r op s u (FullRead v note) refused entered = record { refused = u; pending = refused; entered = entered }
 queued r op s u (WornRead v) refused entered = record { refused = u; pending = refused; entered = entered }
 queued r op s u (HaltedRead v) refused entered =
-    record { caller = entered.caller; number = entered.number ∙ refused.keeps.number; lists = inr (record { refused = u; pending = refused; entered = entered }) }
+    record { caller = entered.caller; number = entered.number ∙ refused.keeps.number; images = entered.images ∙ refused.images; lists = inr (record { refused = u; pending = refused; entered = entered }) }

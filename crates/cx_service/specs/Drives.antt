@@ -10,6 +10,7 @@ use Rattle.cx_service.specs.declared.drive.Driven.{Driven}
 use Rattle.cx_service.specs.declared.drive.Driven.TheVariants.{Done, Pending, Halted}
 use Rattle.cx_service.specs.Callers.{IsCallerOf, IsLinkedOf, IsStoppedOf, StoppedSeat}
 use Rattle.cx_turns.specs.Answering.{with_answer}
+use Rattle.cx_turns.specs.Bringing.{BringsEntries}
 use Rattle.strong_trylock.specs.Held.{all_rights, no_rights}
 
 -- at least so many refusals were met, where the count is not at its end
@@ -36,8 +37,10 @@ pub record DriveKeeps (before after : Seated) : Type 0 where
   pub reads : after.known.local.seen_reads ≡ before.known.local.seen_reads
   pub linked : after.known.times.linked ≡ before.known.times.linked
   pub read : after.known.times.reads ≡ before.known.times.reads
+  pub images : after.known.images ≡ before.known.images
 
--- The entry is answered, and nothing else: the caller has one answer more, at the entry's ticket. The limit allowed a step.
+-- The entry is answered, and nothing else: the caller has one answer more, at the entry's ticket. The count of others' entries that were
+-- brought on by their sets rises by those of this call. The limit allowed a step.
 pub record DriveDone {O : Type 0} (r : Running O) (before after : Seated) (answer : Answer) : Type 0 where
   pub caller : IsCallerOf r after
   pub keeps : DriveKeeps before after
@@ -45,9 +48,10 @@ pub record DriveDone {O : Type 0} (r : Running O) (before after : Seated) (answe
   pub met : before.known.local.met ≤ after.known.local.met
   pub ticket : unanswered_ticket before.known.local ≡ Some answer.ticket
   pub answered : after.known.local.answered ≡ with_answer answer.ticket answer.reply before.known.local.answered
+  pub brought : BringsEntries before after
   pub ended : EndsIn after.known.local.steps before.known.times.answered after.known.times.answered
 
--- In each of so many turns one refusal was met. The entry stands, unanswered. The limit allowed a step.
+-- In each of so many turns one refusal was met, and no word of a set was read. The entry stands, unanswered. The limit allowed a step.
 pub record DrivePending {O : Type 0} (r : Running O) (tries : ℕ) (before after : Seated) : Type 0 where
   pub caller : IsLinkedOf r after
   pub keeps : DriveKeeps before after
@@ -56,6 +60,7 @@ pub record DrivePending {O : Type 0} (r : Running O) (tries : ℕ) (before after
   pub rises : before.known.local.met ≤ after.known.local.met
   pub met : MeetsMore tries before after
   pub most : MeetsAtMost tries before after
+  pub sets : after.known.sets ≡ before.known.sets
   pub ended : after.known.times.answered ≡ before.known.times.answered
 
 -- A further step was to be made and the steps equal the limit. No call answered the entry, whose ticket the caller keeps. Before the

@@ -1,5 +1,6 @@
 pub mod Callers
 pub mod CatchUps
+pub mod Checkpoints
 pub mod Closes
 pub mod Starts
 pub mod Submits

@@ -24,6 +24,7 @@ pub record ReadKeeps (before after : Seated) : Type 0 where
   pub own : after.known.local.own ≡ before.known.local.own
   pub answered : after.known.local.answered ≡ before.known.local.answered
   pub scans : after.known.local.scans ≡ before.known.local.scans
+  pub sets : after.known.sets ≡ before.known.sets
   pub front : before.known.local.front ≤ after.known.local.front
   pub cur : before.known.local.seen_cur ≤ after.known.local.seen_cur
   pub linked : after.known.times.linked ≡ before.known.times.linked
@@ -43,6 +44,7 @@ pub record ReadAnswered {O : Type 0} (r : Running O) (op : List ℕ) (before aft
   pub above : (i : ℕ) (x : Answer) → slice_get before.known.local.answered i ≡ Some x → x.ticket < seen.place
   pub from : (i : ℕ) (x : SeenRead) → slice_get before.known.local.seen_reads i ≡ Some x → x.place ≤ seen.place
   pub times : ReadsIn before.known.local.steps after.known.local.steps before.known.times.reads after.known.times.reads
+  pub images : after.known.images ≡ before.known.images
 
 -- In each of so many turns one refusal was met, by at most four steps. The limit allowed a step.
 pub record ReadPending {O : Type 0} (r : Running O) (tries : ℕ) (before after : Seated) : Type 0 where
@@ -56,6 +58,7 @@ pub record ReadPending {O : Type 0} (r : Running O) (tries : ℕ) (before after 
   pub steps : StepsAtMost (4 * tries) before after
   pub since : StepsOn before after
   pub times : after.known.times.reads ≡ before.known.times.reads
+  pub images : after.known.images ≡ before.known.images
 
 -- A further step was to be made and the steps equal the limit. No read was answered, or this one was, and its shared right is still to
 -- be given back. No entry is linked that no call has answered.
@@ -66,6 +69,7 @@ pub record ReadHalted {O : Type 0} (r : Running O) (op : List ℕ) (before : Sea
   pub reads : (after.seat.known.local.seen_reads ≡ before.known.local.seen_reads)
       ⊎ ((place : ℕ) × (reply : List ℕ) × (after.seat.known.local.seen_reads ≡ with_read place op reply (length before.known.local.answered) before.known.local.seen_reads) × (after.seat.known.local.shared ≢ None))
   pub times : (after.seat.known.times.reads ≡ before.known.times.reads) ⊎ ReadsIn before.known.local.steps after.seat.known.local.steps before.known.times.reads after.seat.known.times.reads
+  pub images : after.seat.known.images ≡ before.known.images
 
 -- A further step is due to a read in so many turns: fewer refusals were met, or a right stands that is still to be given up. No turn meets
 -- more than one.

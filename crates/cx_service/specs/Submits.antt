@@ -43,11 +43,13 @@ pub record SubmitKeeps (most : ℕ) (before after : Seated) : Type 0 where
   pub answered : after.known.local.answered ≡ before.known.local.answered
   pub reads : after.known.local.seen_reads ≡ before.known.local.seen_reads
   pub met : after.known.local.met ≡ before.known.local.met
+  pub sets : after.known.sets ≡ before.known.sets
   pub front : before.known.local.front ≤ after.known.local.front
   pub cur : before.known.local.seen_cur ≤ after.known.local.seen_cur
   pub steps : after.known.local.steps ≤ before.known.local.steps + most
   pub idle : (j : ℕ) → j < 16 → IsIdle before.known.local j → LooksForNothing before after
   pub times : KeepsEnds before.known.times after.known.times
+  pub images : after.known.images ≡ before.known.images
 
 -- the caller's next entry, with this operation and this ticket
 abbrev pub entry_at : {O : Type 0} → Running O → Local → List ℕ → ℕ → OwnEntry
@@ -103,26 +105,28 @@ pub record NamesHolder (callers : ℕ) (l : Local) (note : FullNote) : Type 0 wh
   pub need : note.need ≤ note.ticket
   pub cells : HoldsFrom l note.ticket
 
--- No cell is idle after a scan of this call: another caller's need keeps them. The caller linked at least 16 entries in this
--- service.
+-- No cell is idle after FREE was loaded and a scan made in this call: another caller's need keeps them. The caller linked at least 16
+-- entries in this service.
 pub record SubmitFull {O : Type 0} (r : Running O) (most : ℕ) (before after : Seated) (note : FullNote) : Type 0 where
   pub caller : IsCallerOf r after
   pub keeps : SubmitKeeps most before after
   pub allowed : ¬ IsAtLimit before.known.local
   pub own : after.known.local.own ≡ before.known.local.own
   pub scans : after.known.local.scans ≡ one_more before.known.local.scans
+  pub steps : after.known.local.steps ≡ min (before.known.local.steps + (r.callers + 4)) max_word
   pub full : 16 ≤ length before.known.local.own
   pub names : NamesHolder r.callers after.known.local note
   pub linked : after.known.times.linked ≡ before.known.times.linked
 
--- A cell is idle, and there is no further ticket.
-pub record SubmitWorn {O : Type 0} (r : Running O) (most : ℕ) (before after : Seated) : Type 0 where
+-- A cell is idle, and there is no further ticket. At least so many steps were made.
+pub record SubmitWorn {O : Type 0} (r : Running O) (least most : ℕ) (before after : Seated) : Type 0 where
   pub caller : IsCallerOf r after
   pub keeps : SubmitKeeps most before after
   pub allowed : ¬ IsAtLimit before.known.local
   pub scans : before.known.local.scans ≤ after.known.local.scans
   pub own : after.known.local.own ≡ before.known.local.own
   pub front : after.known.local.front ≡ 2 ^ 40
+  pub steps : min (before.known.local.steps + least) max_word ≤ after.known.local.steps
   pub idle : (j : ℕ) × (j < 16) × IsIdle after.known.local j
   pub linked : after.known.times.linked ≡ before.known.times.linked
 
@@ -178,18 +182,18 @@ HaltsEntering r op tries most before after =
 abbrev pub FindsLinks : {O : Type 0} → Running O → ℕ → ℕ → Seated → Seated → Type 0
 FindsLinks r tries n before after = TriesOf r n (LosesTries r.callers tries) before after
 
--- an operation that was announced, behind so many steps, and tried to be linked, in at most so many
+-- an operation that was announced, behind so many steps and by one or more, and tried to be linked, in at most so many
 abbrev pub EntersIn : {O : Type 0} → ℕ → ℕ → Running O → List ℕ → ℕ → Seated → Seated → LinkTried → Type 0
 EntersIn n most r op tries before after (TriedLinked ticket) = SubmitLinked r op most before after
 EntersIn n most r op tries before after TriedAgain = SubmitAgain r tries most before after × FindsLinks r tries n before after
-EntersIn n most r op tries before after TriedWorn = SubmitWorn r most before after
+EntersIn n most r op tries before after TriedWorn = SubmitWorn r (n + 1) most before after
 
 -- what entering an operation in an idle cell comes to, in at most so many steps
 abbrev pub Enters : {O : Type 0} → ℕ → Running O → List ℕ → ℕ → Seated → Submitted → Type 0
 Enters most r op tries before (Linked after) = SubmitLinked r op most before after
 Enters most r op tries before (Again after) = SubmitAgain r tries most before after × FindsLinks r tries 1 before after
 Enters most r op tries before (Full after note) = ⊥
-Enters most r op tries before (Worn after) = SubmitWorn r most before after
+Enters most r op tries before (Worn after) = SubmitWorn r 2 most before after
 Enters most r op tries before (Halted after) = HaltsInCell r op tries most before after
 
 -- a submit that makes at most so many steps
@@ -197,7 +201,7 @@ abbrev pub SubmitsIn : {O : Type 0} → ℕ → Running O → List ℕ → ℕ �
 SubmitsIn most r op tries before (Linked after) = SubmitLinked r op most before after
 SubmitsIn most r op tries before (Again after) = SubmitAgain r tries most before after × (n : ℕ) × LooksBy r.callers n before after × FindsLinks r tries (n + 1) before after
 SubmitsIn most r op tries before (Full after note) = SubmitFull r most before after note
-SubmitsIn most r op tries before (Worn after) = SubmitWorn r most before after
+SubmitsIn most r op tries before (Worn after) = SubmitWorn r 2 most before after
 SubmitsIn most r op tries before (Halted after) = HaltsEntering r op tries most before after
 
 -- what a submit of this operation by a caller comes to
@@ -223,11 +227,12 @@ pub record HaltsLooking (n : ℕ) (before after : Seated) : Type 0 where
   pub used : AreInUse before.known.local
   pub looking : IsLooking n before after
 
--- no cell is idle, though what no caller needs was given again
-pub record FindsNone (callers : ℕ) (before after : Seated) (note : FullNote) : Type 0 where
+-- no cell is idle, though what no caller needs was given again, by so many steps
+pub record FindsNone (callers n : ℕ) (before after : Seated) (note : FullNote) : Type 0 where
   pub ends : EndsLooking before after
   pub used : AreInUse before.known.local
   pub scans : after.known.local.scans ≡ one_more before.known.local.scans
+  pub count : after.known.local.steps ≡ min (before.known.local.steps + n) max_word
   pub allowed : ¬ IsAtLimit before.known.local
   pub names : NamesHolder callers after.known.local note
 
@@ -253,12 +258,12 @@ pub record FindsFreed (callers : ℕ) (before after : Seated) (cell : ℕ) : Typ
 -- what a scan comes to where all cells are in use
 abbrev pub FindsAgain : ℕ → Seated → Seated → Result ℕ FullNote → Type 0
 FindsAgain callers before after (Ok cell) = FindsFreed callers before after cell
-FindsAgain callers before after (Err note) = FindsNone callers before after note
+FindsAgain callers before after (Err note) = FindsNone callers (callers + 3) before after note
 
 -- what looking for an idle cell comes to
 abbrev pub FindsCell : ℕ → Seated → Seated → Result ℕ FullNote → Type 0
 FindsCell callers before after (Ok cell) = FindsIdle callers before after cell
-FindsCell callers before after (Err note) = FindsNone callers before after note
+FindsCell callers before after (Err note) = FindsNone callers (callers + 4) before after note
 
 -- the tickets of a caller's 16 cells, which all hold one, with the least first
 pub record AreTickets (l : Local) (tickets : List ℕ) : Type 0 where

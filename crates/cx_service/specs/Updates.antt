@@ -1,5 +1,5 @@
 -- What an update comes to, and a read that may enter the queue.
-use Rattle.std.specs.Prelude.{◌≡◌, ◌≢◌, ◌^◌, ◌<◌, ◌≤◌, ◌⊎◌, ℕ, List, [], ◌∷◌, ◌++◌, length, Some, None}
+use Rattle.std.specs.Prelude.{◌≡◌, ◌≢◌, ◌+◌, ◌^◌, ◌<◌, ◌≤◌, ◌⊎◌, ℕ, min, List, [], ◌∷◌, ◌++◌, length, Some, None}
 use Rattle.cx_core.specs.declared.local.Answer.{Answer}
 use Rattle.cx_core.specs.Layout.{max_word}
 use Rattle.cx_core.specs.QueueEvents.{IsIdle}
@@ -17,6 +17,7 @@ use Rattle.cx_service.specs.Drives.{DriveDone, DriveHalted, EndsOrNot, MeetsFewe
 use Rattle.cx_service.specs.Lookups.{ReadAnswered, ReadDue, ReadHalted, ReadPending}
 use Rattle.cx_service.specs.Submits.{NamesHolder, Submits, entry_at}
 use Rattle.cx_turns.specs.Answering.{with_answer}
+use Rattle.cx_turns.specs.Bringing.{BringsEntries}
 
 -- the caller's number, its limit and its lists are as they were, and its front and what it found in CUR do not fall
 pub record KeepsLists (before after : Seated) : Type 0 where
@@ -38,34 +39,43 @@ pub record LinksEntry {O : Type 0} (r : Running O) (op : List ℕ) (ticket : ℕ
   pub read : after.known.times.reads ≡ before.known.times.reads
 
 -- The entry is linked and answered, and nothing else: the caller has one entry more and one answer more, at the answer's ticket, which is not
--- below the caller's front. It was linked and answered by steps of this call.
+-- below the caller's front. It was linked and answered by steps of this call. The count of others' entries that were brought on by their sets
+-- rises by those of this call.
 pub record UpdateDone {O : Type 0} (r : Running O) (op : List ℕ) (before after : Seated) (answer : Answer) : Type 0 where
   pub caller : IsCallerOf r after
   pub allowed : ¬ IsAtLimit before.known.local
   pub from : before.known.local.front ≤ answer.ticket
   pub links : LinksEntry r op answer.ticket before after
   pub answered : after.known.local.answered ≡ with_answer answer.ticket answer.reply before.known.local.answered
+  pub brought : BringsEntries before after
   pub ended : EndsIn after.known.local.steps before.known.times.answered after.known.times.answered
+  pub images : after.known.images ≡ before.known.images
 
--- No cell is idle after a scan of this call: another caller's need keeps them. The caller linked at least 16 entries in this
--- service.
+-- No cell is idle after FREE was loaded and a scan made in this call: another caller's need keeps them. The caller linked at least 16
+-- entries in this service.
 pub record UpdateFull {O : Type 0} (r : Running O) (before after : Seated) (note : FullNote) : Type 0 where
   pub caller : IsCallerOf r after
   pub allowed : ¬ IsAtLimit before.known.local
   pub keeps : KeepsLists before after
   pub full : 16 ≤ length before.known.local.own
   pub scans : (before.known.local.scans < after.known.local.scans) ⊎ (after.known.local.scans ≡ max_word)
+  pub steps : min (before.known.local.steps + (r.callers + 4)) max_word ≤ after.known.local.steps
   pub names : NamesHolder r.callers after.known.local note
+  pub sets : after.known.sets ≡ before.known.sets
   pub times : KeepsTimes before.known.times after.known.times
+  pub images : after.known.images ≡ before.known.images
 
--- A cell is idle, and there is no further ticket.
+-- A cell is idle, and there is no further ticket: CUR was loaded in this call, and the operation written there.
 pub record UpdateWorn {O : Type 0} (r : Running O) (before after : Seated) : Type 0 where
   pub caller : IsCallerOf r after
   pub allowed : ¬ IsAtLimit before.known.local
   pub keeps : KeepsLists before after
   pub front : after.known.local.front ≡ 2 ^ 40
+  pub steps : min (before.known.local.steps + 2) max_word ≤ after.known.local.steps
   pub idle : (j : ℕ) × (j < 16) × IsIdle after.known.local j
+  pub sets : after.known.sets ≡ before.known.sets
   pub times : KeepsTimes before.known.times after.known.times
+  pub images : after.known.images ≡ before.known.images
 
 -- Submits of an operation in 16 tries, none or more, each of which found another's link in every try and handed the caller back.
 pub data SubmitsAgain {O : Type 0} (r : Running O) (op : List ℕ) (first : Seated) : Seated → Type 0 where
@@ -96,6 +106,7 @@ pub record UpdateHalted {O : Type 0} (r : Running O) (op : List ℕ) (before : S
   pub caller : IsStoppedOf r after.seat
   pub number : after.seat.known.local.number ≡ before.known.local.number
   pub lists : HaltsUnlinked r op before after ⊎ HaltsLinked r op before after
+  pub images : after.seat.known.images ≡ before.known.images
 
 -- what an update of this operation comes to
 abbrev pub Updates : {O : Type 0} → Running O → List ℕ → Seated → Updated → Type 0
@@ -122,6 +133,7 @@ pub record ReadStops {O : Type 0} (r : Running O) (op : List ℕ) (before : Seat
   pub caller : IsStoppedOf r after.seat
   pub number : after.seat.known.local.number ≡ before.known.local.number
   pub lists : (ReadHalted r op before after × ReadDue 8 before after.seat) ⊎ ReadQueues r op before (Halted after)
+  pub images : after.seat.known.images ≡ before.known.images
 
 -- what a read of this operation comes to
 abbrev pub ReadsInAll : {O : Type 0} → Running O → List ℕ → Seated → ReadDone → Type 0

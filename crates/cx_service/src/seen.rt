@@ -7,6 +7,7 @@ ghost use Rattle.cx_rule.specs.Running.{Running};
 ghost use Rattle.cx_rule.specs.Seats.{Seated};
 ghost use Rattle.cx_service.specs.Callers.{IsCallerOf};
 ghost use Rattle.cx_service.specs.CatchUps.{CatchUpSees, CatchesUp, HasSeen, ReadSees, UpdateSees};
+ghost use Rattle.cx_service.specs.Checkpoints.{CheckpointTaken};
 ghost use Rattle.cx_service.specs.Drives.{DriveDone};
 ghost use Rattle.cx_service.specs.Lookups.{ReadAnswered, ReadKeeps};
 ghost use Rattle.cx_service.specs.Submits.{SubmitKeeps, SubmitLinked};
@@ -28,6 +29,13 @@ pub fn updates_stand_behind_what_was_seen<O: Object>()
 pub fn reads_stand_behind_what_was_seen<O: Object>()
     ensures { (r : Running O) (op : List ℕ) (place : ℕ) (before after : Seated) (seen : Seen) → HasSeen r.callers place before.known.local → ReadAnswered r op before after seen →
         (place ≤ seen.place) × HasSeen r.callers place after.known.local }
+{}
+
+/// An image that it takes is at a place at or above it, and it has seen both places then.
+pub fn checkpoints_stand_behind_what_was_seen<O: Object>()
+    ensures behind { (r : Running O) (words : List ℕ) (place at : ℕ) (before after : Seated) → HasSeen r.callers place before.known.local → CheckpointTaken O.Object r words at before after →
+        (place ≤ at) × HasSeen r.callers place after.known.local }
+    ensures seen { (r : Running O) (words : List ℕ) (at : ℕ) (before after : Seated) → CheckpointTaken O.Object r words at before after → HasSeen r.callers at after.known.local }
 {}
 
 /// What a caller was answered it has seen: its update, and so each place up to the one behind the ticket.

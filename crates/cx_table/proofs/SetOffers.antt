@@ -1,9 +1,11 @@
 -- The set of an own entry is offered by the numbers that its seat keeps.
-use Rattle.std.proofs.Common.{◌≡◌, ◌≢◌, ◌+◌, ◌^◌, ◌<◌, ℕ, List, [], arith, refl, slice_index, slice_index_or, ap, subst, sym, ◌∙◌, Bool, Some, None}
-use Rattle.std.proofs.lemmas.Option.{slice_get-get_or}
+use Rattle.std.proofs.Common.{◌≡◌, ◌≢◌, ◌+◌, ◌^◌, ◌<◌, ℕ, List, [], length, arith, refl, slice_index, slice_index_or, ap, subst, sym, ◌∙◌, Bool, true, false, Option, Some, None, IfNone, IfSome}
+use Rattle.std.proofs.lemmas.Bool.{false≢true}
+use Rattle.std.proofs.lemmas.Option.{get_or_from_slice_get, slice_get-get_or, slice_get_within}
 use Rattle.atomic_table.specs.Table.{Me}
 use Rattle.cx_core.specs.declared.kinds.Kind.TheVariants.{Offer}
 use Rattle.cx_core.specs.declared.local.Cell.{Cell}
+use Rattle.cx_core.specs.declared.local.Local.{Local}
 use Rattle.cx_core.specs.Events.{step_word}
 use Rattle.cx_core.specs.QueueEvents.{cell_of, entry_in}
 use Rattle.cx_core.specs.SetEvents.{CanWriteSet, IsUnoffered, offer_of}
@@ -15,6 +17,7 @@ use Rattle.cx_rule.specs.Offers.{TellsOffer}
 use Rattle.cx_rule.specs.Running.{IsRunning, Running, instance_at}
 use Rattle.cx_rule.specs.Seats.{Seated, known_of}
 use Rattle.cx_rule.proofs.Offering.{learns_offer}
+use Rattle.cx_table.specs.OwnCells.{HasTicketAs}
 use Rattle.seat_memory.specs.declared.summary.Summary.{Summary}
 use Rattle.seat_memory.specs.Summaries.{HasSummary}
 use Rattle.seat_memory.proofs.SetNumbers.{part_at}
@@ -45,6 +48,27 @@ can_write me summary before j t has small named apart =
     let l = (known_of me.0).local in
     let own = (has.own j t small named).own in
     (small, subst (λ o. IsUnoffered l.own o (cell_of l j).offer) (sym named) (record { i = own.i; entry = record { ticket = t; entry = entry_in l j }; at = own.at; is = refl }, apart))
+
+-- where no cell is offered with the ticket, there is no own set of it
+pub no_own_set : (l : Local) (t : ℕ) (o : Option ℕ) → length l.cells ≡ 16 → IfNone o ((j : ℕ) → j < 16 → ¬ HasTicketAs l j t true) → IfNone o ((set : List ℕ) → ¬ IsOwnSet l.cells t set)
+no_own_set l t (Some j) count none = tt
+no_own_set l t None count none = λ set own.
+    let cell = get_or_from_slice_get l.cells own.j own.cell no_cell own.at in
+    none own.j (subst (λ n. own.j < n) count (slice_get_within l.cells own.j own.cell own.at)) (record {
+      named = ap (λ (x : Cell). x.ticket) cell ∙ own.named;
+      offers = (λ yes. ap (λ (x : Cell). x.offer) cell ∙ own.offered, λ is. refl);
+    })
+
+-- a cell that has the ticket and is not offered with it may be written, and no other with that ticket
+pub cell_to_write : (me : Me ℕ (List Known)) (summary : Summary) (before t : ℕ) (o : Option ℕ) → HasSummary me summary before → (let l = (known_of me.0).local in IfSome o (λ j. (j < 16) × HasTicketAs l j t false) → IfSome o (λ j. CanWriteSet l j × ((cell_of l j).ticket ≡ Some t)))
+cell_to_write me summary before t None has is = tt
+cell_to_write me summary before t (Some j) has is = (can_write me summary before j t has is.0 is.1.named (λ offered. false≢true (is.1.offers.1 offered)), is.1.named)
+
+pub no_cell_to_write : (l : Local) (t : ℕ) (o : Option ℕ) → IfNone o ((j : ℕ) → j < 16 → ¬ HasTicketAs l j t false) → IfNone o ((j : ℕ) → CanWriteSet l j → (cell_of l j).ticket ≢ Some t)
+no_cell_to_write l t (Some j) none = tt
+no_cell_to_write l t None none = λ j can named.
+    let apart = (subst (λ o. IsUnoffered l.own o (cell_of l j).offer) named can.1).1 in
+    none j can.0 (record { named = named; offers = (λ no. absurd (false≢true no), λ offered. absurd (apart offered)) })
 
 -- a set that is told is offered
 pub learns_offering : {O : Type 0} (line_count : O → ℕ) (lawful : O → List ℕ → Type 0) (step : O → List ℕ → List ℕ → List ℕ × List ℕ) (reads : O → List ℕ → Bool) (r : Running O) (j word new : ℕ) (me : Me ℕ (List Known)) (summary : Summary) (before : ℕ) (old : Seated) →

@@ -6,7 +6,10 @@ pub use Rattle.cx_rule.specs.Steps
 pub use Rattle.cx_rule.specs.Raises
 pub use Rattle.cx_rule.specs.Ending
 pub use Rattle.cx_rule.specs.Fitting
+pub use Rattle.cx_rule.specs.Listed
 pub mod Calls
+pub mod Gaps
+pub mod OwnCells
 pub mod Right
 pub mod Tokens
 pub mod Remains

@@ -1,10 +1,10 @@
 -- Whose a token is: the seat whose caller it was handed to still has that right on that replica.
-use Rattle.std.specs.Prelude.{◌≡◌, ◌≢◌, ◌*◌, ◌≤◌, ◌<◌, ℕ, Option, Some, None, Result, Ok, Err}
+use Rattle.std.specs.Prelude.{◌≡◌, ◌≢◌, ◌*◌, ◌≤◌, ◌<◌, ℕ, List, Option, Some, None, Result, Ok, Err}
 use Rattle.cx_base.specs.Codes.{root_replica_of}
 use Rattle.cx_core.specs.LockEvents.{exclusive_mark}
 use Rattle.cx_core.specs.RootEvents.{code_in}
 use Rattle.cx_core.specs.Rights.{downgraded_on, exclusive_on, shared_on}
-use Rattle.cx_rule.specs.Fitting.{AgreeTo}
+use Rattle.cx_rule.specs.Fitting.{AgreeTo, TellsWords}
 use Rattle.cx_rule.specs.Seats.{Seated}
 use Rattle.cx_table.specs.Right.{Right, WonRight}
 use Rattle.cx_table.specs.declared.tokens.SharedRight.{SharedRight}
@@ -25,6 +25,11 @@ pub record IsCopiedFrom (callers : ℕ) (seat : Seated) (mine other : Right) : T
   pub held : IsExclusiveOf callers seat mine
   pub source : IsSharedOf callers seat other
   pub agree : AgreeTo seat.known seat.region
+
+-- all words were loaded of the replica held shared, and these are they
+pub record IsTakenFrom (callers : ℕ) (seat : Seated) (other : Right) (image : List ℕ) : Type 0 where
+  pub source : IsSharedOf callers seat other
+  pub tells : TellsWords seat.known seat.region image
 
 pub record IsPasserOf (callers : ℕ) (seat : Seated) (mark : Right) : Type 0 where
   pub few : mark.replica < 2 * callers

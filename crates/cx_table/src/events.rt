@@ -9,7 +9,7 @@ ghost use Rattle.cx_rule.specs.Learns.{LearnsBy};
 ghost use Rattle.cx_rule.specs.Rule.{RuleHolds};
 ghost use Rattle.cx_rule.specs.Running.{instance_at};
 ghost use Rattle.cx_rule.specs.Seats.{kind_found, known_of};
-ghost use Rattle.cx_rule.specs.Steps.{IsBlind, IsCopyLearned, IsEventOn, IsLearned, IsStore, Puts, Teaches, TeachesCopied};
+ghost use Rattle.cx_rule.specs.Steps.{IsBlind, IsCopyLearned, IsEventOn, IsImageLearned, IsLearned, IsStore, Puts, Teaches, TeachesCopied, TeachesImage};
 ghost use Rattle.cx_table.specs.Words.{IsOnWord, IsTaught, put_by};
 
 use crate::raise_step::AnsweredRead;
@@ -128,6 +128,25 @@ impl<O: Object> Shared<O> {
         ensures { IsTaught seat.old.table_id seat.new.table_id (TeachesCopied (instance_at self.now O.step O.only_reads) kind.now (known_of seat.old.me.0) result seat.new.me) }
     {
         self.run::<Brand, Kind>(seat, kind, word, Instruction::Subtract(k))
+    }
+
+    /// A subtraction that is the event of this kind, the release of a shared right all of whose words were loaded: they are this image. It
+    /// gives the word found.
+    pub(crate) fn subtract_taken(
+        &self,
+        seat: &mut Seat<u8, View>,
+        kind: &Kind,
+        word: usize,
+        k: u64,
+        image: &[u64],
+    ) -> u64
+        requires on { IsOnWord self.now word seat.old.table_id seat.old.me }
+        requires learns { LearnsBy (instance_at self.now O.step O.only_reads) (λ _. kind.now) (known_of seat.old.me.0) word (λ x. (x + (2 ^ 64 - k)) % 2 ^ 64) }
+        requires taken { IsImageLearned (instance_at self.now O.step O.only_reads) kind.now image.now (known_of seat.old.me.0) word (λ x. (x + (2 ^ 64 - k)) % 2 ^ 64) }
+        ensures { IsTaught seat.old.table_id seat.new.table_id (TeachesImage (instance_at self.now O.step O.only_reads) kind.now image.now (known_of seat.old.me.0) result seat.new.me) }
+    {
+        let about = (kind, image);
+        self.run::<Brand, (&Kind, &[u64])>(seat, &about, word, Instruction::Subtract(k))
     }
 
     /// A raise of DUR by a code as what its caller noted tells what it answers, with a read that is answered or without. It

@@ -13,6 +13,9 @@
 //!   `try_exclusive` and `try_shared`; so does a downgrade: `token` of `downgrade`. Only a step call makes a token, and none can be copied.
 //! - A shared right whose words were all loaded, and are the words noted last of the replica held exclusively, is released so that the words
 //!   loaded are what is noted of that replica, with nothing stored since: `release_copied` (`StepsCopied`; `AgreeTo`).
+//! - A gap of a ticket is noted in the ring where whatever fits tells a write set of the ticket that has no address in it: `note_gap` (`TellsGap`).
+//!   One that is loaded is one of the history, noted as such: `load_gap`, and words of a slot by `load_gaps`. A shared right of whose words the lines
+//!   alone were copied that gaps do not lead over is released as one whose words were all copied: `release_listed` (`IsListedFrom`).
 //! - What is persisted is the word last stored, with no load: `persist`. A seat tells whether a word is dirty and some word that is, if any is:
 //!   `CallerSeat::is_dirty`, `some_dirty`; and where an operation differs from the one in a cell of its caller's: `cell_apart`.
 //! - No seat makes more steps than its limit: `CallerSeat::steps` (`within`).
@@ -27,6 +30,7 @@
 #![tactic(auto)]
 
 mod events;
+mod gap_steps;
 mod gather;
 mod lock_steps;
 mod make;

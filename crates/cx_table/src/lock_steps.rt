@@ -3,10 +3,11 @@
 
 ghost use Rattle.std.specs.Prelude.{◌≡◌, OnOk, IfOk};
 ghost use Rattle.cx_core.specs.declared.kinds.Kind.TheVariants.{BackOff, Downgrade, ReleaseExclusive, TryExclusive, TryShared};
-ghost use Rattle.cx_rule.specs.Fitting.{IsReplayed, IsReplayedToPlace};
+ghost use Rattle.cx_core.specs.Base.{LawfulBase};
+ghost use Rattle.cx_rule.specs.Fitting.{IsReplayed, IsReplayedToPlace, base_of};
 ghost use Rattle.cx_rule.specs.Running.{IsSeatOf};
-ghost use Rattle.cx_rule.specs.Steps.{Steps, StepsCopied};
-ghost use Rattle.cx_table.specs.Tokens.{HandsExclusive, HandsShared, IsCopiedFrom, IsDowngradedOf, IsExclusiveOf, IsRightOf, TriedExclusive, TriedShared, replica_of};
+ghost use Rattle.cx_rule.specs.Steps.{Steps, StepsCopied, StepsTaking};
+ghost use Rattle.cx_table.specs.Tokens.{HandsExclusive, HandsShared, IsCopiedFrom, IsDowngradedOf, IsExclusiveOf, IsRightOf, IsTakenFrom, TriedExclusive, TriedShared, replica_of};
 ghost use Rattle.cx_table.specs.Calls.{MakesFittingStep, MakesStep, MayStep};
 
 use crate::events::Instruction;
@@ -104,6 +105,33 @@ impl<O: Object> Shared<O> {
         let kind = Kind::BackOff { r };
         let word = lock_at(self.callers.number, r);
         let found = self.subtract_copied(&mut seat.seat, &kind, word, 1);
+        seat.summary.back_off(r);
+        Ok(found)
+    }
+
+    /// Gives a shared right back on a replica all of whose words were loaded: they are these, a lawful base, and one image more that the
+    /// caller took. It gives the word found.
+    pub fn release_taken(
+        &self,
+        seat: &mut CallerSeat,
+        source: SharedHold,
+        image: &[u64],
+    ) -> Result<u64, Halt>
+        requires seat { IsSeatOf self.now seat.old }
+        requires taken { IsTakenFrom self.now.callers seat.old source image.now }
+        ensures step { MakesFittingStep O.Object self.now seat.old seat.new result (λ found. StepsTaking self.now O.step O.only_reads source.replica found image.now seat.old seat.new) }
+        ensures base { OnOk result (LawfulBase self.now.lines (O.lawful self.now.object) (base_of image.now)) }
+    {
+        let Token {
+            replica,
+            caller: _,
+            kind: _,
+        } = source;
+        seat.summary.check()?;
+        let r = replica as u64;
+        let kind = Kind::BackOff { r };
+        let word = lock_at(self.callers.number, r);
+        let found = self.subtract_taken(&mut seat.seat, &kind, word, 1, image);
         seat.summary.back_off(r);
         Ok(found)
     }

@@ -1,9 +1,10 @@
 //! What a seat tells of the write sets of its caller's own cells, and of the offer last seen, without a step.
 
-ghost use Rattle.std.specs.Prelude.{◌≡◌, ◌+◌, ◌<◌, ◌↔◌, IfSome, IsTrue, Some, slice_index};
+ghost use Rattle.std.specs.Prelude.{◌≡◌, ◌≢◌, ◌+◌, ◌<◌, ◌↔◌, ℕ, List, IfNone, IfSome, IsTrue, Some, slice_index};
 ghost use Rattle.cx_core.specs.QueueEvents.{cell_of};
 ghost use Rattle.cx_core.specs.SetEvents.{CanWriteSet};
 ghost use Rattle.cx_rule.specs.Fitting.{IsOwnSet};
+ghost use Rattle.cx_table.specs.OwnCells.{HasTicketAs};
 
 use crate::seat::CallerSeat;
 use cx_core::SeenOffer;
@@ -33,29 +34,47 @@ impl CallerSeat {
         self.summary.seen_offer
     }
 
-    /// The cell of the caller's own entry with a ticket, where a cell has it and its set is offered.
+    /// The cell of the caller's own entry with a ticket, where a cell has it and its set is offered. It is `None` exactly where no cell
+    /// is offered with the ticket.
     pub fn offered_cell(&self, ticket: u64) -> Option<u64>
-        ensures { IfSome result (λ j. (j < 16) × IsOwnSet self.now.known.local.cells ticket (cell_of self.now.known.local j).set) }
+        ensures some { IfSome result (λ j. (j < 16) × IsOwnSet self.now.known.local.cells ticket (cell_of self.now.known.local j).set) }
+        ensures none { IfNone result ((set : List ℕ) → ¬ IsOwnSet self.now.known.local.cells ticket set) }
     {
         let _ = &self.seat;
-        let j = self.ticket_cell(ticket)?;
-        if self.is_offered(j, ticket) {
-            Some(j)
-        } else {
-            None
-        }
+        self.ticket_cell_as(ticket, true)
     }
 
-    /// The cell of the caller's own entry with a ticket, where a cell has it and its set may still be written and offered.
+    /// The cell of the caller's own entry with a ticket, where a cell has it and its set may still be written and offered. It is `None`
+    /// exactly where there is no such cell.
     pub fn unoffered_cell(&self, ticket: u64) -> Option<u64>
-        ensures { IfSome result (λ j. CanWriteSet self.now.known.local j × ((cell_of self.now.known.local j).ticket ≡ Some ticket)) }
+        ensures some { IfSome result (λ j. CanWriteSet self.now.known.local j × ((cell_of self.now.known.local j).ticket ≡ Some ticket)) }
+        ensures none { IfNone result ((j : ℕ) → CanWriteSet self.now.known.local j → (cell_of self.now.known.local j).ticket ≢ Some ticket) }
     {
         let _ = &self.seat;
-        let j = self.ticket_cell(ticket)?;
-        if self.is_offered(j, ticket) {
-            None
-        } else {
-            Some(j)
+        self.ticket_cell_as(ticket, false)
+    }
+
+    /// The first cell that has a ticket and is offered with it, or is not, as is asked for.
+    fn ticket_cell_as(&self, ticket: u64, offered: bool) -> Option<u64>
+        ensures some { IfSome result (λ j. (j < 16) × HasTicketAs self.now.known.local j ticket offered) }
+        ensures none { IfNone result ((j : ℕ) → j < 16 → ¬ HasTicketAs self.now.known.local j ticket offered) }
+    {
+        for j in 0..16 {
+            if self.has_ticket_as(j, ticket, offered) {
+                return Some(j);
+            }
+        }
+        None
+    }
+
+    /// Whether a cell has a ticket and is offered with it, or is not, as is asked for.
+    fn has_ticket_as(&self, j: u64, ticket: u64, offered: bool) -> bool
+        requires { j < 16 }
+        ensures { IsTrue result ↔ HasTicketAs self.now.known.local j ticket offered }
+    {
+        match self.cell_ticket(j) {
+            None => false,
+            Some(found) => found == ticket && self.is_offered(j, ticket) == offered,
         }
     }
 

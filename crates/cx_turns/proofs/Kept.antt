@@ -21,10 +21,11 @@ use Rattle.cx_turns.specs.Reads.{beside_read}
 use Rattle.cx_turns.specs.Turns.{IsAtRest, TurnRefused, beside_turn}
 use Rattle.mutation_queue.specs.Protections.{but_protected}
 use Rattle.publish.proofs.Options.{none_of}
-use Rattle.replica.specs.Copies.{beside_copy, but_loads, without_shared}
+use Rattle.replica.specs.Copies.{MayList, beside_listed, but_loads, without_shared}
 use Rattle.replica.specs.Held.{IsHeld}
 use Rattle.replica.specs.Laws.{image_same}
-use Rattle.replica.specs.Replays.{IsImage, ShowsReply, noted_place}
+use Rattle.replica.specs.Regions.{HasPlace}
+use Rattle.replica.specs.Replays.{IsImage, ShowsReply, StoresNone, noted_place}
 use Rattle.strong_trylock.specs.Held.{AllRights, all_rights}
 
 -- a turn that ended at rest by one refusal
@@ -102,12 +103,18 @@ module _ {O : Type 0} (o : Ghosts O) (r : Running O) (before after : Seated) (he
         fresh = taken.fresh;
       }
 
+  -- so the lines alone may be copied that changed
+  pub may_list : (source : Right) → beside_read after ≡ beside_read before → HoldsCurrent o r (all_rights before) before after source → IsAtImage o r before held → StoresNone before.known.accesses → MayList (root_place_of r.callers after.known.local.seen_cur) after
+  may_list source same taken was none =
+      let accesses : after.known.accesses ≡ before.known.accesses = ap (λ (s : Seated). s.known.accesses) same in
+      record { unstored = subst StoresNone (sym accesses) none; begun = subst HasPlace (sym accesses) was.image.begun; source = taken.place }
+
   -- a replica is kept once the entries are guarded
   pub kept_at : (ticket : ℕ) (first : Seated) → Guards r.callers ticket before after true → before.known.local.met ≡ first.known.local.met → IsAtImage o r after held → IsKept o r ticket first after held
   kept_at ticket first guards met at = record { at_image = at; guarded = guards.0; met = guards.1.met ∙ met }
 
   -- through a copy, after which the shared right is given back
-  pub copied_image : (q : ℕ) → beside_copy after ≡ without_shared (beside_copy before) → others before.known.local ≡ record no_others { shared = Some q } → IsHeld (o.line_count r.object) r (o.lawful r.object) (o.step r.object) after held → IsImage (o.line_count r.object) (o.lawful r.object) r.base (o.step r.object) after.known → IsAtImage o r after held
+  pub copied_image : (q : ℕ) → beside_listed after ≡ without_shared (beside_listed before) → others before.known.local ≡ record no_others { shared = Some q } → IsHeld (o.line_count r.object) r (o.lawful r.object) (o.step r.object) after held → IsImage (o.line_count r.object) (o.lawful r.object) r.base (o.step r.object) after.known → IsAtImage o r after held
   copied_image q same was held image =
       let shared : after.known.local.shared ≡ None = none_of but_loads after.known.local.shared (ap (λ (s : Seated). s.known.local.shared) same) in
       let rest : Seated → Others = λ s. record (others s.known.local) { shared = None } in
@@ -135,5 +142,6 @@ module _ {O : Type 0} (o : Ghosts O) (r : Running O) (before after : Seated) (he
         apart = λ e. s.told.apart (was.is_held.right.holds ∙ ap Some (e ∙ ap (root_replica_of r.callers) cur));
         fresh = ap (λ (t : Seated). t.known.local.fresh) s.made;
         protection = ap (λ (t : Seated). t.known.local.protection) s.made;
+        accesses = accesses;
         met = ap (λ (t : Seated). t.known.local.met) s.made;
       }

@@ -5,5 +5,7 @@ pub mod ReadSteps
 mod Refusals
 mod Taken
 pub mod Working
+pub mod Bringing
 pub mod Renewed
 pub mod Answered
+pub mod Images

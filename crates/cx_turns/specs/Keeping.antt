@@ -79,6 +79,7 @@ pub record SeesCurrent {O : Type 0} (o : Ghosts O) (r : Running O) (before after
   pub apart : held.replica ≢ root_replica_of r.callers after.known.local.seen_cur
   pub fresh : after.known.local.fresh ≡ true
   pub protection : after.known.local.protection ≡ before.known.local.protection
+  pub accesses : after.known.accesses ≡ before.known.accesses
   pub met : after.known.local.met ≡ before.known.local.met
 
 -- The replica that the code last loaded from CUR names is held shared beside these rights, at that code's place, and nothing ended that

@@ -1,4 +1,5 @@
-//! A replica that was just taken is kept where the entries from its place on may be read, and else the current one is copied over it.
+//! A replica that was just taken is kept where the entries from its place on may be read, and else the current one is copied over it, by the
+//! lines alone that changed where the ring of gaps tells them.
 //! `Halt` comes only where no access is left.
 
 ghost use Rattle.std.specs.Prelude.{◌<◌, ◌≡◌, MatchResult, false};
@@ -9,15 +10,17 @@ ghost use Rattle.cx_turns.specs.Keeping.{Guards, HoldsSource, IsAtImage, MayKeep
 ghost use Rattle.cx_turns.specs.Turns.{HaltsHolding, HaltsMeeting, IsAtRest, Turns, TurnsIn, beside_turn, unguarded};
 ghost use Rattle.mutation_queue.specs.Leaves.{Leaves};
 ghost use Rattle.mutation_queue.specs.Protections.{but_protected};
-ghost use Rattle.replica.specs.Replays.{noted_place};
+ghost use Rattle.cx_base.specs.Codes.{root_place_of};
+ghost use Rattle.replica.specs.Copies.{MayList};
+ghost use Rattle.replica.specs.Replays.{StoresNone, noted_place};
 ghost use Rattle.cx_rule.specs.Steps.{Halts};
 
 use crate::reading::take_current;
-use cx_base::{Halt, Object};
+use cx_base::{Halt, Object, root_place};
 use cx_core::Protection;
 use cx_table::{CallerSeat, Exclusive, Shared, SharedHold};
 use mutation_queue::{Protected, protect};
-use replica::{flush, renew_from};
+use replica::{flush, renew_listed};
 use strong_trylock::release;
 
 /// Keeps a replica held exclusively for the entries up to a ticket: where its place is at most the ticket, that place is protected, and
@@ -32,6 +35,7 @@ pub fn keep<O: Object>(
 ) -> Result<Option<Exclusive>, Halt>
     requires held { IsAtImage O.Object shared.now seat.old held }
     requires ready { MayKeep ticket seat.old }
+    requires unstored { StoresNone seat.old.known.accesses }
     ensures kept { MatchResult result (TriesKeep O.Object shared.now ticket seat.old seat.new) (λ _. HaltsHolding held.replica seat.old seat.new) }
     ensures turns { Turns shared.now beside_turn seat.old seat.new }
 {
@@ -71,6 +75,7 @@ fn copy_current<O: Object>(
     requires held { IsAtImage O.Object shared.now seat.old held }
     requires none { seat.old.known.local.protection ≡ Unprotected }
     requires behind { noted_place seat.old < seat.old.known.local.seen_low }
+    requires unstored { StoresNone seat.old.known.accesses }
     requires linked { ticket < seat.old.known.local.front }
     ensures kept { MatchResult result (TriesKeep O.Object shared.now ticket seat.old seat.new) (λ _. HaltsHolding held.replica seat.old seat.new) }
     ensures turns { Turns shared.now beside_turn seat.old seat.new }
@@ -110,11 +115,13 @@ fn copy_and_keep<O: Object>(
     ticket: u64,
 ) -> Result<Option<Exclusive>, Halt>
     requires source { HoldsSource O.Object shared.now seat.old held source }
+    requires listed { MayList (root_place_of shared.now.callers seat.old.known.local.seen_cur) seat.old }
     requires linked { ticket < seat.old.known.local.front }
     ensures kept { MatchResult result (TriesKeep O.Object shared.now ticket seat.old seat.new) (λ _. HaltsHolding held.replica seat.old seat.new) }
     ensures turns { Turns shared.now beside_turn seat.old seat.new }
 {
-    renew_from(shared, seat, &held, source)?;
+    let to = root_place(shared.callers(), seat.seen_cur());
+    renew_listed(shared, seat, &held, source, to)?;
     if guard(shared, seat, ticket)? {
         return Ok(Some(held));
     }

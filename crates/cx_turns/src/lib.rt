@@ -1,5 +1,5 @@
 //! The parts of a caller's turn over its seat: a replica is taken, brought up to the caller's own entry and made durable, or
-//! the current one is read beside the queue.
+//! the current one is read, or its image taken, beside the queue.
 //!
 //! - A caller tries each replica once; where all are refused one refusal is met and it has no right: `take_any` (`taken`). Which it tries first
 //!   is in no contract.
@@ -7,7 +7,9 @@
 //!   set, where the caller has that in an own cell or takes it from another's, or by its step, the caller's own from its seat, and each other read
 //!   under a protection. Which of these it is, and whether the set of an own step is offered, is in no contract. But the sets of others that were
 //!   taken are counted, and own ones are not: where no call halts the count is right up to 2^64 - 1, where it stays (`counted`, of `replay_to`,
-//!   `prepare` and `update_turn`).
+//!   `prepare` and `update_turn`). As many sets were read as entries were brought on by them: of each there is a seat from which to a
+//!   next just its pairs were stored (`by_sets`: `BringsEntries`), which of one entry are those before and behind it (`BringsAtMost`, within the
+//!   crate). A turn that gives nothing reads no word of a set.
 //!   The reply to the caller's last entry there, for whatever fits what was noted, is the one that the step of that entry gave (`replied`), or is
 //!   loaded where the last entry was applied otherwise: `own_outcome`. Where cells from the replica's place on are closed it is a copy of the
 //!   current one first. It is made durable and downgraded: `prepare` (`prepared`).
@@ -17,11 +19,15 @@
 //! - A turn for a read answers it at the place of a code loaded from CUR in this turn, whose replica is held shared at that place. The place is
 //!   above each ticket and not below any place that the caller was answered before; where it halts the read is not answered, or it is and the
 //!   shared right stands that is still to be given back: `read_turn` (`turned`, `halted`, `turns`), over `read_current`.
+//! - A turn by which the image of the current replica is taken loads all its words under one shared right, raises DUR by its code, and makes them one
+//!   image more that the caller took, a lawful base at that code's place: `checkpoint_turn` (`turned`: `TakesTurn`; `halted`, `turns`). It is refused as a
+//!   read's is, and where it halts no image is taken.
 //! - A turn for a read that is refused makes at most 4 steps: `read_turn` (`turned`: `LooksUp`). Of a turn for an entry each part outside replay,
 //!   copy and flush has a bound: `take_any` makes at most two tries for each caller (`leaves`), and what publishes, answers and retires makes 3
 //!   steps and one for each later code that was found (`hand_over`). What an object loads and stores is not counted.
 #![tactic(auto)]
 
+mod checkpointing;
 mod keeping;
 mod lookup;
 mod preparing;
@@ -31,6 +37,7 @@ mod scratch;
 mod taking;
 mod updating;
 
+pub use checkpointing::checkpoint_turn;
 pub use keeping::{keep, unguard};
 pub use lookup::{Seen, read_turn};
 pub use preparing::prepare;

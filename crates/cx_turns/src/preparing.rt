@@ -2,6 +2,7 @@
 
 ghost use Rattle.std.specs.Prelude.{◌<◌, ◌≡◌, IfOk, MatchResult, OnErr, OnOk};
 ghost use Rattle.cx_rule.specs.Seats.{IsAtLimit};
+ghost use Rattle.cx_turns.specs.Bringing.{BringsEntries, BringsIn};
 ghost use Rattle.cx_turns.specs.Keeping.{IsKept, MayKeep, no_others, others};
 ghost use Rattle.cx_turns.specs.Preparing.{Prepares, TriesPrepare};
 ghost use Rattle.cx_turns.specs.Turns.{HaltsTurn, KeepsCount, MayTurn, Turns, beside_prepare};
@@ -32,6 +33,7 @@ pub fn prepare<O: Object>(
     ensures prepared { IfOk result (TriesPrepare O.Object shared.now ticket reply.new seat.old seat.new) }
     ensures halted { OnErr result (HaltsTurn seat.old seat.new) }
     ensures counted { OnOk result (KeepsCount scratch.old.taken seat.old scratch.new.taken seat.new) }
+    ensures by_sets { IfOk result (BringsIn seat.old seat.new) }
     ensures turns { Turns shared.now beside_prepare seat.old seat.new }
 {
     match take_any(shared, seat)? {
@@ -55,6 +57,7 @@ fn renew<O: Object>(
     ensures prepared { IfOk result (TriesPrepare O.Object shared.now ticket reply.new seat.old seat.new) }
     ensures halted { OnErr result (HaltsTurn seat.old seat.new) }
     ensures counted { OnOk result (KeepsCount scratch.old.taken seat.old scratch.new.taken seat.new) }
+    ensures by_sets { IfOk result (BringsIn seat.old seat.new) }
     ensures turns { Turns shared.now beside_prepare seat.old seat.new }
 {
     begin(shared, seat, &held)?;
@@ -77,6 +80,7 @@ fn finish<O: Object>(
     requires linked { ticket < seat.old.known.local.front }
     ensures prepared { MatchResult result (Prepares O.Object shared.now ticket reply.new seat.old seat.new) (λ _. HaltsTurn seat.old seat.new) }
     ensures counted { OnOk result (KeepsCount scratch.old.taken seat.old scratch.new.taken seat.new) }
+    ensures by_sets { OnOk result (BringsEntries seat.old seat.new) }
     ensures turns { Turns shared.now beside_prepare seat.old seat.new }
 {
     bring_up(shared, seat, &held, ticket, scratch, reply)?;

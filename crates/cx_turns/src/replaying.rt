@@ -6,6 +6,7 @@ ghost use Rattle.cx_core.specs.Region.{slot_reply};
 ghost use Rattle.cx_core.specs.RingEvents.{Protects};
 ghost use Rattle.cx_rule.specs.Fitting.{FitsKnown};
 ghost use Rattle.cx_rule.specs.Seats.{IsAtLimit};
+ghost use Rattle.cx_turns.specs.Bringing.{BringsAtMost, BringsEntries};
 ghost use Rattle.cx_turns.specs.Keeping.{IsKept};
 ghost use Rattle.cx_turns.specs.Replaying.{IsApplied, IsBroughtUp, IsReplayed, IsSettled, LoadsOnly, ReadsNext, beside_bringing, beside_replay, beside_work};
 ghost use Rattle.cx_turns.specs.Turns.{Keeps, KeepsCount};
@@ -21,7 +22,9 @@ use cx_base::{Halt, Object};
 use cx_core::Entry;
 use cx_table::{CallerSeat, Exclusive, Shared};
 use mutation_queue::entry;
-use replica::{Region, apply, flush, outcome};
+use noting_region::apply_noting;
+use redo_set::WriteSet;
+use replica::{Region, flush, outcome};
 use replica_sets::{replay_offered, replay_own, step_and_offer};
 
 /// Brings a replica that was kept for the entries up to a ticket up to it, removes the protection, and makes it durable. The reply to the
@@ -39,6 +42,7 @@ pub(crate) fn bring_up<O: Object>(
     requires linked { ticket < seat.old.known.local.front }
     ensures brought { MatchResult result (λ _. IsBroughtUp O.Object shared.now held.now ticket seat.new reply.new) (λ _. IsAtLimit seat.new.known.local) }
     ensures counted { OnOk result (KeepsCount scratch.old.taken seat.old scratch.new.taken seat.new) }
+    ensures by_sets { OnOk result (BringsEntries seat.old seat.new) }
     ensures keeps { Keeps shared.now beside_bringing seat.old seat.new }
 {
     let replied = replay_to(shared, seat, held, ticket, scratch, reply)?;
@@ -104,6 +108,7 @@ pub fn replay_to<O: Object>(
     ensures replayed { MatchResult result (λ _. IsReplayed O.Object shared.now held.now ticket seat.new) (λ _. IsAtLimit seat.new.known.local) }
     ensures replied { IfOk result (λ own. IsTrue own → ShowsReply (O.line_count shared.now.object) (O.lawful shared.now.object) shared.now.base (O.step shared.now.object) seat.new.known seat.new.known.local.number reply.new) }
     ensures counted { OnOk result (KeepsCount scratch.old.taken seat.old scratch.new.taken seat.new) }
+    ensures by_sets { OnOk result (BringsEntries seat.old seat.new) }
     ensures keeps { Keeps shared.now beside_replay seat.old seat.new }
 {
     // tickets are few
@@ -133,6 +138,7 @@ fn replay_next<O: Object>(
     requires later { shared.now.base.place ≤ at }
     ensures applied { MatchResult result (IsApplied O.Object shared.now held.now at reply.new seat.new) (λ _. IsAtLimit seat.new.known.local) }
     ensures counted { OnOk result (KeepsCount scratch.old.taken seat.old scratch.new.taken seat.new) }
+    ensures by_sets { OnOk result (BringsEntries seat.old seat.new) }
     ensures keeps { Keeps shared.now beside_replay seat.old seat.new }
 {
     let done = replay_own(shared, seat, held, at)?;
@@ -184,6 +190,7 @@ fn replay_another<O: Object>(
     requires later { shared.now.base.place ≤ at }
     ensures applied { MatchResult result (λ _. IsReady O.Object shared.now held.now (at + 1) seat.new) (λ _. IsAtLimit seat.new.known.local) }
     ensures counted { OnOk result (KeepsCount scratch.old.taken seat.old scratch.new.taken seat.new) }
+    ensures by_sets { OnOk result (BringsAtMost at seat.old seat.new) }
     ensures keeps { Keeps shared.now beside_replay seat.old seat.new }
 {
     let taken = replay_offered(shared, seat, held, at, &mut scratch.set)?;
@@ -191,8 +198,13 @@ fn replay_another<O: Object>(
         scratch.taken = scratch.taken.saturating_add(1);
         return Ok(());
     }
-    let Scratch { words, next, .. } = scratch;
-    step_another(shared, seat, held, at, words, next, reply)?;
+    let Scratch {
+        words,
+        next,
+        set,
+        ..
+    } = scratch;
+    step_another(shared, seat, held, at, words, next, set, reply)?;
     Ok(())
 }
 
@@ -204,6 +216,7 @@ fn step_another<O: Object>(
     at: u64,
     words: &mut [u64; 145],
     next: &mut Entry,
+    set: &mut WriteSet,
     reply: &mut [u64; 144],
 ) -> Result<(), Halt>
     requires ready { IsReady O.Object shared.now held.now at seat.old }
@@ -213,7 +226,7 @@ fn step_another<O: Object>(
     ensures keeps { Keeps shared.now beside_work seat.old seat.new }
 {
     read_next(shared, seat, at, words, next)?;
-    apply(shared, seat, held, next, reply)?;
+    apply_noting(shared, seat, held, next, set, reply)?;
     Ok(())
 }
 

@@ -6,6 +6,7 @@ ghost use Rattle.cx_rule.specs.Seats.{IsAtLimit, unanswered_ticket};
 ghost use Rattle.cx_rule.specs.Steps.{Halts};
 ghost use Rattle.cx_table.specs.Tokens.{IsDowngradedOf, IsWonOf};
 ghost use Rattle.cx_turns.specs.Answering.{AnswersBy, AnswersEntry, HaltsFor, HaltsWon, IsPublishedFor, IsReadyFor, TurnsFor, beside_hand_over, beside_settling, beside_update};
+ghost use Rattle.cx_turns.specs.Bringing.{BringsIn};
 ghost use Rattle.cx_turns.specs.Turns.{KeepsCount, MayTurn, Turns, TurnsIn, cur_rises};
 ghost use Rattle.mutation_queue.specs.Leaves.{Leaves};
 ghost use Rattle.strong_trylock.specs.Held.{Has};
@@ -34,6 +35,7 @@ pub fn update_turn<O: Object>(
     ensures turned { IfOk result (TurnsFor ticket seat.old seat.new) }
     ensures halted { OnErr result (HaltsFor shared.now.callers ticket seat.old seat.new) }
     ensures counted { OnOk result (KeepsCount scratch.old.taken seat.old scratch.new.taken seat.new) }
+    ensures by_sets { IfOk result (BringsIn seat.old seat.new) }
     ensures turns { Turns shared.now beside_update seat.old seat.new }
 {
     let mut reply = [0; 144];

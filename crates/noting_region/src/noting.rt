@@ -16,7 +16,7 @@ ghost use Rattle.replica.specs.Replays.{Accessed, ComesNext, IsReady, ShowsReply
 use cx_base::{Halt, Memory, Object};
 use cx_core::{Entry, full_step_into};
 use cx_table::{CallerSeat, Exclusive, Shared};
-use redo_set::WriteSet;
+use redo_set::{WriteSet, note_gaps};
 use replica::HeldWords;
 use std::marker::{Brand, PhantomData};
 
@@ -164,9 +164,35 @@ fn step_as<O: Object, J: Began>(
 }
 
 /// Does the full step of the entry of the place of a replica held exclusively, as `apply` of `replica` does, and notes what it stores. It
-/// answers whether the set has room for all: then it is told to be a write set of the entry's ticket. `Halt` comes only where the seat's
-/// steps equal its limit.
+/// answers whether the set has room for all: then it is told to be a write set of the entry's ticket, and the gaps that it leaves are noted in the
+/// ring for that ticket. `Halt` comes only where the seat's steps equal its limit.
 pub fn apply_noting<O: Object>(
+    shared: &Shared<O>,
+    seat: &mut CallerSeat,
+    held: &Exclusive,
+    entry: &Entry,
+    set: &mut WriteSet,
+    reply: &mut [u64; 144],
+) -> Result<bool, Halt>
+    requires ready { IsReady O.Object shared.now held.now (noted_place seat.old) seat.old }
+    requires next { ComesNext entry.now seat.old }
+    ensures ready { OnOk result (IsReady O.Object shared.now held.now (noted_place seat.old + 1) seat.new × ShowsReply (O.line_count shared.now.object) (O.lawful shared.now.object) shared.now.base (O.step shared.now.object) seat.new.known entry.now.caller reply.new) }
+    ensures tells { IfOk result (λ whole. IsTrue whole → TellsSet (O.line_count shared.now.object) (O.lawful shared.now.object) shared.now.base (O.step shared.now.object) seat.new.known (noted_place seat.old) set.new) }
+    ensures halts { OnErr result (left_of seat.new.known.local ≡ Some 0) }
+    ensures leaves { Accessed O.Object shared.now held.now seat.old seat.new }
+{
+    let ticket = seat.noted_place();
+    let whole = apply_telling(shared, seat, held, entry, set, reply)?;
+    if !whole {
+        return Ok(false);
+    }
+    note_gaps(shared, seat, ticket, set)?;
+    let _steps = seat.steps();
+    Ok(true)
+}
+
+/// The same without the ring.
+fn apply_telling<O: Object>(
     shared: &Shared<O>,
     seat: &mut CallerSeat,
     held: &Exclusive,

@@ -7,6 +7,8 @@ use Rattle.crossbeam_queue.specs.Passes.{view}
 use Rattle.cx_core.specs.declared.local.Answer.{Answer}
 use Rattle.cx_core.specs.declared.local.FullNote.{FullNote}
 use Rattle.cx_rule.specs.Running.{Running}
+use Rattle.cx_rule.specs.Seats.{Seated}
+use Rattle.cx_service.specs.Callers.{StoppedSeat}
 use Rattle.cx_service.specs.declared.close.Handed.{Handed}
 use Rattle.cx_service.specs.declared.close.Handed.TheVariants.{Stopped}
 use Rattle.cx_turns.specs.declared.lookup.Seen.{Seen}
@@ -58,18 +60,18 @@ module _ {O : Type 0} (r : Running O) (table : TableId) where
     pub may_again : (call : Call) → HasMade r table a b call → MayAsk r table b
     may_again call made = record { is = made.client; live = ap is_live made.back; unlimited = subst AreUnlimited (sym made.same.limits) may.unlimited }
 
-    pub full_live : (note : FullNote) → KeepsFull r table a.lent b.lent note → is_live b.lent.kept ≡ true
-    full_live note full = ap is_live full.keeps
+    pub full_live : (way : Seated → Seated → Type 0) (note : FullNote) → KeepsFull r table way a.lent b.lent note → is_live b.lent.kept ≡ true
+    full_live way note full = ap is_live full.keeps
 
-    pub worn_live : KeepsWorn r table a.lent b.lent → is_live b.lent.kept ≡ true
-    worn_live worn = ap is_live worn.keeps
+    pub worn_live : (way : Seated → Seated → Type 0) → KeepsWorn r table way a.lent b.lent → is_live b.lent.kept ≡ true
+    worn_live way worn = ap is_live worn.keeps
 
-    pub worn_last : KeepsWorn r table a.lent b.lent → KeepsLast b
-    worn_last worn = record { last = worn.now; keeps = worn.keeps; front = worn.worn.front }
+    pub worn_last : (way : Seated → Seated → Type 0) → KeepsWorn r table way a.lent b.lent → KeepsLast b
+    worn_last way worn = record { last = worn.now; keeps = worn.keeps; front = worn.worn.front }
 
     -- no caller is stopped that has no limit
-    pub not_stopped : (linked : Option ℕ) → HasNoMore r table a b → KeepsStopped r table a.lent b.lent linked → ⊥
-    not_stopped linked more stopped =
+    pub not_stopped : (halts : Seated → StoppedSeat → Type 0) (linked : Option ℕ) → HasNoMore r table a b → KeepsStopped r table halts a.lent b.lent linked → ⊥
+    not_stopped halts linked more stopped =
         let s = stopped.stopped in
         let holds : HoldsKept r (view b.lent.pass) (Some (Stopped s)) = subst (HoldsKept r (view b.lent.pass)) stopped.keeps stopped.lent.kept in
         let is = All-head (IsHandedOf r) (Stopped s) [] holds.0.of in

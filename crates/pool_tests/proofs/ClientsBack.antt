@@ -24,15 +24,15 @@ module _ (pool : Pool Counters) where
   again a b c first second = record { client = second.client; same = record { number = second.same.number ∙ first.same.number; limits = second.same.limits ∙ first.same.limits; closing = second.same.closing ∙ first.same.closing } }
 
   pub updated : (op : List ℕ) (before after : Client) (pooled : Pooled) → Updates pool.service pool.line.table.shared.table_id op before after pooled → IsBack pool before after
-  updated op before after (Done answer) u = record { client = u.made.client; same = u.made.same }
+  updated op before after (Done answer) u = record { client = u.0.made.client; same = u.0.made.same }
   updated op before after (Full note) u = record { client = u.0.client; same = u.0.same }
   updated op before after Worn u = record { client = u.0.client; same = u.0.same }
   updated op before after (Stopped linked) u = record { client = u.0.client; same = u.0.same }
   updated op before after Memory u = record { client = u.0.client; same = u.0.same }
 
   pub looked : (op : List ℕ) (before after : Client) (pooled : PooledRead) → ReadsInAll pool.service pool.line.table.shared.table_id op before after pooled → IsBack pool before after
-  looked op before after (ReadSeen seen) u = record { client = u.made.client; same = u.made.same }
-  looked op before after (Queued answer) u = record { client = u.made.client; same = u.made.same }
+  looked op before after (ReadSeen seen) u = record { client = u.0.made.client; same = u.0.made.same }
+  looked op before after (Queued answer) u = record { client = u.0.made.client; same = u.0.made.same }
   looked op before after (FullRead note) u = record { client = u.0.client; same = u.0.same }
   looked op before after WornRead u = record { client = u.0.client; same = u.0.same }
   looked op before after (StoppedRead linked) u = record { client = u.0.client; same = u.0.same }

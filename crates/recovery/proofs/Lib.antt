@@ -8,3 +8,4 @@ pub mod Pairs
 pub mod ReopenedImages
 pub mod Shown
 pub mod Slots
+pub mod Taken

@@ -1,3 +1,4 @@
+pub mod Taken
 pub mod Crashes
 pub mod Images
 pub mod Kept

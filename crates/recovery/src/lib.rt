@@ -1,7 +1,8 @@
-//! What a loss of power leaves of a closed table, and recovery from it.
+//! What a loss of power leaves of a closed table, and recovery from it; and what the images are that its callers took before.
 #![tactic(auto)]
 
 mod applied;
+mod checkpoints;
 mod crash;
 mod exactness;
 mod laws;
@@ -12,6 +13,7 @@ mod reopening;
 mod versions;
 
 pub use applied::Outcome;
+pub use checkpoints::base_of_checkpoint;
 pub use crash::crash_image;
 pub use cx_core::Image;
 pub use exactness::recovering_is_exact;

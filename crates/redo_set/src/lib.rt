@@ -13,17 +13,21 @@
 //! - A set that whatever fits tells to be one of an own entry's ticket is written beside the entry's cell, each word that differs from the one
 //!   there, and offered. What the seat had it has still, and what really is there fits; with `Halt` nothing is offered: `offer` (`offered`:
 //!   `OffersSet`; `has`: `HasStill`; `halts`: `WritesSet`).
+//! - The gaps that a set leaves between the lines of its addresses are noted for its ticket in the ring of gaps, where they are 16 at most. Nothing of
+//!   the seat changes but the steps: `note_gaps` (`leaves`: `LeavesNoting`).
 //!
 //! Tested (`table_tests`): one address noted twice, each limit of its two stores, one set that is emptied and used again, and 256 pairs with a
 //! 257th that is refused; a set that is written at each limit of steps, and found not to be offered at each limit.
 #![tactic(auto)]
 
 mod apply;
+mod gaps;
 mod offering;
 mod set;
 mod taking;
 
 pub use apply::apply_set;
+pub use gaps::note_gaps;
 pub use offering::offer;
 pub use set::WriteSet;
 pub use taking::take;

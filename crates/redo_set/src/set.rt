@@ -52,7 +52,7 @@ impl WriteSet {
     }
 
     /// The address and the value of a pair.
-    pub(crate) fn pair(&self, m: u64) -> (u64, u64)
+    pub fn pair(&self, m: u64) -> (u64, u64)
         requires held { m < slice_index self.now 0 }
         requires few { m < 256 }
         ensures at { result.0 ≡ slice_index self.now (2 * m + 1) }

@@ -158,6 +158,11 @@ pub at_err : {A E : Type 0} (Q : E → Type 0) (r : Result A E) (P : Result A E 
 at_err Q (Ok a) P h x = absurd h
 at_err Q (Err e) P h x = x e
 
+-- what follows of what holds of every result that is none
+pub on_ok_by : {A E : Type 0} (r : Result A E) (P Q : Type 0) → (P → Q) → OnOk r P → OnOk r Q
+on_ok_by (Ok a) P Q f p = f p
+on_ok_by (Err e) P Q f p = tt
+
 -- loads are no stores
 pub loads_most : (n : ℕ) (k k' : Known) → Counts n k k' → LoadsAtMost n k k'
 loads_most n k k' one = (let a = one.0 in let b = one.1 in omega (arith, a, b))

@@ -1,5 +1,5 @@
 pub mod Access
-mod LineLoads
+pub mod LineLoads
 mod LineCopies
 pub mod CopySteps
 mod Reading
@@ -7,5 +7,6 @@ pub mod RegionLaws
 mod Runs
 pub mod Replaying
 pub mod Persisting
-mod Renewing
+pub mod Renewing
+mod Listing
 pub mod Stepping

@@ -22,7 +22,7 @@ use Rattle.replica.specs.Copies.{AreSeen, IsSeen, StoresAsMany, read_notes, stor
 abbrev pub SameBut : (ℕ → Type 0) → List Note → List Note → Type 0
 SameBut P notes notes' = (i : ℕ) → ¬ P i → word_noted None i notes' ≡ word_noted None i notes
 
-noted_more : (accesses : List Note) (word : Option ℕ) (i : ℕ) (stores : Bool) (at v : ℕ) → word_noted word i (accesses ++ (stores, at, v) ∷ []) ≡ cond (at == i) (Some v) (word_noted word i accesses)
+pub noted_more : (accesses : List Note) (word : Option ℕ) (i : ℕ) (stores : Bool) (at v : ℕ) → word_noted word i (accesses ++ (stores, at, v) ∷ []) ≡ cond (at == i) (Some v) (word_noted word i accesses)
 noted_more [] word i stores at v = refl
 noted_more ((s, a, w) ∷ accesses) word i stores at v = noted_more accesses (cond (a == i) (Some w) word) i stores at v
 
@@ -33,7 +33,7 @@ pub noted_other : (accesses : List Note) (stores : Bool) (at v : ℕ) → SameBu
 noted_other accesses stores at v i apart = noted_more accesses None i stores at v ∙ or_there at i (Some v) (word_noted None i accesses) (λ e. apart (sym e))
 
 -- what is noted of the replica held shared after a load
-loads_more : (loaded : List (ℕ × ℕ)) (at v : ℕ) → loads_of (loaded ++ (at, v) ∷ []) ≡ loads_of loaded ++ (false, at, v) ∷ []
+pub loads_more : (loaded : List (ℕ × ℕ)) (at v : ℕ) → loads_of (loaded ++ (at, v) ∷ []) ≡ loads_of loaded ++ (false, at, v) ∷ []
 loads_more loaded at v = map-append (λ (x : ℕ × ℕ). (false, x.0, x.1)) loaded ((at, v) ∷ [])
 
 abbrev after_load : ℕ → ℕ → ℕ → Option HeldShared → List Note

@@ -12,11 +12,12 @@ use Rattle.cx_core.specs.LockEvents.{backed_off}
 use Rattle.cx_core.specs.Region.{region_words}
 use Rattle.cx_core.specs.Rights.{held_dirty, is_at}
 use Rattle.cx_core.specs.State.{one_more}
-use Rattle.cx_rule.specs.Fitting.{AgreeTo, Fitting, SomeFits, SomeReadFits, loaded_of, loads_of, word_noted}
+use Rattle.cx_rule.specs.Fitting.{Fitting, SomeFits, SomeReadFits, loaded_of, loads_of, word_noted}
 use Rattle.cx_rule.specs.Running.{Running}
 use Rattle.cx_rule.specs.Seats.{Seated, place_noted}
 use Rattle.cx_rule.specs.Steps.{StepsCopied}
 use Rattle.cx_rule.proofs.Copying.{noted_place, noted_tells}
+use Rattle.seat_memory.specs.Copies.{IsCopiedWord}
 use Rattle.cx_table.specs.Right.{Right}
 use Rattle.cx_table.specs.Tokens.{IsExclusiveOf}
 use Rattle.replica.specs.Copies.{HoldsBoth}
@@ -40,7 +41,7 @@ loads_there [] first now leads = All-nil (λ (x : ℕ × ℕ). slice_index first
 loads_there (x ∷ loaded) first now leads = All-cons (λ (y : ℕ × ℕ). slice_index first y.0 ≡ y.1) x loaded leads.0 (loads_there loaded first now leads.1)
 
 -- so all loads of one place give the same word
-loaded_once : (lines : ℕ) (lawful : List ℕ → Type 0) (base : Base) (loaded : List (ℕ × ℕ)) (v p : ℕ) → SomeReadFits lines lawful base loaded → word_noted None 0 (loads_of loaded) ≡ Some v → Contains loaded (0, p) → v ≡ p
+pub loaded_once : (lines : ℕ) (lawful : List ℕ → Type 0) (base : Base) (loaded : List (ℕ × ℕ)) (v p : ℕ) → SomeReadFits lines lawful base loaded → word_noted None 0 (loads_of loaded) ≡ Some v → Contains loaded (0, p) → v ≡ p
 loaded_once lines lawful base loaded v p some last has = ∥∥₁_elim some (hlevel props) (λ f. (
     let first = f.0 in
     let fits = f.2.fits in
@@ -68,9 +69,8 @@ module _ {O : Type 0} (lines : ℕ) (r : Running O) (step : O → List ℕ → L
       }
 
   -- the words copied are an image, at the place that was copied
-  pub renewed_image : AgreeTo before.known (region_words lines) → IsImage lines lawful r.base (step r.object) after.known × (place_noted 0 after.known.accesses ≡ place_noted 0 before.known.accesses)
-  renewed_image agree =
-      let first = agree 0 (omega arith) in
+  pub renewed_image : IsCopiedWord before.known 0 → IsImage lines lawful r.base (step r.object) after.known × (place_noted 0 after.known.accesses ≡ place_noted 0 before.known.accesses)
+  renewed_image first =
       let accesses : after.known.accesses ≡ loads_of (loaded_of old.shared) = ap (λ (s : Seated). s.known.accesses) copied.made in
       let noted : (p : ℕ) → place_noted p after.known.accesses ≡ first.0 = λ p. ap (place_noted p) accesses ∙ place_is (loads_of (loaded_of old.shared)) p first.0 first.2 in (
         unstored_image lines lawful r.base (step r.object) after.known (λ p. noted p ∙ sym (noted 0)) (subst StoresNone (sym accesses) (loads_store_none (loaded_of old.shared))),
@@ -78,7 +78,6 @@ module _ {O : Type 0} (lines : ℕ) (r : Running O) (step : O → List ℕ → L
       )
 
   -- which is the place that was loaded of the replica held shared
-  pub renewed_place : (p : ℕ) → AgreeTo before.known (region_words lines) → Contains (loaded_of old.shared) (0, p) → place_noted 0 after.known.accesses ≡ p
-  renewed_place p agree has =
-      let first = agree 0 (omega arith) in
+  pub renewed_place : (p : ℕ) → IsCopiedWord before.known 0 → Contains (loaded_of old.shared) (0, p) → place_noted 0 after.known.accesses ≡ p
+  renewed_place p first has =
       ap (λ (s : Seated). place_noted 0 s.known.accesses) copied.made ∙ place_is (loads_of (loaded_of old.shared)) 0 first.0 first.2 ∙ loaded_once lines lawful r.base (loaded_of old.shared) first.0 p both.shared.some first.2 has

@@ -30,7 +30,7 @@ use Rattle.replica.specs.Replays.{Accessed, CanStep, ComesNext, IsImage, IsReady
 
 -- ---- the place that was noted
 
-place_one : (at w place : ℕ) (P : ℕ → Type 0) → (at ≡ 0 → P w) → (at ≢ 0 → P place) → P (cond (at == 0) w place)
+pub place_one : (at w place : ℕ) (P : ℕ → Type 0) → (at ≡ 0 → P w) → (at ≢ 0 → P place) → P (cond (at == 0) w place)
 place_one at w place P here there = elim (cases_eq at 0) [
   | inl is ↦ subst (λ b. P (cond b w place)) (sym (eq-eqb at 0 is)) (here is)
   | inr off ↦ subst (λ b. P (cond b w place)) (sym (ne_eqb at 0 off)) (there off)
@@ -49,7 +49,7 @@ place_told ((true, a, w) ∷ accesses) ws now place at some leads =
     (subst (λ n. 0 < n) (sym (length-set ws a w)) some) leads.1
 
 -- what accesses without a store lead to is what was there
-unchanged : (accesses : List Note) (ws now : List ℕ) → StoresNone accesses → NotesLead accesses ws now → now ≡ ws
+pub unchanged : (accesses : List Note) (ws now : List ℕ) → StoresNone accesses → NotesLead accesses ws now → now ≡ ws
 unchanged [] ws now none leads = leads
 unchanged ((false, a, w) ∷ accesses) ws now none leads = unchanged accesses ws now (All-tail (λ (note : Note). note.0 ≡ false) (false, a, w) accesses none) leads.1
 unchanged ((true, a, w) ∷ accesses) ws now none leads = absurd (true≢false (All-head (λ (note : Note). note.0 ≡ false) (true, a, w) accesses none))
@@ -168,6 +168,11 @@ module _ {O : Type 0} (o : Ghosts O) (r : Running O) (held : Right) where
       let image = begins (o.line_count r.object) (o.lawful r.object) r.base (o.step r.object) before.known after.known v none made.accesses in
       record { is_held = made.still; image = image.0; place = image.1 }
   begins_ready before after (Err e) none made = tt
+
+  -- and nothing is stored by it
+  pub begins_unstored : {E : Type 0} (before after : Seated) (result : Result ℕ E) → StoresNone before.known.accesses → IfOk result (λ v. Accesses (o.line_count r.object) r (o.lawful r.object) (o.step r.object) held (false, 0, v) before after) → OnOk result (StoresNone after.known.accesses)
+  begins_unstored before after (Ok v) none made = subst StoresNone (sym made.accesses) (All-push (λ (note : Note). note.0 ≡ false) before.known.accesses (false, 0, v) none refl)
+  begins_unstored before after (Err e) none made = tt
 
   -- a full step can be done on an image before the last place
   pub can_step : (at : ℕ) (seat : Seated) → IsReady o r held at seat → place_noted 0 seat.known.accesses < 2 ^ 40 → CanStep o r seat

@@ -1,5 +1,5 @@
 -- A replica held shared that is copied over one held exclusively.
-use Rattle.std.specs.Prelude.{◌≡◌, ◌≢◌, ◌+◌, ◌%◌, ◌<◌, ◌≤◌, ◌⊎◌, ℕ, if◌then◌else◌, List, [], ◌∷◌, length, slice_index, Some, None, Result, Ok, Err}
+use Rattle.std.specs.Prelude.{true, false, ◌≡◌, ◌≢◌, ◌+◌, ◌/◌, ◌%◌, ◌<◌, ◌≤◌, ◌⊎◌, ◌==◌, ℕ, if◌then◌else◌, Bool, List, [], ◌∷◌, length, slice_index, slice_index_or, Some, None, Result, Ok, Err}
 use Rattle.std.specs.List.{Contains}
 use Rattle.std.specs.Option.{option_map}
 use Rattle.cx_base.specs.declared.object.Object.{Ghosts}
@@ -9,11 +9,14 @@ use Rattle.cx_core.specs.Rights.{held_dirty}
 use Rattle.cx_rule.specs.declared.rule.Known.{Known}
 use Rattle.cx_core.specs.declared.local.HeldShared.{HeldShared}
 use Rattle.cx_rule.specs.Fitting.{AgreeTo, AreEqual, loaded_of, loads_of, word_noted}
-use Rattle.cx_rule.specs.Running.{Running}
+use Rattle.cx_rule.specs.Running.{Running, instance_at}
 use Rattle.cx_rule.specs.Seats.{Seated}
+use Rattle.seat_memory.specs.Copies.{IsCopiedWord}
 use Rattle.cx_table.specs.Right.{Right}
+use Rattle.line_gaps.specs.Marks.{MarksChanged}
 use Rattle.replica.specs.Held.{IsHeld, IsHeldShared, but_words}
-use Rattle.replica.specs.Replays.{IsReady, noted_place}
+use Rattle.replica.specs.Regions.{HasPlace}
+use Rattle.replica.specs.Replays.{IsReady, StoresNone, noted_place}
 
 -- a seat holds one replica exclusively and another shared
 pub record HoldsBoth {O : Type 0} (lines : ℕ) (r : Running O) (lawful : List ℕ → Type 0) (step : List ℕ → List ℕ → List ℕ × List ℕ) (seat : Seated) (held source : Right) : Type 0 where
@@ -69,16 +72,20 @@ pub record IsSeen (at u v : ℕ) (known : Known) : Type 0 where
 abbrev pub AreSeen : ℕ → ℕ → ℕ → List ℕ → List ℕ → Known → Type 0
 AreSeen from least n us vs known = (i : ℕ) → least ≤ i → i < n → IsSeen (from + i) (slice_index us i) (slice_index vs i) known
 
--- of a copy that began with what was known before, the words below n are copied, and those from n on are as they were
-pub record IsCopiedTo (n region : ℕ) (before now : Known) : Type 0 where
-  pub agree : AgreeTo now n
-  pub rest : (first was is : List ℕ) → NotesLead before.accesses first was → NotesLead now.accesses first is → (i : ℕ) → n ≤ i → slice_index is i ≡ slice_index was i
+-- Of a copy that began with what was known before, the words below n are copied, but for those that it skips. These, and the words from n on, are
+-- as they were.
+pub record IsCopiedTo (skips : ℕ → Bool) (n region : ℕ) (before now : Known) : Type 0 where
+  pub agree : (i : ℕ) → i < n → skips i ≡ false → IsCopiedWord now i
+  pub rest : (first was is : List ℕ) → NotesLead before.accesses first was → NotesLead now.accesses first is → (i : ℕ) → (n ≤ i) ⊎ (skips i ≡ true) → slice_index is i ≡ slice_index was i
+  pub began : (first is : List ℕ) → NotesLead now.accesses first is → (was : List ℕ) × NotesLead before.accesses first was
   pub dirty : DirtiesDiffering region before now
+  pub stored : (at : ℕ) → Contains (held_dirty now.local.exclusive) at → Contains (held_dirty before.local.exclusive) at ⊎ ((at < n) × (skips at ≡ false))
   pub loaded : (x : ℕ × ℕ) → Contains (loaded_of before.local.shared) x → Contains (loaded_of now.local.shared) x
 
--- a copy goes on from one word to another, whenever it began
+-- a copy goes on from one word to another, whenever it began, and skips none of these words
 abbrev pub CopiesOn : ℕ → ℕ → Known → Known → Type 0
-CopiesOn n m before after = (region : ℕ) (first : Known) → m ≤ region → IsCopiedTo n region first before → IsCopiedTo m region first after
+CopiesOn n m before after =
+    (skips : ℕ → Bool) (region : ℕ) (first : Known) → m ≤ region → ((i : ℕ) → n ≤ i → i < m → skips i ≡ false) → IsCopiedTo skips n region first before → IsCopiedTo skips m region first after
 
 -- the words of a region from one on, loaded of both
 pub record ArePiece (lines from : ℕ) (us vs : List ℕ) : Type 0 where
@@ -110,12 +117,58 @@ pub record Copies {O : Type 0} (o : Ghosts O) (r : Running O) (at : ℕ) (before
   pub place : noted_place after ≡ at
   pub loaded : KeepsLoaded before after
 
+-- the piece of 8 lines that a word is in, where line 0 is one by itself
+abbrev pub piece_at : ℕ → ℕ
+piece_at i = (i / 8 + 7) / 8
+
+-- whether a copy skips a piece: where it is not one of all, the first is copied, and the others that are marked
+abbrev pub skips_piece : Bool → List Bool → ℕ → Bool
+skips_piece all marks piece = if all then false else (if piece == 0 then false else (if slice_index_or marks piece false then false else true))
+
+abbrev pub skips_by : Bool → List Bool → ℕ → Bool
+skips_by all marks i = skips_piece all marks (piece_at i)
+
+-- a copy by marks goes on from one word to another, whenever it began
+abbrev pub CopiesOver : (ℕ → Bool) → ℕ → ℕ → Known → Known → Type 0
+CopiesOver skips n m before after = (region : ℕ) (first : Known) → m ≤ region → IsCopiedTo skips n region first before → IsCopiedTo skips m region first after
+
+-- the words of a list from one on are all of this piece
+abbrev pub AreOfPiece : ℕ → ℕ → ℕ → Type 0
+AreOfPiece piece from n = (i : ℕ) → from ≤ i → i < from + n → piece_at i ≡ piece
+
+-- The pieces that are not skipped were copied of a replica held shared over one held exclusively, which then has this place.
+pub record CopiesMarked {O : Type 0} (o : Ghosts O) (r : Running O) (skips : ℕ → Bool) (at : ℕ) (before after : Seated) : Type 0 where
+  pub copied : IsCopiedTo skips (region_words (o.line_count r.object)) (region_words (o.line_count r.object)) before.known after.known
+  pub place : noted_place after ≡ at
+
 -- One was, whose shared right was given back: the replica is the image after this place, which is the one that was loaded before, if
 -- it was.
 pub record Renews {O : Type 0} (o : Ghosts O) (r : Running O) (held : Right) (at : ℕ) (before after : Seated) : Type 0 where
   pub ready : IsReady o r held at after
   pub placed : (p : ℕ) → Contains (loaded_of before.known.local.shared) (0, p) → noted_place after ≡ p
   pub rest : beside_copy after ≡ without_shared (beside_copy before)
+
+-- what a copy by listed lines does not change: what no copy does, but for the gaps that are noted
+abbrev pub beside_listed : Seated → Seated
+beside_listed s = record (beside_copy s) { known = record (beside_copy s).known { noted = [] } }
+
+-- the same as of a copy of all words, after one by listed lines
+pub record RenewsListed {O : Type 0} (o : Ghosts O) (r : Running O) (held : Right) (at : ℕ) (before after : Seated) : Type 0 where
+  pub ready : IsReady o r held at after
+  pub placed : (p : ℕ) → Contains (loaded_of before.known.local.shared) (0, p) → noted_place after ≡ p
+  pub rest : beside_listed after ≡ without_shared (beside_listed before)
+
+-- A replica was begun into which nothing was stored, and the place was loaded of another, which is held shared.
+pub record MayList (to : ℕ) (seat : Seated) : Type 0 where
+  pub unstored : StoresNone seat.known.accesses
+  pub begun : HasPlace seat.known.accesses
+  pub source : Contains (loaded_of seat.known.local.shared) (0, to)
+
+-- The lines that changed from the place of the replica held exclusively to another are marked, and nothing is dirty.
+pub record IsListed {O : Type 0} (o : Ghosts O) (r : Running O) (to : ℕ) (marks : List Bool) (seat : Seated) : Type 0 where
+  pub clean : (at : ℕ) → at < seat.region → Contains (held_dirty seat.known.local.exclusive) at → ⊥
+  pub order : noted_place seat ≤ to
+  pub changed : MarksChanged (instance_at r o.step o.only_reads) (146 + r.lines) (noted_place seat) to marks seat.known
 
 -- ---- the steps of a copy
 

@@ -1,17 +1,18 @@
 //! A replica held shared is copied over one held exclusively.
 
-ghost use Rattle.std.specs.Prelude.{◌≡◌, ◌+◌, ◌*◌, ◌<◌, ◌≤◌, IfOk, OnErr, OnOk, length};
+ghost use Rattle.std.specs.Prelude.{◌≡◌, ◌+◌, ◌*◌, ◌/◌, ◌<◌, ◌≤◌, ◌⊎◌, IfOk, OnErr, OnOk, length};
 ghost use Rattle.cx_core.specs.declared.kinds.Kind.TheVariants.{StoreWord};
 ghost use Rattle.cx_core.specs.Region.{region_words};
 ghost use Rattle.cx_rule.specs.Running.{IsSeatOf, instance_at};
 ghost use Rattle.cx_rule.specs.Seats.{IsAtLimit, known_after};
 ghost use Rattle.cx_rule.specs.Steps.{Halts};
-ghost use Rattle.replica.specs.Copies.{AreLines, ArePiece, Copies, CopiesOn, CopiesPiece, EndsCopy, EndsLoads, HoldsBoth, LeavesCopied, Renews, SeesLine, beside_copy};
+ghost use Rattle.replica.specs.Copies.{AreLines, AreOfPiece, ArePiece, Copies, CopiesMarked, CopiesOn, CopiesOver, CopiesPiece, EndsCopy, EndsLoads, HoldsBoth, LeavesCopied, Renews, SeesLine, beside_copy, skips_by, skips_piece};
 
 use crate::words::{HeldWords, load_run};
 use cx_base::{Halt, Object};
 use cx_core::{HEAD_LINES, LINE_WORDS};
 use cx_table::{CallerSeat, Exclusive, Shared, SharedHold};
+use line_gaps::piece_of;
 use line_lanes::differing;
 
 /// The words of a line.
@@ -41,25 +42,8 @@ pub fn copy_from<O: Object>(
     ensures leaves { LeavesCopied O.Object shared.now held.now source.now seat.old seat.new }
     ensures halts { OnErr result (IsAtLimit seat.new.known.local) }
 {
-    let lines = HEAD_LINES + shared.lines();
-    let mut held_words = [0; PIECE];
-    let mut source_words = [0; PIECE];
-    let mut line = 0;
-    while line < lines {
-        let count = piece_lines(line, lines);
-        let words = LINE * count as usize;
-        copy_piece(
-            shared,
-            seat,
-            held,
-            source,
-            LINE_WORDS * line,
-            &mut held_words[..words],
-            &mut source_words[..words],
-        )?;
-        line += count;
-    }
-    Ok(seat.noted_place())
+    let place = copy_marked(shared, seat, held, source, &[], true)?;
+    Ok(place)
 }
 
 /// Copies a replica held shared over one held exclusively, and gives the shared right back. The words copied are then those
@@ -83,12 +67,97 @@ pub fn renew_from<O: Object>(
     Ok(place)
 }
 
+/// The same as `copy_from` of marked pieces alone, and of the first, which is the line of the place: whatever fits, the words of each other are
+/// as they were.
+pub(crate) fn copy_marked<O: Object>(
+    shared: &Shared<O>,
+    seat: &mut CallerSeat,
+    held: &Exclusive,
+    source: &SharedHold,
+    marks: &[bool],
+    all: bool,
+) -> Result<u64, Halt>
+    requires { HoldsBoth (O.line_count shared.now.object) shared.now (O.lawful shared.now.object) (O.step shared.now.object) seat.old held.now source.now }
+    ensures copied { IfOk result (λ place. CopiesMarked O.Object shared.now (skips_by all marks.now) place seat.old seat.new) }
+    ensures steps { EndsCopy (2 * region_words (O.line_count shared.now.object)) (region_words (O.line_count shared.now.object)) seat.old.known seat.new.known result }
+    ensures leaves { LeavesCopied O.Object shared.now held.now source.now seat.old seat.new }
+    ensures halts { OnErr result (IsAtLimit seat.new.known.local) }
+{
+    let lines = HEAD_LINES + shared.lines();
+    let mut held_words = [0; PIECE];
+    let mut source_words = [0; PIECE];
+    let mut line = 0;
+    while line < lines {
+        let count = piece_lines(line, lines);
+        let words = LINE * count as usize;
+        copy_unskipped(
+            shared,
+            seat,
+            held,
+            source,
+            line,
+            &mut held_words[..words],
+            &mut source_words[..words],
+            marks,
+            all,
+        )?;
+        line += count;
+    }
+    Ok(seat.noted_place())
+}
+
+/// Copies the piece that begins at a line, unless the copy skips it.
+fn copy_unskipped<O: Object>(
+    shared: &Shared<O>,
+    seat: &mut CallerSeat,
+    held: &Exclusive,
+    source: &SharedHold,
+    line: u64,
+    held_words: &mut [u64],
+    source_words: &mut [u64],
+    marks: &[bool],
+    all: bool,
+) -> Result<(), Halt>
+    requires both { HoldsBoth (O.line_count shared.now.object) shared.now (O.lawful shared.now.object) (O.step shared.now.object) seat.old held.now source.now }
+    requires lines { AreLines (O.line_count shared.now.object) (8 * line) held_words.old source_words.old }
+    requires piece { AreOfPiece ((line + 7) / 8) (8 * line) (length held_words.old) }
+    ensures copied { OnOk result (CopiesOver (skips_by all marks.now) (8 * line) (8 * line + length held_words.old) seat.old.known seat.new.known) }
+    ensures steps { EndsCopy (2 * length held_words.old) (region_words (O.line_count shared.now.object)) seat.old.known seat.new.known result }
+    ensures leaves { LeavesCopied O.Object shared.now held.now source.now seat.old seat.new }
+    ensures halts { OnErr result (IsAtLimit seat.new.known.local) }
+{
+    if is_skipped(marks, all, piece_of(line)) {
+        return Ok(());
+    }
+    copy_piece(
+        shared,
+        seat,
+        held,
+        source,
+        LINE_WORDS * line,
+        held_words,
+        source_words,
+    )
+}
+
+/// Whether a copy skips a piece.
+fn is_skipped(marks: &[bool], all: bool, piece: u64) -> bool
+    ensures { result ≡ skips_piece all marks.now piece }
+{
+    if all || piece == 0 {
+        return false;
+    }
+    !marks.get(piece as usize).copied().unwrap_or(false)
+}
+
 /// The lines of the piece that begins at a line: that of the place is a piece by itself, since its load is noted as the place.
 fn piece_lines(line: u64, lines: u64) -> u64
     requires { line < lines }
     ensures some { 1 ≤ result }
     ensures few { result ≤ 8 }
     ensures left { line + result ≤ lines }
+    ensures first { line ≡ 0 → result ≡ 1 }
+    ensures more { (result ≡ 8) ⊎ ((line + result ≡ lines) ⊎ (line ≡ 0)) }
 {
     if line == 0 {
         1

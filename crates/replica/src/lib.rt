@@ -17,6 +17,8 @@
 //!   left to store that was loaded of both and differs (`steps`: `EndsCopy`), and both rights stand (`leaves`). Given the shared
 //!   right back, the words copied are those that the exclusive right began with: `renew_from` (`renewed`: `Renews`), at the place that was
 //!   loaded of the source, by `release_copied` (`made`: `StepsCopied`).
+//! - A replica into which nothing was stored is renewed by the lines alone that changed between the two places, where the ring of gaps tells
+//!   them for each ticket between, and else by all: `renew_listed` (`renewed`: `RenewsListed`, the same but for the gaps noted).
 //!
 //! Tested (`table_tests`): a caller takes a replica, replays its own linked entry, flushes and downgrades, and another caller reads place,
 //! number and reply there; each limit of steps from 0 to 454, the first that does not halt; each limit of steps of a run of loads, by the words
@@ -31,6 +33,7 @@
 //! each over 100 tables, after which all replicas have the words of the plain model.
 #![tactic(auto)]
 
+mod by_lines;
 mod copying;
 mod flushing;
 mod outcomes;
@@ -39,6 +42,7 @@ mod region;
 mod replay;
 mod words;
 
+pub use by_lines::renew_listed;
 pub use copying::{copy_from, renew_from};
 pub use flushing::flush;
 pub use outcomes::{outcome, place};

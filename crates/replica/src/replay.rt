@@ -29,6 +29,7 @@ pub fn begin<O: Object>(
     requires held { IsHeld (O.line_count shared.now.object) shared.now (O.lawful shared.now.object) (O.step shared.now.object) seat.old held.now }
     requires unchanged { StoresNone seat.old.known.accesses }
     ensures ready { IfOk result (λ place. IsReady O.Object shared.now held.now place seat.new) }
+    ensures unstored { OnOk result (StoresNone seat.new.known.accesses) }
     ensures leaves { LeavesHeld O.Object shared.now held.now seat.old seat.new }
     ensures halted { OnErr result (Halts shared.now seat.old seat.new) }
 {

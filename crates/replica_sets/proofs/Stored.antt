@@ -1,14 +1,21 @@
 -- What a write set makes of a replica held exclusively that its pairs are stored over.
-use Rattle.std.proofs.Common.{◌≡◌, ◌+◌, ◌*◌, ℕ, suc, List, slice_index, slice_set, ap, sym, ◌∙◌, arith, Result, Ok, Err, OnOk}
+use Rattle.std.proofs.Common.{true, ◌≡◌, ◌+◌, ◌*◌, ◌^◌, ◌<◌, ◌++◌, ◌∷◌, [], ℕ, suc, List, slice_index, slice_set, refl, ap, sym, ◌∙◌, arith, Result, Ok, Err, IfOk, OnErr, OnOk}
+use Rattle.std.proofs.lemmas.List.{append_assoc, append-nil}
 use Rattle.cx_base.specs.declared.object.Object.{Ghosts}
-use Rattle.cx_base.specs.Memory.{Becomes}
+use Rattle.cx_base.specs.Memory.{Becomes, Stored}
+use Rattle.cx_base.specs.Noted.{Note}
 use Rattle.cx_core.specs.WriteSet.{stored}
 use Rattle.cx_rule.specs.Fitting.{FitsKnown, has_of}
 use Rattle.cx_rule.specs.Running.{Running}
-use Rattle.cx_rule.specs.Seats.{Seated}
+use Rattle.cx_rule.specs.Seats.{IsWithinLimit, Seated}
+use Rattle.cx_rule.specs.Steps.{Halts}
 use Rattle.cx_table.specs.Right.{Right}
 use Rattle.redo_set.specs.Sets.{put_over}
 use Rattle.replica.proofs.Replaying.{set_on}
+use Rattle.replica.proofs.RegionLaws.{held_after, stands_stored}
+use Rattle.replica.specs.Held.{Accesses, IsHeld, beside_held}
+use Rattle.replica.specs.Regions.{HasPlace}
+use Rattle.replica_sets.specs.Storing.{stores_to}
 use Rattle.replica.specs.Replays.{Accessed, IsImage, IsReady, noted_place}
 
 -- whether all pairs were stored or not
@@ -32,3 +39,38 @@ stored_more m set was now at v is here word =
     ∙ ap (λ k. slice_set (stored m set was) k v) here
     ∙ ap (λ w. slice_set (stored m set was) (slice_index set (2 * m + 1)) w) word
     ∙ ap (λ n. stored n set was) (sym (one_more m))
+
+as_if_ok : {A E : Type 0} (P : Type 0) (result : Result A E) → OnOk result P → IfOk result (λ _. P)
+as_if_ok P (Ok x) p = p
+as_if_ok P (Err e) p = tt
+
+-- a store of a pair, as one access, whether it was made or not
+module _ {O A E : Type 0} (o : Ghosts O) (r : Running O) (held : Right) (at v : ℕ) (before after : Seated) where
+  pub pair_stored : (result : Result A E) → v < 2 ^ 64 → OnOk result (Accesses (o.line_count r.object) r (o.lawful r.object) (o.step r.object) held (true, at, v) before after) →
+      OnOk result (Stored at v (FitsKnown (o.line_count r.object) (o.lawful r.object) r.base (o.step r.object) before.known) (FitsKnown (o.line_count r.object) (o.lawful r.object) r.base (o.step r.object) after.known))
+  pair_stored (Ok x) small made = stands_stored {E = E} (o.line_count r.object) r (o.lawful r.object) (o.step r.object) held before after at v (Ok x) small made
+  pair_stored (Err e) small made = tt
+
+  same_rest : (result : Result A E) → OnOk result (Accesses (o.line_count r.object) r (o.lawful r.object) (o.step r.object) held (true, at, v) before after) → OnErr result (Halts r before after) → beside_held held.replica after ≡ beside_held held.replica before
+  same_rest (Ok x) made halts = made.rest
+  same_rest (Err e) made halts = ap (beside_held held.replica) halts.same
+
+  pub pair_leaves : (result : Result A E) → OnOk result (Accesses (o.line_count r.object) r (o.lawful r.object) (o.step r.object) held (true, at, v) before after) → OnErr result (Halts r before after) →
+      IsHeld (o.line_count r.object) r (o.lawful r.object) (o.step r.object) before held → IsWithinLimit before.known.local → HasPlace before.known.accesses → Accessed o r held before after
+  pair_leaves result made halts of within place =
+      let kept = held_after (o.line_count r.object) r (o.lawful r.object) (o.step r.object) held before after (λ (x : A). (let n : Note = (true, at, v) in n)) true result (as_if_ok _ result made) halts of within (λ yes. place) in
+      record { still = kept.0; begun = kept.2 refl; within = kept.1; rest = same_rest result made halts }
+
+-- the stores of one pair more
+pub stores_more : (m : ℕ) (set : List ℕ) (at v : ℕ) (first now last : List Note) → now ≡ first ++ stores_to m set → last ≡ now ++ (true, at, v) ∷ [] → at ≡ slice_index set (2 * m + 1) → v ≡ slice_index set (2 * m + 2) → last ≡ first ++ stores_to (m + 1) set
+unfolding stores_to
+stores_more m set at v first now last are more here word =
+    more ∙ ap (λ ns. ns ++ (true, at, v) ∷ []) are ∙ append_assoc first (stores_to m set) ((true, at, v) ∷ [])
+    ∙ ap (λ a. first ++ (stores_to m set ++ (true, a, v) ∷ [])) here
+    ∙ ap (λ w. first ++ (stores_to m set ++ (true, slice_index set (2 * m + 1), w) ∷ [])) word
+    ∙ ap (λ n. first ++ stores_to n set) (sym (one_more m))
+
+-- no pair, and no store
+pub no_stores : (first : List Note) (set : List ℕ) → first ≡ first ++ stores_to 0 set
+unfolding stores_to
+no_stores first set = sym (append-nil first)

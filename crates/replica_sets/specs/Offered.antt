@@ -1,5 +1,5 @@
 -- Another's entry is brought onto a replica held exclusively by its write set, where it is offered.
-use Rattle.std.specs.Prelude.{◌≡◌, ◌+◌, true, false, ℕ, Bool, List, [], None}
+use Rattle.std.specs.Prelude.{◌≡◌, ◌+◌, ◌++◌, true, false, ℕ, Bool, List, [], None}
 use Rattle.cx_base.specs.Memory.{Becomes}
 use Rattle.cx_base.specs.declared.object.Object.{Ghosts}
 use Rattle.core_queue.specs.NotedSets.{IsNotedSet}
@@ -8,8 +8,10 @@ use Rattle.cx_rule.specs.Running.{IsSeatOf, Running}
 use Rattle.cx_rule.specs.Seats.{Seated}
 use Rattle.cx_table.specs.Right.{Right}
 use Rattle.redo_set.specs.Sets.{put_over}
+use Rattle.redo_set.specs.Taking.{sets_read}
 use Rattle.replica.specs.Held.{beside_held}
 use Rattle.replica.specs.Replays.{IsReady}
+use Rattle.replica_sets.specs.Storing.{set_stores}
 
 -- what no such work changes: the seat but for the slot and the offer last seen, the steps, and what is noted of sets and of the replica
 abbrev pub beside_offered : ℕ → Seated → Seated
@@ -25,9 +27,16 @@ abbrev pub ReplaysOffered : {O : Type 0} → Ghosts O → Running O → Right �
 ReplaysOffered o r held ticket after true = IsReady o r held (ticket + 1) after
 ReplaysOffered o r held ticket after false = IsReady o r held ticket after
 
--- The set of a ticket is noted whole, and its pairs were stored over the words that the replica held exclusively had.
-pub record IsBroughtBySet {O : Type 0} (o : Ghosts O) (r : Running O) (ticket : ℕ) (set : List ℕ) (before after : Seated) : Type 0 where
+-- One set more was read, which is noted whole with the ticket, and each access made of the replica held exclusively is a store of one of its
+-- pairs, in order.
+pub record StoresSet (ticket : ℕ) (set : List ℕ) (before after : Seated) : Type 0 where
   pub noted : IsNotedSet after.known.sets ticket set
+  pub read : sets_read after.known.sets ≡ sets_read before.known.sets + 1
+  pub accesses : after.known.accesses ≡ before.known.accesses ++ set_stores set
+
+-- Such a set was stored over the words that the replica held exclusively had.
+pub record IsBroughtBySet {O : Type 0} (o : Ghosts O) (r : Running O) (ticket : ℕ) (set : List ℕ) (before after : Seated) : Type 0 where
+  pub by : StoresSet ticket set before after
   pub stores : Becomes (FitsKnown (o.line_count r.object) (o.lawful r.object) r.base (o.step r.object) before.known) (FitsKnown (o.line_count r.object) (o.lawful r.object) r.base (o.step r.object) after.known) (λ was now. now ≡ put_over set was)
 
 -- where a set was taken, the replica was brought on by it

@@ -1,7 +1,7 @@
 //! A write set is stored over a replica held exclusively: from the image after its place, by a set with that place as its ticket, to the
 //! image after the next.
 
-ghost use Rattle.std.specs.Prelude.{◌≡◌, ◌+◌, ◌<◌, ℕ, OnErr, OnOk, Some};
+ghost use Rattle.std.specs.Prelude.{true, ◌≡◌, ◌+◌, ◌<◌, ◌∷◌, ◌++◌, [], ℕ, OnErr, OnOk, Some};
 ghost use Rattle.cx_base.specs.Memory.{Becomes, Stored};
 ghost use Rattle.cx_core.specs.QueueEvents.{cell_of};
 ghost use Rattle.cx_core.specs.Region.{region_words};
@@ -10,12 +10,12 @@ ghost use Rattle.redo_set.specs.Sets.{put_over};
 ghost use Rattle.replica.specs.Held.{IsHeld, left_of};
 ghost use Rattle.replica.specs.Regions.{HasPlace};
 ghost use Rattle.replica.specs.Replays.{Accessed, IsReady, noted_place};
-ghost use Rattle.replica_sets.specs.Storing.{OwnSetComesNext, SetComesNext};
+ghost use Rattle.replica_sets.specs.Storing.{OwnSetComesNext, SetComesNext, set_stores};
 
-use cx_base::{Halt, Memory, Object};
+use cx_base::{Halt, Object};
 use cx_table::{CallerSeat, Exclusive, Shared};
-use redo_set::{WriteSet, apply_set};
-use replica::Region;
+use redo_set::WriteSet;
+use replica::HeldWords;
 
 /// Stores the pairs of the write set with the place of a replica held exclusively as its ticket: it is the image after its place, and then
 /// that after the next, as after the full step of that entry. `Halt` comes only where the seat's steps equal its limit.
@@ -29,6 +29,7 @@ pub fn store_set<O: Object>(
     requires next { SetComesNext (region_words (O.line_count shared.now.object)) set.now seat.old }
     ensures ready { OnOk result (IsReady O.Object shared.now held.now (noted_place seat.old + 1) seat.new) }
     ensures done { OnOk result (Becomes (FitsKnown (O.line_count shared.now.object) (O.lawful shared.now.object) shared.now.base (O.step shared.now.object) seat.old.known) (FitsKnown (O.line_count shared.now.object) (O.lawful shared.now.object) shared.now.base (O.step shared.now.object) seat.new.known) (λ before now. now ≡ put_over set.now before)) }
+    ensures stores { OnOk result (seat.new.known.accesses ≡ seat.old.known.accesses ++ set_stores set.now) }
     ensures halts { OnErr result (left_of seat.new.known.local ≡ Some 0) }
     ensures leaves { Accessed O.Object shared.now held.now seat.old seat.new }
 {
@@ -46,10 +47,16 @@ fn put_pairs<O: Object>(
     requires begun { HasPlace seat.old.known.accesses }
     requires within { IsSetWithin (region_words (O.line_count shared.now.object)) set.now }
     ensures done { OnOk result (Becomes (FitsKnown (O.line_count shared.now.object) (O.lawful shared.now.object) shared.now.base (O.step shared.now.object) seat.old.known) (FitsKnown (O.line_count shared.now.object) (O.lawful shared.now.object) shared.now.base (O.step shared.now.object) seat.new.known) (λ before now. now ≡ put_over set.now before)) }
+    ensures stores { OnOk result (seat.new.known.accesses ≡ seat.old.known.accesses ++ set_stores set.now) }
     ensures halts { OnErr result (left_of seat.new.known.local ≡ Some 0) }
     ensures leaves { Accessed O.Object shared.now held.now seat.old seat.new }
 {
-    apply_set(&mut Region::placed(shared, seat, held), set)
+    let _steps = seat.steps();
+    for m in 0..set.len() {
+        let (at, v) = set.pair(m);
+        put_pair(shared, seat, held, at, v)?;
+    }
+    Ok(())
 }
 
 /// The same by the set of the caller's own entry in a cell, from the seat's memory.
@@ -91,7 +98,7 @@ fn put_own_pairs<O: Object>(
     Ok(())
 }
 
-/// Stores a word over a replica held exclusively.
+/// Stores a word over a replica held exclusively, by one access.
 fn put_pair<O: Object>(
     shared: &Shared<O>,
     seat: &mut CallerSeat,
@@ -103,8 +110,10 @@ fn put_pair<O: Object>(
     requires begun { HasPlace seat.old.known.accesses }
     requires at { at < region_words (O.line_count shared.now.object) }
     ensures done { OnOk result (Stored at v (FitsKnown (O.line_count shared.now.object) (O.lawful shared.now.object) shared.now.base (O.step shared.now.object) seat.old.known) (FitsKnown (O.line_count shared.now.object) (O.lawful shared.now.object) shared.now.base (O.step shared.now.object) seat.new.known)) }
+    ensures stores { OnOk result (seat.new.known.accesses ≡ seat.old.known.accesses ++ (true, at, v) ∷ []) }
     ensures halts { OnErr result (left_of seat.new.known.local ≡ Some 0) }
     ensures leaves { Accessed O.Object shared.now held.now seat.old seat.new }
 {
-    Region::placed(shared, seat, held).store(at, v)
+    let _steps = seat.steps();
+    shared.store_held(seat, held, at, v)
 }

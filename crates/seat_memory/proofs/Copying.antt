@@ -1,13 +1,16 @@
 -- A seat after the release of a shared right whose words were copied over the replica held exclusively.
-use Rattle.std.proofs.Common.{◌≡◌, ◌<◌, ℕ, Bool, List, [], ◌∷◌, length, slice_index, refl, ap, sym, subst, ◌∙◌, arith, Some, None}
+use Rattle.std.proofs.Common.{true, false, cond, ◌≡◌, ◌<◌, ℕ, Bool, List, [], ◌∷◌, length, slice_index, refl, ap, sym, subst, ◌∙◌, arith, Option, Some, None}
 use Rattle.std.proofs.lemmas.Option.{none-some}
+use Rattle.std.specs.List.{Contains}
 use Rattle.atomic_table.specs.Seated.{TableId}
 use Rattle.atomic_table.specs.Table.{Me}
 use Rattle.cx_core.specs.declared.kinds.Kind.{Kind}
 use Rattle.cx_core.specs.declared.kinds.Kind.TheVariants.{BackOff}
+use Rattle.cx_core.specs.declared.local.HeldExclusive.{HeldExclusive}
 use Rattle.cx_core.specs.declared.local.Local.{Local}
 use Rattle.cx_core.specs.LockEvents.{CanBackOff}
-use Rattle.cx_core.specs.State.{Instance}
+use Rattle.cx_core.specs.Rights.{held_dirty, is_at, shared_on}
+use Rattle.cx_core.specs.State.{Instance, one_more}
 use Rattle.cx_rule.specs.declared.rule.Known.{Known}
 use Rattle.cx_core.proofs.HistoryLemmas.{ObjectLaws}
 use Rattle.cx_rule.specs.Fitting.{AgreeTo, Fitting, TellsWord, loads_of, loaded_of}
@@ -18,16 +21,26 @@ use Rattle.cx_rule.specs.Steps.{Steps, StepsCopied, TeachesCopied, known_copied}
 use Rattle.cx_rule.proofs.Copying.{noted_place, noted_tells}
 use Rattle.cx_rule.proofs.Fitting.{fitting}
 use Rattle.seat_memory.specs.declared.summary.Summary.{Summary}
-use Rattle.seat_memory.specs.Copies.{Copied, IsCopied}
+use Rattle.seat_memory.specs.Copies.{Copied, CopiesDirty, IsCopied}
 use Rattle.seat_memory.specs.Summaries.{Follows, HasSummary, summary_of}
 use Rattle.seat_memory.proofs.SummaryLaws.{IsSeat, seated, step_made}
 
+-- a right that was taken back leaves the replica held exclusively
+abbrev backed : Bool → Bool → Local → Local
+backed a b l = cond a (record l { shared = None; steps = one_more l.steps }) (cond b (record l { passer = None; steps = one_more l.steps }) (record l { downgraded = None; steps = one_more l.steps }))
+
+backed_leaves : (a b : Bool) (l : Local) → (backed a b l).exclusive ≡ l.exclusive
+backed_leaves true b l = refl
+backed_leaves false true l = refl
+backed_leaves false false l = refl
+
 -- The words in plain memory stay those of the dirty places, since they were noted last both before and after.
-copy_moved : (instance : Instance) (r found : ℕ) (k : Known) (c : Copied) → length c.words ≡ length instance.base.words → 0 < length c.words → AgreeTo k (length c.words) → IsBehindNotes instance (known_after instance (BackOff r) k found) →
+copy_moved : (instance : Instance) (r found : ℕ) (k : Known) (c : Copied) → length c.words ≡ length instance.base.words → CopiesDirty (length c.words) k → IsBehindNotes instance (known_after instance (BackOff r) k found) →
     IsCopied (known_after instance (BackOff r) k found) c → IsCopied (known_copied instance (BackOff r) k found) c
-copy_moved instance r found k c long some agree behind is =
+copy_moved instance r found k c long copies behind is =
     let none : (w : ℕ) → None ≡ Some w → 0 ≡ w = λ w e. absurd (none-some w e) in
-    let first = agree 0 some in
+    let first = copies.place in
+    let kept = backed_leaves (is_at r (shared_on k.local)) (is_at r k.local.passer) k.local in
     record {
       long = is.long;
       place = is.place ∙ noted_place k.accesses 0 first.0 None none first.1 ∙ sym (noted_place (loads_of (loaded_of k.local.shared)) 0 first.0 None none first.2);
@@ -35,7 +48,7 @@ copy_moved instance r found k c long some agree behind is =
       cells = is.cells;
       sets = is.sets;
       words = λ i below there. (
-          let a = agree i below in
+          let a = copies.dirty i below (subst (λ (x : Option HeldExclusive). Contains (held_dirty x) i) kept there) in
           let n = length c.words in
           let count = behind.origin.long ∙ sym long in
           let same : a.0 ≡ slice_index c.words i =
@@ -43,11 +56,15 @@ copy_moved instance r found k c long some agree behind is =
           subst (TellsWord n (loads_of (loaded_of k.local.shared)) i) same (noted_tells n (loads_of (loaded_of k.local.shared)) i a.0 below a.2));
     }
 
+-- where all words were copied, the dirty ones were
+pub copies_all : (n : ℕ) (k : Known) → 0 < n → AgreeTo k n → CopiesDirty n k
+copies_all n k some agree = record { place = agree 0 some; dirty = λ i below there. agree i below }
+
 module _ {O : Type 0} (r : Running O) (step : O → List ℕ → List ℕ → List ℕ × List ℕ) (reads : O → List ℕ → Bool) (replica found : ℕ) (me me' : Me ℕ (List Known)) (summary summary' : Summary) (copy : Copied) (table table' : TableId) (before : ℕ) where
-  pub copied_made : (callers : ℕ) (old : Seated) → IsSeat me summary before copy → seated table me before copy ≡ old → ((l : Local) → summary ≡ summary_of l → ¬ IsAtLimit l) → IsSeatOf r old →
+  pub moved_made : (callers : ℕ) (old : Seated) → IsSeat me summary before copy → seated table me before copy ≡ old → ((l : Local) → summary ≡ summary_of l → ¬ IsAtLimit l) → IsSeatOf r old →
       CanBackOff r.callers replica old.known.local → table' ≡ table → TeachesCopied (instance_at r step reads) (BackOff replica) (known_of me.0) found me' → callers ≡ r.callers → Follows callers (BackOff replica) found summary summary' →
-      AgreeTo old.known old.region → 0 < length r.base.words → IsSeat me' summary' before copy × StepsCopied r step reads replica found old (seated table' me' before copy)
-  copied_made callers old is view allowed of guard same_table taught same follows agree some =
+      CopiesDirty old.region old.known → IsSeat me' summary' before copy × StepsCopied r step reads replica found old (seated table' me' before copy)
+  moved_made callers old is view allowed of guard same_table taught same follows copies =
       let instance = instance_at r step reads in
       let k = known_of me.0 in
       let left : Me ℕ (List Known) = (known_after instance (BackOff replica) k found ∷ [], []) in
@@ -57,7 +74,7 @@ module _ {O : Type 0} (r : Running O) (step : O → List ℕ → List ℕ → Li
       let at = made.1.seat in
       let long : length copy.words ≡ length r.base.words = ap (λ (s : Seated). s.region) view ∙ of.region in
       let summarised : HasSummary now summary' before = record { one = refl; is = m.is; linked = m.linked; front = m.front; few = m.few; small = m.small; place = m.place; cells = m.cells; own = m.own; within = m.within } in
-      let copied = copy_moved instance replica found k copy long (subst (λ n. 0 < n) (sym long) some) (subst (λ (s : Seated). AgreeTo s.known s.region) (sym view) agree) taught.event.behind made.0.1 in
+      let copied = copy_moved instance replica found k copy long (subst (λ (s : Seated). CopiesDirty s.region s.known) (sym view) copies) taught.event.behind made.0.1 in
       let stands : IsSeatOf r (seated table' now before copy) = record { table = at.table; caller = at.caller; before = at.before; region = at.region } in
       let whole : seated table' now before copy ≡ record old { known = known_copied instance (BackOff replica) old.known found } =
       (λ i. record { table = same_table i; before = before; region = length copy.words; known = known_copied instance (BackOff replica) k found })
@@ -66,6 +83,13 @@ module _ {O : Type 0} (r : Running O) (step : O → List ℕ → List ℕ → Li
         (summarised, copied),
         record { event = subst (λ (s : Seated). Steps r step reads (BackOff replica) found old s) made.1.made made.1; made = whole; seat = stands },
       )
+
+  -- so it is where all words were copied
+  pub copied_made : (callers : ℕ) (old : Seated) → IsSeat me summary before copy → seated table me before copy ≡ old → ((l : Local) → summary ≡ summary_of l → ¬ IsAtLimit l) → IsSeatOf r old →
+      CanBackOff r.callers replica old.known.local → table' ≡ table → TeachesCopied (instance_at r step reads) (BackOff replica) (known_of me.0) found me' → callers ≡ r.callers → Follows callers (BackOff replica) found summary summary' →
+      AgreeTo old.known old.region → 0 < length r.base.words → IsSeat me' summary' before copy × StepsCopied r step reads replica found old (seated table' me' before copy)
+  copied_made callers old is view allowed of guard same_table taught same follows agree some =
+      moved_made callers old is view allowed of guard same_table taught same follows (copies_all old.region old.known (subst (λ n. 0 < n) (sym of.region) some) agree)
 
 -- a step of a replica that is another way to say the same
 pub copied_same : {O : Type 0} {r : Running O} {step : O → List ℕ → List ℕ → List ℕ × List ℕ} {reads : O → List ℕ → Bool} {replica replica' found : ℕ} {before after : Seated} → replica ≡ replica' → StepsCopied r step reads replica found before after →

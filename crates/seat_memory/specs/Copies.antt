@@ -1,5 +1,5 @@
 -- What a seat keeps in plain memory of the replica that its caller holds exclusively, and of its caller's cells and their write sets.
-use Rattle.std.specs.Prelude.{◌≡◌, ◌+◌, ◌*◌, ◌<◌, ◌==◌, ◌↔◌, if◌then◌else◌, true, false, ℕ, Bool, List, length, replicate, slice_get, slice_index, slice_set, Some}
+use Rattle.std.specs.Prelude.{◌≡◌, ◌+◌, ◌*◌, ◌<◌, ◌==◌, ◌↔◌, if◌then◌else◌, true, false, ℕ, Bool, List, length, replicate, slice_get, slice_index, slice_set, None, Some}
 use Rattle.std.specs.List.{Contains}
 use Rattle.cx_core.specs.declared.kinds.Kind.{Kind}
 use Rattle.cx_core.specs.declared.kinds.Kind.TheVariants.{WriteCell, TryExclusive, LoadWord, StoreWord, Persist, WriteSet}
@@ -8,7 +8,7 @@ use Rattle.cx_core.specs.declared.local.Local.{Local}
 use Rattle.cx_core.specs.QueueEvents.{cell_of}
 use Rattle.cx_core.specs.Rights.{exclusive_on, held_dirty, is_at}
 use Rattle.cx_rule.specs.declared.rule.Known.{Known}
-use Rattle.cx_rule.specs.Fitting.{TellsWord}
+use Rattle.cx_rule.specs.Fitting.{TellsWord, loaded_of, loads_of, word_noted}
 use Rattle.cx_rule.specs.Seats.{place_noted}
 
 -- the words stored, by address, which of them are dirty, the place last loaded or stored, and the words of the cells, one
@@ -55,3 +55,12 @@ pub record IsCopied (known : Known) (c : Copied) : Type 0 where
   pub words : (i : ℕ) → i < length c.words → Contains (held_dirty known.local.exclusive) i → TellsWord (length c.words) known.accesses i (slice_index c.words i)
   pub cells : HasCellWords known.local c.cells
   pub sets : HasSetWords known.local c.sets
+
+-- a word was copied: it was loaded of the replica held shared, and is the one noted last of the replica held exclusively
+abbrev pub IsCopiedWord : Known → ℕ → Type 0
+IsCopiedWord known at = (word : ℕ) × (word_noted None at known.accesses ≡ Some word) × (word_noted None at (loads_of (loaded_of known.local.shared)) ≡ Some word)
+
+-- what a copy over a replica held exclusively tells of the words in plain memory: the place was copied, and each dirty word
+pub record CopiesDirty (region : ℕ) (known : Known) : Type 0 where
+  pub place : IsCopiedWord known 0
+  pub dirty : (i : ℕ) → i < region → Contains (held_dirty known.local.exclusive) i → IsCopiedWord known i

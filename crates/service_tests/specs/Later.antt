@@ -93,4 +93,5 @@ later_takes_over = record {
   shape = λ image is. (is.words, ap Some (sym is.version));
   upgrades = λ image is. put_later (slice_set (slice_set image 0 8) 2 (slice_index image 1)) 1 0 (lit< tt) (lit< tt)
       (put_later (slice_set image 0 8) 2 (slice_index image 1) (lit< tt) (Words-at 512 image 1 is.words) (put_version image is.words));
+  unchanged = λ words none. absurd cc;
 }

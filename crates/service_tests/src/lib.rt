@@ -25,6 +25,8 @@ mod meeting;
 #[cfg(test)]
 mod no_memory;
 #[cfg(test)]
+mod places;
+#[cfg(test)]
 mod playing;
 #[cfg(test)]
 mod reopened;
@@ -42,6 +44,8 @@ mod taken;
 mod tasks;
 #[cfg(test)]
 mod threads;
+#[cfg(test)]
+mod tokens;
 #[cfg(test)]
 mod upgraded;
 #[cfg(test)]

@@ -1,7 +1,8 @@
-use Rattle.std.proofs.Common.{None, subst, sym, ◌∙◌}
+use Rattle.std.proofs.Common.{subst}
+use Rattle.cx_service.specs.CatchUps.{CatchUpHalted}
 use Rattle.seat_pool.specs.declared.lent.Lent.{Lent}
 use Rattle.client_pool.specs.Lending.{KeepsStopped}
-use Rattle.client_pool.proofs.Lends.{caught_on, caught_stopped, given_back, given_since, idle_back, stopped_since}
+use Rattle.client_pool.proofs.Lends.{caught_on, caught_stopped, given_back, given_since, idle_back}
 use Rattle.client_pool.proofs.catch_up.see.Goals as goal
 
 pub give-requires-clause-caller : goal.give-requires-clause-caller
@@ -22,6 +23,7 @@ returns-in-Caught g c =
     record {
       given = given_since r table c.args.lent.now mid after out.same (given_back r table mid after x y out.out (caught_on r x y caught.caller caught.keeps) out.out.none c.give.ensures.0 c.give.ensures.1);
       asked = x;
+      kept = out.first.kept;
       now = y;
       caught = caught;
     }
@@ -44,6 +46,7 @@ returns-in-Behind g c =
     record {
       given = given_since r table c.args.lent.now mid after out.same (given_back r table mid after x y out.out (caught_on r x y behind.caller behind.keeps) out.out.none c.give-in-Behind.ensures.0 c.give-in-Behind.ensures.1);
       asked = x;
+      kept = out.first.kept;
       now = y;
       behind = behind;
     }
@@ -58,5 +61,5 @@ returns-in-Halted g c =
     let kept = c.keep_stopped-none.ensures in
     let s = c.in-Halted.stopped in
     let halted = c.in-Halted.ensures in
-    subst (λ l. KeepsStopped r table c.args.lent.now after l) halted.linked
-    (stopped_since r table c.args.lent.now mid after out.same s.linked (caught_stopped r table mid after kept.kept.0 s c.take_for-caller.result out.out halted kept.kept.1))
+    subst (λ l. KeepsStopped r table (CatchUpHalted r) c.args.lent.now after l) halted.linked
+    (caught_stopped r table c.args.lent.now mid after out.same c.take_for-caller.result out.first kept.kept.0 s out.out halted kept.kept.1)

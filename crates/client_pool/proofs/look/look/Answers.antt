@@ -1,33 +1,46 @@
-use Rattle.std.proofs.Common.{subst, sym}
+use Rattle.std.proofs.Common.{refl, subst, sym}
 use Rattle.seat_pool.specs.declared.lent.Lent.{Lent}
-use Rattle.client_pool.specs.Lending.{IsSettled, ShowsRead}
-use Rattle.client_pool.proofs.Lends.{queues_settled, read_shown, reads_settled}
+use Rattle.client_pool.specs.Lending.{Enters, IsOut, MaySettle, ShowsRead}
+use Rattle.client_pool.proofs.Lends.{comes_first, comes_reading, out_on, read_settles, read_shown}
 use Rattle.client_pool.proofs.look.look.Goals as goal
 use Rattle.client_pool.proofs.look.look.Goals.{in-Queued, in-Full, in-Worn, in-Halted}
+
+pub loop-init : goal.loop-init
+loop-init g c = record { same = refl; since = comes_first c.args.pool.now.service c.args.caller c.requires.out.0.holds.idle.caller }
 
 pub returns-then-seen-floor : goal.returns-then-seen-floor
 returns-then-seen-floor g c =
     let r = c.args.pool.now.service in
     let table = c.args.pool.now.line.table.shared.table_id in
     let i = c.loop.invariant in
-    let seen = c.in-Read.seen in
+    let x = c.loop.caller in
+    let out = out_on r table c.args.lent.now c.args.caller x c.requires.out.0 i.since.idle in
     let after : Lent = record { pass = c.give.new.pass; kept = c.loop.lent.kept } in
-    subst (λ (l : Lent). ShowsRead r table c.args.op.now c.args.floor l after seen) i.same
-    (read_shown r table c.args.op.now c.args.floor c.loop.lent after c.loop.caller c.in-Read.back seen i.out c.if-seen-floor.true c.in-Read.ensures.0 i.out.none c.give.ensures.0 c.give.ensures.1)
+    subst (λ (l : Lent). ShowsRead r table c.args.op.now c.args.floor c.args.caller l after c.in-Read.seen) i.same
+    (read_shown r table c.args.op.now c.args.floor c.loop.lent after c.args.caller x c.in-Read.back c.in-Read.seen (subst (λ (l : Lent). IsOut r table l x) (sym i.same) out) i.since c.if-seen-floor.true c.in-Read.ensures
+    (subst (λ (l : Lent). IsOut r table l x) (sym i.same) out).none c.give.ensures.0 c.give.ensures.1)
+
+pub loop-preserved : goal.loop-preserved
+loop-preserved g c = record {
+  same = c.loop.invariant.same;
+  since = comes_reading c.args.pool.now.service c.args.op.now c.args.caller c.loop.caller c.in-Read.back c.in-Read.seen c.loop.invariant.since c.in-Read.ensures.0;
+}
 
 pub settle-requires-clause-updated : goal.settle-requires-clause-updated
 settle-requires-clause-updated g c =
     let r = c.args.pool.now.service in
     let table = c.args.pool.now.line.table.shared.table_id in
     let op = c.args.op.now in
-    let floor = c.args.floor in
-    let lent = c.loop.lent in
-    let i = c.loop.invariant in
     let x = c.loop.caller in
-    let P = IsSettled r table op floor lent in
+    let i = c.loop.invariant in
+    let out = out_on r table c.args.lent.now c.args.caller x c.requires.out.0 i.since.idle in
+    let P = Enters r op x in
+    subst (λ (l : Lent). MaySettle r l c.match-read.updated) (sym i.same)
+    (read_settles r table op c.args.lent.now x out c.match-read.updated (
     elim c.match-read.branch [
-      | in-Queued w ↦ subst P (sym w.updated-is) (queues_settled r table op floor lent x i.out i.from _ w.in-Queued.ensures)
-      | in-Full w ↦ subst P (sym w.updated-is) (queues_settled r table op floor lent x i.out i.from _ w.in-Full.ensures)
-      | in-Worn w ↦ subst P (sym w.updated-is) (queues_settled r table op floor lent x i.out i.from _ w.in-Worn.ensures)
-      | in-Halted w ↦ subst P (sym w.updated-is) (reads_settled r table op floor lent x i.out i.from w.in-Halted.stopped w.in-Halted.ensures)
+      | in-Queued w ↦ subst P (sym w.updated-is) w.in-Queued.ensures
+      | in-Full w ↦ subst P (sym w.updated-is) w.in-Full.ensures
+      | in-Worn w ↦ subst P (sym w.updated-is) w.in-Worn.ensures
+      | in-Halted w ↦ subst P (sym w.updated-is) w.in-Halted.ensures
     ]
+    ))

@@ -30,6 +30,7 @@ returns-in-None-clause-found g c =
       ends = collect_ends r.callers _ s v found (omega (arith, c.scans-scans.ensures)) collects;
       used = c.requires.used;
       scans = collects.scans;
+      count = (let count = collects.count in omega (arith, count));
       allowed = c.in_ok-found.ensures.allowed;
       names = names_holder r s tickets c.requires.caller c.cell_tickets-tickets.ensures v found (instance_at r g.O.Object.step g.O.Object.only_reads) c.requires.lawful collects (c.in-None.ensures.none.0 refl);
     }

@@ -12,9 +12,9 @@ returns-then-branch-clause-kept g c =
     let t = c.args.shared.now in
     let o = g.O.Object in
     let old = c.args.seat.now in
-    let mid = c.renew_from.new.seat in
+    let mid = c.renew_listed.new.seat in
     let new = c.guard.new.seat in
-    let r = c.in_ok-renew_from.ensures in
+    let r = c.in_ok-renew_listed.ensures in
     let e = c.in_ok-guard.ensures in
     let image = copied_image o t old mid c.args.held c.args.source.replica r.renewed.rest c.requires.source.alone r.renewed.ready.is_held r.renewed.ready.image in
     kept_at o t mid new c.args.held c.args.ticket old (subst (Guards t.callers c.args.ticket mid new) c.if-branch.true e.guarded) (ap (λ (s : Seated). s.known.local.met) r.renewed.rest)
@@ -25,9 +25,9 @@ give_up-requires-clause-held g c =
     let t = c.args.shared.now in
     let o = g.O.Object in
     let old = c.args.seat.now in
-    let mid = c.renew_from.new.seat in
+    let mid = c.renew_listed.new.seat in
     let new = c.guard.new.seat in
-    let r = c.in_ok-renew_from.ensures in
+    let r = c.in_ok-renew_listed.ensures in
     let e = c.in_ok-guard.ensures in
     let image = copied_image o t old mid c.args.held c.args.source.replica r.renewed.rest c.requires.source.alone r.renewed.ready.is_held r.renewed.ready.image in
     protected_image o t mid new c.args.held e.leaves.of e.leaves.rest image
@@ -36,9 +36,9 @@ pub give_up-requires-clause-stale : goal.give_up-requires-clause-stale
 give_up-requires-clause-stale g c =
     let t = c.args.shared.now in
     let old = c.args.seat.now in
-    let mid = c.renew_from.new.seat in
+    let mid = c.renew_listed.new.seat in
     let new = c.guard.new.seat in
-    let r = c.in_ok-renew_from.ensures in
+    let r = c.in_ok-renew_listed.ensures in
     let e = c.in_ok-guard.ensures in
     let behind : IsBehind t.callers mid new = subst (Guards t.callers c.args.ticket mid new) c.if-branch.false e.guarded in
     let ends = behind_current t.callers mid new behind (r.renewed.placed (root_place_of t.callers old.known.local.seen_cur) c.requires.source.place ∙ ap (λ (s : Seated). root_place_of t.callers s.known.local.seen_cur) (sym r.renewed.rest)) (ap (λ (s : Seated). s.known.local.fresh) r.renewed.rest ∙ c.requires.source.fresh) in
@@ -48,9 +48,9 @@ pub returns-clause-kept : goal.returns-clause-kept
 returns-clause-kept g c =
     let t = c.args.shared.now in
     let old = c.args.seat.now in
-    let mid = c.renew_from.new.seat in
+    let mid = c.renew_listed.new.seat in
     let new = c.guard.new.seat in
-    let r = c.in_ok-renew_from.ensures in
+    let r = c.in_ok-renew_listed.ensures in
     let e = c.in_ok-guard.ensures in
     let behind : IsBehind t.callers mid new = subst (Guards t.callers c.args.ticket mid new) c.if-branch.false e.guarded in
     let ends = behind_current t.callers mid new behind (r.renewed.placed (root_place_of t.callers old.known.local.seen_cur) c.requires.source.place ∙ ap (λ (s : Seated). root_place_of t.callers s.known.local.seen_cur) (sym r.renewed.rest)) (ap (λ (s : Seated). s.known.local.fresh) r.renewed.rest ∙ c.requires.source.fresh) in

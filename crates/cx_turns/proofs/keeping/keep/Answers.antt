@@ -1,4 +1,6 @@
-use Rattle.std.proofs.Common.{refl, subst}
+use Rattle.std.proofs.Common.{ap, refl, subst, sym}
+use Rattle.cx_rule.specs.Seats.{Seated}
+use Rattle.replica.specs.Replays.{StoresNone}
 use Rattle.cx_turns.specs.Keeping.{Guards}
 use Rattle.cx_turns.proofs.Kept.{kept_at, protected_image}
 use Rattle.cx_turns.proofs.keeping.keep.Goals as goal
@@ -19,3 +21,6 @@ copy_current-requires-clause-held g c =
     let o = g.O.Object in
     let e = c.in_ok-guard.ensures in
     protected_image o t c.args.seat.now c.guard.new.seat c.args.held e.leaves.of e.leaves.rest c.requires.held
+
+pub copy_current-requires-clause-unstored : goal.copy_current-requires-clause-unstored
+copy_current-requires-clause-unstored g c = subst StoresNone (sym (ap (λ (s : Seated). s.known.accesses) c.in_ok-guard.ensures.leaves.rest)) c.requires.unstored

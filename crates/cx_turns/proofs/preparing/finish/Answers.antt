@@ -1,3 +1,6 @@
+use Rattle.std.proofs.Common.{ap, refl}
+use Rattle.cx_rule.specs.Seats.{Seated}
+use Rattle.cx_turns.proofs.Bringing.{brings_around}
 use Rattle.cx_turns.proofs.Renewed.{finished}
 use Rattle.cx_turns.proofs.preparing.finish.Goals as goal
 
@@ -8,3 +11,7 @@ returns-clause-prepared g c =
     let at = c.requires.kept.at_image in
     finished g.O.Object t c.args.ticket c.args.seat.now c.bring_up.new.seat c.downgrade.new.seat c.args.held c.in_ok-held.held c.bring_up.new.reply
     at.alone at.is_held.right.holds e.brought e.keeps.rest c.in_ok-held.ensures.made
+
+pub returns-clause-by_sets : goal.returns-clause-by_sets
+returns-clause-by_sets g c =
+    brings_around c.args.seat.now c.args.seat.now c.bring_up.new.seat c.downgrade.new.seat refl c.in_ok-bring_up.ensures.by_sets (ap (λ (s : Seated). s.known.sets) c.in_ok-held.ensures.made.made.made)

@@ -1,6 +1,7 @@
 use Rattle.std.proofs.Common.{ap, refl, ◌∙◌}
 use Rattle.cx_rule.specs.Fitting.{has_of}
 use Rattle.cx_rule.specs.Seats.{Seated}
+use Rattle.cx_turns.proofs.Bringing.{brings_around}
 use Rattle.cx_turns.proofs.Kept.{held_same, shows_same}
 use Rattle.cx_turns.proofs.Working.{counted_same, still_bringing}
 use Rattle.replica.specs.Laws.{image_same}
@@ -30,6 +31,11 @@ pub returns-clause-counted : goal.returns-clause-counted
 returns-clause-counted g c was =
     let sets = ap (λ (s : Seated). s.known.sets) c.settle.ensures.keeps.rest ∙ ap (λ (s : Seated). s.known.sets) c.unguard.ensures.leaves.rest in
     counted_same c.replay_to.new.scratch.taken c.replay_to.new.scratch.taken c.replay_to.new.seat c.settle.new.seat refl sets (c.in_ok-replied.ensures.counted was)
+
+pub returns-clause-by_sets : goal.returns-clause-by_sets
+returns-clause-by_sets g c =
+    brings_around c.args.seat.now c.args.seat.now c.replay_to.new.seat c.settle.new.seat refl c.in_ok-replied.ensures.by_sets
+    (ap (λ (s : Seated). s.known.sets) c.settle.ensures.keeps.rest ∙ ap (λ (s : Seated). s.known.sets) c.unguard.ensures.leaves.rest)
 
 pub returns-clause-keeps : goal.returns-clause-keeps
 returns-clause-keeps g c = record {

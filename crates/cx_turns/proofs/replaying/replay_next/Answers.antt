@@ -1,6 +1,7 @@
 use Rattle.std.proofs.Common.{◌∙◌, ap, refl, subst}
 use Rattle.cx_rule.specs.Seats.{Seated}
 use Rattle.replica_sets.specs.Offered.{ReplaysOffered}
+use Rattle.cx_turns.proofs.Bringing.{brings_at, brings_none}
 use Rattle.cx_turns.proofs.ReadEntries.{applied_alone, may_still}
 use Rattle.cx_turns.proofs.Working.{counted_same, replay_held}
 use Rattle.cx_turns.proofs.replaying.replay_next.Goals as goal
@@ -17,6 +18,7 @@ returns-then-done g c =
     record {
       applied = applied_alone g.O.Object c.args.shared.now c.args.held.now c.args.at c.args.reply.now mid (subst (ReplaysOffered g.O.Object c.args.shared.now c.args.held.now c.args.at mid) c.if-done.true c.in_ok-done.ensures.replayed);
       counted = counted_same c.args.scratch.now.taken c.args.scratch.now.taken c.args.seat.now mid refl (ap (λ (s : Seated). s.known.sets) e.rest);
+      by_sets = brings_none c.args.seat.now mid (ap (λ (s : Seated). s.known.sets) e.rest);
       keeps = record { seat = e.still.of; rest = replay_held c.args.held.now.replica c.args.seat.now mid e.rest };
     }
 
@@ -41,6 +43,7 @@ returns-then-own_entry g c =
     record {
       applied = c.in_ok-step_own.ensures.applied;
       counted = counted_same c.args.scratch.now.taken c.step_own.new.scratch.taken c.args.seat.now last f.count.0 (f.count.1 ∙ ap (λ (s : Seated). s.known.sets) e.rest);
+      by_sets = brings_none c.args.seat.now last (f.count.1 ∙ ap (λ (s : Seated). s.known.sets) e.rest);
       keeps = record { seat = f.keeps.seat; rest = f.keeps.rest ∙ replay_held c.args.held.now.replica c.args.seat.now mid e.rest };
     }
 
@@ -70,5 +73,6 @@ returns g c =
     record {
       applied = applied_alone g.O.Object c.args.shared.now c.args.held.now c.args.at c.replay_another.new.reply last c.in_ok-replay_another.ensures.applied;
       counted = λ was. c.in_ok-replay_another.ensures.counted (counted_same taken taken c.args.seat.now mid refl (ap (λ (s : Seated). s.known.sets) e.rest) was);
+      by_sets = brings_at c.args.at c.args.seat.now mid last (ap (λ (s : Seated). s.known.sets) e.rest) c.in_ok-replay_another.ensures.by_sets;
       keeps = record { seat = f.seat; rest = f.rest ∙ replay_held c.args.held.now.replica c.args.seat.now mid e.rest };
     }

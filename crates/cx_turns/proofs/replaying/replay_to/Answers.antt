@@ -1,5 +1,8 @@
-use Rattle.std.proofs.Common.{◌≤◌, refl, subst, sym}
+use Rattle.std.proofs.Common.{◌<◌, ◌≤◌, ◌∙◌, ap, arith, refl, subst, sym}
 use Rattle.std.proofs.lemmas.Bool.{false≢true}
+use Rattle.cx_core.specs.RingEvents.{Protects}
+use Rattle.cx_rule.specs.Seats.{Seated}
+use Rattle.cx_turns.proofs.Bringing.{brings_none, brings_then}
 use Rattle.replica.proofs.Replaying.{image_from}
 use Rattle.cx_turns.proofs.replaying.replay_to.Goals as goal
 
@@ -14,5 +17,26 @@ loop-at-init g c =
       protected = λ t from to. c.requires.protected t (subst (λ p. p ≤ t) at from) to;
       replied = λ own. absurd (false≢true own);
       counted = λ was. was;
+      brought = brings_none c.args.seat.now c.args.seat.now refl;
       work = refl;
+    }
+
+pub returns-then-ticket-place-clause-by_sets : goal.returns-then-ticket-place-clause-by_sets
+returns-then-ticket-place-clause-by_sets g c = brings_none c.args.seat.now c.args.seat.now refl
+
+pub loop-at-preserved : goal.loop-at-preserved
+loop-at-preserved g c =
+    let i = c.loop-at.invariant in
+    let e = c.in_ok-own.ensures in
+    let rest = c.replay_next.ensures.keeps.rest in
+    let later = i.later in
+    record {
+      ready = e.applied.ready;
+      later = omega (arith, later);
+      linked = subst (λ n. c.args.ticket < n) (sym (ap (λ (s : Seated). s.known.local.front) rest)) i.linked;
+      protected = λ t from to. subst (Protects t) (sym (ap (λ (s : Seated). s.known.local.protection) rest)) (i.protected t (omega (arith, from)) to);
+      replied = e.applied.replied;
+      counted = λ was. e.counted (i.counted was);
+      brought = brings_then c.args.seat.now c.loop-at.seat c.replay_next.new.seat i.brought e.by_sets;
+      work = rest ∙ i.work;
     }

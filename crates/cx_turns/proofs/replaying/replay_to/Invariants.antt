@@ -1,5 +1,6 @@
 use Rattle.std.proofs.Common.{◌≡◌, ◌<◌, ◌≤◌, ℕ, IsTrue}
 use Rattle.cx_core.specs.RingEvents.{Protects}
+use Rattle.cx_turns.specs.Bringing.{BringsEntries}
 use Rattle.cx_turns.specs.Replaying.{beside_replay}
 use Rattle.cx_turns.specs.Turns.{KeepsCount}
 use Rattle.replica.specs.Replays.{IsReady, ShowsReply}
@@ -13,5 +14,6 @@ invariant-loop-at g l = record {
   protected : (t : ℕ) → l.at ≤ t → t ≤ l.ticket → Protects t l.seat.known.local.protection;
   replied : IsTrue l.own → ShowsReply (g.O.Object.line_count l.shared.object) (g.O.Object.lawful l.shared.object) l.shared.base (g.O.Object.step l.shared.object) l.seat.known l.seat.known.local.number l.reply;
   counted : KeepsCount l.fn.scratch.taken l.fn.seat l.scratch.taken l.seat;
+  brought : BringsEntries l.fn.seat l.seat;
   work : beside_replay l.seat ≡ beside_replay l.fn.seat;
 }

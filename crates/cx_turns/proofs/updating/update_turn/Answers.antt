@@ -1,4 +1,8 @@
-use Rattle.std.proofs.Common.{subst}
+use Rattle.std.proofs.Common.{ap, refl, subst}
+use Rattle.cx_rule.specs.Seats.{Seated}
+use Rattle.cx_table.specs.Right.{Right}
+use Rattle.cx_turns.specs.Bringing.{BringsIn}
+use Rattle.cx_turns.proofs.Bringing.{brings_around}
 use Rattle.cx_turns.specs.Preparing.{Prepares, TriesPrepare}
 use Rattle.cx_turns.proofs.Answered.{answered_turn, halted_turn, if_any_err, prepared_ready}
 use Rattle.cx_turns.proofs.updating.update_turn.Goals as goal
@@ -27,3 +31,9 @@ returns-clause-turned g c =
     let p : Prepares g.O.Object r c.args.ticket c.prepare.new.reply c.args.seat.now mid c.in-Some.held = subst (TriesPrepare g.O.Object r c.args.ticket c.prepare.new.reply c.args.seat.now mid) c.in-Some.is e.prepared in
     let ready = prepared_ready g.O.Object r c.args.ticket c.prepare.new.reply c.args.seat.now mid c.in-Some.held e.turns.rest c.requires.ready.rest c.requires.last p in
     answered_turn c.args.ticket c.args.seat.now mid c.hand_over.new.seat e.turns.rest p.met c.prepare.new.reply (c.in_ok-hand_over.ensures.answered c.args.ticket c.prepare.new.reply ready)
+
+pub returns-clause-by_sets : goal.returns-clause-by_sets
+returns-clause-by_sets g c =
+    let s = c.args.seat.now in
+    let mid = c.prepare.new.seat in
+    brings_around s s mid c.hand_over.new.seat refl (subst (BringsIn {X = Right} s mid) c.in-Some.is c.in_ok-held.ensures.by_sets) (ap (λ (x : Seated). x.known.sets) c.hand_over.ensures.turns.rest)

@@ -1,40 +1,43 @@
-use Rattle.std.proofs.Common.{◌+◌, ◌≤◌, OnOk, ap, subst}
-use Rattle.cx_core.proofs.HistoryLemmas.{ObjectLaws}
-use Rattle.cx_rule.specs.Fitting.{has_of}
-use Rattle.cx_rule.specs.Seats.{Seated}
-use Rattle.noting_region.proofs.NotingLaws.{tells_set}
-use Rattle.replica.proofs.Replaying.{can_step, steps_ready}
-use Rattle.replica.specs.Replays.{IsReady, ShowsReply, noted_place}
+use Rattle.std.proofs.Common.{◌+◌, ◌<◌, ◌^◌, sym, subst}
+use Rattle.cx_rule.specs.Offers.{TellsSet}
+use Rattle.noting_region.proofs.GapNotes.{accessed_noting, at_within, ready_noting, replied_noting, tells_noting}
+use Rattle.replica.specs.Replays.{noted_place}
 use Rattle.noting_region.proofs.noting.apply_noting.Goals as goal
 
-pub step_noting-done-requires : goal.step_noting-done-requires
-step_noting-done-requires g c = record {
-  is_held = c.requires.ready.is_held;
-  can = can_step g.O.Object c.args.shared.now c.args.held.now _ c.args.seat.now c.requires.ready c.requires.next.small;
-  caller = c.requires.next.lawful.caller;
-}
+pub note_gaps-requires : goal.note_gaps-requires
+note_gaps-requires g c =
+    let t = c.args.shared.now in
+    let mid = c.apply_telling.new.seat in
+    let step = g.O.Object.step t.object in
+    let lawful = g.O.Object.lawful t.object in
+    let tells = subst (λ n. TellsSet n lawful t.base step mid.known (noted_place c.args.seat.now) c.apply_telling.new.set) (sym c.requires.ready.is_held.sized.lines_are) (c.in_ok-whole.ensures.tells (cc)) in
+    record {
+      may = record {
+        of = c.apply_telling.ensures.leaves.still.of;
+        small = subst (λ p. p < 2 ^ 40) (sym c.noted_place-ticket.ensures) c.requires.next.small;
+        tells = subst (λ p. TellsSet t.lines lawful t.base step mid.known p c.apply_telling.new.set) (sym c.noted_place-ticket.ensures) tells;
+      };
+    }
+
+pub returns-in_err-note_gaps-clause-leaves : goal.returns-in_err-note_gaps-clause-leaves
+returns-in_err-note_gaps-clause-leaves g c =
+    accessed_noting g.O.Object c.args.shared.now c.args.held.now c.apply_telling.new.seat c.note_gaps.new.seat c.note_gaps.ensures.leaves c.args.seat.now
+    (at_within c.note_gaps.new.seat.known.local c.in_err-note_gaps.ensures.halts) c.apply_telling.ensures.leaves
+
+pub returns-clause-leaves : goal.returns-clause-leaves
+returns-clause-leaves g c =
+    accessed_noting g.O.Object c.args.shared.now c.args.held.now c.apply_telling.new.seat c.note_gaps.new.seat c.note_gaps.ensures.leaves c.args.seat.now
+    c.steps-steps.ensures.within c.apply_telling.ensures.leaves
 
 pub returns-clause-ready : goal.returns-clause-ready
 returns-clause-ready g c =
     let t = c.args.shared.now in
-    let lines = g.O.Object.line_count t.object in
-    let lawful = g.O.Object.lawful t.object in
-    let step = g.O.Object.step t.object in
-    let e = c.step_noting-done.ensures in
-    let held = c.args.held.now in
-    let entry = c.args.entry.now in
-    let reply = c.step_noting-done.new.reply in
-    let before = c.args.seat.now in
-    let after = c.step_noting-done.new.seat in
-    let laws : ObjectLaws lines lawful step = record { keeps = g.met.O.Object.keeps t.object; shape = λ image law. (g.met.O.Object.shape t.object image law).0; replies = g.met.O.Object.replies t.object } in
-    subst (λ r. OnOk r (IsReady g.O.Object t held (noted_place before + 1) after × ShowsReply lines lawful t.base step after.known entry.caller reply)) c.in_ok-done.was
-    (steps_ready g.O.Object t held entry reply before after laws c.step_noting-done.result.0 c.requires.ready.image c.requires.next e.leaves e.done)
+    let e = c.in_ok-whole.ensures.ready in (
+      ready_noting g.O.Object t c.args.held.now c.apply_telling.new.seat c.note_gaps.new.seat c.note_gaps.ensures.leaves (noted_place c.args.seat.now + 1) e.0,
+      replied_noting g.O.Object t c.args.held.now c.apply_telling.new.seat c.note_gaps.new.seat c.note_gaps.ensures.leaves c.args.entry.now.caller c.apply_telling.new.reply e.1,
+    )
 
 pub returns-clause-tells : goal.returns-clause-tells
-returns-clause-tells g c = λ whole. (
-    let t = c.args.shared.now in
-    let e = c.step_noting-done.ensures in
-    let ready = (returns-clause-ready g c).0 in
-    let pairs = c.len-pairs.ensures in
-    tells_set (g.O.Object.line_count t.object) (g.O.Object.lawful t.object) t.base (g.O.Object.step t.object) c.args.seat.now.known c.step_noting-done.new.seat.known c.step_noting-done.new.set
-    c.requires.ready.is_held.sized.region (ap (λ (s : Seated). has_of s.known) e.leaves.rest) c.requires.ready.image ready.image ready.place (subst (λ n. n ≤ 256) pairs.count pairs.few) (e.noted whole))
+returns-clause-tells g c = λ whole.
+    tells_noting g.O.Object c.args.shared.now c.args.held.now c.apply_telling.new.seat c.note_gaps.new.seat c.note_gaps.ensures.leaves (noted_place c.args.seat.now) c.apply_telling.new.set
+    c.requires.ready.is_held.sized.lines_are (c.in_ok-whole.ensures.tells (cc))

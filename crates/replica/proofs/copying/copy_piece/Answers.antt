@@ -18,7 +18,7 @@ loop-line-init g c =
     record {
       both = now.leaves.both;
       seen = λ i least below. now.loaded.seen i least (omega (arith, below));
-      copied = λ region first below copied. subst (λ n. IsCopiedTo n region first c.load_piece.new.seat.known) none (now.loaded.copied region first (omega (arith, below)) copied);
+      copied = λ skips region first below kept copied. subst (λ n. IsCopiedTo skips n region first c.load_piece.new.seat.known) none (now.loaded.copied skips region first (omega (arith, below)) (λ i least under. absurd (omega (arith, least, under))) copied);
       counts = loads_most (2 * length c.args.held_words.now) c.args.seat.now.known c.load_piece.new.seat.known now.steps;
       rest = now.leaves.rest;
     }

@@ -188,5 +188,5 @@ returns-clause-loaded g c =
       seen = seen_runs h.replica s.replica from (length us) us vs first.known mid.known last.known refl (omega (arith, c.load_run.ensures.length, c.load_run-2.ensures.length, c.requires.piece.lengths))
           c.requires.both.exclusive.right.holds c.requires.both.shared.right.holds
           (subst (λ q. IsRunOf q from us first.known mid.known) c.replica.ensures one.run) (subst (λ q. IsRunOf q from vs mid.known last.known) c.replica-2.ensures two.run);
-      copied = λ region known below copied. on_run c.replica-2.result from vs mid.known last.known two.run region known below (on_run c.replica.result from us first.known mid.known one.run region known below copied);
+      copied = λ skips region known below kept copied. on_run c.replica-2.result from vs mid.known last.known two.run skips region known below kept (on_run c.replica.result from us first.known mid.known one.run skips region known below kept copied);
     }

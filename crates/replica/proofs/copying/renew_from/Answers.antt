@@ -1,4 +1,4 @@
-use Rattle.std.proofs.Common.{rules, ◌∙◌}
+use Rattle.std.proofs.Common.{rules, arith, ◌∙◌}
 use Rattle.replica.proofs.Renewing.{renewed_held, renewed_image, renewed_place}
 use Rattle.replica.proofs.copying.renew_from.Goals as goal
 
@@ -15,13 +15,13 @@ returns-clause-renewed g c =
     let copied = c.in_ok-place.ensures.copied in
     let both = c.in_ok-place.ensures.leaves.both in
     let made = c.in_ok-release_copied.ensures.step.made in
-    let image = renewed_image lines t step reads lawful c.args.held.now c.args.source found mid last both made copied.agree in
+    let image = renewed_image lines t step reads lawful c.args.held.now c.args.source found mid last both made (copied.agree 0 (omega arith)) in
     record {
       ready = record {
         is_held = renewed_held lines t step reads lawful c.args.held.now c.args.source found mid last both made c.in_ok-release_copied.ensures.held c.in_ok-release_copied.ensures.step.fits;
         image = image.0;
         place = image.1 ∙ copied.place;
       };
-      placed = λ p has. renewed_place lines t step reads lawful c.args.held.now c.args.source found mid last both made p copied.agree (copied.loaded (0, p) has);
+      placed = λ p has. renewed_place lines t step reads lawful c.args.held.now c.args.source found mid last both made p (copied.agree 0 (omega arith)) (copied.loaded (0, p) has);
       rest = search rules;
     }

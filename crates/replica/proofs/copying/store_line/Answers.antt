@@ -32,7 +32,7 @@ loop-i-preserved g c =
             both = subst (λ (s : Seated). HoldsBoth (g.O.Object.line_count t.object) t (g.O.Object.lawful t.object) (g.O.Object.step t.object) s c.args.held.now c.args.source.now) (sym now) after.leaves.both;
             seen = subst (λ (k : Known). AreSeen c.args.from (i + 1) n us vs k) (sym knows) (seen_behind instance c.args.held.now.replica us vs c.args.from n i (slice_index vs i) known was.seen);
             copied = subst (λ (k : Known). CopiesOn start (c.args.from + (i + 1)) before k) (sym knows)
-                (on_over instance c.args.held.now.replica us vs start c.args.from i n before known below w.if-held_words-i.true was.seen was.copied);
+                (on_over instance c.args.held.now.replica us vs start c.args.from i n before known (omega arith) below w.if-held_words-i.true was.seen was.copied);
             counts = subst (λ (k : Known). LoadsAtMost 0 before k) (sym knows) (loads_on 0 0 0 before known (known_after instance (StoreWord c.args.held.now.replica (c.args.from + i) (slice_index vs i)) known 0) refl was.counts (store_counts instance c.args.held.now.replica (c.args.from + i) (slice_index vs i) known));
             rest = ap beside_copy now ∙ after.leaves.rest ∙ was.rest;
           })

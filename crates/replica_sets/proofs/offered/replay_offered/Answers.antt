@@ -1,9 +1,10 @@
-use Rattle.std.proofs.Common.{◌+◌, ◌<◌, ◌∙◌, ap, inl, refl, subst, sym}
+use Rattle.std.proofs.Common.{◌+◌, ◌++◌, ◌<◌, ◌∙◌, ap, inl, refl, subst, sym}
 use Rattle.core_queue.specs.NotedSets.{IsNotedSet}
 use Rattle.cx_core.specs.RingEvents.{Protects}
 use Rattle.cx_rule.specs.Fitting.{IsSetWithin, has_of}
 use Rattle.cx_rule.specs.Seats.{Seated}
 use Rattle.redo_set.specs.Taking.{CountsTaken, sets_read}
+use Rattle.replica_sets.specs.Storing.{set_stores}
 use Rattle.replica_sets.proofs.Ready.{leaves_looked, leaves_stored, leaves_taken, ready_looked, ready_taken, ready_untaken, stored_since}
 use Rattle.replica_sets.proofs.offered.replay_offered.Goals as goal
 
@@ -80,11 +81,17 @@ returns g c =
     (ready_looked g.O.Object t c.args.held.now c.args.ticket _ c.args.seat.now mid looked.of looked.seat c.requires.ready) in
     let ready = c.in_ok-store_set.ensures.ready in
     let counted = subst (CountsTaken mid c.take.new.seat) c.if-not-taken.false c.in_ok-taken.ensures.counted in
+    let read = ap (λ (s : Seated). sets_read s.known.sets) e.rest ∙ counted ∙ ap (λ (s : Seated). sets_read s.known.sets + 1) looked.seat in
+    let untouched = ap (λ (s : Seated). s.known.accesses) c.take.ensures.leaves.seat ∙ ap (λ (s : Seated). s.known.accesses) looked.seat in
     record {
       replayed = record { is_held = ready.is_held; image = ready.image; place = ready.place ∙ ap (λ n. n + 1) before.place };
-      counted = ap (λ (s : Seated). sets_read s.known.sets) e.rest ∙ counted ∙ ap (λ (s : Seated). sets_read s.known.sets + 1) looked.seat;
+      counted = read;
       brought = record {
-        noted = subst (λ ns. IsNotedSet ns c.args.ticket c.take.new.into) (sym (ap (λ (s : Seated). s.known.sets) e.rest)) (taken.noted c.if-not-taken.false);
+        by = record {
+          noted = subst (λ ns. IsNotedSet ns c.args.ticket c.take.new.into) (sym (ap (λ (s : Seated). s.known.sets) e.rest)) (taken.noted c.if-not-taken.false);
+          read = read;
+          accesses = c.in_ok-store_set.ensures.stores ∙ ap (λ ns. ns ++ set_stores c.take.new.into) untouched;
+        };
         stores = stored_since g.O.Object t c.args.held.now c.args.ticket _ c.args.seat.now mid c.take.new.seat c.store_set.new.seat c.take.new.into looked.seat c.take.ensures.leaves c.in_ok-store_set.ensures.done;
       };
       leaves = leaves_stored t replica c.args.seat.now c.take.new.seat c.store_set.new.seat (leaves_taken t replica c.args.seat.now mid c.take.new.seat (leaves_looked t replica _ c.args.seat.now mid looked.of looked.seat) c.take.ensures.seat c.take.ensures.leaves) e.still.of e.rest;

@@ -6,7 +6,7 @@ use Rattle.replica_sets.proofs.own.replay_own.Goals as goal
 pub store_own_set-requires : goal.store_own_set-requires
 store_own_set-requires g c =
     let ready = c.requires.ready in
-    let offered = c.in-Some.ensures in
+    let offered = c.in-Some.ensures.some in
     record {
       ready = record { is_held = ready.is_held; image = ready.image; place = refl };
       next = record {

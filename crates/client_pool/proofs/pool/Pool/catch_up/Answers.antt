@@ -14,6 +14,7 @@ returns-in-Caught g c =
       made = given_more r table before after sees.given (record { number = refl; limits = sees.given.limits; closing = refl }) refl refl;
       seen = c.max-client.ensures;
       asked = sees.asked;
+      kept = sees.kept;
       now = sees.now;
       caught = sees.caught;
     }
@@ -29,6 +30,7 @@ returns-in-Behind g c =
       made = given_more r table before after sees.given (record { number = refl; limits = sees.given.limits; closing = refl }) refl refl;
       seen = refl;
       asked = sees.asked;
+      kept = sees.kept;
       now = sees.now;
       behind = sees.behind;
     }

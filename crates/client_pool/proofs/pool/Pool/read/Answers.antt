@@ -1,10 +1,11 @@
-use Rattle.std.proofs.Common.{◌++◌, ◌+◌, ◌∷◌, [], List, ap, arith, refl, subst, ◌∙◌}
-use Rattle.client_pool.specs.Lending.{Serves}
+use Rattle.std.proofs.Common.{◌++◌, ◌+◌, ◌∷◌, [], List, ap, arith, inl, refl, subst, ◌∙◌}
+use Rattle.client_pool.specs.Clients.{HaltsReading}
+use Rattle.client_pool.specs.Lending.{HaltsLooking, LooksOn}
 use Rattle.client_pool.specs.declared.call.Answered.{Answered}
 use Rattle.client_pool.specs.declared.call.Answered.TheVariants.{Read, Updated}
 use Rattle.client_pool.specs.declared.client.Client.{Client}
-use Rattle.client_pool.proofs.Calling.{read_more, updated}
-use Rattle.client_pool.proofs.Lends.{entry_since, read_since}
+use Rattle.client_pool.proofs.Calling.{no_more, read_is, read_more, updated}
+use Rattle.client_pool.proofs.Lends.{read_full, read_since, read_stopped, read_told, read_worn, stopped_so}
 use Rattle.client_pool.proofs.pool.Pool.read.Goals as goal
 
 pub returns-in-Found : goal.returns-in-Found
@@ -16,9 +17,12 @@ returns-in-Found g c =
     let floor = c.place-floor.result in
     let least = c.place-floor.ensures in
     let after : Client = record { number = before.number; floor = seen.place; caught_up = before.caught_up; answers = c.push_reserved.new.self; lent = c.look.new.lent; closing = before.closing } in
-    let shows = read_since r table before.lent c.begin.new.lent after.lent c.in-Ok.ensures.1 c.args.op.now floor seen c.in-Found.ensures in
-    read_more r table before after c.args.op.now floor seen (omega (arith, least)) (omega (arith, least)) shows (record { number = refl; limits = shows.limits; closing = refl }) refl
-    (c.push_reserved.ensures.items ∙ ap (λ (l : List Answered). l ++ Read seen ∷ []) c.reserve.ensures.items) refl
+    let begun = c.in-Ok.ensures in
+    let shows = read_since r table before.lent c.begin.new.lent after.lent begun.tells c.args.op.now floor c.in-Ok.caller seen c.in-Found.ensures in (
+      read_more r table before after c.args.op.now floor c.in-Ok.caller seen (omega (arith, least)) (omega (arith, least)) shows (record { number = refl; limits = shows.limits; closing = refl }) refl
+          (c.push_reserved.ensures.items ∙ ap (λ (l : List Answered). l ++ Read seen ∷ []) c.reserve.ensures.items) refl,
+      read_is r table before after c.args.op.now floor begun.first c.in-Ok.caller seen begun.is.kept begun.since shows,
+    )
 
 pub returns-in-Entered-Done : goal.returns-in-Entered-Done
 returns-in-Entered-Done g c =
@@ -30,8 +34,59 @@ returns-in-Entered-Done g c =
     let floor = c.place-floor.result in
     let least = c.place-floor.ensures in
     let after : Client = record { number = before.number; floor = answer.ticket + 1; caught_up = before.caught_up; answers = c.push_reserved-in-Entered-Done.new.self; lent = c.look.new.lent; closing = before.closing } in
-    let tells =
-    entry_since r table before.lent c.begin.new.lent after.lent c.in-Ok.ensures.1 c.args.op.now floor caller answer
-    (subst (Serves r table c.args.op.now floor c.begin.new.lent after.lent) c.in-Entered-Done.field-0-is c.in-Entered-Done.ensures) in
-    updated r table before after c.args.op.now floor caller answer (omega (arith, least)) (omega (arith, least)) tells (record { number = refl; limits = tells.limits; closing = refl }) refl
-    (c.push_reserved-in-Entered-Done.ensures.items ∙ ap (λ (l : List Answered). l ++ Updated caller answer ∷ []) c.reserve.ensures.items) refl
+    let x = c.in-Ok.caller in
+    let told = read_told r table c.args.op.now floor before.lent c.begin.new.lent after.lent x caller answer c.in-Ok.ensures (subst (LooksOn r table c.args.op.now x c.begin.new.lent after.lent) c.in-Entered-Done.field-0-is c.in-Entered-Done.ensures) in (
+      updated r table before after c.args.op.now floor caller told.0 answer (omega (arith, least)) (omega (arith, least)) told.1 (record { number = refl; limits = told.1.limits; closing = refl }) refl
+          (c.push_reserved-in-Entered-Done.ensures.items ∙ ap (λ (l : List Answered). l ++ Updated caller answer ∷ []) c.reserve.ensures.items) refl,
+      told.2,
+    )
+
+pub returns-in-Entered-Full : goal.returns-in-Entered-Full
+returns-in-Entered-Full g c =
+    let r = c.args.self.now.service in
+    let table = c.args.self.now.line.table.shared.table_id in
+    let before = c.args.client.now in
+    let after : Client = record { number = before.number; floor = before.floor; caught_up = before.caught_up; answers = c.reserve.new.self; lent = c.look.new.lent; closing = before.closing } in
+    let x = c.in-Ok.caller in
+    let full = read_full r table c.args.op.now c.place-floor.result before.lent c.begin.new.lent after.lent x c.in-Ok.ensures c.in-Entered-Full.note (subst (LooksOn r table c.args.op.now x c.begin.new.lent after.lent) c.in-Entered-Full.field-0-is c.in-Entered-Full.ensures) in
+    (no_more r table before after full.lent full.tells (record { number = refl; limits = full.tells.limits; closing = refl }) c.reserve.ensures.items refl refl, full)
+
+pub returns-in-Entered-Worn : goal.returns-in-Entered-Worn
+returns-in-Entered-Worn g c =
+    let r = c.args.self.now.service in
+    let table = c.args.self.now.line.table.shared.table_id in
+    let before = c.args.client.now in
+    let after : Client = record { number = before.number; floor = before.floor; caught_up = before.caught_up; answers = c.reserve.new.self; lent = c.look.new.lent; closing = before.closing } in
+    let x = c.in-Ok.caller in
+    let worn = read_worn r table c.args.op.now c.place-floor.result before.lent c.begin.new.lent after.lent x c.in-Ok.ensures (subst (LooksOn r table c.args.op.now x c.begin.new.lent after.lent) c.in-Entered-Worn.field-0-is c.in-Entered-Worn.ensures) in
+    (no_more r table before after worn.lent worn.tells (record { number = refl; limits = worn.tells.limits; closing = refl }) c.reserve.ensures.items refl refl, worn)
+
+pub returns-in-Entered-Halted : goal.returns-in-Entered-Halted
+returns-in-Entered-Halted g c =
+    let r = c.args.self.now.service in
+    let table = c.args.self.now.line.table.shared.table_id in
+    let before = c.args.client.now in
+    let after : Client = record { number = before.number; floor = before.floor; caught_up = before.caught_up; answers = c.reserve.new.self; lent = c.look.new.lent; closing = before.closing } in
+    let x = c.in-Ok.caller in
+    let stopped = read_stopped r table c.args.op.now c.place-floor.result before.lent c.begin.new.lent after.lent x c.in-Ok.ensures c.in-Entered-Halted.linked (subst (LooksOn r table c.args.op.now x c.begin.new.lent after.lent) c.in-Entered-Halted.field-0-is c.in-Entered-Halted.ensures) in
+    (no_more r table before after stopped.lent stopped.tells (record { number = refl; limits = stopped.tells.limits; closing = refl }) c.reserve.ensures.items refl refl, stopped)
+
+pub returns-in-Err : goal.returns-in-Err
+returns-in-Err g c =
+    let r = c.args.self.now.service in
+    let table = c.args.self.now.line.table.shared.table_id in
+    let before = c.args.client.now in
+    let after : Client = record { number = before.number; floor = before.floor; caught_up = before.caught_up; answers = c.reserve.new.self; lent = c.begin.new.lent; closing = before.closing } in
+    let stopped = stopped_so r table (HaltsLooking r) (HaltsReading r c.args.op.now) (λ x s h. inl h) before.lent after.lent c.in-Err.linked c.in-Err.ensures in
+    (no_more r table before after stopped.lent stopped.tells (record { number = refl; limits = stopped.tells.limits; closing = refl }) c.reserve.ensures.items refl refl, stopped)
+
+pub overflow_add-client : goal.overflow_add-client
+overflow_add-client g c =
+    let r = c.args.self.now.service in
+    let table = c.args.self.now.line.table.shared.table_id in
+    let x = c.in-Ok.caller in
+    let mid = c.begin.new.lent in
+    let after = c.look.new.lent in
+    let told = read_told r table c.args.op.now c.place-floor.result c.args.client.now.lent mid after x c.in-Entered-Done.caller c.in-Entered-Done.answer c.in-Ok.ensures (subst (LooksOn r table c.args.op.now x mid after) c.in-Entered-Done.field-0-is c.in-Entered-Done.ensures) in
+    let small = told.1.small in
+    omega (arith, small)

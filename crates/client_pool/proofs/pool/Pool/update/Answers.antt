@@ -1,10 +1,16 @@
-use Rattle.std.proofs.Common.{◌++◌, ◌+◌, ◌∷◌, [], List, ap, arith, refl, ◌∙◌}
+use Rattle.std.proofs.Common.{◌++◌, ◌+◌, ◌∷◌, [], List, ap, arith, inl, refl, ◌∙◌}
+use Rattle.client_pool.specs.Clients.{HaltsEntering}
+use Rattle.client_pool.specs.Lending.{HaltsLooking}
 use Rattle.client_pool.specs.declared.call.Answered.{Answered}
 use Rattle.client_pool.specs.declared.call.Answered.TheVariants.{Updated}
 use Rattle.client_pool.specs.declared.client.Client.{Client}
-use Rattle.client_pool.proofs.Calling.{updated}
-use Rattle.client_pool.proofs.Lends.{entry_since}
+use Rattle.client_pool.proofs.Calling.{no_more, updated}
+use Rattle.client_pool.proofs.Lends.{stopped_so, update_full, update_settles, update_stopped, update_told, update_worn}
 use Rattle.client_pool.proofs.pool.Pool.update.Goals as goal
+
+pub settle-requires-clause-updated : goal.settle-requires-clause-updated
+settle-requires-clause-updated g c =
+    update_settles c.args.self.now.service c.args.self.now.line.table.shared.table_id c.args.op.now c.begin.new.lent c.in-Ok.caller c.in-Ok.ensures.out c.update-updated.result c.update-updated.ensures
 
 pub returns-in-Done : goal.returns-in-Done
 returns-in-Done g c =
@@ -14,7 +20,46 @@ returns-in-Done g c =
     let answer = c.in-Done.answer in
     let floor = c.place-floor.result in
     let least = c.place-floor.ensures in
-    let after : Client = record { number = before.number; floor = answer.ticket + 1; caught_up = before.caught_up; answers = c.push_reserved.new.self; lent = c.enter.new.lent; closing = before.closing } in
-    let tells = entry_since r table before.lent c.begin.new.lent after.lent c.in-Ok.ensures.1 c.args.op.now floor c.in-Done.caller answer c.in-Done.ensures in
-    updated r table before after c.args.op.now floor c.in-Done.caller answer (omega (arith, least)) (omega (arith, least)) tells (record { number = refl; limits = tells.limits; closing = refl }) refl
-    (c.push_reserved.ensures.items ∙ ap (λ (l : List Answered). l ++ Updated c.in-Done.caller answer ∷ []) c.reserve.ensures.items) refl
+    let after : Client = record { number = before.number; floor = answer.ticket + 1; caught_up = before.caught_up; answers = c.push_reserved.new.self; lent = c.settle.new.lent; closing = before.closing } in
+    let x = c.in-Ok.caller in
+    let told = update_told r table c.args.op.now floor before.lent c.begin.new.lent after.lent x c.in-Done.caller answer c.in-Ok.ensures c.update-updated.result c.update-updated.ensures c.in-Done.ensures in (
+      updated r table before after c.args.op.now floor c.in-Done.caller x answer (omega (arith, least)) (omega (arith, least)) told.0 (record { number = refl; limits = told.0.limits; closing = refl }) refl
+          (c.push_reserved.ensures.items ∙ ap (λ (l : List Answered). l ++ Updated c.in-Done.caller answer ∷ []) c.reserve.ensures.items) refl,
+      told.1,
+    )
+
+pub returns-in-Full : goal.returns-in-Full
+returns-in-Full g c =
+    let r = c.args.self.now.service in
+    let table = c.args.self.now.line.table.shared.table_id in
+    let before = c.args.client.now in
+    let after : Client = record { number = before.number; floor = before.floor; caught_up = before.caught_up; answers = c.reserve.new.self; lent = c.settle.new.lent; closing = before.closing } in
+    let full = update_full r table c.args.op.now c.place-floor.result before.lent c.begin.new.lent after.lent c.in-Ok.caller c.in-Ok.ensures c.in-Full.note c.update-updated.result c.update-updated.ensures c.in-Full.ensures in
+    (no_more r table before after full.lent full.tells (record { number = refl; limits = full.tells.limits; closing = refl }) c.reserve.ensures.items refl refl, full)
+
+pub returns-in-Worn : goal.returns-in-Worn
+returns-in-Worn g c =
+    let r = c.args.self.now.service in
+    let table = c.args.self.now.line.table.shared.table_id in
+    let before = c.args.client.now in
+    let after : Client = record { number = before.number; floor = before.floor; caught_up = before.caught_up; answers = c.reserve.new.self; lent = c.settle.new.lent; closing = before.closing } in
+    let worn = update_worn r table c.args.op.now c.place-floor.result before.lent c.begin.new.lent after.lent c.in-Ok.caller c.in-Ok.ensures c.update-updated.result c.update-updated.ensures c.in-Worn.ensures in
+    (no_more r table before after worn.lent worn.tells (record { number = refl; limits = worn.tells.limits; closing = refl }) c.reserve.ensures.items refl refl, worn)
+
+pub returns-in-Halted : goal.returns-in-Halted
+returns-in-Halted g c =
+    let r = c.args.self.now.service in
+    let table = c.args.self.now.line.table.shared.table_id in
+    let before = c.args.client.now in
+    let after : Client = record { number = before.number; floor = before.floor; caught_up = before.caught_up; answers = c.reserve.new.self; lent = c.settle.new.lent; closing = before.closing } in
+    let stopped = update_stopped r table c.args.op.now c.place-floor.result before.lent c.begin.new.lent after.lent c.in-Ok.caller c.in-Ok.ensures c.in-Halted.linked c.update-updated.result c.update-updated.ensures c.in-Halted.ensures in
+    (no_more r table before after stopped.lent stopped.tells (record { number = refl; limits = stopped.tells.limits; closing = refl }) c.reserve.ensures.items refl refl, stopped)
+
+pub returns-in-Err : goal.returns-in-Err
+returns-in-Err g c =
+    let r = c.args.self.now.service in
+    let table = c.args.self.now.line.table.shared.table_id in
+    let before = c.args.client.now in
+    let after : Client = record { number = before.number; floor = before.floor; caught_up = before.caught_up; answers = c.reserve.new.self; lent = c.begin.new.lent; closing = before.closing } in
+    let stopped = stopped_so r table (HaltsLooking r) (HaltsEntering r c.args.op.now) (λ x s h. inl h) before.lent after.lent c.in-Err.linked c.in-Err.ensures in
+    (no_more r table before after stopped.lent stopped.tells (record { number = refl; limits = stopped.tells.limits; closing = refl }) c.reserve.ensures.items refl refl, stopped)

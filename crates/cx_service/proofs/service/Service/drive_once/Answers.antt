@@ -1,4 +1,4 @@
-use Rattle.std.proofs.Common.{◌≡◌, arith, subst, sym, Some, ◌∙◌, ap}
+use Rattle.std.proofs.Common.{◌≡◌, ℕ, List, arith, subst, sym, Some, ◌∙◌, ap}
 use Rattle.cx_core.specs.declared.local.Answer.{Answer}
 use Rattle.cx_rule.specs.Running.{IsSeatOf, Running}
 use Rattle.cx_rule.specs.Seats.{Seated, unanswered_ticket}
@@ -7,6 +7,7 @@ use Rattle.cx_service.specs.Drives.{DriveDone, DriveDue, DriveHalted, DrivePendi
 use Rattle.cx_service.specs.declared.callers.Desk.{Desk}
 use Rattle.cx_service.proofs.Turning.{turn_done, turn_halted, turn_refused}
 use Rattle.cx_turns.specs.Answering.{HaltsFor, TurnsFor}
+use Rattle.cx_turns.specs.Bringing.{BringsIn}
 use Rattle.cx_service.proofs.service.Service.drive_once.Goals as goal
 
 pub returns-in-Ok-Some : goal.returns-in-Ok-Some
@@ -20,7 +21,7 @@ returns-in-Ok-Some g c =
     subst (λ (x : Seated). DriveDone c.args.self.now x v answer × MeetsAtMost 1 x v) is (
       turn_done c.args.self.now s v (subst (IsLinkedOf c.args.self.now) (sym is) c.requires) c.update_turn.ensures.turns.rest c.update_turn.ensures.turns.front (subst (λ (t : Running _). IsSeatOf t v) c.self.view_is c.update_turn.ensures.turns.seat)
           ticket c.in-Ok-Some.reply (subst (λ (x : Seated). unanswered_ticket x.known.local ≡ Some ticket) (sym is) c.ticket-ticket.ensures)
-          c.in-Ok-Some.ensures.allowed answers,
+          c.in-Ok-Some.ensures.allowed (subst (BringsIn {X = List ℕ} s v) c.in-Ok-Some.field-0-is c.in-Ok-Some.ensures.by_sets) answers,
       answers.most,
     )
 
@@ -31,7 +32,7 @@ returns-in-Ok-None g c =
     let v = c.update_turn.new.seat in
     subst (λ (x : Seated). DrivePending c.args.self.now 1 x v) is
     (turn_refused c.args.self.now s v (subst (IsLinkedOf c.args.self.now) (sym is) c.requires) c.update_turn.ensures.turns.rest c.update_turn.ensures.turns.front (subst (λ (t : Running _). IsSeatOf t v) c.self.view_is c.update_turn.ensures.turns.seat)
-    c.in-Ok-None.ensures.allowed (omega (arith, c.met-met.ensures)) (subst (TurnsFor c.ticket-ticket.result s v) c.in-Ok-None.field-0-is c.in-Ok-None.ensures.turned))
+    c.in-Ok-None.ensures.allowed (omega (arith, c.met-met.ensures)) (subst (BringsIn {X = List ℕ} s v) c.in-Ok-None.field-0-is c.in-Ok-None.ensures.by_sets) (subst (TurnsFor c.ticket-ticket.result s v) c.in-Ok-None.field-0-is c.in-Ok-None.ensures.turned))
 
 pub returns-in-Err : goal.returns-in-Err
 returns-in-Err g c =

@@ -18,4 +18,6 @@ invariant-loop g l = record {
   tried : SubmitsAgain l.self l.op l.fn.caller l.caller;
   times : KeepsTimes l.fn.caller.known.times l.caller.known.times;
   since : StepsOn l.fn.caller l.caller;
+  sets : l.caller.known.sets ≡ l.fn.caller.known.sets;
+  images : l.caller.known.images ≡ l.fn.caller.known.images;
 }

@@ -2,7 +2,7 @@ use Rattle.std.proofs.Common.{◌≡◌, ◌+◌, ◌<◌, ℕ, length, refl, sy
 use Rattle.cx_core.specs.RegionEvents.{CanLoad}
 use Rattle.cx_rule.specs.declared.rule.Known.{Known}
 use Rattle.cx_rule.specs.Running.{IsRunning, IsSeatOf, instance_at}
-use Rattle.cx_rule.specs.Seats.{Seated, known_of}
+use Rattle.cx_rule.specs.Seats.{Seated}
 use Rattle.seat_memory.proofs.SummaryLaws.{IsSeat, seated}
 use Rattle.cx_table.specs.Runs.{Runs, loads_from}
 use Rattle.cx_table.proofs.Handing.{laws_at}

@@ -1,0 +1,121 @@
+//! The step calls of the ring of gaps: a caller notes which lines the entry of a ticket leaves as they are, loads what was noted, and gives the
+//! replica back of which it then copied the other lines alone. `Halt` comes exactly where the seat's steps equal its limit, and then nothing
+//! changes.
+
+ghost use Rattle.std.specs.Prelude.{◌≡◌, ◌+◌, ◌<◌, ◌≤◌, ℕ, IsTrue, List, OnOk, false, length};
+ghost use Rattle.cx_core.specs.Gaps.{gap_of};
+ghost use Rattle.cx_core.specs.Layout.{gap_slots};
+ghost use Rattle.cx_core.specs.declared.kinds.Kind.TheVariants.{LoadGap, NoteGap};
+ghost use Rattle.cx_rule.specs.Listed.{TellsGap};
+ghost use Rattle.cx_rule.specs.Running.{IsSeatOf, instance_at};
+ghost use Rattle.cx_rule.specs.Seats.{known_of};
+ghost use Rattle.cx_rule.specs.Steps.{Steps, StepsCopied};
+ghost use Rattle.cx_table.specs.Calls.{MakesFittingStep, MakesStep, MayStep};
+ghost use Rattle.cx_table.specs.Gaps.{IsListedFrom, gaps_from};
+ghost use Rattle.cx_table.specs.Runs.{Runs, TeachesRun};
+ghost use Rattle.cx_table.specs.Tokens.{IsExclusiveOf};
+ghost use Rattle.cx_table.specs.Words.{IsOfOne, IsTaught};
+
+use crate::events::Instruction;
+use crate::seat::CallerSeat;
+use crate::shared::Shared;
+use crate::tokens::{Exclusive, SharedHold, Token};
+use atomic_table::Seat;
+use core_guards::gaps::gap_at;
+use cx_base::{Halt, Object};
+use cx_core::Kind;
+use cx_core::layout::lock_at;
+use cx_rule::View;
+
+impl<O: Object> Shared<O> {
+    /// Stores a word into a slot of the ring of gaps. It names a gap of a ticket: whatever fits what the caller noted tells a write set of the ticket,
+    /// no address of which is in the lines between.
+    pub fn note_gap(&self, seat: &mut CallerSeat, s: u64, i: u64, v: u64) -> Result<(), Halt>
+        requires may { MayStep O.Object self.now (NoteGap s i v) seat.old }
+        requires told { (pairs : List ℕ) × TellsGap self.now.lines (O.lawful self.now.object) self.now.base (O.step self.now.object) seat.old.known (gap_of self.now.callers s v) pairs }
+        ensures { MakesFittingStep O.Object self.now seat.old seat.new result (λ _. Steps self.now O.step O.only_reads (NoteGap s i v) 0 seat.old seat.new) }
+    {
+        seat.summary.check()?;
+        let kind = Kind::NoteGap { s, i, v };
+        let word = gap_at(self.callers.number, s, i);
+        self.store_learned(&mut seat.seat, &kind, word, v);
+        seat.summary.pass_set();
+        Ok(())
+    }
+
+    /// Loads a word of a slot of the ring of gaps, and notes it: the gap that it names is one of the history.
+    pub fn load_gap(&self, seat: &mut CallerSeat, s: u64, i: u64) -> Result<u64, Halt>
+        requires { MayStep O.Object self.now (LoadGap s i) seat.old }
+        ensures { MakesFittingStep O.Object self.now seat.old seat.new result (λ found. Steps self.now O.step O.only_reads (LoadGap s i) found seat.old seat.new) }
+    {
+        seat.summary.check()?;
+        let kind = Kind::LoadGap { s, i };
+        let word = gap_at(self.callers.number, s, i);
+        let found = self.event(&mut seat.seat, &kind, word, Instruction::Load);
+        seat.summary.pass_set();
+        Ok(found)
+    }
+
+    /// Loads words of a slot, from one on, each as `load_gap` does. It answers whether the limit leaves so many steps: if not, nothing changes.
+    pub fn load_gaps(&self, seat: &mut CallerSeat, s: u64, from: u64, into: &mut [u64]) -> bool
+        requires seat { IsSeatOf self.now seat.old × (from + length into.old ≤ 16) }
+        requires slot { s < gap_slots self.now.callers }
+        ensures made { IsTrue result → Runs self.now O.step O.only_reads (O.lawful self.now.object) (gaps_from s from) into.new seat.old seat.new }
+        ensures short { result ≡ false → (seat.new ≡ seat.old) × (seat.old.known.local.limit < seat.old.known.local.steps + length into.old) }
+        ensures length { length into.new ≡ length into.old }
+        ensures seat { IsSeatOf self.now seat.new }
+    {
+        let _ = &self.table;
+        if !seat.summary.count(into.len() as u64) {
+            return false;
+        }
+        self.load_gaps_each(&mut seat.seat, s, from, into);
+        true
+    }
+
+    /// Loads words of a slot, as events of the seat's caller.
+    fn load_gaps_each(&self, seat: &mut Seat<u8, View>, s: u64, from: u64, into: &mut [u64])
+        requires one { IsOfOne self.now seat.old.table_id seat.old.me }
+        requires within { from + length into.old ≤ 16 }
+        requires slot { s < gap_slots self.now.callers }
+        ensures taught { IsTaught seat.old.table_id seat.new.table_id (TeachesRun (instance_at self.now O.step O.only_reads) (gaps_from s from) into.new seat.old.me seat.new.me) }
+        ensures length { length into.new ≡ length into.old }
+    {
+        let callers = self.callers.number;
+        for i in 0..into.len() {
+            let at = from + i as u64;
+            let kind = Kind::LoadGap { s, i: at };
+            let word = gap_at(callers, s, at);
+            into[i] = self.event(seat, &kind, word, Instruction::Load);
+        }
+    }
+
+    /// Gives a shared right back of whose words the listed lines alone were copied over the replica held exclusively, each other line of which is as it
+    /// was, and no differing one by the gaps that were loaded. The words loaded are then what is noted of the replica held exclusively, as after
+    /// `release_copied`. It gives the word found.
+    pub fn release_listed(
+        &self,
+        seat: &mut CallerSeat,
+        held: &Exclusive,
+        source: SharedHold,
+    ) -> Result<u64, Halt>
+        requires seat { IsSeatOf self.now seat.old }
+        requires listed { IsListedFrom (instance_at self.now O.step O.only_reads) seat.old held.now source }
+        ensures step { MakesFittingStep O.Object self.now seat.old seat.new result (λ found. StepsCopied self.now O.step O.only_reads source.replica found seat.old seat.new) }
+        ensures held { OnOk result (IsExclusiveOf self.now.callers seat.new held.now) }
+    {
+        let _ = held;
+        let Token {
+            replica,
+            caller: _,
+            kind: _,
+        } = source;
+        seat.summary.check()?;
+        let r = replica as u64;
+        let kind = Kind::BackOff { r };
+        let word = lock_at(self.callers.number, r);
+        let found = self.subtract_copied(&mut seat.seat, &kind, word, 1);
+        seat.summary.back_off(r);
+        Ok(found)
+    }
+}

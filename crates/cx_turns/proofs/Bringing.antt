@@ -1,0 +1,45 @@
+-- What calls bring on by write sets, one after another.
+use Rattle.std.proofs.Common.{◌≡◌, ◌+◌, ◌⊎◌, inl, inr, ℕ, List, refl, ap, ◌∙◌, arith, Option, Some, None, Result, Ok, Err, IfOk}
+use Rattle.cx_rule.specs.Seats.{Seated}
+use Rattle.cx_turns.specs.Bringing.{BringsAtMost, BringsEntries, BringsIn, BringsOn, none_yet, one_more}
+use Rattle.redo_set.specs.Taking.{sets_read}
+use Rattle.replica_sets.specs.Offered.{StoresSet}
+
+none_more : (n : ℕ) → n ≡ n + 0
+none_more n = omega arith
+
+-- none
+pub brings_none : (s v : Seated) → v.known.sets ≡ s.known.sets → BringsEntries s v
+brings_none s v same = record { count = 0; on = none_yet 0 v refl same; read = ap sets_read same ∙ none_more (sets_read s.known.sets) }
+
+-- one
+brings_one : (s v : Seated) (ticket : ℕ) (set : List ℕ) → StoresSet ticket set s v → BringsEntries s v
+brings_one s v ticket set stores = record { count = 1; on = one_more 1 v 0 s v ticket set refl (none_yet 0 s refl refl) stores refl; read = stores.read }
+
+-- and then nothing more
+on_later : (s : Seated) (n : ℕ) (u : Seated) → BringsOn s n u → (k : ℕ) (v : Seated) → k ≡ n → v.known.sets ≡ u.known.sets → BringsOn s k v
+on_later s n u (none_yet _ _ zero same) k v is still = none_yet k v (is ∙ zero) (still ∙ same)
+on_later s n u (one_more _ _ first mid next ticket set more on stores kept) k v is still = one_more k v first mid next ticket set (is ∙ more) on stores (still ∙ kept)
+
+-- and then more
+on_then : (s : Seated) (n : ℕ) (u : Seated) → BringsOn s n u → (m : ℕ) (v : Seated) → BringsOn u m v → BringsOn s (n + m) v
+on_then s n u before m v (none_yet _ _ zero same) = on_later s n u before (n + m) v (omega (arith, zero)) same
+on_then s n u before m v (one_more _ _ first mid next ticket set more on stores kept) =
+    one_more (n + m) v (n + first) mid next ticket set (omega (arith, more)) (on_then s n u before first mid on) stores kept
+
+pub brings_then : (s u v : Seated) → BringsEntries s u → BringsEntries u v → BringsEntries s v
+brings_then s u v a b = record { count = a.count + b.count; on = on_then s a.count u a.on b.count v b.on; read = omega (arith, a.read, b.read) }
+
+-- what changes nothing of what is noted of sets goes before, and behind
+pub brings_around : (s t u v : Seated) → t.known.sets ≡ s.known.sets → BringsEntries t u → v.known.sets ≡ u.known.sets → BringsEntries s v
+brings_around s t u v before brought after = brings_then s u v (brings_then s t u (brings_none s t before) brought) (brings_none u v after)
+
+pub brings_at : (ticket : ℕ) (s u v : Seated) → u.known.sets ≡ s.known.sets → BringsAtMost ticket u v → BringsEntries s v
+brings_at ticket s u v before (inl same) = brings_none s v (same ∙ before)
+brings_at ticket s u v before (inr (set, stores)) = brings_then s u v (brings_none s u before) (brings_one u v ticket set stores)
+
+-- the same of a turn that may give nothing
+pub in_before : {X E : Type 0} (s t v : Seated) → t.known.sets ≡ s.known.sets → (result : Result (Option X) E) → IfOk result (BringsIn {X = X} t v) → IfOk result (BringsIn {X = X} s v)
+in_before s t v before (Ok (Some x)) brought = brings_around s t v v before brought refl
+in_before s t v before (Ok None) same = same ∙ before
+in_before s t v before (Err e) brought = tt

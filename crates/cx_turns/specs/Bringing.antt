@@ -1,0 +1,26 @@
+-- The entries of others that a call brings onto a replica by their write sets.
+use Rattle.std.specs.Prelude.{◌≡◌, ◌+◌, ◌⊎◌, ℕ, List, Option, Some, None}
+use Rattle.cx_rule.specs.Seats.{Seated}
+use Rattle.redo_set.specs.Taking.{sets_read}
+use Rattle.replica_sets.specs.Offered.{StoresSet}
+
+-- At most the entry with this ticket was brought on so: no word of a set was read, or one set was, and just its pairs were stored.
+abbrev pub BringsAtMost : ℕ → Seated → Seated → Type 0
+BringsAtMost ticket before after = (after.known.sets ≡ before.known.sets) ⊎ ((set : List ℕ) × StoresSet ticket set before after)
+
+-- From the first seat on so many entries were brought on by their sets, each by a set that was read for it and stored, and no word of any
+-- other set was read.
+pub data BringsOn (before : Seated) : ℕ → Seated → Type 0 where
+  none_yet : (n : ℕ) (now : Seated) → n ≡ 0 → now.known.sets ≡ before.known.sets → BringsOn before n now
+  one_more : (n : ℕ) (now : Seated) (first : ℕ) (mid next : Seated) (ticket : ℕ) (set : List ℕ) → n ≡ first + 1 → BringsOn before first mid → StoresSet ticket set mid next → now.known.sets ≡ next.known.sets → BringsOn before n now
+
+-- as many as the count of the sets that were read rose by
+pub record BringsEntries (before after : Seated) : Type 0 where
+  pub count : ℕ
+  pub on : BringsOn before count after
+  pub read : sets_read after.known.sets ≡ sets_read before.known.sets + count
+
+-- what a turn that may give nothing brings on: then no word of a set was read
+abbrev pub BringsIn : {X : Type 0} → Seated → Seated → Option X → Type 0
+BringsIn before after (Some x) = BringsEntries before after
+BringsIn before after None = after.known.sets ≡ before.known.sets

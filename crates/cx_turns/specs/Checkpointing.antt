@@ -1,0 +1,72 @@
+-- A turn by which its caller takes the image of the current replica.
+use Rattle.std.specs.Prelude.{◌≡◌, ◌<◌, ◌≤◌, false, ℕ, List, [], ◌∷◌, ◌++◌, slice_get, Option, Some, None}
+use Rattle.std.specs.List.{Contains}
+use Rattle.cx_base.specs.Codes.{root_place_of}
+use Rattle.cx_base.specs.declared.object.Object.{Ghosts}
+use Rattle.cx_core.specs.Base.{LawfulBase}
+use Rattle.cx_core.specs.declared.local.Answer.{Answer}
+use Rattle.cx_core.specs.declared.local.SeenRead.{SeenRead}
+use Rattle.cx_rule.specs.Fitting.{TellsWords, loaded_of}
+use Rattle.cx_rule.specs.Raises.{known_answered}
+use Rattle.cx_rule.specs.Rule.{IsLawfulLocal}
+use Rattle.cx_rule.specs.Running.{IsSeatOf, Running, instance_at}
+use Rattle.cx_rule.specs.Seats.{Seated, unanswered_ticket}
+use Rattle.cx_table.specs.Right.{Right}
+use Rattle.cx_turns.specs.Answering.{beside_raise}
+use Rattle.cx_turns.specs.Turns.{HaltsTurn, IsAtRest, StepsAtMost, StepsOn, TurnRefused}
+use Rattle.replica.specs.Held.{IsHeldShared, beside_shared}
+
+-- what no such turn changes: what no step of a turn does before its raise, but the greatest code that DUR was raised by, the floor, and the
+-- images that the caller took
+abbrev pub beside_checkpoint : Seated → Seated
+beside_checkpoint s = (let b = beside_raise s in record b { known = record b.known { images = [] } })
+
+-- the caller took no image
+abbrev pub TakesNone : Seated → Seated → Type 0
+TakesNone before after = after.known.images ≡ before.known.images
+
+-- The caller took one image more, at a place: it is a lawful base. The place is that of the code last found in CUR, above each ticket and not
+-- below any place that the caller was answered before. No refusal is met, and the caller is at rest.
+pub record TakesImage {O : Type 0} (o : Ghosts O) (r : Running O) (image : List ℕ) (place : ℕ) (before after : Seated) : Type 0 where
+  pub rest : IsAtRest after.known.local
+  pub met : after.known.local.met ≡ before.known.local.met
+  pub images : after.known.images ≡ before.known.images ++ image ∷ []
+  pub base : LawfulBase r.lines (o.lawful r.object) (record { place = place; words = image })
+  pub current : place ≡ root_place_of r.callers after.known.local.seen_cur
+  pub reached : place ≤ after.known.local.front
+  pub above : (i : ℕ) (x : Answer) → slice_get before.known.local.answered i ≡ Some x → x.ticket < place
+  pub from : (i : ℕ) (x : SeenRead) → slice_get before.known.local.seen_reads i ≡ Some x → x.place ≤ place
+
+-- what a turn comes to; one that is refused makes at most four steps
+abbrev pub TakesTurn : {O : Type 0} → Ghosts O → Running O → List ℕ → Seated → Seated → Option ℕ → Type 0
+TakesTurn o r image before after (Some place) = TakesImage o r image place before after
+TakesTurn o r image before after None = TurnRefused before after × StepsAtMost 4 before after × StepsOn before after × TakesNone before after
+
+-- The limit was come to, and a further step was due. No image was taken.
+pub record HaltsImage (before after : Seated) : Type 0 where
+  pub halts : HaltsTurn before after
+  pub none : TakesNone before after
+
+-- The current replica is held shared at its place, and beside it the caller is at rest, with each of its entries answered.
+pub record IsAtCurrent {O : Type 0} (o : Ghosts O) (r : Running O) (seat : Seated) (hold : Right) : Type 0 where
+  pub held : IsHeldShared (o.line_count r.object) r (o.lawful r.object) seat hold
+  pub place : Contains (loaded_of seat.known.local.shared) (0, root_place_of r.callers seat.known.local.seen_cur)
+  pub rest : IsAtRest (record seat.known.local { shared = None; fresh = false })
+  pub answered : unanswered_ticket seat.known.local ≡ None
+
+-- DUR was raised by a code, which answers nothing.
+pub record RaisesCurrent {O : Type 0} (o : Ghosts O) (r : Running O) (code : ℕ) (before after : Seated) : Type 0 where
+  pub made : after ≡ record before { known = known_answered (instance_at r o.step o.only_reads) code [] None before.known }
+  pub lawful : IsLawfulLocal (instance_at r o.step o.only_reads) before.known.local
+  pub seat : IsSeatOf r after
+
+-- words of the replica held shared were loaded, and nothing else was done
+pub record LoadsSome {O : Type 0} (o : Ghosts O) (r : Running O) (hold : Right) (before after : Seated) : Type 0 where
+  pub held : IsHeldShared (o.line_count r.object) r (o.lawful r.object) after hold
+  pub rest : beside_shared hold.replica after ≡ beside_shared hold.replica before
+  pub kept : (x : ℕ × ℕ) → Contains (loaded_of before.known.local.shared) x → Contains (loaded_of after.known.local.shared) x
+
+-- all of them were
+pub record LoadsImage {O : Type 0} (o : Ghosts O) (r : Running O) (hold : Right) (image : List ℕ) (before after : Seated) : Type 0 where
+  pub loads : LoadsSome o r hold before after
+  pub tells : TellsWords after.known after.region image

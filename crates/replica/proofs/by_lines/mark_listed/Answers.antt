@@ -1,0 +1,16 @@
+use Rattle.std.proofs.Common.{◌+◌, ap, subst, sym}
+use Rattle.cx_rule.specs.Seats.{Seated}
+use Rattle.replica.specs.Copies.{HoldsBoth}
+use Rattle.replica.proofs.Listing.{both_loaded, listed_marks}
+use Rattle.replica.proofs.by_lines.mark_listed.Goals as goal
+
+pub returns-clause-listed : goal.returns-clause-listed
+returns-clause-listed g c = λ is.
+    listed_marks g.O.Object c.args.shared.now c.args.to (146 + c.lines.result) c.noted_place-from.result c.mark_changed.new.marks c.args.seat.now c.some_dirty.new.self c.mark_changed.new.seat
+    c.some_dirty.ensures.same c.mark_changed.ensures.leaves c.in-None.ensures.none (ap (λ n. 146 + n) c.lines.ensures.value) c.noted_place-from.ensures c.if-to-from.false (c.mark_changed.ensures.marks is)
+
+pub returns-clause-both : goal.returns-clause-both
+returns-clause-both g c =
+    let t = c.args.shared.now in
+    both_loaded g.O.Object t c.args.held.now c.args.source.now c.some_dirty.new.self c.mark_changed.new.seat c.mark_changed.ensures.leaves
+    (subst (λ (s : Seated). HoldsBoth (g.O.Object.line_count t.object) t (g.O.Object.lawful t.object) (g.O.Object.step t.object) s c.args.held.now c.args.source.now) (sym c.some_dirty.ensures.same) c.requires)

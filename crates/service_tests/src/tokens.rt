@@ -1,0 +1,165 @@
+//! Two threads: one adds and hands the place behind its answer over a channel, and the other reads what was added.
+
+ghost use Rattle.std.specs.Prelude.{MatchResult};
+ghost use Rattle.cx_service.specs.Callers.{IsCallerOf};
+ghost use Rattle.service_parts.specs.Asking.{IsStoppedIn};
+ghost use Rattle.service_parts.specs.Callers.{IsBack, IsHandedBy};
+
+use crate::holds::holds;
+use crate::starting::base_at;
+use crate::tasks::{adds, sum};
+use crossbeam_channel::{Receiver, Sender, bounded};
+use cx_base::tally::Tally;
+use cx_service::{Caller, Handed, Service, Stopped};
+use service_parts::{Asked, Worked, Worker, ask, follow, serve};
+use std::alloc::{AllocError, Global};
+use std::sync::Wait;
+use std::test::Fail;
+use std::thread::Threads;
+
+// How often a place is handed over.
+const TIMES: u64 = 10_000;
+
+// What is handed over where no further place is.
+const NO_PLACE: u64 = u64::MAX;
+
+// Caller 0 adds, and hands over the place behind each addition. Caller 1 catches up with each and reads. Each tells how often all was as it is to be.
+#[derive(Drop)]
+struct Pair {
+    sender: Sender<u64, Global>,
+    receiver: Receiver<u64, Global>,
+}
+
+impl Worker<Tally> for Pair {
+    type Told = u64;
+
+    ghost tells = { λ _ _ _ _ _. Unit {0} };
+
+    fn work<R: Wait>(&self, rt: &R, service: &Service<Tally>, caller: Caller) -> Worked<u64> {
+        if caller.number() == 0 {
+            write_all(rt, service, caller, &self.sender)
+        } else {
+            read_all(rt, service, caller, &self.receiver)
+        }
+    }
+}
+
+// Adds 1 again and again, and hands each place over.
+fn write_all<R: Wait>(
+    rt: &R,
+    service: &Service<Tally>,
+    caller: Caller,
+    sender: &Sender<u64, Global>,
+) -> Worked<u64>
+    requires { IsCallerOf service.now caller }
+    ensures { IsHandedBy service.now caller result.caller }
+{
+    let mut caller = caller;
+    let mut told = 0u64;
+    for _ in 0..TIMES {
+        match write_once(rt, service, caller, sender) {
+            Ok((back, is_right)) => {
+                told = told.wrapping_add(u64::from(is_right));
+                caller = back;
+            }
+            Err(stopped) => {
+                let _ = sender.send(rt, NO_PLACE);
+                let caller = Handed::Stopped(stopped);
+                return Worked { caller, told };
+            }
+        }
+    }
+    let _ = sender.send(rt, NO_PLACE);
+    let caller = Handed::Idle(caller);
+    Worked { caller, told }
+}
+
+// Adds 1 and hands the place behind it over: whether all was right. Places are counted from 0, so the place behind an addition is the sum.
+fn write_once<R: Wait>(
+    rt: &R,
+    service: &Service<Tally>,
+    caller: Caller,
+    sender: &Sender<u64, Global>,
+) -> Result<(Caller, bool), Stopped>
+    requires { IsCallerOf service.now caller }
+    ensures { MatchResult result (λ r. IsBack service.now caller r.0) (IsStoppedIn service.now caller) }
+{
+    match ask(rt, service, caller, &adds(1)) {
+        Asked::Told(back, reply, place) => {
+            let is_handed = sender.send(rt, place).is_ok();
+            Ok((back, is_handed && reply[0] == place))
+        }
+        Asked::Worn(back) => Ok((back, false)),
+        Asked::Stopped(stopped) => Err(stopped),
+    }
+}
+
+// Catches up with each place that is handed over, and reads.
+fn read_all<R: Wait>(
+    rt: &R,
+    service: &Service<Tally>,
+    caller: Caller,
+    receiver: &Receiver<u64, Global>,
+) -> Worked<u64>
+    requires { IsCallerOf service.now caller }
+    ensures { IsHandedBy service.now caller result.caller }
+{
+    let mut caller = caller;
+    let mut told = 0u64;
+    for _ in 0..TIMES {
+        let Ok(place) = receiver.recv(rt) else {
+            break;
+        };
+        if place == NO_PLACE {
+            break;
+        }
+        match read_once(rt, service, caller, place) {
+            Ok((back, is_right)) => {
+                told = told.wrapping_add(u64::from(is_right));
+                caller = back;
+            }
+            Err(stopped) => {
+                let caller = Handed::Stopped(stopped);
+                return Worked { caller, told };
+            }
+        }
+    }
+    let caller = Handed::Idle(caller);
+    Worked { caller, told }
+}
+
+// Catches up with a place and reads the sum, which is not below it: whether all was right.
+fn read_once<R: Wait>(
+    rt: &R,
+    service: &Service<Tally>,
+    caller: Caller,
+    place: u64,
+) -> Result<(Caller, bool), Stopped>
+    requires { IsCallerOf service.now caller }
+    ensures { MatchResult result (λ r. IsBack service.now caller r.0) (IsStoppedIn service.now caller) }
+{
+    let back = follow(rt, service, caller, place)?;
+    match ask(rt, service, back, &sum()) {
+        Asked::Told(back, reply, at) => Ok((back, at >= place && reply[0] == at)),
+        Asked::Worn(back) => Ok((back, false)),
+        Asked::Stopped(stopped) => Err(stopped),
+    }
+}
+
+// Whether all was right each time for both callers. The channel has room for all places, so that nobody waits for the reader.
+fn are_handed_over<R: Threads + Wait + Sync>(rt: &R, alloc: Global) -> Result<bool, AllocError> {
+    let base = base_at(alloc, 0)?;
+    let (sender, receiver) = bounded(alloc, TIMES as usize + 1)?;
+    let pair = Pair { sender, receiver };
+    let (told, _) = serve(rt, alloc, Tally, 2, &base, &pair)?;
+    Ok(match told.as_slice() {
+        [written, read] => *written == TIMES && *read == TIMES,
+        _ => false,
+    })
+}
+
+#[test]
+fn a_place_is_handed_over_a_channel(rt: HostRuntime) -> Result<(), Fail> {
+    holds(&rt, are_handed_over(&rt, rt.alloc())?);
+    Ok(())
+}
