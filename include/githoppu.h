@@ -55,7 +55,8 @@ enum githoppu_status {
     GITHOPPU_DONE = 0,        /* it is answered, and the reply is written: look at its kind too */
     GITHOPPU_PENDING = 1,     /* the operation is in the log and will take effect, but is not acknowledged yet: call githoppu_finish until DONE, and make
                                  no other call of the session before; do not submit the operation again */
-    GITHOPPU_AGAIN = 2,       /* other sessions were in the way. The operation is not in the log: call again */
+    GITHOPPU_AGAIN = 2,       /* other sessions were in the way. The operation is not in the log: call again. Of an opening or a recovery: the new sessions'
+                                 queue did not take its first entry; no run is known to answer it, and nothing is left of the call: call again */
     GITHOPPU_FULL = 3,        /* the operation is not in the log: another session still reads the last 16 updates of this one; yield, and call again. Where a
                                  thread is stopped for good inside a writing call, each other session can make at most 16 more updates, and after
                                  that every update answers FULL; reads go on */
@@ -69,7 +70,8 @@ enum githoppu_status {
     GITHOPPU_NO_SESSION = 9,  /* of the functions in this header: the session's pointer is null */
     GITHOPPU_TOO_LONG = 10,   /* of the functions in this header: a key above 64 bytes, a document above 1,024, or a text above 56 */
     GITHOPPU_OTHERS = 11,     /* of a closing: this session is closed, and other sessions of the store are not */
-    GITHOPPU_LOST = 12,       /* of a closing: the last session did not find all that were closed before. No run of the library is known to answer it */
+    GITHOPPU_LOST = 12,       /* of a closing: it was the last, and did not find all that were closed before. *out has those that it found: close that again.
+                                 No run of the library is known to answer it */
     /* of a recovery and of githoppu_outcome: why the words are refused. The first check that fails is answered, in this order; that a result is a reply
        is checked last, after 20 */
     GITHOPPU_NO_IMAGE = 13,      /* they are no image: fewer than 8 words, another name or format, a kind that is neither 1 nor 2, numbers of sessions or lines
@@ -100,7 +102,7 @@ uint64_t githoppu_version(void);
 
 /* Opens an empty document store, or an empty queue, in the given number of lines of 64 bytes, with count sessions, which it puts into
  * sessions[0] to sessions[count - 1]. A document takes a line and one for each 56 bytes of its key and of its text; a text in a queue
- * takes one line; the first line is the object's own. DONE, BAD_SIZE or NO_MEMORY; where it is not DONE no slot is written. */
+ * takes one line; the first line is the object's own. DONE, BAD_SIZE, NO_MEMORY or AGAIN; where it is not DONE no slot is written. */
 int32_t githoppu_open(uint64_t lines, void **sessions, size_t count);
 int32_t githoppu_open_queue(uint64_t lines, void **sessions, size_t count);
 
@@ -123,9 +125,10 @@ int32_t githoppu_see_place(githoppu_handle session, uint64_t place, void **out);
 
 /* Closes a session, in any state: its last operation may be pending. Sessions are closed in any order, by any threads; no closing waits for another.
  * DONE: it was the last, and *out is the closed store, of which githoppu_image writes an image. OTHERS: other sessions are open, and *out is null. AGAIN:
- * others were in the way, and *out is the session. NO_MEMORY: it was the last, and *out is the store with all its sessions; close that again, or
- * drop it. LOST: *out is null, and the store is dropped. OUT_OF_TURN: it is a closed store, and *out is that. After a session was dropped, every other
- * closing answers OTHERS, and the last one drops the store. */
+ * others were in the way, and *out is to be closed again: the session, or what the last one found. NO_MEMORY: it was the last, and *out is the store with
+ * all its sessions; close that again, or drop it. LOST: it was the last and a session is missing among those that were closed; *out has the others: close
+ * that again, or drop it. OUT_OF_TURN: it is a closed store, and *out is that. After a session was dropped, every other closing answers OTHERS, and the
+ * last one drops the store. */
 int32_t githoppu_close(githoppu_handle session, void **out);
 
 /* Writes an image of a closed store or queue, what a crash at the moment of closing leaves, into the given words, and its number of words into *needed. DONE
@@ -140,7 +143,7 @@ int32_t githoppu_close(githoppu_handle session, void **out);
 int32_t githoppu_image(githoppu_handle closed, uint64_t choice, uint64_t *words, size_t count, uint64_t *needed, void **out);
 
 /* Opens a store, or a queue, from the words of an image, with count sessions, which may be more or fewer than the image is of: DONE, BAD_SIZE,
- * NO_MEMORY, or one of NO_IMAGE to IMAGE_NUMBERS. Where it is not DONE no slot is written. Every update that was acknowledged before is there. */
+ * NO_MEMORY, AGAIN, or one of NO_IMAGE to IMAGE_NUMBERS. Where it is not DONE no slot is written. Every update that was acknowledged before is there. */
 int32_t githoppu_recover(const uint64_t *words, size_t words_count, void **sessions, size_t count);
 int32_t githoppu_recover_queue(const uint64_t *words, size_t words_count, void **sessions, size_t count);
 

@@ -62,7 +62,8 @@ pub enum Error {
     /// A key is 1 to 64 visible ASCII characters, a document 1 to 1,024 bytes of which none is a control character, and a text of a queue 1 to 56
     /// visible ASCII characters.
     NoOperation,
-    /// Other sessions were in the way more than a million times. So it is for good where a thread is stopped inside a writing call and this session has
+    /// Other sessions were in the way more than a million times, or, of an opening, the new sessions' queue did not take its first entry, which no run is
+    /// known to answer. So it is for good where a thread is stopped inside a writing call and this session has
     /// made 16 updates since.
     Busy,
     /// The store has had 2^40 operations, and takes no more.
@@ -73,6 +74,8 @@ pub enum Error {
     NoText,
     /// The session is to be closed again, and takes no other call.
     OutOfTurn,
+    /// A closing: it was the last, and did not find all that were closed before. It keeps those that it found. No run of the library is known to answer it.
+    Lost,
     /// A recovery: the words are no image.
     NoImage,
     /// The image is of a queue where a store is asked for, or of a store where a queue is.
@@ -102,6 +105,7 @@ impl Error {
             raw::OUT_OF_TURN => Error::OutOfTurn,
             raw::BAD_SIZE => Error::BadSize,
             raw::NO_MEMORY => Error::NoMemory,
+            raw::LOST => Error::Lost,
             raw::NO_IMAGE => Error::NoImage,
             raw::OTHER_KIND => Error::OtherKind,
             raw::IMAGE_SIZE => Error::ImageSize,
@@ -127,6 +131,7 @@ impl fmt::Display for Error {
             Error::Stopped => f.write_str("the session makes no further step"),
             Error::NoText => f.write_str("the document is no text"),
             Error::OutOfTurn => f.write_str("the session is to be closed again"),
+            Error::Lost => f.write_str("the last session did not find all that were closed before"),
             Error::NoImage => f.write_str("the words are no image"),
             Error::OtherKind => f.write_str("the image is of another kind of object"),
             Error::ImageSize => f.write_str("the image has another number of words"),
@@ -170,10 +175,8 @@ pub enum Closing<S> {
     Others,
     /// It was the last, and this is what it left.
     Closed(Closed),
-    /// It is not closed. After `NoMemory` it takes no other call than a further closing.
+    /// It is not closed. After `NoMemory` or `Lost` it takes no other call than a further closing.
     Not(S, Error),
-    /// The last session did not find all that were closed before; the store is dropped. No run of the library is known to answer it.
-    Lost,
 }
 
 impl<S> Closing<S> {
@@ -182,7 +185,6 @@ impl<S> Closing<S> {
             Ended::Others => Closing::Others,
             Ended::Closed(pointer) => Closing::Closed(Closed(pointer)),
             Ended::Not(pointer, error) => Closing::Not(session(pointer), error),
-            Ended::Lost => Closing::Lost,
         }
     }
 }

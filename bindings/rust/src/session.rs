@@ -23,7 +23,6 @@ pub enum Ended {
     Others,
     Closed(Pointer),
     Not(Pointer, Error),
-    Lost,
 }
 
 /// A pointer to a session, or to a closed store, which no other value has.
@@ -83,7 +82,6 @@ impl Pointer {
         match status {
             raw::DONE => Ended::Closed(self),
             raw::OTHERS => Ended::Others,
-            raw::LOST => Ended::Lost,
             status => Ended::Not(self, Error::of(status)),
         }
     }

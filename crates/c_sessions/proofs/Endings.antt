@@ -1,47 +1,114 @@
 -- What the last session needs, and what it makes of it.
-use Rattle.std.proofs.Common.{◌≡◌, ◌<◌, ℕ, Bool, List, All, length, sym, ap, ◌∙◌, subst}
-use Rattle.std.specs.Prelude.{Option, Some, None, Result}
+use Rattle.std.proofs.Common.{◌≡◌, ◌<◌, ◌≤◌, ◌+◌, ℕ, Bool, List, [], ◌∷◌, ◌++◌, All, arith, length, refl, sym, ap, ◌∙◌, subst}
+use Rattle.std.proofs.lemmas.List.Elements.{All-nil, All-push}
+use Rattle.std.proofs.lemmas.List.FromFn.{length-range_with_len}
+use Rattle.std.specs.Prelude.{MatchOption, Option, Some, None}
 use Rattle.std.specs.Arc.{arc_value}
-use Rattle.crossbeam_queue.specs.Passes.{Pass, IsPassOf}
+use Rattle.std.specs.declared.sync.Arc.{Arc}
+use Rattle.std.specs.Global.{Global}
+use Rattle.std.specs.List.{range_with_len}
+use Rattle.crossbeam_queue.specs.Passes.{Pass, view, IsPassOf}
 use Rattle.cx_rule.specs.Running.{Running}
 use Rattle.cx_service.specs.declared.close.Handed.{Handed}
-use Rattle.c_sessions.specs.Calls.{IsHanded}
+use Rattle.seat_pool.specs.Gathering.{IsHandedOf, number_of}
+use Rattle.seat_pool.specs.Pooling.{total}
+use Rattle.seat_pool.proofs.Poolings.{total_both, units}
 use Rattle.c_sessions.specs.Closings.{Closes, ClosesTo}
-use Rattle.c_sessions.specs.Handing.{AreGathered, HandsInTo, IsExitOf}
-use Rattle.c_sessions.specs.declared.closing.Closing.{Closing}
-use Rattle.c_sessions.specs.declared.closing.Closing.TheVariants.{Others, Again, Closed, Kept, Lost}
+use Rattle.c_sessions.specs.Handing.{HasTaken, IsExitOf, IsPassIn, IsRestOf}
 use Rattle.c_sessions.specs.declared.exit.Exit.{Exit}
+use Rattle.c_sessions.specs.Rule.{IsHandedInAt, callers_at, knows, numbers_in, pass_weighs, with_given, with_taken}
+use Rattle.c_sessions.specs.declared.closing.Closing.{Closing}
+use Rattle.c_sessions.specs.declared.closing.Closing.TheVariants.{Others, Again, Closed, Kept, Missing, Shared}
 use Rattle.c_sessions.specs.declared.handover.Handover.{Handover}
 use Rattle.c_sessions.specs.declared.rule.HandedIn.{HandedIn}
 use Rattle.c_sessions.specs.declared.rule.Knows.{Knows}
 use Rattle.c_sessions.specs.declared.session.Session.{Session}
 
-module _ {O : Type 0} where
-  abbrev got : Running O → Option (Running O) → Running O
-  got d None = d
-  got d (Some r) = r
+module _ {O : Type 0} (r : Running O) where
+  -- a pass that handed in its caller has taken none out
+  pub has_none : (handover : Handover O) (before after : Pass (HandedIn O) (Knows O)) (number : ℕ) (gathered : List Handed) → IsPassOf handover.line after → view before ≡ knows (Some r) (number ∷ []) [] → view after ≡ with_given (view before)
+      → gathered ≡ [] → HasTaken r handover after None gathered
+  has_none handover before after number gathered of was is none = record {
+    of = of;
+    taken = [];
+    is = is ∙ ap with_given was;
+    numbers = λ h. ap (total (λ (g : Handed). h (number_of g))) none;
+    each = subst (All (IsHandedOf r)) (sym none) (All-nil (IsHandedOf r));
+    share_is = none;
+  }
 
-  -- a pass knows one service
-  pub one_home : (home : Option (Running O)) (r s : Running O) → home ≡ Some r → home ≡ Some s → r ≡ s
-  one_home home r s here there = sym (ap (got r) here) ∙ ap (got r) there
+  -- one more was taken out
+  pub has_more : (handover : Handover O) (before after : Pass (HandedIn O) (Knows O)) (share : Option (Arc (Running O) Global)) (gathered more : List Handed) (x : HandedIn O) (caller : Handed) → x.handed ≡ Some caller → HasTaken r handover before share gathered → IsPassOf handover.line after
+      → IsHandedInAt (view before).home x → view after ≡ with_taken (view before) x → more ≡ gathered ++ caller ∷ [] → HasTaken r handover after (Some x.service) more
+  has_more handover before after share gathered more x caller it has of is taken pushed =
+      let home : Some (arc_value x.service) ≡ Some r = sym is.share ∙ ap (λ (v : Knows O). v.home) has.is in
+      let same : arc_value x.service ≡ r = one_service (arc_value x.service) r home in record {
+        of = of;
+        taken = number_of caller ∷ has.taken;
+        is = taken ∙ ap (λ v. with_taken v x) has.is ∙ ap (λ (o : Option Handed). knows (Some r) [] (numbers_in o ++ has.taken)) it;
+        numbers = λ h. (
+            let all : total (λ (g : Handed). h (number_of g)) more ≡ total (λ (g : Handed). h (number_of g)) (gathered ++ caller ∷ []) = ap (total (λ (g : Handed). h (number_of g))) pushed in
+            omega (arith, all, total_both (λ (g : Handed). h (number_of g)) gathered (caller ∷ []), has.numbers h));
+        each = subst (All (IsHandedOf r)) (sym pushed) (All-push (IsHandedOf r) gathered caller has.each (subst (λ (g : Handed). IsHandedOf r g) (one_caller is.caller caller (sym is.is ∙ it)) (subst (λ (s : Running O). IsHandedOf s is.caller) same is.handed)));
+        share_is = same;
+      }
+    where
+      one_service : (one two : Running O) → Some one ≡ Some two → one ≡ two
+      one_service one two e = cc
 
-  -- a way out stays one where a caller was handed in by it
-  pub exit_goes_on : (r : Running O) (exit : Exit O) (handover : Handover O) (given : HandedIn O) (answer : Result (Unit {0}) (HandedIn O)) (pass : Pass (HandedIn O) (Knows O)) → IsExitOf r exit → handover ≡ arc_value exit.handover
-      → HandsInTo handover exit.pass given answer pass → IsExitOf r (record { handover = exit.handover; pass = pass; gathered = exit.gathered; out = exit.out })
-  exit_goes_on r exit handover given answer pass is same told = record {
+      one_caller : (one two : Handed) → Some one ≡ Some two → one ≡ two
+      one_caller one two e = cc
+
+  -- none was
+  pub has_same : (handover : Handover O) (before after : Pass (HandedIn O) (Knows O)) (share : Option (Arc (Running O) Global)) (gathered : List Handed) → HasTaken r handover before share gathered → IsPassOf handover.line after → view after ≡ view before
+      → HasTaken r handover after share gathered
+  has_same handover before after share gathered has of same = record { of = of; taken = has.taken; is = same ∙ has.is; numbers = has.numbers; each = has.each; share_is = has.share_is }
+
+  -- no list is left where all are taken out
+  none_elsewhere : (xs : List ℕ) → length xs ≡ 0 → xs ≡ []
+  none_elsewhere [] none = refl
+  none_elsewhere (x ∷ xs) none = absurd (omega (arith, none))
+
+  -- as many as the service has callers are all of them, each once
+  pub has_all : (handover : Handover O) (pass : Pass (HandedIn O) (Knows O)) (share : Option (Arc (Running O) Global)) (gathered : List Handed) (elsewhere : List ℕ) → HasTaken r handover pass share gathered → r.callers ≤ length gathered
+      → ((h : ℕ → ℕ) → pass_weighs h (view pass) + total h elsewhere ≡ total h (range_with_len 0 (callers_at (view pass).home)))
+      → (h : ℕ → ℕ) → total (λ (g : Handed). h (number_of g)) gathered ≡ total h (range_with_len 0 r.callers)
+  has_all handover pass share gathered elsewhere has many learned h =
+      let at : (k : ℕ → ℕ) → total k has.taken + total k elsewhere ≡ total k (range_with_len 0 r.callers) = λ k. (
+      let held : pass_weighs k (view pass) ≡ 0 + total k has.taken = ap (pass_weighs k) has.is in
+      let range : total k (range_with_len 0 (callers_at (view pass).home)) ≡ total k (range_with_len 0 r.callers) = ap (λ (v : Knows O). total k (range_with_len 0 (callers_at v.home))) has.is in
+      omega (arith, held, range, learned k)) in
+      let few : length elsewhere ≡ 0 = omega (arith, many, at (λ _. 1), has.numbers (λ _. 1), units Handed gathered, units ℕ has.taken, units ℕ elsewhere, units ℕ (range_with_len 0 r.callers), length-range_with_len 0 r.callers) in
+      let none : total h elsewhere ≡ 0 = ap (total h) (none_elsewhere elsewhere few) in
+      omega (arith, none, at h, has.numbers h)
+
+  -- whose share there is, there is a caller
+  pub no_share : (share : Option (Arc (Running O) Global)) (gathered : List Handed) → MatchOption share (gathered ≡ []) (λ s. arc_value s ≡ r) → share ≡ None → 0 < r.callers → r.callers ≤ length gathered → ⊥
+  no_share None gathered is none some_callers many = (let few : length gathered ≡ 0 = ap length is in absurd (omega (arith, few, some_callers, many)))
+  no_share (Some s) gathered is none some_callers many = absurd cc
+
+  -- the share is one of the service
+  pub its_share : (share : Option (Arc (Running O) Global)) (s : Arc (Running O) Global) (gathered : List Handed) → MatchOption share (gathered ≡ []) (λ t. arc_value t ≡ r) → share ≡ Some s → arc_value s ≡ r
+  its_share None s gathered is same = absurd cc
+  its_share (Some t) s gathered is same = ap arc_value (one_share s t same) ∙ is
+    where
+      one_share : (one two : Arc (Running O) Global) → Some two ≡ Some one → one ≡ two
+      one_share one two e = cc
+
+  -- the last session begins with no caller
+  pub rest_begins : (exit : Exit O) (number : ℕ) (handover : Handover O) (pass : Pass (HandedIn O) (Knows O)) → IsExitOf r (number ∷ []) exit → handover ≡ arc_value exit.handover → IsPassOf handover.line pass → view pass ≡ with_given (view exit.pass)
+      → IsRestOf r (record { service = None; exit = record { handover = exit.handover; pass = pass; gathered = exit.gathered; out = exit.out } })
+  rest_begins exit number handover pass is same of given = record {
     some = is.some;
     count = is.count;
-    pass_of = record { of = subst (λ (h : Handover O). IsPassOf h.line pass) same told.of; home = told.home ∙ is.pass_of.home };
-    gathered = is.gathered;
+    has = has_none (arc_value exit.handover) exit.pass pass number exit.gathered.items (subst (λ (h : Handover O). IsPassOf h.line pass) same of) is.pass_of.is given is.gathered.none;
+    gathered = is.gathered.enough;
     out = is.out;
   }
 
-  -- those who are gathered are of the service of the way out
-  pub all_gathered : (r service : Running O) (home : Option (Running O)) (count : ℕ) (gathered : List Handed) → home ≡ Some r → count ≡ r.callers → AreGathered home count service gathered
-      → (r ≡ service) × All (IsHanded service) gathered × (length gathered ≡ service.callers)
-  all_gathered r service home count gathered here many is =
-      let same = one_home home r service here is.is in
-      (same, is.each, is.all ∙ many ∙ ap (λ (x : Running O). x.callers) same)
+  -- a pass of the callers that it is to hand in
+  pub own_due : (due : List ℕ) (handover : Handover O) (pass : Pass (HandedIn O) (Knows O)) → IsPassIn r due handover pass → IsPassIn r (view pass).due handover pass
+  own_due due handover pass is = subst (λ (ns : List ℕ). IsPassIn r ns handover pass) (sym (ap (λ (v : Knows O). v.due) is.is)) is
 
 module _ {O : Type 0} (line_count : O → ℕ) (lawful : O → List ℕ → Type 0) (step : O → List ℕ → List ℕ → List ℕ × List ℕ) (reads : O → List ℕ → Bool) where
   pub closes : (s : Session O) (closing : Closing O) → ClosesTo line_count lawful step reads (arc_value s.service) closing → Closes line_count lawful step reads s closing
@@ -49,4 +116,5 @@ module _ {O : Type 0} (line_count : O → ℕ) (lawful : O → List ℕ → Type
   closes s (Again session) to = absurd to
   closes s (Closed remains) to = to
   closes s (Kept kept) to = to
-  closes s Lost to = to
+  closes s (Missing rest) to = to
+  closes s (Shared rest) to = to

@@ -1,18 +1,24 @@
 -- Each move keeps the rule.
-use Rattle.std.proofs.Common.{◌≡◌, ℕ, zero, suc, List, [], ◌∷◌, ◌++◌, set, sym, refl, ap, ◌∙◌, subst, inl, inr, ⊎_elim}
-use Rattle.std.specs.Prelude.{All, IfSome, Option, Some, None}
+use Rattle.std.proofs.Common.{◌≡◌, ◌+◌, ℕ, zero, suc, List, [], ◌∷◌, ◌++◌, drop, set, take, sym, refl, ap, ◌∙◌, subst, inl, inr, ⊎_elim, arith}
+use Rattle.std.specs.Prelude.{Option, Some, None}
 use Rattle.std.specs.Arc.{arc_value}
+use Rattle.std.specs.List.{range_with_len}
 use Rattle.std.proofs.lemmas.List.Elements.{All-head, All-nil, All-push, All-tail}
 use mathlib.Core.Option.{some, some-injective, some-ne-none}
 use lib.ListN.{get_elem?}
-use Rattle.crossbeam_queue.specs.Fifo.{Forks, Pops, Pushes}
+use Rattle.crossbeam_queue.specs.Fifo.{Forks, Learns, Pops, Pushes}
 use Rattle.crossbeam_queue.proofs.Lists.{at_set, at_snoc}
 use Rattle.cx_rule.specs.Running.{Running}
-use Rattle.cx_service.specs.declared.close.Handed.{Handed}
-use Rattle.c_sessions.specs.Calls.{IsHanded}
-use Rattle.c_sessions.specs.Rule.{Gathers, IsHandedInAt, Keeps, fresh, opened, with_given}
+use Rattle.seat_pool.specs.Pooling.{total}
+use Rattle.seat_pool.proofs.Poolings.{total_both, total_set}
+use Rattle.c_sessions.specs.Rule.{Gathers, IsHandedInAt, IsNew, Keeps, Tells, callers_at, cut_left, cut_right, fresh, items_weigh, numbers_in, offering, opened, pass_weighs, with_given, with_taken}
 use Rattle.c_sessions.specs.declared.rule.HandedIn.{HandedIn}
 use Rattle.c_sessions.specs.declared.rule.Knows.{Knows}
+
+-- the first of a list and the rest are all of it
+cut_weighs : (h : ℕ → ℕ) (xs : List ℕ) → total h (take 1 xs) + total h (drop 1 xs) ≡ total h xs
+cut_weighs h [] = refl
+cut_weighs h (x ∷ xs) = omega arith
 
 module _ {O : Type 0} where
   abbrev Known : Running O → List (Knows O) → Type 0
@@ -22,12 +28,14 @@ module _ {O : Type 0} where
   none_known : (r : Running O) → None ≡ Some r → ⊥
   none_known r e = absurd cc
 
-  is_fresh : (v : Knows O) (views : List (Knows O)) (pass : ℕ) → views ≡ fresh ∷ [] → get_elem? views pass ≡ some v → v ≡ fresh
-  is_fresh v views zero new at = sym (some-injective fresh v (sym (ap (λ l. get_elem? l 0) new) ∙ at))
-  is_fresh v views (suc pass) new at = absurd (some-ne-none v (sym at ∙ ap (λ l. get_elem? l (suc pass)) new))
+  -- the view of a queue's only pass
+  is_only : (one v : Knows O) (views : List (Knows O)) (pass : ℕ) → views ≡ one ∷ [] → get_elem? views pass ≡ some v → v ≡ one
+  is_only one v views zero only at = sym (some-injective one v (sym (ap (λ l. get_elem? l 0) only) ∙ at))
+  is_only one v views (suc pass) only at = absurd (some-ne-none v (sym at ∙ ap (λ l. get_elem? l (suc pass)) only))
 
-  not_new : (r : Running O) (v : Knows O) (views : List (Knows O)) (pass : ℕ) → v.home ≡ Some r → views ≡ fresh ∷ [] → get_elem? views pass ≡ some v → ⊥
-  not_new r v views pass home new at = none_known r (sym (ap (λ (u : Knows O). u.home) (is_fresh v views pass new at)) ∙ home)
+  not_new : (r : Running O) (v : Knows O) (items : List (HandedIn O)) (views : List (Knows O)) (pass : ℕ) → v.home ≡ Some r → IsNew items views → get_elem? views pass ≡ some v → ⊥
+  not_new r v items views pass home (inl new) at = none_known r (sym (ap (λ (u : Knows O). u.home) (is_only fresh v views pass new.1 at)) ∙ home)
+  not_new r v items views pass home (inr o) at = none_known r (sym (ap (λ (u : Knows O). u.home) (is_only (offering (arc_value o.share.service)) v views pass o.views_are at)) ∙ home)
 
   known_set : (r : Running O) (views : List (Knows O)) (pass : ℕ) (w : Knows O) → w.home ≡ Some r → Known r views → Known r (set views pass w)
   known_set r views pass w home known j u e = ⊎_elim (λ x. subst (λ (y : Knows O). y.home ≡ Some r) x.1 home) (λ x. known j u x.1) (at_set views pass j w u e)
@@ -35,71 +43,143 @@ module _ {O : Type 0} where
   known_snoc : (r : Running O) (views : List (Knows O)) (w : Knows O) → w.home ≡ Some r → Known r views → Known r (views ++ w ∷ [])
   known_snoc r views w home known j u e = ⊎_elim (λ x. known j u x) (λ x. subst (λ (y : Knows O). y.home ≡ Some r) x home) (at_snoc views w u j e)
 
+  -- the numbers that are with passes
+  all_of : List (Knows O) → List ℕ
+  all_of [] = []
+  all_of (u ∷ us) = u.due ++ (u.taken ++ all_of us)
+
+  all_weigh : (h : ℕ → ℕ) (us : List (Knows O)) → total h (all_of us) ≡ total (pass_weighs h) us
+  unfolding all_of
+  all_weigh h [] = refl
+  all_weigh h (u ∷ us) = omega (arith, total_both h u.due (u.taken ++ all_of us), total_both h u.taken (all_of us), all_weigh h us)
+
+  -- the numbers that are with the other passes
+  others_weigh : (views : List (Knows O)) (pass : ℕ) (v : Knows O) → get_elem? views pass ≡ some v → (others : List ℕ) × ((h : ℕ → ℕ) → total (pass_weighs h) views ≡ pass_weighs h v + total h others)
+  others_weigh [] pass v at = absurd (some-ne-none v (sym at))
+  others_weigh (u ∷ us) zero v at = (all_of us, λ h. (let same : pass_weighs h u ≡ pass_weighs h v = ap (pass_weighs h) (some-injective u v at) in omega (arith, same, all_weigh h us)))
+  others_weigh (u ∷ us) (suc pass) v at =
+      let rest = others_weigh us pass v at in
+      (u.due ++ (u.taken ++ rest.0), λ h. omega (arith, rest.1 h, total_both h u.due (u.taken ++ rest.0), total_both h u.taken rest.0))
+
   -- a new queue keeps the rule
   pub begins : Gathers {O = O} [] (fresh ∷ [])
-  begins = inl (refl, refl)
+  begins = inl (inl (refl, refl))
 
-  -- the first pass learns the service by a share that it puts into the queue
-  pub opens : (n pass : ℕ) (v : Knows O) (x : HandedIn O) → v ≡ fresh → x.handed ≡ None → Pushes Gathers n pass v x (λ w. w ≡ opened (Some (arc_value x.service)))
-  opens n pass v x new none items views short (inr k) at = absurd (none_known k.service (sym (ap (λ (u : Knows O). u.home) new) ∙ k.known pass v at))
-  opens n pass v x new none items views short (inl empty) at =
-      let r = arc_value x.service in let w = opened (Some r) in (
+  only_set : (one w : Knows O) (v : Knows O) (views : List (Knows O)) (pass : ℕ) → views ≡ one ∷ [] → get_elem? views pass ≡ some v → set views pass w ≡ w ∷ []
+  only_set one w v views zero only at = ap (λ l. set l 0 w) only
+  only_set one w v views (suc pass) only at = absurd (some-ne-none v (sym at ∙ ap (λ l. get_elem? l (suc pass)) only))
+
+  -- a share is put into the new queue
+  pub opens : (n pass : ℕ) (v : Knows O) (x : HandedIn O) → v ≡ fresh → Pushes Gathers n pass v x (λ w. w ≡ offering (arc_value x.service))
+  opens n pass v x new items views short (inr k) at = absurd (none_known k.service (sym (ap (λ (u : Knows O). u.home) new) ∙ k.known pass v at))
+  opens n pass v x new items views short (inl (inr o)) at =
+      absurd (none_known (arc_value o.share.service) (ap (λ (u : Knows O). u.offered) (sym new ∙ is_only (offering (arc_value o.share.service)) v views pass o.views_are at)))
+  opens n pass v x new items views short (inl (inl empty)) at =
+      let w = offering (arc_value x.service) in (
         w,
-        inr (record {
-          service = r;
-          each = subst (λ (l : List (HandedIn O)). All (IsHandedInAt (Some r)) (l ++ x ∷ [])) (sym empty.0) (All-push (IsHandedInAt (Some r)) [] x (All-nil (IsHandedInAt (Some r))) share);
-          known = alone views pass empty.1 at;
-        }),
+        inl (inr (record {
+          share = x;
+          items_are = ap (λ (l : List (HandedIn O)). l ++ x ∷ []) empty.0;
+          views_are = only_set fresh w v views pass empty.1 at;
+        })),
+        refl,
+      )
+
+  -- and is taken out again
+  pub starts : (pass : ℕ) (v : Knows O) (r : Running O) → v ≡ offering r → Pops Gathers pass v (λ x w. w ≡ opened v.offered)
+  starts pass v r is x items views (inr k) at = absurd (none_known k.service (sym (ap (λ (u : Knows O). u.home) is) ∙ k.known pass v at))
+  starts pass v r is x items views (inl (inl new)) at = absurd cc
+  starts pass v r is x items views (inl (inr o)) at =
+      let w = opened v.offered in
+      let home : v.offered ≡ Some r = ap (λ (u : Knows O). u.offered) is in
+      let none : items ≡ [] = cons_injective_tail x o.share items [] o.items_are in (
+        w,
+        inr (subst (λ (l : List (HandedIn O)). Keeps l (set views pass w)) (sym none) (subst (λ (l : List (Knows O)). Keeps [] l) (sym (only_set (offering (arc_value o.share.service)) w v views pass o.views_are at)) (
+            subst (λ (h : Option (Running O)). Keeps [] (opened h ∷ [])) (sym home) (record {
+              service = r;
+              each = All-nil (IsHandedInAt (Some r));
+              known = only;
+              callers = λ h. omega arith;
+            })))),
         refl,
       )
     where
-      share : IsHandedInAt (Some (arc_value x.service)) x
-      share = record { share = refl; handed = subst (λ (h : Option Handed). IfSome h (IsHanded (arc_value x.service))) (sym none) tt }
+      only : Known r (opened (Some r) ∷ [])
+      only zero u e = sym (ap (λ (y : Knows O). y.home) (some-injective (opened (Some r)) u e))
+      only (suc j) u e = absurd (some-ne-none u (sym e))
 
-      alone : (us : List (Knows O)) (k : ℕ) → us ≡ fresh ∷ [] → get_elem? us k ≡ some v → Known (arc_value x.service) (set us k (opened (Some (arc_value x.service))))
-      alone us zero one here = subst (λ (l : List (Knows O)). Known (arc_value x.service) (set l 0 (opened (Some (arc_value x.service))))) (sym one) only
-        where
-          only : Known (arc_value x.service) (opened (Some (arc_value x.service)) ∷ [])
-          only zero u e = sym (ap (λ (y : Knows O). y.home) (some-injective (opened (Some (arc_value x.service))) u e))
-          only (suc j) u e = absurd (some-ne-none u (sym e))
-      alone us (suc k) one here = absurd (some-ne-none v (sym here ∙ ap (λ l. get_elem? l (suc k)) one))
+      cons_injective_tail : (y z : HandedIn O) (ys zs : List (HandedIn O)) → y ∷ ys ≡ z ∷ zs → ys ≡ zs
+      cons_injective_tail y z ys zs e = cc
 
-  -- a pass is made of one that knows the service
-  pub parts : (pass : ℕ) (r : Running O) (v : Knows O) → v.home ≡ Some r → Forks Gathers pass v v (opened v.home)
-  parts pass r v home items views (inl new) at = absurd (not_new r v views pass home new.1 at)
+  -- a pass for one caller is made of one that knows the service
+  pub parts : (pass : ℕ) (r : Running O) (v : Knows O) → v.home ≡ Some r → Forks Gathers pass v (cut_left v) (cut_right v)
+  parts pass r v home items views (inl new) at = absurd (not_new r v items views pass home new at)
   parts pass r v home items views (inr k) at =
+      let l = cut_left v in let w = cut_right v in
       let here = k.known pass v at in
       inr (record {
         service = k.service;
         each = k.each;
-        known = known_snoc k.service (set views pass v) (opened v.home) here (known_set k.service views pass v here k.known);
+        known = known_snoc k.service (set views pass l) w here (known_set k.service views pass l here k.known);
+        callers = λ h. (let s = total_set (pass_weighs h) views pass v l at in omega (arith, s, total_both (pass_weighs h) (set views pass l) (w ∷ []), cut_weighs h v.due, k.callers h));
       })
 
-  -- a caller of the service is put into the queue
-  pub gives : (n pass : ℕ) (v : Knows O) (x : HandedIn O) → IsHandedInAt v.home x → Pushes Gathers n pass v x (λ w. w ≡ with_given v x)
-  gives n pass v x is items views short (inl new) at = absurd (not_new (arc_value x.service) v views pass is.share new.1 at)
-  gives n pass v x is items views short (inr k) at =
-      let w = with_given v x in
+  -- the caller of a pass is put into the queue
+  pub gives : (n pass : ℕ) (v : Knows O) (x : HandedIn O) → IsHandedInAt v.home x → v.due ≡ numbers_in x.handed → Pushes Gathers n pass v x (λ w. w ≡ with_given v)
+  gives n pass v x is due items views short (inl new) at = absurd (not_new (arc_value x.service) v items views pass is.share new at)
+  gives n pass v x is due items views short (inr k) at =
+      let w = with_given v in
       let here = k.known pass v at in (
         w,
         inr (record {
           service = k.service;
           each = All-push (IsHandedInAt (Some k.service)) items x k.each (subst (λ (home : Option (Running O)). IsHandedInAt home x) here is);
           known = known_set k.service views pass w here k.known;
+          callers = λ h. (
+              let s = total_set (pass_weighs h) views pass v w at in
+              let was : total h v.due ≡ total h (numbers_in x.handed) = ap (total h) due in
+              omega (arith, s, was, total_both (λ (y : HandedIn O). total h (numbers_in y.handed)) items (x ∷ []), k.callers h));
         }),
         refl,
       )
 
   -- and is taken out
-  pub takes : (pass : ℕ) (v : Knows O) → Pops Gathers pass v (λ x w. IsHandedInAt v.home x × (w ≡ v))
-  takes pass v x items views (inl new) at = absurd cc
-  takes pass v x items views (inr k) at =
+  pub takes : (pass : ℕ) (r : Running O) (v : Knows O) → v.home ≡ Some r → Pops Gathers pass v (λ x w. IsHandedInAt v.home x × (w ≡ with_taken v x))
+  takes pass r v home x items views (inl new) at = absurd (not_new r v (x ∷ items) views pass home new at)
+  takes pass r v home x items views (inr k) at =
+      let w = with_taken v x in
       let here = k.known pass v at in (
-        v,
+        w,
         inr (record {
           service = k.service;
           each = All-tail (IsHandedInAt (Some k.service)) x items k.each;
-          known = known_set k.service views pass v here k.known;
+          known = known_set k.service views pass w here k.known;
+          callers = λ h. (let s = total_set (pass_weighs h) views pass v w at in omega (arith, s, total_both h (numbers_in x.handed) v.taken, k.callers h));
         }),
         (subst (λ (home : Option (Running O)). IsHandedInAt home x) (sym here) (All-head (IsHandedInAt (Some k.service)) x items k.each), refl),
       )
+
+  -- a pass that knows the service learns where its callers are
+  pub learns : (pass : ℕ) (r : Running O) (v : Knows O) → v.home ≡ Some r → Learns Gathers pass v (Tells v)
+  learns pass r v home items views (inl new) at = absurd (not_new r v items views pass home new at)
+  learns pass r v home items views (inr k) at =
+      let others = others_weigh views pass v at in record {
+        elsewhere = others.0;
+        callers = λ h. (
+            let many : total h (range_with_len 0 (callers_at v.home)) ≡ total h (range_with_len 0 k.service.callers) = ap (λ (x : Option (Running O)). total h (range_with_len 0 (callers_at x))) (k.known pass v at) in
+            omega (arith, others.1 h, many, k.callers h));
+      }
+
+  -- the numbers of the callers in the queue
+  numbers_of : List (HandedIn O) → List ℕ
+  numbers_of [] = []
+  numbers_of (x ∷ xs) = numbers_in x.handed ++ numbers_of xs
+
+  numbers_weigh : (h : ℕ → ℕ) (xs : List (HandedIn O)) → total h (numbers_of xs) ≡ items_weigh h xs
+  unfolding numbers_of
+  numbers_weigh h [] = refl
+  numbers_weigh h (x ∷ xs) = omega (arith, total_both h (numbers_in x.handed) (numbers_of xs), numbers_weigh h xs)
+
+  -- the callers that are with a pass, and the others
+  pub with_others : (v : Knows O) (items : List (HandedIn O)) → Tells v items → (elsewhere : List ℕ) × ((h : ℕ → ℕ) → pass_weighs h v + total h elsewhere ≡ total h (range_with_len 0 (callers_at v.home)))
+  with_others v items tells = (numbers_of items ++ tells.elsewhere, λ h. omega (arith, total_both h (numbers_of items) tells.elsewhere, numbers_weigh h items, tells.callers h))

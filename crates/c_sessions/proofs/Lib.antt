@@ -1,5 +1,4 @@
 pub mod Endings
 pub mod Gatherings
 pub mod Numbers
-pub mod Orderings
 pub mod Places

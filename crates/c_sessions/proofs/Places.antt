@@ -1,5 +1,5 @@
 -- What a session has seen stands through its calls.
-use Rattle.std.proofs.Common.{◌≡◌, ◌+◌, ◌*◌, ◌≤◌, ℕ, max, Bool, true, false, List, Some, Option, IfSome, length, inl, inr, arith, ap, ap₂, refl, subst, sym, ◌∙◌}
+use Rattle.std.proofs.Common.{◌≡◌, ◌+◌, ◌*◌, ◌≤◌, ℕ, max, Bool, true, false, List, [], ◌∷◌, Some, Option, IfSome, length, inl, inr, arith, ap, ap₂, refl, subst, sym, ◌∙◌}
 use Rattle.std.proofs.lemmas.Bool.{cases_lt}
 use Rattle.std.proofs.lemmas.Option.{same_Some}
 use Rattle.std.specs.Arc.{arc_value}
@@ -14,11 +14,13 @@ use Rattle.cx_service.specs.CatchUps.{HasSeen}
 use Rattle.cx_service.specs.declared.close.Handed.{Handed}
 use Rattle.cx_service.specs.declared.close.Handed.TheVariants.{Idle, Linked, Stopped}
 use Rattle.cx_service.proofs.Seeing.{answered_read_seen, catch_up_seen, driven_seen, read_behind, read_seen, submit_linked_behind, submit_seen}
+use Rattle.seat_pool.specs.Gathering.{IsHandedOf, number_of}
 use Rattle.c_sessions.specs.declared.seeing.Sight.{Sight}
 use Rattle.c_sessions.specs.declared.seeing.Sight.TheVariants.{Caught, Behind, Stopped as SightStopped, OutOfTurn as SightOutOfTurn}
 use Rattle.c_sessions.specs.declared.steps.Called.{Called}
 use Rattle.c_sessions.specs.declared.steps.Called.TheVariants.{Done, Pending, Again, Full, Worn, Stopped as CalledStopped, OutOfTurn}
-use Rattle.c_sessions.specs.Calls.{AsksBy, CallsFrom, DrivesTo, EntersNot, EntersTo, FinishesFrom, IsHanded, LooksTo, place_after}
+use Rattle.c_sessions.specs.Calls.{AsksBy, CallsFrom, DrivesTo, EntersNot, EntersTo, FinishesFrom, LooksTo, place_after}
+use Rattle.c_sessions.specs.Handing.{IsExitOf}
 use Rattle.c_sessions.specs.Places.{HasPlace, SeesFrom, SeesTo, place_seen}
 use Rattle.c_sessions.specs.Sessions.{IsReady, Stands}
 use Rattle.c_sessions.specs.declared.session.Session.{Session}
@@ -29,67 +31,71 @@ none_seen r (Idle caller) = record { front = omega arith; read = inl (omega arit
 none_seen r (Linked linked) = λ ticket at. omega arith
 none_seen r (Stopped stopped) = tt
 
--- a place does not fall from one moment to the next, and what stands of the caller then has seen it
-pub record Goes {O : Type 0} (r : Running O) (before after : ℕ) (handed : Handed) : Type 0 where
+-- a place does not fall from one moment to the next, what stands of the caller then has seen it, and it is the same caller
+pub record Goes {O : Type 0} (r : Running O) (number before after : ℕ) (handed : Handed) : Type 0 where
   pub rises : before ≤ after
   pub seen : HasPlace r after handed
+  pub same : number_of handed ≡ number
+
+abbrev number_at : Seated → ℕ
+number_at u = u.known.local.number
 
 module _ {O : Type 0} (r : Running O) (place : ℕ) where
-  stays : (handed : Handed) → HasPlace r place handed → Goes r place place handed
-  stays handed seen = record { rises = omega arith; seen = seen }
+  stays : (n : ℕ) (handed : Handed) → HasPlace r place handed → number_of handed ≡ n → Goes r n place place handed
+  stays n handed seen same = record { rises = omega arith; seen = seen; same = same }
 
-  out_of_turn : (called : Called) (before after : Handed) → HasPlace r place before → called ≡ OutOfTurn → after ≡ before → Goes r place (place_after called place) after
+  out_of_turn : (called : Called) (before after : Handed) → HasPlace r place before → called ≡ OutOfTurn → after ≡ before → Goes r (number_of before) place (place_after called place) after
   out_of_turn called before after seen is same =
-      subst (λ (c : Called). Goes r place (place_after c place) after) (sym is) (subst (λ (h : Handed). Goes r place place h) (sym same) (stays before seen))
+      subst (λ (c : Called). Goes r (number_of before) place (place_after c place) after) (sym is) (subst (λ (h : Handed). Goes r (number_of before) place place h) (sym same) (stays (number_of before) before seen refl))
 
   same_ticket : (u v : Seated) → v.known.local.own ≡ u.known.local.own → v.known.local.answered ≡ u.known.local.answered → unanswered_ticket v.known.local ≡ unanswered_ticket u.known.local
   same_ticket u v own answered = ap₂ (λ (xs : List OwnEntry) (given : List Answer). option_map (λ (x : OwnEntry). x.ticket) (slice_get xs (length given))) own answered
 
-  drives_goes : (tries : ℕ) (u : Seated) (called : Called) (after : Handed) (reply : List ℕ) → HasPlace r place (Linked u) → DrivesTo r tries u called after reply → Goes r place (place_after called place) after
+  drives_goes : (tries : ℕ) (u : Seated) (called : Called) (after : Handed) (reply : List ℕ) → HasPlace r place (Linked u) → DrivesTo r tries u called after reply → Goes r (number_at u) place (place_after called place) after
   drives_goes tries u (Done p) (Idle v) reply low told =
       let done = told.2.0 in
       let answer : Answer = record { ticket = told.0; reply = reply } in
       let at = told.1 in
       let above = low told.0 done.ticket in
-      record { rises = omega (arith, at, above); seen = driven_seen r p u v answer (omega (arith, at)) done }
-  drives_goes tries u Pending (Linked v) reply low told = stays (Linked v) (λ ticket at. low ticket (sym (same_ticket u v told.keeps.own told.answered) ∙ at))
-  drives_goes tries u CalledStopped (Stopped v) reply low told = stays (Stopped v) tt
+      record { rises = omega (arith, at, above); seen = driven_seen r p u v answer (omega (arith, at)) done; same = done.keeps.number }
+  drives_goes tries u Pending (Linked v) reply low told = stays (number_at u) (Linked v) (λ ticket at. low ticket (sym (same_ticket u v told.keeps.own told.answered) ∙ at)) told.keeps.number
+  drives_goes tries u CalledStopped (Stopped v) reply low told = stays (number_at u) (Stopped v) tt told.0.keeps.number
   drives_goes tries u called after reply low told = absurd told
 
   looks_goes : (op : List ℕ) (tries : ℕ) (u : Seated) (called : Called) (after : Handed) (reply : List ℕ) → IsCallerOf r u → HasSeen r.callers place u.known.local → LooksTo r op tries u called after reply →
-      Goes r place (place_after called place) after
+      Goes r (number_at u) place (place_after called place) after
   looks_goes op tries u (Done p) (Idle v) reply caller was told =
-      record { rises = (read_behind r op u v place (record { place = p; reply = reply }) was told.0).0; seen = answered_read_seen r op u v (record { place = p; reply = reply }) told.0 }
-  looks_goes op tries u Again (Idle v) reply caller was told = stays (Idle v) (read_seen r place u v caller was told.keeps)
-  looks_goes op tries u CalledStopped (Stopped v) reply caller was told = stays (Stopped v) tt
+      record { rises = (read_behind r op u v place (record { place = p; reply = reply }) was told.0).0; seen = answered_read_seen r op u v (record { place = p; reply = reply }) told.0; same = told.0.keeps.number }
+  looks_goes op tries u Again (Idle v) reply caller was told = stays (number_at u) (Idle v) (read_seen r place u v caller was told.keeps) told.keeps.number
+  looks_goes op tries u CalledStopped (Stopped v) reply caller was told = stays (number_at u) (Stopped v) tt told.0.keeps.number
   looks_goes op tries u called after reply caller was told = absurd told
 
-  enters_not : (op : List ℕ) (tries : ℕ) (u : Seated) (called : Called) (after : Handed) → IsCallerOf r u → HasSeen r.callers place u.known.local → EntersNot r op tries u called after → Goes r place (place_after called place) after
-  enters_not op tries u Again (Idle v) caller was told = stays (Idle v) (submit_seen r (200 + r.callers + 3 * tries) place u v caller was told.0.keeps)
-  enters_not op tries u Full (Idle v) caller was told = stays (Idle v) (submit_seen r (200 + r.callers + 3 * tries) place u v caller was told.1.keeps)
-  enters_not op tries u Worn (Idle v) caller was told = stays (Idle v) (submit_seen r (200 + r.callers + 3 * tries) place u v caller was told.keeps)
-  enters_not op tries u CalledStopped (Stopped v) caller was told = stays (Stopped v) tt
+  enters_not : (op : List ℕ) (tries : ℕ) (u : Seated) (called : Called) (after : Handed) → IsCallerOf r u → HasSeen r.callers place u.known.local → EntersNot r op tries u called after → Goes r (number_at u) place (place_after called place) after
+  enters_not op tries u Again (Idle v) caller was told = stays (number_at u) (Idle v) (submit_seen r (200 + r.callers + 3 * tries) place u v caller was told.0.keeps) told.0.keeps.number
+  enters_not op tries u Full (Idle v) caller was told = stays (number_at u) (Idle v) (submit_seen r (200 + r.callers + 3 * tries) place u v caller was told.1.keeps) told.1.keeps.number
+  enters_not op tries u Worn (Idle v) caller was told = stays (number_at u) (Idle v) (submit_seen r (200 + r.callers + 3 * tries) place u v caller was told.keeps) told.keeps.number
+  enters_not op tries u CalledStopped (Stopped v) caller was told = stays (number_at u) (Stopped v) tt told.0.keeps.number
   enters_not op tries u called after caller was told = absurd told
 
   enters_goes : (op : List ℕ) (tries : ℕ) (u : Seated) (called : Called) (after : Handed) (reply : List ℕ) → IsCallerOf r u → HasSeen r.callers place u.known.local → EntersTo r op tries u called after reply →
-      Goes r place (place_after called place) after
+      Goes r (number_at u) place (place_after called place) after
   enters_goes op tries u called after reply caller was (inl e) =
       let low = submit_linked_behind r op (200 + r.callers + 3 * tries) place u e.linked was e.entered in
-      drives_goes tries e.linked called after reply (λ ticket at. (let same = same_Some e.entered.ticket ticket (sym e.entered.lends ∙ at) in omega (arith, low, same))) e.driven
+      subst (λ n. Goes r n place (place_after called place) after) e.entered.keeps.number (drives_goes tries e.linked called after reply (λ ticket at. (let same = same_Some e.entered.ticket ticket (sym e.entered.lends ∙ at) in omega (arith, low, same))) e.driven)
   enters_goes op tries u called after reply caller was (inr n) = enters_not op tries u called after caller was n
 
   asks_goes : (reads : Bool) (op : List ℕ) (tries : ℕ) (u : Seated) (called : Called) (after : Handed) (reply : List ℕ) → IsCallerOf r u → HasSeen r.callers place u.known.local → AsksBy reads r op tries u called after reply →
-      Goes r place (place_after called place) after
+      Goes r (number_at u) place (place_after called place) after
   asks_goes true op tries u called after reply caller was told = looks_goes op tries u called after reply caller was told
   asks_goes false op tries u called after reply caller was told = enters_goes op tries u called after reply caller was told
 
-  pub calls_go : (reads : O → List ℕ → Bool) (op : List ℕ) (tries : ℕ) (before : Handed) (called : Called) (after : Handed) (reply : List ℕ) → IsHanded r before → HasPlace r place before → CallsFrom reads r op tries before called after reply →
-      Goes r place (place_after called place) after
+  pub calls_go : (reads : O → List ℕ → Bool) (op : List ℕ) (tries : ℕ) (before : Handed) (called : Called) (after : Handed) (reply : List ℕ) → IsHandedOf r before → HasPlace r place before → CallsFrom reads r op tries before called after reply →
+      Goes r (number_of before) place (place_after called place) after
   calls_go reads op tries (Idle u) called after reply caller was told = asks_goes (reads r.object op) op tries u called after reply caller was told
   calls_go reads op tries (Linked u) called after reply caller was told = out_of_turn called (Linked u) after was told.0 told.1
   calls_go reads op tries (Stopped u) called after reply caller was told = out_of_turn called (Stopped u) after was told.0 told.1
 
-  pub finishes_go : (tries : ℕ) (before : Handed) (called : Called) (after : Handed) (reply : List ℕ) → HasPlace r place before → FinishesFrom r tries before called after reply → Goes r place (place_after called place) after
+  pub finishes_go : (tries : ℕ) (before : Handed) (called : Called) (after : Handed) (reply : List ℕ) → HasPlace r place before → FinishesFrom r tries before called after reply → Goes r (number_of before) place (place_after called place) after
   finishes_go tries (Linked u) called after reply was told = drives_goes tries u called after reply was told
   finishes_go tries (Idle u) called after reply was told = out_of_turn called (Idle u) after was told.0 told.1
   finishes_go tries (Stopped u) called after reply was told = out_of_turn called (Stopped u) after was told.0 told.1
@@ -101,17 +107,17 @@ module _ {O : Type 0} (r : Running O) (place : ℕ) where
     | inr more ↦ subst (λ n. HasSeen callers n u.known.local) (omega (arith, more)) a
   ]
 
-  sees_goes : (wanted : ℕ) (u : Seated) (sight : Sight) (after : Handed) → IsCallerOf r u → HasSeen r.callers place u.known.local → SeesTo r wanted u sight after → Goes r place (place_seen sight wanted place) after
-  sees_goes wanted u Caught (Idle v) caller was told = record { rises = omega arith; seen = both_seen r.callers place wanted v (catch_up_seen r place u v caller was told.keeps) told.seen }
-  sees_goes wanted u (Behind found) (Idle v) caller was told = stays (Idle v) (catch_up_seen r place u v caller was told.keeps)
-  sees_goes wanted u SightStopped (Stopped v) caller was told = stays (Stopped v) tt
+  sees_goes : (wanted : ℕ) (u : Seated) (sight : Sight) (after : Handed) → IsCallerOf r u → HasSeen r.callers place u.known.local → SeesTo r wanted u sight after → Goes r (number_at u) place (place_seen sight wanted place) after
+  sees_goes wanted u Caught (Idle v) caller was told = record { rises = omega arith; seen = both_seen r.callers place wanted v (catch_up_seen r place u v caller was told.keeps) told.seen; same = told.keeps.number }
+  sees_goes wanted u (Behind found) (Idle v) caller was told = stays (number_at u) (Idle v) (catch_up_seen r place u v caller was told.keeps) told.keeps.number
+  sees_goes wanted u SightStopped (Stopped v) caller was told = stays (number_at u) (Stopped v) tt told.keeps.number
   sees_goes wanted u sight after caller was told = absurd told
 
-  no_sight : (wanted : ℕ) (sight : Sight) (before after : Handed) → HasPlace r place before → sight ≡ SightOutOfTurn → after ≡ before → Goes r place (place_seen sight wanted place) after
+  no_sight : (wanted : ℕ) (sight : Sight) (before after : Handed) → HasPlace r place before → sight ≡ SightOutOfTurn → after ≡ before → Goes r (number_of before) place (place_seen sight wanted place) after
   no_sight wanted sight before after seen is same =
-      subst (λ (c : Sight). Goes r place (place_seen c wanted place) after) (sym is) (subst (λ (h : Handed). Goes r place place h) (sym same) (stays before seen))
+      subst (λ (c : Sight). Goes r (number_of before) place (place_seen c wanted place) after) (sym is) (subst (λ (h : Handed). Goes r (number_of before) place place h) (sym same) (stays (number_of before) before seen refl))
 
-  pub sees_go : (wanted : ℕ) (before : Handed) (sight : Sight) (after : Handed) → IsHanded r before → HasPlace r place before → SeesFrom r wanted before sight after → Goes r place (place_seen sight wanted place) after
+  pub sees_go : (wanted : ℕ) (before : Handed) (sight : Sight) (after : Handed) → IsHandedOf r before → HasPlace r place before → SeesFrom r wanted before sight after → Goes r (number_of before) place (place_seen sight wanted place) after
   sees_go wanted (Idle u) sight after caller was told = sees_goes wanted u sight after caller was told
   sees_go wanted (Linked u) sight after caller was told = no_sight wanted sight (Linked u) after was told.0 told.1
   sees_go wanted (Stopped u) sight after caller was told = no_sight wanted sight (Stopped u) after was told.0 told.1
@@ -121,22 +127,24 @@ module _ {O : Type 0} (s : Session O) (b h : Handed) (service : Running O) (same
   abbrev next : Session O
   next = record { service = s.service; exit = s.exit; handed = Some h; place = place }
 
-  -- what stood before the call, and what it had seen
-  pub stood : IsHanded service b × HasPlace service s.place b
-  stood =
-      let was : ready.handed ≡ b = same_Some ready.handed b (sym ready.is ∙ at) in
-      subst (λ (r : Running O). IsHanded r b × HasPlace r s.place b) (sym same) (subst (λ (x : Handed). IsHanded (arc_value s.service) x × HasPlace (arc_value s.service) s.place x) was (ready.of, ready.seen))
+  was : ready.handed ≡ b
+  was = same_Some ready.handed b (sym ready.is ∙ at)
 
-  pub ready_next : IsHanded service h → Goes service s.place place h → IsReady next
+  -- what stood before the call, and what it had seen
+  pub stood : IsHandedOf service b × HasPlace service s.place b
+  stood =
+      subst (λ (r : Running O). IsHandedOf r b × HasPlace r s.place b) (sym same) (subst (λ (x : Handed). IsHandedOf (arc_value s.service) x × HasPlace (arc_value s.service) s.place x) was (ready.of, ready.seen))
+
+  pub ready_next : IsHandedOf service h → Goes service (number_of b) s.place place h → IsReady next
   ready_next of goes = record {
     handed = h;
     is = refl;
-    of = subst (λ (r : Running O). IsHanded r h) same of;
+    of = subst (λ (r : Running O). IsHandedOf r h) same of;
     seen = subst (λ (r : Running O). HasPlace r place h) same goes.seen;
-    exit = ready.exit;
+    exit = subst (λ n. IsExitOf (arc_value s.service) (n ∷ []) s.exit) (ap number_of was ∙ sym goes.same) ready.exit;
   }
 
-  pub stands_next : (come_to : Running O → Handed → Handed → Type 0) → come_to service b h → Goes service s.place place h → (told : ℕ) → place ≡ told → Stands s next told (come_to (arc_value s.service))
+  pub stands_next : (come_to : Running O → Handed → Handed → Type 0) → come_to service b h → Goes service (number_of b) s.place place h → (told : ℕ) → place ≡ told → Stands s next told (come_to (arc_value s.service))
   stands_next come_to came goes told is = record {
     same = refl;
     told = subst (λ (o : Option Handed). IfSome o (λ x. come_to (arc_value s.service) x h)) (sym at) (subst (λ (r : Running O). come_to r b h) same came);

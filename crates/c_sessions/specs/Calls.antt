@@ -1,9 +1,8 @@
 -- What a call comes to: the service's answer, by what it was asked.
 use Rattle.std.specs.Prelude.{◌≡◌, ◌+◌, ◌⊎◌, ℕ, Bool, true, false, List}
-use Rattle.cx_rule.specs.Running.{IsSeatOf, Running}
+use Rattle.cx_rule.specs.Running.{Running}
 use Rattle.cx_rule.specs.Seats.{Seated}
 use Rattle.cx_core.specs.declared.local.FullNote.{FullNote}
-use Rattle.cx_service.specs.Callers.{IsCallerOf, IsLinkedOf}
 use Rattle.cx_service.specs.declared.close.Handed.{Handed}
 use Rattle.cx_service.specs.declared.close.Handed.TheVariants.{Idle, Linked, Stopped}
 use Rattle.cx_service.specs.declared.drive.Driven.TheVariants.{Done as DrivenDone, Pending as DrivenPending, Halted as DrivenHalted}
@@ -14,12 +13,6 @@ use Rattle.cx_service.specs.Lookups.{Looks}
 use Rattle.cx_service.specs.Submits.{Submits}
 use Rattle.c_sessions.specs.declared.steps.Called.{Called}
 use Rattle.c_sessions.specs.declared.steps.Called.TheVariants.{Done, Pending, Again, Full, Worn, Stopped as CalledStopped, OutOfTurn}
-
--- what stands of a caller of this service
-abbrev pub IsHanded : {O : Type 0} → Running O → Handed → Type 0
-IsHanded r (Idle caller) = IsCallerOf r caller
-IsHanded r (Linked linked) = IsLinkedOf r linked
-IsHanded r (Stopped stopped) = IsSeatOf r stopped.seat
 
 -- the place that a session tells behind a call, which told this one before
 abbrev pub place_after : Called → ℕ → ℕ

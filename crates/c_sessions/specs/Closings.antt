@@ -9,9 +9,10 @@ use Rattle.cx_table.specs.declared.remains.Remains.{Remains}
 use Rattle.cx_table.specs.Remains.{AreSeats, Leaves}
 use Rattle.recovery.specs.Kept.{IsOpened}
 use Rattle.table_order.specs.Closings.{IsClosedLinearizable}
+use Rattle.c_sessions.specs.Handing.{IsMissing, IsRestOf}
 use Rattle.c_sessions.specs.Sessions.{IsReady}
 use Rattle.c_sessions.specs.declared.closing.Closing.{Closing}
-use Rattle.c_sessions.specs.declared.closing.Closing.TheVariants.{Others, Again, Closed, Kept as ClosingKept, Lost}
+use Rattle.c_sessions.specs.declared.closing.Closing.TheVariants.{Others, Again, Closed, Kept as ClosingKept, Missing, Shared}
 use Rattle.c_sessions.specs.declared.session.Session.{Session}
 
 -- a service and all its callers, of caller 0 first
@@ -28,13 +29,15 @@ module _ {O : Type 0} (line_count : O → ℕ) (lawful : O → List ℕ → Type
     pub leaves : Leaves r (instance_at r step reads) seats remains
     pub order : IsClosedLinearizable (instance_at r step reads) seats remains
 
-  -- the last session closes the service; where there are others, the service has further callers
+  -- The last session closes the service; where there are others, the service has further callers. Where it is not closed, what the session has stays: the
+  -- service with all its callers, or, where a caller is missing or a share of the service is elsewhere, what it took out.
   abbrev pub ClosesTo : Running O → Closing O → Type 0
   ClosesTo r Others = 1 < r.callers
   ClosesTo r (Again session) = ⊥
   ClosesTo r (Closed remains) = IsClosedOf r remains
   ClosesTo r (ClosingKept kept) = IsKeptOf r kept
-  ClosesTo r Lost = Unit {0}
+  ClosesTo r (Missing rest) = IsMissing r rest
+  ClosesTo r (Shared rest) = IsRestOf r rest
 
   -- closing a session comes to this; it is as it was where others were in the way
   abbrev pub Closes : Session O → Closing O → Type 0

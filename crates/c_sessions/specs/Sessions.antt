@@ -1,5 +1,5 @@
 -- Sessions between their calls, and what a call makes of one.
-use Rattle.std.specs.Prelude.{◌≡◌, ◌≤◌, ℕ, Bool, All, List, length, map, IfSome, Some}
+use Rattle.std.specs.Prelude.{◌≡◌, ◌≤◌, ℕ, Bool, All, List, [], ◌∷◌, length, map, IfSome, Some}
 use Rattle.std.specs.List.{range_with_len}
 use Rattle.std.specs.Option.{option_map_or}
 use Rattle.std.specs.Arc.{arc_value}
@@ -8,13 +8,15 @@ use Rattle.cx_core.specs.declared.entry.Base.{Base}
 use Rattle.cx_rule.specs.Running.{Running}
 use Rattle.cx_rule.specs.Seats.{Seated}
 use Rattle.cx_service.specs.Closes.{seat_of}
-use Rattle.cx_service.specs.Starts.{IsStartFault}
+use Rattle.cx_service.specs.Starts.{AreFewCallers, AreFewLines, IsStartFault}
 use Rattle.cx_service.specs.declared.close.Handed.{Handed}
-use Rattle.cx_service.specs.declared.start.StartFault.{StartFault}
 use Rattle.cx_service.specs.declared.start.StartFault.TheVariants.{Memory}
+use Rattle.c_sessions.specs.declared.opening.OpenFault.{OpenFault}
+use Rattle.c_sessions.specs.declared.opening.OpenFault.TheVariants.{Start, InTheWay}
 use Rattle.c_sessions.specs.declared.session.Session.{Session}
 use Rattle.c_sessions.specs.declared.steps.Called.{Called}
-use Rattle.c_sessions.specs.Calls.{CallsFrom, FinishesFrom, IsHanded, place_after}
+use Rattle.seat_pool.specs.Gathering.{IsHandedOf, number_of}
+use Rattle.c_sessions.specs.Calls.{CallsFrom, FinishesFrom, place_after}
 use Rattle.c_sessions.specs.Places.{HasPlace, SeesFrom, place_seen}
 use Rattle.c_sessions.specs.declared.seeing.Sight.{Sight}
 use Rattle.c_sessions.specs.Handing.{IsExitOf}
@@ -23,9 +25,9 @@ use Rattle.c_sessions.specs.Handing.{IsExitOf}
 pub record IsReady {O : Type 0} (s : Session O) : Type 0 where
   pub handed : Handed
   pub is : s.handed ≡ Some handed
-  pub of : IsHanded (arc_value s.service) handed
+  pub of : IsHandedOf (arc_value s.service) handed
   pub seen : HasPlace (arc_value s.service) s.place handed
-  pub exit : IsExitOf (arc_value s.service) s.exit
+  pub exit : IsExitOf (arc_value s.service) (number_of handed ∷ []) s.exit
 
 -- a session of this service, ready
 pub record IsReadyOf {O : Type 0} (r : Running O) (s : Session O) : Type 0 where
@@ -56,10 +58,11 @@ pub record AreFirst {O : Type 0} (object : O) (lines count : ℕ) (opening : Lis
   pub ready : AreReady object lines count base sessions
 
 -- Why a service of so many callers of an object of so many lines is not opened: the first number that is wrong, or want of memory, which may come
--- before the numbers are looked at.
-abbrev pub IsOpenFault : ℕ → ℕ → StartFault → Type 0
-IsOpenFault callers lines Memory = Unit {0}
-IsOpenFault callers lines fault = IsStartFault callers lines fault
+-- before the numbers are looked at; or the numbers are right, and the sessions' new queue did not take its first entry or give it back.
+abbrev pub IsOpenFault : ℕ → ℕ → OpenFault → Type 0
+IsOpenFault callers lines (Start Memory) = Unit {0}
+IsOpenFault callers lines (Start fault) = IsStartFault callers lines fault
+IsOpenFault callers lines InTheWay = AreFewCallers callers × AreFewLines lines
 
 -- The session after it has the same share, and this stands of its caller. Its place is this one, and does not fall.
 pub record Stands {O : Type 0} (before after : Session O) (place : ℕ) (come_to : Handed → Handed → Type 0) : Type 0 where

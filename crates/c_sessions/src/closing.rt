@@ -5,16 +5,17 @@ ghost use Rattle.cx_rule.specs.Running.{Running};
 ghost use Rattle.cx_service.specs.Closes.{seats_of};
 ghost use Rattle.cx_table.specs.Remains.{AreSeats};
 ghost use Rattle.c_sessions.specs.Closings.{Closes, ClosesTo, IsClosedOf};
-ghost use Rattle.c_sessions.specs.Handing.{IsExitOf};
+ghost use Rattle.c_sessions.specs.Handing.{IsRestOf};
 ghost use Rattle.c_sessions.specs.Sessions.{IsReady};
 
-use crate::exit::Exit;
-use crate::gathering::{gather, in_order};
+use crate::exit::{Exit, Rest};
+use crate::gathering::gather;
 use crate::rule::HandedIn;
 use crate::session::Session;
 use cx_base::Object;
-use cx_service::{Handed, Kept, Service};
+use cx_service::Kept;
 use cx_table::Remains;
+use seat_pool::in_order;
 use std::alloc::Global;
 use std::sync::Arc;
 use std::sync::atomic::Ordering;
@@ -30,8 +31,10 @@ pub enum Closing<O: Object> {
     Closed(Remains),
     /// It was the last, and there is no memory: the service and all its callers, of caller 0 first.
     Kept(Kept<O>),
-    /// It was the last, and did not find all callers of the service, or a share of it was elsewhere.
-    Lost,
+    /// It was the last, and a caller of the service is missing: what it has is to be closed again.
+    Missing(Rest<O>),
+    /// It was the last and has all callers, and a share of the service is elsewhere: what it has is to be closed again.
+    Shared(Rest<O>),
 }
 
 impl<O: Object> Session<O> {
@@ -79,31 +82,68 @@ impl<O: Object> Session<O> {
             gathered,
             out,
         };
-        all_in(alloc, exit)
+        close_rest(
+            alloc,
+            Rest {
+                service: None,
+                exit,
+            },
+        )
     }
 }
 
-/// Closes the service whose callers are all handed in.
-fn all_in<O: Object>(alloc: Global, exit: Exit<O>) -> Closing<O>
-    requires { (r : Running O) × IsExitOf r exit }
-    ensures { (r : Running O) → IsExitOf r exit → ClosesTo O.line_count O.lawful O.step O.only_reads r result }
+/// Gathers the callers that are still in the queue, and closes the service where these are all.
+pub fn close_rest<O: Object>(alloc: Global, rest: Rest<O>) -> Closing<O>
+    requires { (r : Running O) × IsRestOf r rest }
+    ensures { (r : Running O) → IsRestOf r rest → ClosesTo O.line_count O.lawful O.step O.only_reads r result }
 {
+    let Rest { service, exit } = rest;
     let Exit {
         handover,
         mut pass,
         gathered,
         out,
     } = exit;
-    let Some((service, gathered)) = gather(&handover, &mut pass, gathered) else {
-        return Closing::Lost;
+    let (service, gathered) = gather(&handover, &mut pass, service, gathered);
+    if gathered.len() < handover.callers as usize {
+        let exit = Exit {
+            handover,
+            pass,
+            gathered,
+            out,
+        };
+        return Closing::Missing(Rest { service, exit });
+    }
+    handover.learn(&mut pass);
+    let Some(service) = service else {
+        unreachable!()
     };
-    let Ok(service) = Arc::try_unwrap(service) else {
-        return Closing::Lost;
-    };
-    let Some(callers) = in_order(&service, gathered, out) else {
-        return Closing::Lost;
-    };
-    match close_kept(alloc, Kept { service, callers }) {
+    match Arc::try_unwrap(service) {
+        Ok(service) => {
+            let callers = in_order(&service, gathered, out);
+            close_all(alloc, Kept { service, callers })
+        }
+        Err(service) => {
+            let exit = Exit {
+                handover,
+                pass,
+                gathered,
+                out,
+            };
+            Closing::Shared(Rest {
+                service: Some(service),
+                exit,
+            })
+        }
+    }
+}
+
+/// Closes a service with all its callers.
+fn close_all<O: Object>(alloc: Global, kept: Kept<O>) -> Closing<O>
+    requires { AreSeats kept.service (seats_of kept.callers.items) }
+    ensures { ClosesTo O.line_count O.lawful O.step O.only_reads kept.service result }
+{
+    match close_kept(alloc, kept) {
         Ok(remains) => Closing::Closed(remains),
         Err(kept) => Closing::Kept(kept),
     }

@@ -1,7 +1,8 @@
 //! What a session needs to be closed.
 
-ghost use Rattle.std.specs.Prelude.{◌≡◌, ◌<◌, IfOk};
+ghost use Rattle.std.specs.Prelude.{◌≡◌, ◌<◌, IfOk, drop, take};
 ghost use Rattle.std.specs.Arc.{arc_value};
+ghost use Rattle.crossbeam_queue.specs.Passes.{view};
 ghost use Rattle.c_sessions.specs.Handing.{IsExitOf, IsPassIn};
 
 use crate::handover::Handover;
@@ -21,8 +22,16 @@ pub struct Exit<O: Object> {
     pub(crate) out: Vec<Handed>,
 }
 
+/// What the session that was closed last has where it did not close the service: its way out, with the callers that it took out of the queue, and a
+/// share of the service once it has one. `close_rest` goes on from there.
+#[derive(Drop)]
+pub struct Rest<O: Object> {
+    pub(crate) service: Option<Arc<Service<O>, Global>>,
+    pub(crate) exit: Exit<O>,
+}
+
 impl<O: Object> Exit<O> {
-    /// One more way out of a service of so many callers.
+    /// One more way out of a service of so many callers, for the first caller that the pass is still to hand in.
     pub(crate) fn another(
         alloc: Global,
         service: &Service<O>,
@@ -31,9 +40,8 @@ impl<O: Object> Exit<O> {
         pass: &mut Pass<HandedIn<O>, Knows<O>>,
     ) -> Result<Exit<O>, AllocError>
         requires callers { (callers ≡ service.now.callers) × (0 < callers) }
-        requires handover { ((arc_value handover.now).callers ≡ callers) × IsPassIn service.now (arc_value handover.now) pass.old }
-        ensures pass { IsPassIn service.now (arc_value handover.now) pass.new }
-        ensures exit { IfOk result (IsExitOf service.now) }
+        requires handover { ((arc_value handover.now).callers ≡ callers) × IsPassIn service.now (view pass.old).due (arc_value handover.now) pass.old }
+        ensures { IfOk result (λ exit. IsExitOf service.now (take 1 (view pass.old).due) exit × IsPassIn service.now (drop 1 (view pass.old).due) (arc_value handover.now) pass.new) }
     {
         let gathered = Vec::with_capacity(alloc, callers)?;
         let out = Vec::with_capacity(alloc, callers)?;

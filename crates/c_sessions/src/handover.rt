@@ -1,16 +1,19 @@
 //! Where the callers of a service lie that are handed in, until the last one comes.
 
-ghost use Rattle.std.specs.Prelude.{◌≡◌, ◌<◌, IfOk, IfSome};
+ghost use Rattle.std.specs.Prelude.{◌≡◌, ◌+◌, ◌<◌, ℕ, List, IfOk, MatchOption, Some, drop, take};
 ghost use Rattle.std.specs.Arc.{arc_value};
+ghost use Rattle.std.specs.List.{range_with_len};
 ghost use Rattle.crossbeam_queue.specs.Passes.{view, IsPassOf};
+ghost use Rattle.cx_rule.specs.Running.{Running};
+ghost use Rattle.seat_pool.specs.Pooling.{total};
 ghost use Rattle.c_sessions.specs.Handing.{HandsInTo, IsOpen, IsPassIn};
-ghost use Rattle.c_sessions.specs.Rule.{IsHandedInAt};
+ghost use Rattle.c_sessions.specs.Rule.{IsHandedInAt, callers_at, numbers_in, pass_weighs, with_taken};
 
-use crate::rule::{Gives, HandedIn, Knows, Line, Opens, Parts, Takes};
+use crate::rule::{Gives, HandedIn, Knows, Line, Opens, Parts, Starts, Takes};
 use crossbeam_queue::Pass;
 use cx_base::Object;
 use cx_service::Service;
-use std::alloc::{AllocError, Global};
+use std::alloc::Global;
 use std::sync::Arc;
 use std::sync::atomic::AtomicU64;
 
@@ -25,27 +28,41 @@ pub struct Handover<O: Object> {
     pub(crate) callers: u32,
 }
 
-/// An empty queue for so many callers of a service, and a pass of it. `Err` is want of memory.
+/// Why there is no queue.
+#[derive(Clone, Copy, Debug, PartialEq, Eq, Drop)]
+pub(crate) enum NoQueue {
+    /// There is no memory.
+    Memory,
+    /// The new queue did not take the share, or did not give it back.
+    InTheWay,
+}
+
+/// An empty queue for so many callers of a service, and a pass of it that is to hand in all of them.
 pub(crate) fn open_for<O: Object>(
     alloc: Global,
     service: &Arc<Service<O>, Global>,
     callers: u32,
-) -> Result<(Handover<O>, Pass<HandedIn<O>, Knows<O>>), AllocError>
-    requires { 0 < callers }
-    ensures { IfOk result (λ q. IsOpen (arc_value service.now) callers q.0 q.1) }
+) -> Result<(Handover<O>, Pass<HandedIn<O>, Knows<O>>), NoQueue>
+    requires { (0 < callers) × (callers ≡ (arc_value service.now).callers) }
+    ensures { IfOk result (λ q. IsOpen (arc_value service.now) callers (range_with_len 0 callers) q.0 q.1) }
 {
-    let (line, mut pass) = Line::ruled(alloc, callers as usize)?;
+    let Ok((line, mut pass)) = Line::ruled(alloc, callers as usize) else {
+        return Err(NoQueue::Memory);
+    };
+    let Ok(share) = Arc::try_clone(service) else {
+        return Err(NoQueue::Memory);
+    };
     let share = HandedIn {
-        service: Arc::try_clone(service)?,
+        service: share,
         handed: None,
     };
     // nobody is in the way of these two
-    if line.try_push_as::<Opens>(&mut pass, share).is_err() {
-        return Err(AllocError);
-    }
-    if line.try_pop_as::<Takes>(&mut pass).is_none() {
-        return Err(AllocError);
-    }
+    let Ok(()) = line.try_push_as::<Opens>(&mut pass, share) else {
+        return Err(NoQueue::InTheWay);
+    };
+    let Some(_) = line.try_pop_as::<Starts>(&mut pass) else {
+        return Err(NoQueue::InTheWay);
+    };
     let handover = Handover {
         line,
         came: AtomicU64::new(0),
@@ -55,28 +72,28 @@ pub(crate) fn open_for<O: Object>(
 }
 
 impl<O: Object> Handover<O> {
-    /// A further pass.
+    /// A further pass, for the first caller that the pass is still to hand in.
     pub(crate) fn share(
         &self,
         service: &Service<O>,
         pass: &mut Pass<HandedIn<O>, Knows<O>>,
     ) -> Pass<HandedIn<O>, Knows<O>>
-        requires { IsPassIn service.now self.now pass.old }
-        ensures old { IsPassIn service.now self.now pass.new }
-        ensures new { IsPassIn service.now self.now result }
+        requires { IsPassIn service.now (view pass.old).due self.now pass.old }
+        ensures old { IsPassIn service.now (drop 1 (view pass.old).due) self.now pass.new }
+        ensures new { IsPassIn service.now (take 1 (view pass.old).due) self.now result }
     {
         let _ = service;
         self.line.another::<Parts>(pass)
     }
 
-    /// Puts a caller into the queue, with its share of the service. `Err` hands both back: others were in the way.
+    /// Puts the pass's caller into the queue, with its share of the service. `Err` hands both back: others were in the way.
     pub(crate) fn hand_in(
         &self,
         pass: &mut Pass<HandedIn<O>, Knows<O>>,
         given: HandedIn<O>,
     ) -> Result<(), HandedIn<O>>
         requires pass { IsPassOf self.now.line pass.old }
-        requires given { IsHandedInAt (view pass.old).home given }
+        requires given { IsHandedInAt (view pass.old).home given × ((view pass.old).due ≡ numbers_in given.handed) }
         ensures { HandsInTo self.now pass.old given result pass.new }
     {
         let mut given = given;
@@ -89,12 +106,26 @@ impl<O: Object> Handover<O> {
         Err(given)
     }
 
-    /// Takes one out.
+    /// Takes one out. `None` where the queue is empty, or others were in the way.
     pub(crate) fn take(&self, pass: &mut Pass<HandedIn<O>, Knows<O>>) -> Option<HandedIn<O>>
-        requires { IsPassOf self.now.line pass.old }
-        ensures pass { IsPassOf self.now.line pass.new × (view pass.new ≡ view pass.old) }
-        ensures taken { IfSome result (IsHandedInAt (view pass.old).home) }
+        requires { IsPassOf self.now.line pass.old × (r : Running O) × ((view pass.old).home ≡ Some r) }
+        ensures pass { IsPassOf self.now.line pass.new }
+        ensures taken { MatchOption result (view pass.new ≡ view pass.old) (λ x. IsHandedInAt (view pass.old).home x × (view pass.new ≡ with_taken (view pass.old) x)) }
     {
-        self.line.try_pop_as::<Takes>(pass)
+        for _ in 0..TRIES {
+            if let Some(taken) = self.line.try_pop_as::<Takes>(pass) {
+                return Some(taken);
+            }
+        }
+        None
+    }
+
+    /// What the rule tells of the callers: those that are with the pass and those elsewhere are all of the service, each once.
+    pub(crate) fn learn(&self, pass: &mut Pass<HandedIn<O>, Knows<O>>)
+        requires { IsPassOf self.now.line pass.old × (r : Running O) × ((view pass.old).home ≡ Some r) }
+        ensures same { IsPassOf self.now.line pass.new × (view pass.new ≡ view pass.old) }
+        ensures all { (elsewhere : List ℕ) × ((h : ℕ → ℕ) → pass_weighs h (view pass.old) + total h elsewhere ≡ total h (range_with_len 0 (callers_at (view pass.old).home))) }
+    {
+        self.line.learn_as::<Takes>(pass);
     }
 }

@@ -6,8 +6,10 @@
 //! - `Session::call`, `Session::finish`: what a call answers is the service's answer, and the session is ready again.
 //! - `Session::place`, `Session::catch_up`: the place tells another session what this one has seen, and once that one caught up with it, its later
 //!   answers stand at or above it (`Stands`, `Sees`).
-//! - `Session::close`, `close_kept`: the callers of one service lie in a queue under the rule that it is one service, each with its share of it
-//!   (`Gathers`). Who comes last takes all out and closes the service: what it hands out is what the service leaves (`IsClosedOf`). Nobody waits.
+//! - `Session::close`, `close_rest`, `close_kept`: the callers of one service lie in a queue, each with its share of it, under the rule that it is one service
+//!   and that each of its callers is there once: still with its session, in the queue, or taken out by one session (`Gathers`). Who comes last takes all out and
+//!   closes the service: what it hands out is what the service leaves (`IsClosedOf`). Where a caller is missing it keeps those that it took out (`IsMissing`),
+//!   and may be closed again. Nobody waits.
 #![tactic(auto)]
 
 mod closing;
@@ -21,8 +23,9 @@ mod session;
 mod steps;
 mod tries;
 
-pub use closing::{Closing, close_kept};
-pub use opening::{open, open_from};
+pub use closing::{Closing, close_kept, close_rest};
+pub use exit::Rest;
+pub use opening::{OpenFault, open, open_from};
 pub use seeing::Sight;
 pub use session::{Session, sessions_cross_threads};
 pub use steps::Called;

@@ -1,32 +1,37 @@
 //! A service is opened, with a session for each of its callers.
 
-ghost use Rattle.std.specs.Prelude.{◌≡◌, ◌<◌, ◌≤◌, All, IfOk, MatchResult, length};
-ghost use Rattle.std.specs.Arc.{arc_value};
+ghost use Rattle.std.specs.Prelude.{◌≡◌, ◌<◌, ◌≤◌, All, IfOk, MatchResult, length, map};
+ghost use Rattle.std.specs.List.{range_with_len};
 ghost use Rattle.cx_core.specs.Base.{LawfulBase};
 ghost use Rattle.cx_service.specs.Callers.{IsCallerOf};
 ghost use Rattle.cx_service.specs.Starts.{AreFewCallers, AreFewLines};
 ghost use Rattle.c_sessions.specs.Sessions.{AreFirst, AreReady, AreReadyOf, IsOpenFault};
 
 use crate::exit::Exit;
-use crate::handover::open_for;
+use crate::handover::{NoQueue, open_for};
 use crate::session::Session;
 use cx_base::Object;
 use cx_core::Base;
 use cx_service::{Caller, Handed, Service, StartFault};
-use std::alloc::{AllocError, Global};
+use std::alloc::Global;
 use std::sync::Arc;
+
+/// Why no sessions are opened.
+#[derive(Clone, Copy, Debug, PartialEq, Eq, Drop)]
+pub enum OpenFault {
+    /// The service is not started.
+    Start(StartFault),
+    /// The new queue of the sessions did not take its first entry, or did not give it back. Nobody else has it, and no run is known to answer this.
+    InTheWay,
+}
 
 /// The sessions of a new service of so many callers over the object as it opens, of caller 0 first. All memory is taken here. A
 /// fault drops the object.
-pub fn open<O: Object>(
-    alloc: Global,
-    object: O,
-    callers: u32,
-) -> Result<Vec<Session<O>>, StartFault>
+pub fn open<O: Object>(alloc: Global, object: O, callers: u32) -> Result<Vec<Session<O>>, OpenFault>
     ensures { MatchResult result (λ sessions. AreFirst object (O.line_count object) callers (O.opening object) sessions.items) (IsOpenFault callers (O.line_count object)) }
 {
     let Ok(base) = Base::fresh(alloc, &object) else {
-        return Err(StartFault::Memory);
+        return Err(OpenFault::Start(StartFault::Memory));
     };
     open_from(alloc, object, callers, &base)
 }
@@ -37,17 +42,20 @@ pub fn open_from<O: Object>(
     object: O,
     callers: u32,
     base: &Base,
-) -> Result<Vec<Session<O>>, StartFault>
+) -> Result<Vec<Session<O>>, OpenFault>
     requires { AreFewCallers callers → AreFewLines (O.line_count object) → LawfulBase (O.line_count object) (O.lawful object) base.now }
     ensures { MatchResult result (λ sessions. AreReady object (O.line_count object) callers base.now sessions.items) (IsOpenFault callers (O.line_count object)) }
 {
     let Ok(limits) = Vec::from_elem(alloc, u64::MAX, callers as usize) else {
-        return Err(StartFault::Memory);
+        return Err(OpenFault::Start(StartFault::Memory));
     };
-    let (service, callers) = Service::start(alloc, object, callers, &limits, base)?;
-    match shared(alloc, service, callers) {
-        Ok(sessions) => Ok(sessions),
-        Err(AllocError) => Err(StartFault::Memory),
+    match Service::start(alloc, object, callers, &limits, base) {
+        Ok((service, callers)) => match shared(alloc, service, callers) {
+            Ok(sessions) => Ok(sessions),
+            Err(NoQueue::Memory) => Err(OpenFault::Start(StartFault::Memory)),
+            Err(NoQueue::InTheWay) => Err(OpenFault::InTheWay),
+        },
+        Err(fault) => Err(OpenFault::Start(fault)),
     }
 }
 
@@ -56,21 +64,33 @@ fn shared<O: Object>(
     alloc: Global,
     service: Service<O>,
     callers: Vec<Caller>,
-) -> Result<Vec<Session<O>>, AllocError>
+) -> Result<Vec<Session<O>>, NoQueue>
     requires some { 0 < service.callers }
     requires all { (length callers.items ≡ service.callers) × (service.callers ≤ 8) }
     requires each { All (IsCallerOf service) callers.items }
+    requires numbers { map (λ c. c.known.local.number) callers.items ≡ range_with_len 0 service.callers }
     ensures { IfOk result (λ sessions. AreReadyOf service callers.items sessions.items) }
 {
     let count = callers.len();
-    let service = Arc::new(alloc, service)?;
+    let Ok(service) = Arc::new(alloc, service) else {
+        return Err(NoQueue::Memory);
+    };
     let (handover, mut pass) = open_for(alloc, &service, count as u32)?;
-    let handover = Arc::new(alloc, handover)?;
+    let Ok(handover) = Arc::new(alloc, handover) else {
+        return Err(NoQueue::Memory);
+    };
     let mut sessions = Vec::new(alloc);
     for caller in callers {
-        let exit = Exit::another(alloc, &service, count, &handover, &mut pass)?;
-        let share = Arc::try_clone(&service)?;
-        sessions.push(Session::of(share, exit, Handed::Idle(caller)))?;
+        let Ok(exit) = Exit::another(alloc, &service, count, &handover, &mut pass) else {
+            return Err(NoQueue::Memory);
+        };
+        let Ok(share) = Arc::try_clone(&service) else {
+            return Err(NoQueue::Memory);
+        };
+        let session = Session::of(share, exit, Handed::Idle(caller));
+        let Ok(()) = sessions.push(session) else {
+            return Err(NoQueue::Memory);
+        };
     }
     Ok(sessions)
 }

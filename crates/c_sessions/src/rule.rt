@@ -1,7 +1,7 @@
 //! The rule of the queue in which callers are handed in, and what its steps tell.
 
 use crossbeam_queue::RuledArrayQueue;
-use crossbeam_queue::protocol::{Outcome, Protocol, Split};
+use crossbeam_queue::protocol::{Lesson, Outcome, Protocol, Split};
 use cx_base::Object;
 use cx_service::{Handed, Service};
 use std::alloc::Global;
@@ -16,13 +16,17 @@ pub struct HandedIn<O: Object> {
     pub handed: Option<Handed>,
 }
 
-/// What a pass knows: the service, and what it put into the queue. No value of it is made.
+/// What a pass knows: the service of which it put a share into the new queue, the service once it is known, the numbers of the callers that it is to
+/// hand in, and of those that it took out. No value of it is made.
 pub struct Knows<O: Object> {
+    pub offered: Option<Service<O>>,
     pub home: Option<Service<O>>,
-    pub given: LinkedList<HandedIn<O>>,
+    pub due: LinkedList<u32>,
+    pub taken: LinkedList<u32>,
 }
 
-/// The rule: what lies in the queue are callers of one service, each with its share of it, and every pass knows which service that is.
+/// The rule: what lies in the queue are callers of one service, each with its share of it, every pass knows which service that is, and each caller of
+/// the service is there once: a pass is to hand it in, it lies in the queue, or one pass took it out.
 pub struct OfOneService;
 
 impl<O: Object> Protocol<HandedIn<O>, Knows<O>> for OfOneService {
@@ -36,26 +40,36 @@ impl<O: Object> Protocol<HandedIn<O>, Knows<O>> for OfOneService {
 /// The queue.
 pub type Line<O> = RuledArrayQueue<HandedIn<O>, Knows<O>, OfOneService>;
 
-/// A share is put into the new queue, and the first pass learns the service.
+/// A share without a caller is put into the new queue, by which the first pass learns the service.
 pub(crate) struct Opens;
 
 impl<O: Object> Outcome<HandedIn<O>, Knows<O>> for Opens {
-    ghost use Rattle.std.specs.Prelude.{◌≡◌, Some};
+    ghost use Rattle.std.specs.Prelude.{◌≡◌};
     ghost use Rattle.std.specs.Arc.{arc_value};
-    ghost use Rattle.c_sessions.specs.Rule.{opened};
+    ghost use Rattle.c_sessions.specs.Rule.{offering};
 
-    ghost then = { λ v x w. w ≡ opened (Some (arc_value x.service)) };
+    ghost then = { λ v x w. w ≡ offering (arc_value x.service) };
 }
 
-/// A pass is made of another.
+/// It is taken out again, and the first pass is to hand in all callers.
+pub(crate) struct Starts;
+
+impl<O: Object> Outcome<HandedIn<O>, Knows<O>> for Starts {
+    ghost use Rattle.std.specs.Prelude.{◌≡◌};
+    ghost use Rattle.c_sessions.specs.Rule.{opened};
+
+    ghost then = { λ v x w. w ≡ opened v.offered };
+}
+
+/// A pass is made of another, which is to hand in one caller less.
 pub(crate) struct Parts;
 
 impl<O: Object> Split<Knows<O>> for Parts {
-    ghost use Rattle.c_sessions.specs.Rule.{opened};
+    ghost use Rattle.c_sessions.specs.Rule.{cut_left, cut_right};
 
-    ghost left = { λ v. v };
+    ghost left = { λ v. cut_left v };
 
-    ghost right = { λ v. opened v.home };
+    ghost right = { λ v. cut_right v };
 }
 
 /// A caller is put into the queue.
@@ -65,7 +79,7 @@ impl<O: Object> Outcome<HandedIn<O>, Knows<O>> for Gives {
     ghost use Rattle.std.specs.Prelude.{◌≡◌};
     ghost use Rattle.c_sessions.specs.Rule.{with_given};
 
-    ghost then = { λ v x w. w ≡ with_given v x };
+    ghost then = { λ v x w. w ≡ with_given v };
 }
 
 /// A caller is taken out.
@@ -73,7 +87,13 @@ pub(crate) struct Takes;
 
 impl<O: Object> Outcome<HandedIn<O>, Knows<O>> for Takes {
     ghost use Rattle.std.specs.Prelude.{◌≡◌};
-    ghost use Rattle.c_sessions.specs.Rule.{IsHandedInAt};
+    ghost use Rattle.c_sessions.specs.Rule.{IsHandedInAt, with_taken};
 
-    ghost then = { λ v x w. IsHandedInAt v.home x × (w ≡ v) };
+    ghost then = { λ v x w. IsHandedInAt v.home x × (w ≡ with_taken v x) };
+}
+
+impl<O: Object> Lesson<HandedIn<O>, Knows<O>> for Takes {
+    ghost use Rattle.c_sessions.specs.Rule.{Tells};
+
+    ghost fact = { λ v items. Tells v items };
 }

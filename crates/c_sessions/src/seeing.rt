@@ -1,7 +1,7 @@
 //! A caller of a session catches up with a place.
 
 ghost use Rattle.std.specs.Prelude.{◌≡◌};
-ghost use Rattle.c_sessions.specs.Calls.{IsHanded};
+ghost use Rattle.seat_pool.specs.Gathering.{IsHandedOf};
 ghost use Rattle.c_sessions.specs.Places.{SeesFrom, place_seen};
 
 use cx_base::Object;
@@ -34,8 +34,8 @@ impl Sight {
 
 /// Has what stands of a caller see a place.
 pub(crate) fn see<O: Object>(service: &Service<O>, handed: Handed, place: u64) -> (Handed, Sight)
-    requires ready { IsHanded service.now handed }
-    ensures ready { IsHanded service.now result.0 }
+    requires ready { IsHandedOf service.now handed }
+    ensures ready { IsHandedOf service.now result.0 }
     ensures sees { SeesFrom service.now place handed result.1 result.0 }
 {
     match handed {

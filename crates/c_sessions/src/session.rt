@@ -1,8 +1,8 @@
 //! A caller of a shared service, with its share of the service.
 
-ghost use Rattle.std.specs.Prelude.{◌≡◌, Some};
+ghost use Rattle.std.specs.Prelude.{◌≡◌, ◌∷◌, [], Some};
 ghost use Rattle.std.specs.Arc.{arc_value};
-ghost use Rattle.c_sessions.specs.Calls.{IsHanded};
+ghost use Rattle.seat_pool.specs.Gathering.{IsHandedOf, number_of};
 ghost use Rattle.c_sessions.specs.Handing.{IsExitOf};
 ghost use Rattle.c_sessions.specs.Sessions.{CallsIn, FinishesIn, IsReady, SeesIn};
 
@@ -28,8 +28,8 @@ pub struct Session<O: Object> {
 impl<O: Object> Session<O> {
     /// A session of what stands of a caller.
     pub(crate) fn of(service: Arc<Service<O>, Global>, exit: Exit<O>, handed: Handed) -> Session<O>
-        requires handed { IsHanded (arc_value service) handed }
-        requires exit { IsExitOf (arc_value service) exit }
+        requires handed { IsHandedOf (arc_value service) handed }
+        requires exit { IsExitOf (arc_value service) (number_of handed ∷ []) exit }
         ensures ready { IsReady result }
         ensures of { (arc_value result.service ≡ arc_value service) × (result.handed ≡ Some handed) }
     {

@@ -2,7 +2,8 @@
 
 ghost use Rattle.std.specs.Prelude.{◌≡◌, IsTrue};
 ghost use Rattle.cx_service.specs.Callers.{IsCallerOf, IsLinkedOf};
-ghost use Rattle.c_sessions.specs.Calls.{Calls, CallsFrom, DrivesTo, EntersTo, FinishesFrom, IsHanded, LooksTo, place_after};
+ghost use Rattle.seat_pool.specs.Gathering.{IsHandedOf};
+ghost use Rattle.c_sessions.specs.Calls.{Calls, CallsFrom, DrivesTo, EntersTo, FinishesFrom, LooksTo, place_after};
 
 use crate::tries::Tries;
 use cx_base::Object;
@@ -47,8 +48,8 @@ pub(crate) fn go_on<O: Object>(
     reply: &mut [u64; 144],
     tries: Tries,
 ) -> (Handed, Called)
-    requires ready { IsHanded service.now handed }
-    ensures ready { IsHanded service.now result.0 }
+    requires ready { IsHandedOf service.now handed }
+    ensures ready { IsHandedOf service.now result.0 }
     ensures calls { CallsFrom O.only_reads service.now op.now tries.count handed result.1 result.0 reply.new }
 {
     match handed {
@@ -64,8 +65,8 @@ pub(crate) fn end<O: Object>(
     reply: &mut [u64; 144],
     tries: Tries,
 ) -> (Handed, Called)
-    requires ready { IsHanded service.now handed }
-    ensures ready { IsHanded service.now result.0 }
+    requires ready { IsHandedOf service.now handed }
+    ensures ready { IsHandedOf service.now result.0 }
     ensures finishes { FinishesFrom service.now tries.count handed result.1 result.0 reply.new }
 {
     match handed {
@@ -83,7 +84,7 @@ fn ask<O: Object>(
     tries: Tries,
 ) -> (Handed, Called)
     requires caller { IsCallerOf service.now caller }
-    ensures ready { IsHanded service.now result.0 }
+    ensures ready { IsHandedOf service.now result.0 }
     ensures calls { Calls O.only_reads service.now op.now tries.count caller result.1 result.0 reply.new }
 {
     if service.object().reads(op) {
@@ -103,7 +104,7 @@ fn look<O: Object>(
 ) -> (Handed, Called)
     requires caller { IsCallerOf service.now caller }
     requires reads { IsTrue (O.only_reads service.now.object op.now) }
-    ensures ready { IsHanded service.now result.0 }
+    ensures ready { IsHandedOf service.now result.0 }
     ensures looks { LooksTo service.now op.now tries.count caller result.1 result.0 reply.new }
 {
     match service.try_read(caller, op, tries.count) {
@@ -126,7 +127,7 @@ fn enter<O: Object>(
     tries: Tries,
 ) -> (Handed, Called)
     requires caller { IsCallerOf service.now caller }
-    ensures ready { IsHanded service.now result.0 }
+    ensures ready { IsHandedOf service.now result.0 }
     ensures enters { EntersTo service.now op.now tries.count caller result.1 result.0 reply.new }
 {
     match service.submit(caller, op, tries.count) {
@@ -146,7 +147,7 @@ fn drive<O: Object>(
     tries: Tries,
 ) -> (Handed, Called)
     requires linked { IsLinkedOf service.now linked }
-    ensures ready { IsHanded service.now result.0 }
+    ensures ready { IsHandedOf service.now result.0 }
     ensures drives { DrivesTo service.now tries.count linked result.1 result.0 reply.new }
 {
     match service.drive(linked, tries.count) {

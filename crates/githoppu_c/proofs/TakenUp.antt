@@ -13,7 +13,7 @@ use Rattle.c_images.specs.declared.reading.WordsFault.{WordsFault}
 use Rattle.c_images.specs.declared.reading.WordsFault.TheVariants.{Head, Kind, Image, Numbers}
 use Rattle.githoppu_c.specs.Again.{ComesBack, IsKeptQueue, IsKeptStore, IsTakenUpAgain}
 use Rattle.githoppu_c.specs.Closings.{Images}
-use Rattle.githoppu_c.specs.Codes.{fault_code}
+use Rattle.githoppu_c.specs.Codes.{IsOpenCode, fault_code}
 use Rattle.githoppu_c.specs.Contents.{IsCallable}
 use Rattle.githoppu_c.specs.Objects.{IsClosedQueue, IsClosedStore, IsFaultOr, IsQueueFault, IsQueueIn, IsStoreFault, IsStoreIn, KeepsDocumentReplies, KeepsQueueReplies}
 use Rattle.githoppu_c.specs.Outcomes.{IsBaseFault, TellsOutcome}
@@ -37,15 +37,15 @@ no_head_fault kind words Numbers headed same is = is
 
 module _ (kind : ℕ) (words : List ℕ) (headed : IsHeaded words) (same : kind_in words ≡ kind) where
   pub recovers_again : (taken : Base → Type 0) (faulty : WordsFault → Type 0) → ((fault : WordsFault) → faulty fault → fault ≡ Image Memory)
-      → (count : ℕ) (code : ℤ) → AreFew count → Recovers kind taken faulty words count code → (code ≡ pos 0) ⊎ (code ≡ pos 8)
+      → (count : ℕ) (code : ℤ) → AreFew count → Recovers kind taken faulty words count code → (code ≡ pos 0) ⊎ IsOpenCode code
   recovers_again taken faulty alone count code few (inl done) = inl done.2
   recovers_again taken faulty alone count code few (inr (inl wrong)) = absurd (wrong.0 few)
   recovers_again taken faulty alone count code few (inr (inr (as_many, inl refused))) =
       elim refused.because [
         | inl head ↦ absurd (no_head_fault kind words refused.fault headed same head)
-        | inr of ↦ inr (refused.is ∙ ap fault_code (alone refused.fault of))
+        | inr of ↦ inr (inl (refused.is ∙ ap fault_code (alone refused.fault of)))
       ]
-  recovers_again taken faulty alone count code few (inr (inr (as_many, inr memory))) = inr memory
+  recovers_again taken faulty alone count code few (inr (inr (as_many, inr not))) = inr not
 
   -- what became of a session is told
   pub tells_again : ((fault : WordsFault) → IsBaseFault words fault → fault ≡ Image Memory) → (session number_before number : ℕ) (reply_before reply : List ℕ) (code : ℤ) → session < 8

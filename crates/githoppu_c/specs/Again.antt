@@ -10,16 +10,17 @@ use Rattle.doc_store.specs.declared.store.DocStore.{DocStore}
 use Rattle.doc_store.specs.ExactStep.{IsImage, store_step}
 use Rattle.fifo_object.specs.declared.fifo.Fifo.{Fifo}
 use Rattle.fifo_object.specs.Fifo.{IsFifo, fifo_step}
+use Rattle.githoppu_c.specs.Codes.{IsOpenCode}
 use Rattle.githoppu_c.specs.Objects.{IsClosedQueue, IsClosedStore, IsQueueFault, IsQueueIn, IsStoreFault, IsStoreIn}
 use Rattle.githoppu_c.specs.Outcomes.{TellsOutcome}
 use Rattle.githoppu_c.specs.Recoveries.{AreFew, Recovers}
 use Rattle.githoppu_c.specs.declared.content.Content.{Content}
 use Rattle.githoppu_c.specs.declared.content.Content.TheVariants.{ClosedDocuments, ClosedQueue}
 
--- Words are taken up again. As many sessions as there may be are recovered from them, and what became of each is told, unless there is no memory. What is
--- taken up holds what was kept.
+-- Words are taken up again. As many sessions as there may be are recovered from them, and what became of each is told, unless there is no memory, or the
+-- sessions' new queue did not take its first entry. What is taken up holds what was kept.
 pub record IsTakenUpAgain (kind : ℕ) (taken : Base → Type 0) (faulty : WordsFault → Type 0) (kept : Base → Type 0) (words : List ℕ) : Type 0 where
-  pub recovers : (count : ℕ) (code : ℤ) → AreFew count → Recovers kind taken faulty words count code → (code ≡ pos 0) ⊎ (code ≡ pos 8)
+  pub recovers : (count : ℕ) (code : ℤ) → AreFew count → Recovers kind taken faulty words count code → (code ≡ pos 0) ⊎ IsOpenCode code
   pub tells : (session number_before number : ℕ) (reply_before reply : List ℕ) (code : ℤ) → session < 8 →
       TellsOutcome words session number_before number reply_before reply code → (code ≡ pos 0) ⊎ (code ≡ pos 8)
   pub keeps : (base : Base) → taken base → kept base

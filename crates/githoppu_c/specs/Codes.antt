@@ -1,9 +1,11 @@
 -- What C is answered, as numbers.
-use Rattle.std.specs.Prelude.{ℤ, pos}
+use Rattle.std.specs.Prelude.{◌≡◌, ◌⊎◌, ℤ, pos}
 use Rattle.c_images.specs.declared.reading.WordsFault.{WordsFault}
 use Rattle.c_images.specs.declared.reading.WordsFault.TheVariants.{Head, Kind, Image, Numbers}
 use Rattle.c_sessions.specs.declared.closing.Closing.{Closing}
-use Rattle.c_sessions.specs.declared.closing.Closing.TheVariants.{Others, Again as ClosingAgain, Closed, Kept, Lost}
+use Rattle.c_sessions.specs.declared.closing.Closing.TheVariants.{Others, Again as ClosingAgain, Closed, Kept, Missing, Shared}
+use Rattle.c_sessions.specs.declared.opening.OpenFault.{OpenFault}
+use Rattle.c_sessions.specs.declared.opening.OpenFault.TheVariants.{Start, InTheWay}
 use Rattle.c_sessions.specs.declared.steps.Called.{Called}
 use Rattle.c_sessions.specs.declared.steps.Called.TheVariants.{Done, Pending, Again, Full, Worn, Stopped, OutOfTurn}
 use Rattle.recovery.specs.declared.recovering.ImageFault.{ImageFault}
@@ -25,7 +27,16 @@ closing_code (Closed remains) = pos 0
 closing_code (ClosingAgain session) = pos 2
 closing_code (Kept kept) = pos 8
 closing_code Others = pos 11
-closing_code Lost = pos 12
+closing_code (Missing rest) = pos 12
+closing_code (Shared rest) = pos 2
+
+-- the number of why no sessions are opened whose sizes are right
+abbrev pub open_code : OpenFault → ℤ
+open_code (Start fault) = pos 8
+open_code InTheWay = pos 2
+
+abbrev pub IsOpenCode : ℤ → Type 0
+IsOpenCode code = (code ≡ pos 8) ⊎ (code ≡ pos 2)
 
 -- the number of why nothing is recovered
 abbrev pub image_code : ImageFault → ℤ

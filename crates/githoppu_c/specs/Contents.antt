@@ -10,21 +10,24 @@ use Rattle.cx_service.specs.Closes.{seats_of}
 use Rattle.cx_table.specs.Remains.{AreSeats}
 use Rattle.doc_store.specs.declared.store.DocStore.{DocStore}
 use Rattle.fifo_object.specs.declared.fifo.Fifo.{Fifo}
+use Rattle.c_sessions.specs.Handing.{IsRestOf}
 use Rattle.c_sessions.specs.Sessions.{CallsIn, FinishesIn, IsReady, IsReadyOf}
 use Rattle.c_sessions.specs.declared.steps.Called.{Called}
 use Rattle.c_sessions.specs.declared.steps.Called.TheVariants.{OutOfTurn}
-use Rattle.githoppu_c.specs.Codes.{code_of}
+use Rattle.githoppu_c.specs.Codes.{IsOpenCode, code_of}
 use Rattle.githoppu_c.specs.Objects.{IsClosedQueue, IsClosedStore, KeepsDocumentReplies, KeepsQueueReplies}
 use Rattle.githoppu_c.specs.declared.content.Content.{Content}
-use Rattle.githoppu_c.specs.declared.content.Content.TheVariants.{Documents, Queue, KeptDocuments, KeptQueue, ClosedDocuments, ClosedQueue, Gone}
+use Rattle.githoppu_c.specs.declared.content.Content.TheVariants.{Documents, Queue, KeptDocuments, KeptQueue, RestDocuments, RestQueue, ClosedDocuments, ClosedQueue, Gone}
 
--- What C may call: a session that is ready, a service with all its callers that is still to be closed, and what a closed one left. The service was opened
+-- What C may call: a session that is ready, a service with all its callers that is still to be closed, or with those that the last session found, and what a closed one left. The service was opened
 -- with results that keep replies.
 abbrev pub IsCallable : Content → Type 0
 IsCallable (Documents session) = IsReady session × KeepsDocumentReplies (arc_value session.service)
 IsCallable (Queue session) = IsReady session × KeepsQueueReplies (arc_value session.service)
 IsCallable (KeptDocuments kept) = AreSeats kept.service (seats_of kept.callers.items) × KeepsDocumentReplies kept.service
 IsCallable (KeptQueue kept) = AreSeats kept.service (seats_of kept.callers.items) × KeepsQueueReplies kept.service
+IsCallable (RestDocuments rest) = (r : Running DocStore) × IsRestOf r rest × KeepsDocumentReplies r
+IsCallable (RestQueue rest) = (r : Running Fifo) × IsRestOf r rest × KeepsQueueReplies r
 IsCallable (ClosedDocuments remains) = (r : Running DocStore) × IsClosedStore r remains × KeepsDocumentReplies r
 IsCallable (ClosedQueue remains) = (r : Running Fifo) × IsClosedQueue r remains × KeepsQueueReplies r
 IsCallable Gone = Unit {0}
@@ -50,9 +53,9 @@ pub record MayOpen (lines count : ℕ) : Type 0 where
   pub some : 1 ≤ count
   pub few : count ≤ 8
 
--- why it is not opened, as a number: the sizes are wrong, or they are right and there is no memory
+-- why it is not opened, as a number: the sizes are wrong, or they are right and there is no memory, or the sessions' new queue did not take its first entry
 abbrev pub Refuses : ℕ → ℕ → ℤ → Type 0
-Refuses lines count code = ((¬ MayOpen lines count) × (code ≡ pos 7)) ⊎ (MayOpen lines count × (code ≡ pos 8))
+Refuses lines count code = ((¬ MayOpen lines count) × (code ≡ pos 7)) ⊎ (MayOpen lines count × IsOpenCode code)
 
 -- what C is answered
 abbrev pub Opens : ℕ → ℕ → ℤ → Type 0

@@ -9,7 +9,7 @@ use Rattle.c_images.specs.Words.{IsTakenUp, IsWordsFault, lines_in}
 use Rattle.c_images.specs.declared.reading.WordsFault.{WordsFault}
 use Rattle.c_images.specs.declared.reading.WordsFault.TheVariants.{Image}
 use Rattle.recovery.specs.declared.recovering.ImageFault.TheVariants.{Body}
-use Rattle.c_sessions.specs.Closings.{Closes, IsClosedOf}
+use Rattle.c_sessions.specs.Closings.{Closes, ClosesTo, IsClosedOf}
 use Rattle.c_sessions.specs.declared.closing.Closing.{Closing}
 use Rattle.c_sessions.specs.declared.session.Session.{Session}
 use Rattle.doc_store.specs.declared.store.DocStore.{DocStore}
@@ -30,6 +30,13 @@ ClosesStore = Closes (λ (s : DocStore). s.lines) (λ s. IsImage s.lines) (λ s.
 
 abbrev pub ClosesQueue : Session Fifo → Closing Fifo → Type 0
 ClosesQueue = Closes (λ (f : Fifo). f.lines) (λ f. IsFifo f.lines) (λ f. fifo_step f.lines) (λ _. fifo_reads)
+
+-- and what closing the rest of either did
+abbrev pub ClosesStoreTo : Running DocStore → Closing DocStore → Type 0
+ClosesStoreTo = ClosesTo (λ (s : DocStore). s.lines) (λ s. IsImage s.lines) (λ s. store_step s.lines) (λ _. reads_in)
+
+abbrev pub ClosesQueueTo : Running Fifo → Closing Fifo → Type 0
+ClosesQueueTo = ClosesTo (λ (f : Fifo). f.lines) (λ f. IsFifo f.lines) (λ f. fifo_step f.lines) (λ _. fifo_reads)
 
 -- a service was opened with results that keep replies of a store, or of a queue
 abbrev pub KeepsDocumentReplies : Running DocStore → Type 0

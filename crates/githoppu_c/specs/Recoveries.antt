@@ -6,7 +6,7 @@ use Rattle.cx_core.specs.declared.entry.Base.{Base}
 use Rattle.cx_rule.specs.Running.{Running}
 use Rattle.c_images.specs.Words.{IsHeadFault}
 use Rattle.c_images.specs.declared.reading.WordsFault.{WordsFault}
-use Rattle.githoppu_c.specs.Codes.{fault_code}
+use Rattle.githoppu_c.specs.Codes.{IsOpenCode, fault_code}
 use Rattle.githoppu_c.specs.Contents.{AreBoxes}
 use Rattle.githoppu_c.specs.declared.content.Content.{Content}
 
@@ -25,9 +25,10 @@ pub record IsRefusedBy (kind : ℕ) (faulty : WordsFault → Type 0) (words : Li
 abbrev pub IsRefusal : (WordsFault → Type 0) → ℤ → Type 0
 IsRefusal faulty code = (fault : WordsFault) × faulty fault × (code ≡ fault_code fault)
 
--- why nothing is recovered: there would be no sessions or too many, the words are refused, or there is no memory
+-- why nothing is recovered: there would be no sessions or too many, the words are refused, there is no memory, or the sessions' new queue did not take its
+-- first entry
 abbrev pub RefusesWords : ℕ → (WordsFault → Type 0) → List ℕ → ℕ → ℤ → Type 0
-RefusesWords kind faulty words count code = ((¬ AreFew count) × (code ≡ pos 7)) ⊎ (AreFew count × (IsRefusedBy kind faulty words code ⊎ (code ≡ pos 8)))
+RefusesWords kind faulty words count code = ((¬ AreFew count) × (code ≡ pos 7)) ⊎ (AreFew count × (IsRefusedBy kind faulty words code ⊎ IsOpenCode code))
 
 -- so many boxes of sessions of one service that opens from a base that these words say
 pub record AreRecovered {O : Type 0} (is : Running O → Content → Type 0) (taken : Base → Type 0) (count : ℕ) (boxes : List (Box Content Global)) : Type 0 where

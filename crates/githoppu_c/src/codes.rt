@@ -5,7 +5,7 @@ ghost use Rattle.githoppu_c.specs.Codes as spec;
 ghost use Rattle.githoppu_c.specs.Places as places;
 
 use c_images::WordsFault;
-use c_sessions::{Called, Sight};
+use c_sessions::{Called, OpenFault, Sight};
 use recovery::ImageFault;
 
 /// Done, and the reply is there.
@@ -28,7 +28,7 @@ pub const BAD_SIZE: i32 = 7;
 pub const NO_MEMORY: i32 = 8;
 /// Other sessions are not closed.
 pub const OTHERS: i32 = 11;
-/// Not all callers were there when the last session was closed.
+/// A caller was missing when the last session was closed.
 pub const LOST: i32 = 12;
 /// The words are no image.
 pub const NO_IMAGE: i32 = 13;
@@ -59,6 +59,16 @@ pub fn code_of(called: Called) -> i32
         Called::Worn => WORN,
         Called::Stopped => STOPPED,
         Called::OutOfTurn => OUT_OF_TURN,
+    }
+}
+
+/// The number of why no sessions are opened whose sizes are right.
+pub fn open_code(fault: OpenFault) -> i32
+    ensures { result ≡ spec.open_code fault }
+{
+    match fault {
+        OpenFault::Start(_) => NO_MEMORY,
+        OpenFault::InTheWay => AGAIN,
     }
 }
 

@@ -10,21 +10,23 @@ ghost use Rattle.githoppu_c.specs.Places.{HasPlace, Sees};
 use crate::again::{queues_are_taken_up_again, stores_are_taken_up_again};
 use crate::codes::{AGAIN, DONE, LOST, NO_MEMORY, OTHERS, OUT_OF_TURN};
 use crate::images::{DOCUMENTS, QUEUE, write_to};
-use c_sessions::{Called, Closing, Session, Sight, Tries, close_kept};
+use c_sessions::{Called, Closing, Rest, Session, Sight, Tries, close_kept, close_rest};
 use cx_service::Kept;
 use cx_table::Remains;
 use doc_store::DocStore;
 use fifo_object::Fifo;
 use std::alloc::Global;
 
-/// A session of a document store or of a queue; a service that is to be closed with all its callers, once there is memory; what a closed one
-/// left; or nothing any more.
+/// A session of a document store or of a queue; a service that is to be closed with all its callers, once there is memory; what the last session
+/// found of one, which is to be closed with the others; what a closed one left; or nothing any more.
 #[derive(Drop)]
 pub enum Content {
     Documents(Session<DocStore>),
     Queue(Session<Fifo>),
     KeptDocuments(Kept<DocStore>),
     KeptQueue(Kept<Fifo>),
+    RestDocuments(Rest<DocStore>),
+    RestQueue(Rest<Fifo>),
     ClosedDocuments(Remains),
     ClosedQueue(Remains),
     Gone,
@@ -98,6 +100,8 @@ impl Content {
                 Ok(remains) => (Content::ClosedQueue(remains), DONE),
                 Err(kept) => (Content::KeptQueue(kept), NO_MEMORY),
             },
+            Content::RestDocuments(rest) => store_closed(close_rest(alloc, rest)),
+            Content::RestQueue(rest) => queue_closed(close_rest(alloc, rest)),
             other => (other, OUT_OF_TURN),
         }
     }
@@ -134,7 +138,8 @@ fn store_closed(closing: Closing<DocStore>) -> (Content, i32)
         Closing::Again(session) => (Content::Documents(session), AGAIN),
         Closing::Closed(remains) => (Content::ClosedDocuments(remains), DONE),
         Closing::Kept(kept) => (Content::KeptDocuments(kept), NO_MEMORY),
-        Closing::Lost => (Content::Gone, LOST),
+        Closing::Missing(rest) => (Content::RestDocuments(rest), LOST),
+        Closing::Shared(rest) => (Content::RestDocuments(rest), AGAIN),
     }
 }
 
@@ -147,7 +152,8 @@ fn queue_closed(closing: Closing<Fifo>) -> (Content, i32)
         Closing::Again(session) => (Content::Queue(session), AGAIN),
         Closing::Closed(remains) => (Content::ClosedQueue(remains), DONE),
         Closing::Kept(kept) => (Content::KeptQueue(kept), NO_MEMORY),
-        Closing::Lost => (Content::Gone, LOST),
+        Closing::Missing(rest) => (Content::RestQueue(rest), LOST),
+        Closing::Shared(rest) => (Content::RestQueue(rest), AGAIN),
     }
 }
 
@@ -159,5 +165,7 @@ pub const fn contents_cross_threads() {
     goes_to_a_thread::<Session<Fifo>>();
     goes_to_a_thread::<Kept<DocStore>>();
     goes_to_a_thread::<Kept<Fifo>>();
+    goes_to_a_thread::<Rest<DocStore>>();
+    goes_to_a_thread::<Rest<Fifo>>();
     goes_to_a_thread::<Remains>();
 }

@@ -22,7 +22,7 @@ mod outcomes;
 mod raw_box;
 mod recovering;
 
-use crate::codes::{DONE, LOST, OTHERS, OUT_OF_TURN, code_of, sight_code};
+use crate::codes::{DONE, OTHERS, OUT_OF_TURN, code_of, sight_code};
 use crate::content::Content;
 use crate::handle::Handle;
 use crate::opening::{hand_out, open_documents, open_queue};
@@ -112,7 +112,7 @@ pub extern "C" fn githoppu_finish(
 }
 
 /// Closes a session. Its caller is handed in; the session of a store or a queue that is closed last closes it, and what it left stands at `out`. Where
-/// others are not closed, or not all callers were there, nothing stands there, and else what is to be closed again.
+/// others are not closed, nothing stands there, and else what is to be closed again.
 #[unsafe(no_mangle)]
 pub extern "C" fn githoppu_close(alloc: Global, session: Handle, out: &mut *mut u8) -> i32
     requires { IsCallable session.content }
@@ -121,7 +121,7 @@ pub extern "C" fn githoppu_close(alloc: Global, session: Handle, out: &mut *mut 
     let mut content = session.into_box();
     let (after, code) = mem::replace(&mut *content, Content::Gone).close(alloc);
     *content = after;
-    if code == OTHERS || code == LOST {
+    if code == OTHERS {
         drop(content);
         *out = ptr::null_mut();
     } else {

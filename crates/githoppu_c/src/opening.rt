@@ -8,7 +8,7 @@ ghost use Rattle.c_sessions.specs.Sessions.{IsReadyOf};
 ghost use Rattle.githoppu_c.specs.Contents.{AreBoxes, AreOpened, IsQueueOf, IsStoreOf, MayOpen, Refuses};
 ghost use Rattle.githoppu_c.specs.Objects.{KeepsDocumentReplies, KeepsQueueReplies};
 
-use crate::codes::{BAD_SIZE, NO_MEMORY};
+use crate::codes::{BAD_SIZE, NO_MEMORY, open_code};
 use crate::content::Content;
 use c_sessions::{Session, open};
 use doc_store::DocStore;
@@ -23,8 +23,9 @@ pub fn open_documents(alloc: Global, lines: u64, count: usize) -> Result<Vec<Box
         return Err(BAD_SIZE);
     }
     // the sizes are right
-    let Ok(sessions) = open(alloc, DocStore::of(lines), count as u32) else {
-        return Err(NO_MEMORY);
+    let sessions = match open(alloc, DocStore::of(lines), count as u32) {
+        Ok(sessions) => sessions,
+        Err(fault) => return Err(open_code(fault)),
     };
     match as_documents(alloc, sessions) {
         Ok(contents) => Ok(contents),
@@ -40,8 +41,9 @@ pub fn open_queue(alloc: Global, lines: u64, count: usize) -> Result<Vec<Box<Con
         return Err(BAD_SIZE);
     }
     // the sizes are right
-    let Ok(sessions) = open(alloc, Fifo::of(lines), count as u32) else {
-        return Err(NO_MEMORY);
+    let sessions = match open(alloc, Fifo::of(lines), count as u32) {
+        Ok(sessions) => sessions,
+        Err(fault) => return Err(open_code(fault)),
     };
     match as_queue(alloc, sessions) {
         Ok(contents) => Ok(contents),

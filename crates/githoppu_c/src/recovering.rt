@@ -10,7 +10,7 @@ ghost use Rattle.githoppu_c.specs.Contents.{IsQueueOf, IsStoreOf};
 ghost use Rattle.githoppu_c.specs.Objects.{IsNoneWith, IsQueueFault, IsQueueIn, IsSameWith, IsStoreFault, IsStoreIn};
 ghost use Rattle.githoppu_c.specs.Recoveries.{AreFew, AreRecovered, IsRefusal, RefusesWords};
 
-use crate::codes::{BAD_SIZE, IMAGE_BODY, NO_MEMORY, fault_code};
+use crate::codes::{BAD_SIZE, IMAGE_BODY, NO_MEMORY, fault_code, open_code};
 use crate::content::Content;
 use crate::images::{DOCUMENTS, QUEUE};
 use crate::opening::{as_documents, as_queue};
@@ -37,8 +37,9 @@ pub fn recover_documents(
         Err(fault) => return Err(fault_code(fault)),
     };
     let base = documents_in(alloc, words, head)?;
-    let Ok(sessions) = open_from(alloc, DocStore::of(head.lines), count as u32, &base) else {
-        return Err(NO_MEMORY);
+    let sessions = match open_from(alloc, DocStore::of(head.lines), count as u32, &base) {
+        Ok(sessions) => sessions,
+        Err(fault) => return Err(open_code(fault)),
     };
     match as_documents(alloc, sessions) {
         Ok(contents) => Ok(contents),
@@ -58,8 +59,9 @@ pub fn recover_queue(alloc: Global, words: &[u64], count: usize) -> Result<Vec<B
         Err(fault) => return Err(fault_code(fault)),
     };
     let base = queue_in(alloc, words, head)?;
-    let Ok(sessions) = open_from(alloc, Fifo::of(head.lines), count as u32, &base) else {
-        return Err(NO_MEMORY);
+    let sessions = match open_from(alloc, Fifo::of(head.lines), count as u32, &base) {
+        Ok(sessions) => sessions,
+        Err(fault) => return Err(open_code(fault)),
     };
     match as_queue(alloc, sessions) {
         Ok(contents) => Ok(contents),

@@ -94,8 +94,8 @@ fn find(gathered: &Vec<Handed>, wanted: usize) -> usize
     unreachable!()
 }
 
-/// The gathered callers, of caller 0 first.
-pub(crate) fn in_order<O: Object>(
+/// The gathered callers, of caller 0 first, where each of the service is there once.
+pub fn in_order<O: Object>(
     service: &Service<O>,
     gathered: Vec<Handed>,
     out: Vec<Handed>,

@@ -14,6 +14,7 @@
 //! - `close`: with all that was lent, the queue is emptied and the service closed. All callers are handed in, each once and of caller 0 first (also those that
 //!   are stopped), and the calls that the callers show as answered are those that were told, each once, but for at most one of each stopped caller (`AreTold`).
 //!   `idle_are_kept`, `stopped_are_kept`: a caller in no call, and one that was stopped, are such that a client may keep until then.
+//! - `in_order`: callers that were gathered in whatever way, of caller 0 first.
 #![tactic(auto)]
 
 mod closing;
@@ -25,6 +26,7 @@ mod queue;
 mod rule;
 
 pub use closing::close;
+pub use gather::in_order;
 pub use hand::{Hand, Home, Told};
 pub use laws::{answers_are_told, idle_are_kept, reads_are_shown, stopped_are_kept};
 pub use lent::Lent;

@@ -1,16 +1,15 @@
-use Rattle.std.proofs.Common.{◌≡◌, ◌≤◌, All, Some, length, vec_capacity}
-use Rattle.std.specs.Arc.{arc_value}
-use Rattle.crossbeam_queue.specs.Passes.{view, IsPassOf}
-use Rattle.c_sessions.specs.Calls.{IsHanded}
+use Rattle.std.proofs.Common.{◌≤◌, ◌-◌, length}
+use Rattle.std.specs.Prelude.{vec_capacity}
+use Rattle.cx_rule.specs.Running.{Running}
+use Rattle.c_sessions.specs.Handing.{HasTaken}
 use Rattle.c_sessions.proofs.gathering.gather.Given as goal
 
--- so many callers of the service are gathered
-abbrev pub invariant-loop-taken : goal.invariant-loop-taken
-invariant-loop-taken g l = record {
-  of : IsPassOf l.handover.line l.pass;
-  same : view l.pass ≡ view l.fn.pass;
-  is : (view l.fn.pass).home ≡ Some (arc_value l.service);
-  each : All (IsHanded (arc_value l.service)) l.gathered.items;
-  many : length l.gathered.items ≡ l.taken;
+-- the callers of the service that were taken out are gathered
+abbrev pub invariant-loop-pass : goal.invariant-loop-pass
+invariant-loop-pass g l = record {
+  taken : (r : Running g.row.O.Denot) → HasTaken r l.handover l.fn.pass l.fn.share l.fn.gathered.items → HasTaken r l.handover l.pass l.share l.gathered.items;
   room : l.handover.callers ≤ vec_capacity l.gathered;
 }
+
+abbrev pub decreases-loop-pass : goal.decreases-loop-pass
+decreases-loop-pass g l = l.handover.callers - length l.gathered.items

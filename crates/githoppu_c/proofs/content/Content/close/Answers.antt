@@ -5,7 +5,7 @@ use Rattle.githoppu_c.specs.Closings.{ClosesAs}
 use Rattle.githoppu_c.specs.Contents.{IsCallable}
 use Rattle.githoppu_c.specs.declared.content.Content.{Content}
 use Rattle.githoppu_c.specs.declared.content.Content.TheVariants.{ClosedDocuments, ClosedQueue, KeptDocuments}
-use Rattle.githoppu_c.proofs.Closed.{queue_callable, store_callable}
+use Rattle.githoppu_c.proofs.Closed.{queue_callable, queue_rest_callable, store_callable, store_rest_callable}
 use Rattle.githoppu_c.proofs.content.Content.close.Goals as goal
 
 pub returns-in-Documents-clause-callable : goal.returns-in-Documents-clause-callable
@@ -28,3 +28,19 @@ returns-in-Ok-clause-closes c = subst (λ (before : Content). ClosesAs before (C
 
 pub returns-in-Ok-close_kept-clause-closes : goal.returns-in-Ok-close_kept-clause-closes
 returns-in-Ok-close_kept-clause-closes c = subst (λ (before : Content). ClosesAs before (ClosedQueue c.in-Ok-close_kept.remains) (pos 0)) (sym c.in-KeptQueue.is) (inl (c.in-Ok-close_kept.remains, c.in-Ok-close_kept.ensures, refl, refl))
+
+pub close_rest-requires : goal.close_rest-requires
+close_rest-requires c = (let from = subst IsCallable c.in-RestDocuments.is c.requires.callable in (from.0, from.1))
+
+pub close_rest-requires-in-RestQueue : goal.close_rest-requires-in-RestQueue
+close_rest-requires-in-RestQueue c = (let from = subst IsCallable c.in-RestQueue.is c.requires.callable in (from.0, from.1))
+
+pub returns-in-RestDocuments-clause-callable : goal.returns-in-RestDocuments-clause-callable
+returns-in-RestDocuments-clause-callable c =
+    let from = subst IsCallable c.in-RestDocuments.is c.requires.callable in
+    subst IsCallable (sym c.store_closed-in-RestDocuments.ensures.0) (store_rest_callable from.0 c.close_rest.result from.2 (c.close_rest.ensures from.0 from.1))
+
+pub returns-in-RestQueue-clause-callable : goal.returns-in-RestQueue-clause-callable
+returns-in-RestQueue-clause-callable c =
+    let from = subst IsCallable c.in-RestQueue.is c.requires.callable in
+    subst IsCallable (sym c.queue_closed-in-RestQueue.ensures.0) (queue_rest_callable from.0 c.close_rest-in-RestQueue.result from.2 (c.close_rest-in-RestQueue.ensures from.0 from.1))
