@@ -1,5 +1,5 @@
 -- What a checkpoint comes to: a caller takes the image of the current replica while others go on.
-use Rattle.std.specs.Prelude.{◌≡◌, ◌*◌, ◌<◌, ◌≤◌, ℕ, List, [], ◌∷◌, ◌++◌, slice_get, Some, None}
+use Rattle.std.specs.Prelude.{◌≡◌, ◌<◌, ◌≤◌, ℕ, List, [], ◌∷◌, ◌++◌, slice_get, Some, None}
 use Rattle.cx_base.specs.Codes.{root_place_of}
 use Rattle.cx_base.specs.declared.object.Object.{Ghosts}
 use Rattle.cx_core.specs.Base.{LawfulBase}

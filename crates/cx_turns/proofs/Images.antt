@@ -1,5 +1,5 @@
 -- What a turn by which an image is taken does to the seat.
-use Rattle.std.proofs.Common.{◌≡◌, ◌≢◌, ◌+◌, ◌-◌, ◌==◌, ◌<◌, ◌≤◌, inl, inr, ℕ, Bool, false, cond, List, [], ◌∷◌, ◌++◌, append-nil, length, length-append, slice_index, refl, ap, sym, subst, ◌∙◌, arith, Option, Some, None, Result, Ok, Err, MatchResult, OnErr, OnOk, drop, set, suc, take}
+use Rattle.std.proofs.Common.{◌≡◌, ◌+◌, ◌-◌, ◌==◌, ◌<◌, inl, inr, ℕ, Bool, false, cond, List, [], ◌∷◌, ◌++◌, append-nil, length, length-append, slice_index, refl, ap, sym, subst, ◌∙◌, arith, Some, None, Result, Ok, Err, MatchResult, OnErr, OnOk, drop, set, suc, take}
 use Rattle.std.proofs.lemmas.Bool.{cases_eq}
 use Rattle.std.proofs.lemmas.List.{drop_all, get_or_append_left, get_or_push, length-drop, length-set, length-take}
 use Rattle.std.proofs.lemmas.List.Elements.{Contains-append_left}
@@ -9,7 +9,7 @@ use Rattle.cx_base.specs.Codes.{root_place_of}
 use Rattle.cx_base.specs.declared.object.Object.{Ghosts}
 use Rattle.cx_base.specs.Noted.{Note}
 use Rattle.cx_core.specs.Base.{LawfulBase}
-use Rattle.cx_core.specs.declared.kinds.Kind.TheVariants.{BackOff, LoadCur}
+use Rattle.cx_core.specs.declared.kinds.Kind.TheVariants.{LoadCur}
 use Rattle.cx_core.specs.declared.local.Answer.{Answer}
 use Rattle.cx_core.specs.declared.local.Local.{Local}
 use Rattle.cx_core.specs.declared.local.SeenRead.{SeenRead}
@@ -17,17 +17,17 @@ use Rattle.cx_core.specs.LockEvents.{backed_off}
 use Rattle.cx_core.specs.Rights.{is_at, shared_on}
 use Rattle.cx_core.specs.State.{one_more}
 use Rattle.cx_rule.specs.Fitting.{TellsWords, base_of, loaded_of, loads_of, word_noted}
-use Rattle.cx_rule.specs.Running.{IsSeatOf, Running, instance_at}
+use Rattle.cx_rule.specs.Running.{Running}
 use Rattle.cx_rule.specs.Seats.{IsAtLimit, Seated, unanswered_ticket}
 use Rattle.cx_rule.specs.Steps.{Halts, Steps, StepsTaking}
 use Rattle.cx_rule.proofs.Copying.{here_or, or_there}
 use Rattle.cx_table.specs.Right.{Right}
 use Rattle.cx_table.specs.Tokens.{IsTakenFrom}
 use Rattle.cx_turns.specs.Answering.{MayLook}
-use Rattle.cx_turns.specs.Checkpointing.{HaltsImage, IsAtCurrent, LoadsImage, LoadsSome, RaisesCurrent, TakesImage, TakesNone, beside_checkpoint}
+use Rattle.cx_turns.specs.Checkpointing.{HaltsImage, IsAtCurrent, LoadsImage, LoadsSome, RaisesCurrent, TakesImage, beside_checkpoint}
 use Rattle.cx_turns.specs.Keeping.{HoldsCurrent}
 use Rattle.cx_turns.specs.Reads.{beside_read}
-use Rattle.cx_turns.specs.Turns.{HaltsTurn, IsAtRest, Turns}
+use Rattle.cx_turns.specs.Turns.{IsAtRest, Turns}
 use Rattle.replica.specs.Held.{IsHeldShared, LoadsRun, LoadsShared, no_load, one_more_load, beside_shared}
 use Rattle.replica.proofs.Access.{at_itself}
 use Rattle.replica.proofs.LineLoads.{loads_more, noted_more}
