@@ -41,10 +41,10 @@
 
 /* The version of this header. GITHOPPU_VERSION is a million times the first number, a thousand times the second, and the third. */
 #define GITHOPPU_VERSION_MAJOR 0
-#define GITHOPPU_VERSION_MINOR 2
+#define GITHOPPU_VERSION_MINOR 3
 #define GITHOPPU_VERSION_PATCH 0
 #define GITHOPPU_VERSION (GITHOPPU_VERSION_MAJOR * 1000000 + GITHOPPU_VERSION_MINOR * 1000 + GITHOPPU_VERSION_PATCH)
-#define GITHOPPU_VERSION_TEXT "0.2.0"
+#define GITHOPPU_VERSION_TEXT "0.3.0"
 
 #ifdef __cplusplus
 extern "C" {
@@ -141,6 +141,15 @@ int32_t githoppu_close(githoppu_handle session, void **out);
  * and those of all replicas: 128 * (146 + lines) bytes for each session, and 64. Its words have the machine's byte order. An image has no checksum: a
  * byte that is changed in a document, or in a replica that the root does not name, is not seen. A file of githoppu_file.h has one. */
 int32_t githoppu_image(githoppu_handle closed, uint64_t choice, uint64_t *words, size_t count, uint64_t *needed, void **out);
+
+/* Takes an image of a running store or queue, of whatever session, while the others go on: an image of one moment, in the format of githoppu_image with the
+ * object of that moment as each replica, of which githoppu_recover opens a store and githoppu_outcome tells outcomes. It holds every update that any session
+ * was answered before the call began, and what it holds is durable. One replica is read for the time of one copy, as a reader does. No memory is taken,
+ * and it waits for nobody.
+ * DONE where count is the number of words that an image has, which is put into *needed; with another count BAD_SIZE, and no word is written (so ask once
+ * with count 0). AGAIN: other sessions were in the way in 16 tries; call again. STOPPED, or OUT_OF_TURN while an operation is pending; of what is no
+ * session OUT_OF_TURN and *needed is 0. After AGAIN and STOPPED the words are no image. */
+int32_t githoppu_checkpoint(githoppu_handle session, uint64_t *words, size_t count, uint64_t *needed, void **out);
 
 /* Opens a store, or a queue, from the words of an image, with count sessions, which may be more or fewer than the image is of: DONE, BAD_SIZE,
  * NO_MEMORY, AGAIN, or one of NO_IMAGE to IMAGE_NUMBERS. Where it is not DONE no slot is written. Every update that was acknowledged before is there. */
@@ -395,6 +404,36 @@ static inline int githoppu_image_into(void **closed, uint64_t choice, uint64_t *
     uint64_t needed;
     handle.at = *closed;
     return handle.at == NULL ? GITHOPPU_NO_SESSION : githoppu_image(handle, choice, words, count, &needed, closed);
+}
+
+/* How many words an image of the store of a running session has: DONE, OUT_OF_TURN where it is a closed store, or NO_SESSION. */
+static inline int githoppu_checkpoint_size(void **session, uint64_t *count) {
+    githoppu_handle handle;
+    uint64_t none = 0;
+    int status;
+    handle.at = *session;
+    if (handle.at == NULL)
+        return GITHOPPU_NO_SESSION;
+    status = githoppu_checkpoint(handle, &none, 0, count, session);
+    return status == GITHOPPU_BAD_SIZE ? GITHOPPU_DONE : status;
+}
+
+/* Takes an image of a running store or queue, and tries again while others are in the way. What githoppu_checkpoint answers, or NO_SESSION; AGAIN only
+ * after GITHOPPU_ROUNDS rounds. */
+static inline int githoppu_checkpoint_into(void **session, uint64_t *words, size_t count) {
+    int status = GITHOPPU_AGAIN;
+    long round;
+    if (*session == NULL)
+        return GITHOPPU_NO_SESSION;
+    for (round = 0; round < GITHOPPU_ROUNDS && status == GITHOPPU_AGAIN; round++) {
+        githoppu_handle handle;
+        uint64_t needed;
+        handle.at = *session;
+        status = githoppu_checkpoint(handle, words, count, &needed, session);
+        if (status == GITHOPPU_AGAIN)
+            GITHOPPU_YIELD();
+    }
+    return status;
 }
 
 /* Drops sessions of a store or a queue, or closed stores. Each slot is null afterwards; one that is null is skipped. */

@@ -252,17 +252,22 @@ static inline int githoppu_save_words(const char *path, const uint64_t *words, s
     return status;
 }
 
-/* Saves a closed store or queue: its image by choice 0, what is durable of it. The closed store is still there afterwards, at *closed. DONE, NO_SESSION,
- * OUT_OF_TURN where it is not closed, NO_MEMORY, or one of NOT_MADE to FOLDER_NOT_SYNCED. */
-static inline int githoppu_save(const char *path, void **closed) {
+/* Saves a store or a queue: of a closed one its image by choice 0, what is durable of it, and of a running one what githoppu_checkpoint takes by this
+ * session, while the others go on. What was passed is still there afterwards, at *from. DONE, NO_SESSION, OUT_OF_TURN while an operation of the session is
+ * pending, AGAIN as of githoppu_checkpoint_into, NO_MEMORY, or one of NOT_MADE to FOLDER_NOT_SYNCED. */
+static inline int githoppu_save(const char *path, void **from) {
     uint64_t count = 0, *words;
-    int why, status = githoppu_image_size(closed, &count);
+    int why, running = 0, status = githoppu_image_size(from, &count);
+    if (status == GITHOPPU_OUT_OF_TURN) {
+        running = 1;
+        status = githoppu_checkpoint_size(from, &count);
+    }
     if (status != GITHOPPU_DONE)
         return status;
     words = count > SIZE_MAX / 8 ? NULL : (uint64_t *)malloc((size_t)(8 * count));
     if (words == NULL)
         return GITHOPPU_NO_MEMORY;
-    status = githoppu_image_into(closed, 0, words, (size_t)count);
+    status = running ? githoppu_checkpoint_into(from, words, (size_t)count) : githoppu_image_into(from, 0, words, (size_t)count);
     if (status == GITHOPPU_DONE)
         status = githoppu_save_words(path, words, (size_t)count);
     why = errno;

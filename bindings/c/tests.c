@@ -618,7 +618,7 @@ static void test_outcomes_after_crashes(void) {
 static void test_texts(void) {
     int i, k;
     CHECK(githoppu_check_version() == GITHOPPU_DONE && githoppu_version() == GITHOPPU_VERSION);
-    CHECK(strcmp(GITHOPPU_VERSION_TEXT, "0.2.0") == 0 && GITHOPPU_VERSION == 2000);
+    CHECK(strcmp(GITHOPPU_VERSION_TEXT, "0.3.0") == 0 && GITHOPPU_VERSION == 3000);
     for (i = GITHOPPU_DONE; i <= GITHOPPU_BEHIND + 1; i++)
         for (k = GITHOPPU_DONE; k < i; k++)
             CHECK(strcmp(githoppu_status_text(i), githoppu_status_text(k)) != 0);

@@ -347,6 +347,16 @@ impl Session {
         self.0.catch_up(place)
     }
 
+    /// An image of the running store while its other sessions go on: of one moment, with every update that was answered before. Nobody is waited for.
+    pub fn checkpoint(&mut self) -> Result<Image, Error> {
+        self.0.checkpoint().map(Image)
+    }
+
+    /// Saves such an image, as `Closed::save` does of a closed store.
+    pub fn save(&mut self, path: impl AsRef<Path>) -> Result<(), FileError> {
+        self.checkpoint()?.save(path)
+    }
+
     /// Closes the session. The one of a store that is closed last closes the store.
     pub fn close(self) -> Closing<Session> {
         Closing::of(self.0.close(), Session)
@@ -448,6 +458,16 @@ impl QueueSession {
     /// it, so no session of this one's queue was answered at it.
     pub fn catch_up(&mut self, place: u64) -> Result<bool, Error> {
         self.0.catch_up(place)
+    }
+
+    /// An image of the running queue while its other sessions go on: of one moment, with every update that was answered before. Nobody is waited for.
+    pub fn checkpoint(&mut self) -> Result<Image, Error> {
+        self.0.checkpoint().map(Image)
+    }
+
+    /// Saves such an image, as `Closed::save` does of a closed queue.
+    pub fn save(&mut self, path: impl AsRef<Path>) -> Result<(), FileError> {
+        self.checkpoint()?.save(path)
     }
 
     /// Closes the session. The one of a queue that is closed last closes the queue.

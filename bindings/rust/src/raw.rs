@@ -39,6 +39,7 @@ extern "C" {
     pub fn githoppu_see_place(session: Handle, place: u64, out: *mut *mut c_void) -> i32;
     pub fn githoppu_close(session: Handle, out: *mut *mut c_void) -> i32;
     pub fn githoppu_image(closed: Handle, choice: u64, words: *mut u64, count: usize, needed: *mut u64, out: *mut *mut c_void) -> i32;
+    pub fn githoppu_checkpoint(session: Handle, words: *mut u64, count: usize, needed: *mut u64, out: *mut *mut c_void) -> i32;
     pub fn githoppu_recover(words: *const u64, words_count: usize, sessions: *mut *mut c_void, count: usize) -> i32;
     pub fn githoppu_recover_queue(words: *const u64, words_count: usize, sessions: *mut *mut c_void, count: usize) -> i32;
     pub fn githoppu_outcome(words: *const u64, words_count: usize, session: u64, number: *mut u64, reply: *mut Words) -> i32;

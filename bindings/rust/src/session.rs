@@ -102,6 +102,22 @@ impl Pointer {
         Err(Error::BadSize)
     }
 
+    /// An image of the store of a session while others go on. It is tried again while they are in the way.
+    pub fn checkpoint(&mut self) -> Result<Vec<u64>, Error> {
+        let mut words = Vec::new();
+        let mut needed = 0;
+        for _ in 0..ROUNDS {
+            let status = unsafe { raw::githoppu_checkpoint(Handle(self.0), words.as_mut_ptr(), words.len(), &mut needed, &mut self.0) };
+            match status {
+                raw::DONE => return Ok(words),
+                raw::BAD_SIZE => words.resize(needed as usize, 0),
+                raw::AGAIN => thread::yield_now(),
+                status => return Err(Error::of(status)),
+            }
+        }
+        Err(Error::Busy)
+    }
+
     /// Does an operation, and tries again until it is answered. A reply of kind 0 says that the words were no operation.
     pub fn ask(&mut self, op: &Words) -> Result<Words, Error> {
         let mut reply = [0; 144];

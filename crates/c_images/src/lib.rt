@@ -4,6 +4,7 @@
 //! object, the callers, the lines of the object and the root; the last two words are 0.
 //!
 //! - `write_image` writes what a loss of power leaves of a closed service, by choice, as recovery's `crash_image` has it, and takes no memory.
+//! - `write_base` writes an image of which each replica is one base.
 //! - `head_of`, `base_of`: the base from which a service may start again, or why there is none: recovery's refusals, and what it does not look at.
 //! - `written_images_are_taken_up`: what `write_image` wrote is never refused, but for want of memory, and what is taken up of it holds each
 //!   answer (`IsKeptBy`).
@@ -15,6 +16,7 @@ mod head;
 mod laws;
 mod reading;
 mod replies;
+mod taken;
 mod writing;
 
 pub use head::{Head, head_of};
@@ -23,4 +25,5 @@ pub use laws::{
 };
 pub use reading::{WordsFault, base_of};
 pub use replies::{holds_document_replies, holds_queue_replies};
+pub use taken::{base_words, image_words_of, write_base};
 pub use writing::{image_words, write_image};

@@ -10,10 +10,11 @@ use Rattle.cx_core.specs.declared.local.Linked.{Linked as OwnEntry}
 use Rattle.cx_rule.specs.Running.{Running}
 use Rattle.cx_rule.specs.Seats.{Seated, unanswered_ticket}
 use Rattle.cx_service.specs.Callers.{IsCallerOf}
+use Rattle.cx_base.specs.declared.object.Object.{Ghosts}
 use Rattle.cx_service.specs.CatchUps.{HasSeen}
 use Rattle.cx_service.specs.declared.close.Handed.{Handed}
 use Rattle.cx_service.specs.declared.close.Handed.TheVariants.{Idle, Linked, Stopped}
-use Rattle.cx_service.proofs.Seeing.{answered_read_seen, catch_up_seen, driven_seen, read_behind, read_seen, submit_linked_behind, submit_seen}
+use Rattle.cx_service.proofs.Seeing.{answered_read_seen, catch_up_seen, driven_seen, image_behind, image_seen, read_behind, read_seen, submit_linked_behind, submit_seen}
 use Rattle.seat_pool.specs.Gathering.{IsHandedOf, number_of}
 use Rattle.c_sessions.specs.declared.seeing.Sight.{Sight}
 use Rattle.c_sessions.specs.declared.seeing.Sight.TheVariants.{Caught, Behind, Stopped as SightStopped, OutOfTurn as SightOutOfTurn}
@@ -21,9 +22,12 @@ use Rattle.c_sessions.specs.declared.steps.Called.{Called}
 use Rattle.c_sessions.specs.declared.steps.Called.TheVariants.{Done, Pending, Again, Full, Worn, Stopped as CalledStopped, OutOfTurn}
 use Rattle.c_sessions.specs.Calls.{AsksBy, CallsFrom, DrivesTo, EntersNot, EntersTo, FinishesFrom, LooksTo, place_after}
 use Rattle.c_sessions.specs.Handing.{IsExitOf}
+use Rattle.c_sessions.specs.Images.{TakesFrom, TakesTo, place_taken}
 use Rattle.c_sessions.specs.Places.{HasPlace, SeesFrom, SeesTo, place_seen}
 use Rattle.c_sessions.specs.Sessions.{IsReady, Stands}
 use Rattle.c_sessions.specs.declared.session.Session.{Session}
+use Rattle.c_sessions.specs.declared.taking.Taken.{Taken}
+use Rattle.c_sessions.specs.declared.taking.Taken.TheVariants.{At, Again as TakenAgain, Stopped as TakenStopped, OutOfTurn as TakenOutOfTurn}
 
 -- nothing is below 0
 pub none_seen : {O : Type 0} (r : Running O) (handed : Handed) → HasPlace r 0 handed
@@ -121,6 +125,24 @@ module _ {O : Type 0} (r : Running O) (place : ℕ) where
   sees_go wanted (Idle u) sight after caller was told = sees_goes wanted u sight after caller was told
   sees_go wanted (Linked u) sight after caller was told = no_sight wanted sight (Linked u) after was told.0 told.1
   sees_go wanted (Stopped u) sight after caller was told = no_sight wanted sight (Stopped u) after was told.0 told.1
+
+  takes_goes : (o : Ghosts O) (words : List ℕ) (tries : ℕ) (u : Seated) (taken : Taken) (after : Handed) → IsCallerOf r u → HasSeen r.callers place u.known.local → TakesTo o r words tries u taken after →
+      Goes r (number_at u) place (place_taken taken place) after
+  takes_goes o words tries u (At at) (Idle v) caller was told =
+      record { rises = (image_behind o r words at u v told.0 place was).0; seen = image_seen o r words at u v told.0; same = told.0.keeps.lists.number }
+  takes_goes o words tries u TakenAgain (Idle v) caller was told = stays (number_at u) (Idle v) (read_seen r place u v caller was told.keeps) told.keeps.number
+  takes_goes o words tries u TakenStopped (Stopped v) caller was told = stays (number_at u) (Stopped v) tt told.0.keeps.lists.number
+  takes_goes o words tries u taken after caller was told = absurd told
+
+  no_image : (taken : Taken) (before after : Handed) → HasPlace r place before → taken ≡ TakenOutOfTurn → after ≡ before → Goes r (number_of before) place (place_taken taken place) after
+  no_image taken before after seen is same =
+      subst (λ (t : Taken). Goes r (number_of before) place (place_taken t place) after) (sym is) (subst (λ (h : Handed). Goes r (number_of before) place place h) (sym same) (stays (number_of before) before seen refl))
+
+  pub takes_go : (o : Ghosts O) (words : List ℕ) (tries : ℕ) (before : Handed) (taken : Taken) (after : Handed) → IsHandedOf r before → HasPlace r place before → TakesFrom o r words tries before taken after →
+      Goes r (number_of before) place (place_taken taken place) after
+  takes_go o words tries (Idle u) taken after caller was told = takes_goes o words tries u taken after caller was told
+  takes_go o words tries (Linked u) taken after caller was told = no_image taken (Linked u) after was told.0 told.1
+  takes_go o words tries (Stopped u) taken after caller was told = no_image taken (Stopped u) after was told.0 told.1
 
 -- a session of which this stands after a call, and which tells this place
 module _ {O : Type 0} (s : Session O) (b h : Handed) (service : Running O) (same : service ≡ arc_value s.service) (ready : IsReady s) (at : s.handed ≡ Some b) (place : ℕ) where

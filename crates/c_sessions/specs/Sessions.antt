@@ -3,6 +3,7 @@ use Rattle.std.specs.Prelude.{◌≡◌, ◌≤◌, ℕ, Bool, All, List, [], �
 use Rattle.std.specs.List.{range_with_len}
 use Rattle.std.specs.Option.{option_map_or}
 use Rattle.std.specs.Arc.{arc_value}
+use Rattle.cx_base.specs.declared.object.Object.{Ghosts}
 use Rattle.cx_core.specs.Base.{fresh_region}
 use Rattle.cx_core.specs.declared.entry.Base.{Base}
 use Rattle.cx_rule.specs.Running.{Running}
@@ -19,6 +20,8 @@ use Rattle.seat_pool.specs.Gathering.{IsHandedOf, number_of}
 use Rattle.c_sessions.specs.Calls.{CallsFrom, FinishesFrom, place_after}
 use Rattle.c_sessions.specs.Places.{HasPlace, SeesFrom, place_seen}
 use Rattle.c_sessions.specs.declared.seeing.Sight.{Sight}
+use Rattle.c_sessions.specs.Images.{TakesFrom, place_taken}
+use Rattle.c_sessions.specs.declared.taking.Taken.{Taken}
 use Rattle.c_sessions.specs.Handing.{IsExitOf}
 
 -- something stands of the session's caller, which has seen the session's place, and the session can be closed
@@ -82,3 +85,7 @@ FinishesIn tries before called after reply = Stands before after (place_after ca
 -- and so did catching up with a place
 abbrev pub SeesIn : {O : Type 0} → ℕ → Session O → Sight → Session O → Type 0
 SeesIn place before sight after = Stands before after (place_seen sight place before.place) (λ b a. SeesFrom (arc_value before.service) place b sight a)
+
+-- And so did taking an image, in so many tries, with these words where it is taken. Its place is the session's then, so it is not below the place before.
+abbrev pub TakesIn : {O : Type 0} → Ghosts O → List ℕ → ℕ → Session O → Taken → Session O → Type 0
+TakesIn o words tries before taken after = Stands before after (place_taken taken before.place) (λ b a. TakesFrom o (arc_value before.service) words tries b taken a)

@@ -6,6 +6,7 @@
 //! - `Session::call`, `Session::finish`: what a call answers is the service's answer, and the session is ready again.
 //! - `Session::place`, `Session::catch_up`: the place tells another session what this one has seen, and once that one caught up with it, its later
 //!   answers stand at or above it (`Stands`, `Sees`).
+//! - `Session::checkpoint`: the session takes an image of the object while the others go on, as the service's caller does.
 //! - `Session::close`, `close_rest`, `close_kept`: the callers of one service lie in a queue, each with its share of it, under the rule that it is one service
 //!   and that each of its callers is there once: still with its session, in the queue, or taken out by one session (`Gathers`). Who comes last takes all out and
 //!   closes the service: what it hands out is what the service leaves (`IsClosedOf`). Where a caller is missing it keeps those that it took out (`IsMissing`),
@@ -21,6 +22,7 @@ mod rule;
 mod seeing;
 mod session;
 mod steps;
+mod taking;
 mod tries;
 
 pub use closing::{Closing, close_kept, close_rest};
@@ -29,4 +31,5 @@ pub use opening::{OpenFault, open, open_from};
 pub use seeing::Sight;
 pub use session::{Session, sessions_cross_threads};
 pub use steps::Called;
+pub use taking::Taken;
 pub use tries::Tries;

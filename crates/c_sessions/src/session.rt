@@ -1,14 +1,16 @@
 //! A caller of a shared service, with its share of the service.
 
-ghost use Rattle.std.specs.Prelude.{◌≡◌, ◌∷◌, [], Some};
+ghost use Rattle.std.specs.Prelude.{◌≡◌, ◌∷◌, [], Some, length};
 ghost use Rattle.std.specs.Arc.{arc_value};
+ghost use Rattle.cx_rule.specs.Running.{IsRunning};
 ghost use Rattle.seat_pool.specs.Gathering.{IsHandedOf, number_of};
 ghost use Rattle.c_sessions.specs.Handing.{IsExitOf};
-ghost use Rattle.c_sessions.specs.Sessions.{CallsIn, FinishesIn, IsReady, SeesIn};
+ghost use Rattle.c_sessions.specs.Sessions.{CallsIn, FinishesIn, IsReady, SeesIn, TakesIn};
 
 use crate::exit::Exit;
 use crate::seeing::{Sight, see};
 use crate::steps::{Called, end, go_on};
+use crate::taking::{Taken, take_image};
 use crate::tries::Tries;
 use cx_base::Object;
 use cx_service::{Handed, Service};
@@ -93,6 +95,40 @@ impl<O: Object> Session<O> {
         self.handed = Some(handed);
         self.place = sight.place_seen(place, self.place);
         sight
+    }
+
+    /// Takes an image of the object, results included, while others go on, in so many tries. From `At` on the words are a base from which a service may
+    /// start, at this place, which is the session's then. Else nothing is told of them.
+    pub fn checkpoint(&mut self, into: &mut [u64], tries: Tries) -> Taken
+        requires ready { IsReady self.old }
+        requires words { length into.old ≡ length (arc_value self.old.service).base.words }
+        ensures ready { IsReady self.new }
+        ensures takes { TakesIn O.Object into.new tries.count self.old result self.new }
+        ensures length { length into.new ≡ length into.old }
+    {
+        let Some(handed) = self.handed.take() else {
+            unreachable!()
+        };
+        let (handed, taken) = take_image(&self.service, handed, into, tries);
+        self.handed = Some(handed);
+        self.place = taken.place_taken(self.place);
+        taken
+    }
+
+    /// The lines of the object. A running service is within its limits.
+    pub fn lines(&self) -> u64
+        ensures value { result ≡ (arc_value self.now.service).lines }
+        ensures running { IsRunning O.line_count O.lawful (arc_value self.now.service) }
+    {
+        self.service.lines()
+    }
+
+    /// How many callers the service has.
+    pub fn callers(&self) -> u32
+        requires { IsReady self.now }
+        ensures { result ≡ (arc_value self.now.service).callers }
+    {
+        self.exit.handover.callers
     }
 }
 

@@ -3,6 +3,7 @@
 ghost use Rattle.std.specs.Prelude.{◌≡◌};
 ghost use Rattle.githoppu_c.specs.Again.{ComesBack};
 ghost use Rattle.githoppu_c.specs.Closings.{ClosesAs, Images, queue_left, store_left};
+ghost use Rattle.githoppu_c.specs.Checkpoints.{Checkpoints};
 ghost use Rattle.githoppu_c.specs.Codes.{closing_code};
 ghost use Rattle.githoppu_c.specs.Contents.{Calls, Finishes, IsCallable};
 ghost use Rattle.githoppu_c.specs.Places.{HasPlace, Sees};
@@ -10,6 +11,7 @@ ghost use Rattle.githoppu_c.specs.Places.{HasPlace, Sees};
 use crate::again::{queues_are_taken_up_again, stores_are_taken_up_again};
 use crate::codes::{AGAIN, DONE, LOST, NO_MEMORY, OTHERS, OUT_OF_TURN};
 use crate::images::{DOCUMENTS, QUEUE, write_to};
+use crate::taking::take_to;
 use c_sessions::{Called, Closing, Rest, Session, Sight, Tries, close_kept, close_rest};
 use cx_service::Kept;
 use cx_table::Remains;
@@ -80,6 +82,22 @@ impl Content {
             Content::Documents(session) => session.catch_up(place),
             Content::Queue(session) => session.catch_up(place),
             _ => Sight::OutOfTurn,
+        }
+    }
+
+    /// Has a session take an image while others go on, where there are as many words as it takes, which are told.
+    pub fn checkpoint(&mut self, words: &mut [u64], needed: &mut u64) -> i32
+        requires callable { IsCallable self.old }
+        ensures callable { IsCallable self.new }
+        ensures checkpoints { Checkpoints self.old self.new words.old words.new needed.new result }
+    {
+        match self {
+            Content::Documents(session) => take_to(session, DOCUMENTS, words, needed),
+            Content::Queue(session) => take_to(session, QUEUE, words, needed),
+            _ => {
+                *needed = 0;
+                OUT_OF_TURN
+            }
         }
     }
 

@@ -4,6 +4,7 @@
 
 ghost use Rattle.std.specs.Prelude.{◌≡◌, length};
 ghost use Rattle.githoppu_c.specs.Again.{ComesBack};
+ghost use Rattle.githoppu_c.specs.Checkpoints.{AnswersCheckpoint};
 ghost use Rattle.githoppu_c.specs.Closings.{ClosesAs, Images};
 ghost use Rattle.githoppu_c.specs.Contents.{Answers, Calls, Finishes, IsCallable, IsTriesFor, Opens};
 ghost use Rattle.githoppu_c.specs.Places.{AnswersSight, TellsPlace};
@@ -21,6 +22,7 @@ mod opening;
 mod outcomes;
 mod raw_box;
 mod recovering;
+mod taking;
 
 use crate::codes::{DONE, OTHERS, OUT_OF_TURN, code_of, sight_code};
 use crate::content::Content;
@@ -36,8 +38,8 @@ use std::{mem, ptr};
 /// The most tries of a call.
 const MOST: u64 = 1 << 20;
 
-/// The version of the library: a million times the first number, a thousand times the second, and the third. Here 0.2.0.
-const VERSION: u64 = 2000;
+/// The version of the library: a million times the first number, a thousand times the second, and the third. Here 0.3.0.
+const VERSION: u64 = 3000;
 
 /// As many tries as are asked for, but at least one and not too many.
 fn tries_of(asked: u64) -> Tries
@@ -150,6 +152,24 @@ pub extern "C" fn githoppu_image(
     code
 }
 
+/// Has a session take an image of its store or queue while others go on, where there are as many words as it takes, which are told: the image after all
+/// that was answered before. The session stands at `out` afterwards.
+#[unsafe(no_mangle)]
+pub extern "C" fn githoppu_checkpoint(
+    session: Handle,
+    words: &mut [u64],
+    needed: &mut u64,
+    out: &mut *mut u8,
+) -> i32
+    requires { IsCallable session.content }
+    ensures { AnswersCheckpoint session.content words.old words.new needed.new result }
+{
+    let mut content = session.into_box();
+    let code = content.checkpoint(words, needed);
+    *out = Box::into_raw(content) as *mut u8;
+    code
+}
+
 /// Takes up a document store from the words of an image, and puts a session into each slot. Where it is refused, no slot is written.
 #[unsafe(no_mangle)]
 pub extern "C" fn githoppu_recover(alloc: Global, words: &[u64], sessions: &mut [*mut u8]) -> i32
@@ -217,7 +237,7 @@ pub extern "C" fn githoppu_outcome(
 /// The version of the library.
 #[unsafe(no_mangle)]
 pub extern "C" fn githoppu_version() -> u64
-    ensures { result ≡ 2000 }
+    ensures { result ≡ 3000 }
 {
     VERSION
 }

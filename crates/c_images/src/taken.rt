@@ -1,0 +1,59 @@
+//! A base is written into words, as an image of which each replica is that base.
+
+ghost use Rattle.std.specs.Prelude.{◌≡◌, ◌+◌, ◌<◌, ◌≤◌, ◌^◌, ℕ, drop, length, slice_index, take};
+ghost use Rattle.cx_core.specs.Region.{region_words};
+ghost use Rattle.recovery.specs.Images.{image_size};
+ghost use Rattle.c_images.specs.Taken.{IsWrittenOf, RepeatsTo};
+
+use crate::head::{FORMAT, HEAD, NAME};
+use cx_base::root_code;
+use cx_core::{HEAD_LINES, LINE_WORDS};
+
+/// How many words the region of an object of so many lines has.
+pub fn base_words(lines: u64) -> u64
+    requires { lines ≤ 16384 }
+    ensures { result ≡ region_words lines }
+{
+    LINE_WORDS * (HEAD_LINES + lines)
+}
+
+/// How many words an image has of a service of so many callers.
+pub fn image_words_of(callers: u32, lines: u64) -> u64
+    requires callers { callers ≤ 8 }
+    requires lines { lines ≤ 16384 }
+    ensures { result ≡ image_size callers lines + 8 }
+{
+    base_words(lines) * (2 * u64::from(callers)) + HEAD as u64
+}
+
+/// Makes an image of the region that stands behind the head: each replica is that region, and the root names the first one at this place.
+pub fn write_base(kind: u64, callers: u32, lines: u64, place: u64, words: &mut [u64])
+    requires some { 1 ≤ callers }
+    requires few { callers ≤ 8 }
+    requires lines { lines ≤ 16384 }
+    requires place { place ≤ 2 ^ 40 }
+    requires long { length words.old ≡ image_size callers lines + 8 }
+    ensures { IsWrittenOf kind callers lines place (take (region_words lines) (drop 8 words.old)) words.new }
+{
+    repeat(base_words(lines) as usize, words);
+    words[0] = NAME;
+    words[1] = FORMAT;
+    words[2] = kind;
+    words[3] = u64::from(callers);
+    words[4] = lines;
+    words[5] = root_code(callers, place, 0);
+    words[6] = 0;
+    words[7] = 0;
+}
+
+/// Copies the first region behind the head over each one behind it.
+fn repeat(region: usize, words: &mut [u64])
+    requires { region + 8 ≤ length words.old }
+    ensures length { length words.new ≡ length words.old }
+    ensures first { (at : ℕ) → at < region + 8 → slice_index words.new at ≡ slice_index words.old at }
+    ensures others { (end_ : ℕ) → end_ + 8 ≡ length words.old → RepeatsTo region end_ words.new }
+{
+    for at in 0..words.len() - HEAD - region {
+        words[at + region + HEAD] = words[at + HEAD];
+    }
+}

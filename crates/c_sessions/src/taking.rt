@@ -1,0 +1,57 @@
+//! A caller of a session takes an image of the object while others go on.
+
+ghost use Rattle.std.specs.Prelude.{◌≡◌, length};
+ghost use Rattle.seat_pool.specs.Gathering.{IsHandedOf};
+ghost use Rattle.c_sessions.specs.Images.{TakesFrom, place_taken};
+
+use crate::tries::Tries;
+use cx_base::Object;
+use cx_service::{Checkpointed, Handed, Service};
+
+/// What taking an image returns.
+#[derive(Clone, Copy, Debug, PartialEq, Eq, Drop)]
+pub enum Taken {
+    /// The image is there, at this place.
+    At(u64),
+    /// Others were in the way, in each try.
+    Again,
+    /// The caller has come to its limit of steps.
+    Stopped,
+    /// An entry is linked that is not answered.
+    OutOfTurn,
+}
+
+impl Taken {
+    /// The place that a session tells that was to take an image, and told this one before.
+    pub(crate) fn place_taken(self, before: u64) -> u64
+        ensures { result ≡ place_taken self before }
+    {
+        match self {
+            Taken::At(place) => place,
+            _ => before,
+        }
+    }
+}
+
+/// Has what stands of a caller take an image, in so many tries.
+pub(crate) fn take_image<O: Object>(
+    service: &Service<O>,
+    handed: Handed,
+    into: &mut [u64],
+    tries: Tries,
+) -> (Handed, Taken)
+    requires ready { IsHandedOf service.now handed }
+    requires words { length into.old ≡ length service.now.base.words }
+    ensures ready { IsHandedOf service.now result.0 }
+    ensures takes { TakesFrom O.Object service.now into.new tries.count handed result.1 result.0 }
+    ensures length { length into.new ≡ length into.old }
+{
+    match handed {
+        Handed::Idle(caller) => match service.checkpoint(caller, into, tries.count) {
+            Checkpointed::Taken(back, place) => (Handed::Idle(back), Taken::At(place)),
+            Checkpointed::Pending(back) => (Handed::Idle(back), Taken::Again),
+            Checkpointed::Halted(stopped) => (Handed::Stopped(stopped), Taken::Stopped),
+        },
+        other => (other, Taken::OutOfTurn),
+    }
+}

@@ -1,0 +1,45 @@
+-- What C is answered where a session takes an image while others go on.
+use Rattle.std.specs.Prelude.{◌≡◌, ◌≢◌, ◌⊎◌, ◌+◌, ℕ, ℤ, pos, List, length}
+use Rattle.std.specs.Arc.{arc_value}
+use Rattle.cx_base.specs.declared.object.Object.{Ghosts}
+use Rattle.cx_rule.specs.Running.{Running}
+use Rattle.recovery.specs.Images.{image_size}
+use Rattle.c_images.specs.Taken.{IsWrittenOf}
+use Rattle.c_sessions.specs.Sessions.{TakesIn}
+use Rattle.c_sessions.specs.declared.session.Session.{Session}
+use Rattle.c_sessions.specs.declared.taking.Taken.{Taken}
+use Rattle.c_sessions.specs.declared.taking.Taken.TheVariants.{At, Again, Stopped, OutOfTurn}
+use Rattle.doc_store.specs.contracts.store.DocStore.TheImpls.{Object as StoreObject}
+use Rattle.githoppu_c.specs.Contents.{IsCallable}
+use Rattle.githoppu_c.specs.declared.content.Content.{Content}
+use Rattle.githoppu_c.specs.declared.content.Content.TheVariants.{Documents, Queue}
+
+-- the number of what taking an image came to
+abbrev pub taken_code : Taken → ℤ
+taken_code (At place) = pos 0
+taken_code Again = pos 2
+taken_code Stopped = pos 5
+taken_code OutOfTurn = pos 6
+
+-- how many words an image of a running service has
+abbrev pub words_of : {O : Type 0} → Running O → ℕ
+words_of r = image_size r.callers r.lines + 8
+
+-- where an image was taken the words are one of an object of this kind, of which each replica is what was taken
+abbrev pub IsWrittenAs : {O : Type 0} → ℕ → Running O → List ℕ → Taken → List ℕ → Type 0
+IsWrittenAs kind r region (At place) words = IsWrittenOf kind r.callers r.lines place region words
+IsWrittenAs kind r region taken words = Unit {0}
+
+-- a session took an image in 16 tries, or this was met
+pub record Took {O : Type 0} (o : Ghosts O) (kind : ℕ) (before after : Session O) (words : List ℕ) (code : ℤ) : Type 0 where
+  pub region : List ℕ
+  pub taken : Taken
+  pub takes : TakesIn o region 16 before taken after
+  pub written : IsWrittenAs kind (arc_value before.service) region taken words
+  pub is : code ≡ taken_code taken
+
+-- so it was where there are as many words as it takes, which are told; else nothing is changed
+pub record TakesAs {O : Type 0} (o : Ghosts O) (kind : ℕ) (before after : Session O) (words_before words : List ℕ) (needed : ℕ) (code : ℤ) : Type 0 where
+  pub told : needed ≡ words_of (arc_value before.service)
+  pub took : ((length words_before ≡ words_of (arc_value before.service)) × Took o kind before after words code)
+      ⊎ ((length words_before ≢ words_of (arc_value before.service)) × (code ≡ pos 7) × (words ≡ words_before) × (after ≡ before))

@@ -1,0 +1,46 @@
+//! What a session takes while others go on, as words of C's.
+
+ghost use Rattle.std.specs.Prelude.{◌≡◌, length};
+ghost use Rattle.std.specs.Arc.{arc_value};
+ghost use Rattle.c_sessions.specs.Sessions.{IsReady};
+ghost use Rattle.githoppu_c.specs.Checkpoints.{TakesAs};
+
+use crate::codes::{AGAIN, BAD_SIZE, DONE, OUT_OF_TURN, STOPPED};
+use c_images::{base_words, image_words_of, write_base};
+use c_sessions::{Session, Taken, Tries};
+use cx_base::Object;
+
+/// The tries of one call.
+const TRIES: Tries = Tries { count: 16 };
+
+/// Has a session take an image, where there are as many words as it takes, which are told. The region is loaded into the first replica of the words, and
+/// copied over the others.
+pub fn take_to<O: Object>(
+    session: &mut Session<O>,
+    kind: u64,
+    words: &mut [u64],
+    needed: &mut u64,
+) -> i32
+    requires ready { IsReady session.old }
+    ensures ready { IsReady session.new }
+    ensures same { arc_value session.new.service ≡ arc_value session.old.service }
+    ensures takes { TakesAs O.Object kind session.old session.new words.old words.new needed.new result }
+{
+    let lines = session.lines();
+    let callers = session.callers();
+    let count = image_words_of(callers, lines);
+    *needed = count;
+    if words.len() as u64 != count {
+        return BAD_SIZE;
+    }
+    let region = base_words(lines) as usize;
+    match session.checkpoint(&mut words[8..8 + region], TRIES) {
+        Taken::At(place) => {
+            write_base(kind, callers, lines, place, words);
+            DONE
+        }
+        Taken::Again => AGAIN,
+        Taken::Stopped => STOPPED,
+        Taken::OutOfTurn => OUT_OF_TURN,
+    }
+}
