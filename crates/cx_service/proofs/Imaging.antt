@@ -26,6 +26,7 @@ module _ {O : Type 0} (o : Ghosts O) (r : Running O) (s v : Seated) (caller : Is
       own = ap (λ (x : Seated). x.known.local.own) rest;
       answered = ap (λ (x : Seated). x.known.local.answered) rest;
       scans = ap (λ (x : Seated). x.known.local.scans) rest;
+      sets = ap (λ (x : Seated). x.known.sets) rest;
       front = front;
       cur = rises;
       linked = ap (λ (x : Seated). x.known.times.linked) rest;

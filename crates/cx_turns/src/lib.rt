@@ -12,7 +12,7 @@
 //!   crate). A turn that gives nothing reads no word of a set.
 //!   The reply to the caller's last entry there, for whatever fits what was noted, is the one that the step of that entry gave (`replied`), or is
 //!   loaded where the last entry was applied otherwise: `own_outcome`. Where cells from the replica's place on are closed it is a copy of the
-//!   current one first. It is made durable and downgraded: `prepare` (`prepared`).
+//!   current one first: of the lines alone that changed, where the ring of gaps tells them. It is made durable and downgraded: `prepare` (`prepared`).
 //! - A turn for a linked entry answers it with its reply, and meets at most one refusal, or one was met and nothing is answered, and the caller
 //!   is at rest again; where it halts the entry is not answered, or it is and the win stands that is still to be retired, and no refusal was
 //!   met, a right stands, or the raise is still to be made: `update_turn` (`turned`, `halted`, `turns`).

@@ -5,6 +5,8 @@
 #[cfg(test)]
 mod alone;
 #[cfg(test)]
+mod behind;
+#[cfg(test)]
 mod calls;
 #[cfg(test)]
 mod cells;
