@@ -1,9 +1,9 @@
 //! A base is written into words, as an image of which each replica is that base.
 
-ghost use Rattle.std.specs.Prelude.{◌≡◌, ◌+◌, ◌<◌, ◌≤◌, ◌^◌, ℕ, drop, length, slice_index, take};
+ghost use Rattle.std.specs.Prelude.{◌≡◌, ◌+◌, ◌-◌, ◌≤◌, ◌^◌, drop, length, take};
 ghost use Rattle.cx_core.specs.Region.{region_words};
 ghost use Rattle.recovery.specs.Images.{image_size};
-ghost use Rattle.c_images.specs.Taken.{IsWrittenOf, RepeatsTo};
+ghost use Rattle.c_images.specs.Taken.{IsRepeated, IsWrittenOf};
 
 use crate::head::{FORMAT, HEAD, NAME};
 use cx_base::root_code;
@@ -48,10 +48,9 @@ pub fn write_base(kind: u64, callers: u32, lines: u64, place: u64, words: &mut [
 
 /// Copies the first region behind the head over each one behind it.
 fn repeat(region: usize, words: &mut [u64])
-    requires { region + 8 ≤ length words.old }
-    ensures length { length words.new ≡ length words.old }
-    ensures first { (at : ℕ) → at < region + 8 → slice_index words.new at ≡ slice_index words.old at }
-    ensures others { (end_ : ℕ) → end_ + 8 ≡ length words.old → RepeatsTo region end_ words.new }
+    requires some { 1 ≤ region }
+    requires long { region + 8 ≤ length words.old }
+    ensures { IsRepeated region (length words.old - 8 - region) words.old words.new }
 {
     for at in 0..words.len() - HEAD - region {
         words[at + region + HEAD] = words[at + HEAD];

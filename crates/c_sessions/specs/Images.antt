@@ -6,7 +6,7 @@ use Rattle.cx_rule.specs.Seats.{Seated}
 use Rattle.cx_service.specs.Checkpoints.{Checkpoints}
 use Rattle.cx_service.specs.declared.checkpoint.Checkpointed.TheVariants.{Taken as ImageTaken, Pending as ImagePending, Halted as ImageHalted}
 use Rattle.cx_service.specs.declared.close.Handed.{Handed}
-use Rattle.cx_service.specs.declared.close.Handed.TheVariants.{Idle, Linked, Stopped}
+use Rattle.cx_service.specs.declared.close.Handed.TheVariants.{Idle, Stopped}
 use Rattle.c_sessions.specs.declared.taking.Taken.{Taken}
 use Rattle.c_sessions.specs.declared.taking.Taken.TheVariants.{At, Again, Stopped as TakenStopped, OutOfTurn}
 

@@ -1,5 +1,6 @@
 mod Boxed
 pub mod Bases
+pub mod Checkpointed
 pub mod Closed
 pub mod Replies
 pub mod TakenUp

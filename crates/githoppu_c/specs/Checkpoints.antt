@@ -9,7 +9,8 @@ use Rattle.c_sessions.specs.Sessions.{TakesIn}
 use Rattle.c_sessions.specs.declared.session.Session.{Session}
 use Rattle.c_sessions.specs.declared.taking.Taken.{Taken}
 use Rattle.c_sessions.specs.declared.taking.Taken.TheVariants.{At, Again, Stopped, OutOfTurn}
-use Rattle.doc_store.specs.contracts.store.DocStore.TheImpls.{Object as StoreObject}
+use Rattle.doc_store.specs.contracts.store.DocStoreObject.TheImpl.{ghosts as store_ghosts}
+use Rattle.fifo_object.specs.contracts.fifo.FifoObject.TheImpl.{ghosts as queue_ghosts}
 use Rattle.githoppu_c.specs.Contents.{IsCallable}
 use Rattle.githoppu_c.specs.declared.content.Content.{Content}
 use Rattle.githoppu_c.specs.declared.content.Content.TheVariants.{Documents, Queue}
@@ -43,3 +44,17 @@ pub record TakesAs {O : Type 0} (o : Ghosts O) (kind : ℕ) (before after : Sess
   pub told : needed ≡ words_of (arc_value before.service)
   pub took : ((length words_before ≡ words_of (arc_value before.service)) × Took o kind before after words code)
       ⊎ ((length words_before ≢ words_of (arc_value before.service)) × (code ≡ pos 7) × (words ≡ words_before) × (after ≡ before))
+
+-- of a store or a queue; what is no session was called out of turn, and nothing is changed
+abbrev pub Checkpoints : Content → Content → List ℕ → List ℕ → ℕ → ℤ → Type 0
+Checkpoints (Documents before) (Documents after) words_before words needed code = TakesAs store_ghosts 1 before after words_before words needed code
+Checkpoints (Documents before) after words_before words needed code = ⊥
+Checkpoints (Queue before) (Queue after) words_before words needed code = TakesAs queue_ghosts 2 before after words_before words needed code
+Checkpoints (Queue before) after words_before words needed code = ⊥
+Checkpoints before after words_before words needed code = (after ≡ before) × (words ≡ words_before) × (needed ≡ 0) × (code ≡ pos 6)
+
+-- what C is answered, which left what may be called
+pub record AnswersCheckpoint (before : Content) (words_before words : List ℕ) (needed : ℕ) (code : ℤ) : Type 0 where
+  pub after : Content
+  pub callable : IsCallable after
+  pub comes_to : Checkpoints before after words_before words needed code

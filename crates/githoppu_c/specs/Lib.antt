@@ -1,4 +1,5 @@
 pub mod Again
+pub mod Checkpoints
 pub mod Closings
 pub mod Codes
 pub mod Contents

@@ -1,6 +1,6 @@
 //! What a session takes while others go on, as words of C's.
 
-ghost use Rattle.std.specs.Prelude.{◌≡◌, length};
+ghost use Rattle.std.specs.Prelude.{◌≡◌};
 ghost use Rattle.std.specs.Arc.{arc_value};
 ghost use Rattle.c_sessions.specs.Sessions.{IsReady};
 ghost use Rattle.githoppu_c.specs.Checkpoints.{TakesAs};
@@ -9,9 +9,6 @@ use crate::codes::{AGAIN, BAD_SIZE, DONE, OUT_OF_TURN, STOPPED};
 use c_images::{base_words, image_words_of, write_base};
 use c_sessions::{Session, Taken, Tries};
 use cx_base::Object;
-
-/// The tries of one call.
-const TRIES: Tries = Tries { count: 16 };
 
 /// Has a session take an image, where there are as many words as it takes, which are told. The region is loaded into the first replica of the words, and
 /// copied over the others.
@@ -34,7 +31,8 @@ pub fn take_to<O: Object>(
         return BAD_SIZE;
     }
     let region = base_words(lines) as usize;
-    match session.checkpoint(&mut words[8..8 + region], TRIES) {
+    let tries = Tries { count: 16 };
+    match session.checkpoint(&mut words[8..8 + region], tries) {
         Taken::At(place) => {
             write_base(kind, callers, lines, place, words);
             DONE
