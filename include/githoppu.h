@@ -1,6 +1,6 @@
 /* Githoppu for C99, C11 and C++: a document store and a bounded queue that 1 to 8 sessions share without a lock; an image of what a crash (a power
  * failure) leaves of them; and recovery from an image. Nothing is durable by itself: persistent memory is simulated in RAM, and the data end with the
- * process unless the store was closed and its image was written to a file (githoppu_file.h does that).
+ * process unless an image of the store, closed or running, was written to a file (githoppu_file.h does that).
  *
  * Link the program with libgithoppu_c.a and with liblibc_c.a of the toolchain, in that order (docs/REFERENCE.md; `pkg-config githoppu` prints both).
  *
