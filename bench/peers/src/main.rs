@@ -2,11 +2,13 @@
 //!
 //!     peers run --form FORM --threads T --lines L --keys K --reads P --ms M
 //!     peers queue --producers P --consumers C --ms M
+//!     peers copy --lines L --times N
 //!     peers selftest
 //!
 //! The forms: `btree_mutex` and `btree_rwlock`, a `BTreeMap` under a lock of std, not durable; `region_mutex`, the words of one region
 //! under a mutex, of which each changed word is also stored to a durable copy. P of 100 calls get a document, the others put one. `queue` is
-//! a `VecDeque` of at most 1,023 texts under a mutex, with a durable copy, into which producers push and from which consumers pop.
+//! a `VecDeque` of at most 1,023 texts under a mutex, with a durable copy, into which producers push and from which consumers pop. `copy` is
+//! the plain copy of as many atomic words as a region of L lines has, N times: the nanoseconds of the quickest and of all.
 
 mod check;
 mod queue;
@@ -20,6 +22,7 @@ use work::{Run, run};
 
 const USAGE: &str = "usage: peers run --form btree_mutex|btree_rwlock|region_mutex --threads T --lines L --keys K --reads P --ms M
        peers queue --producers P --consumers C --ms M
+       peers copy --lines L --times N
        peers selftest
 T is 1 to 8, and so is the sum of P and C, L 64 to 16384, P at most 100, and 3K is below L.";
 
@@ -32,6 +35,11 @@ fn main() -> ExitCode {
     if let Some(callers) = queue_asked(&words) {
         let [moved, refused, cpu, wall] = queue::run(&callers);
         println!("moved {moved} refused {refused} cpu {cpu} wall {wall}");
+        return ExitCode::SUCCESS;
+    }
+    if let Some((lines, times)) = copy_asked(&words) {
+        let (least, all) = region::copies(lines, times);
+        println!("copies {times} least {least} all {all}");
         return ExitCode::SUCCESS;
     }
     let tally = asked(&words).and_then(|asked| run(&asked));
@@ -64,6 +72,15 @@ fn queue_asked(words: &[String]) -> Option<Callers> {
     let consumers = number_of(rest, "--consumers", 0, 8)? as usize;
     let ms = number_of(rest, "--ms", 1, 60_000)?;
     (1..=8).contains(&(producers + consumers)).then_some(Callers { producers, consumers, ms })
+}
+
+// The lines and the times of the copies that the words ask for.
+fn copy_asked(words: &[String]) -> Option<(u64, u64)> {
+    let (first, rest) = words.split_first()?;
+    if first != "copy" || rest.len() != 4 {
+        return None;
+    }
+    Some((number_of(rest, "--lines", 64, 16384)?, number_of(rest, "--times", 1, 1_000_000)?))
 }
 
 // The run that the words ask for.

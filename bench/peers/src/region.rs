@@ -1,7 +1,9 @@
 //! The words of one region, with the document store in its object part, and a durable copy of them. `docs/FORMATS.md` has the layout.
 
 use std::cmp::Ordering;
+use std::hint::black_box;
 use std::sync::atomic::{AtomicU64, Ordering as Order};
+use std::time::Instant;
 
 /// The first word of the object part, whose lines have 8 words each.
 const OBJECT: usize = 1168;
@@ -312,4 +314,22 @@ fn packed(bytes: &[u8], i: usize) -> u64 {
         Some(eight) => u64::from_le_bytes(*eight),
         None => rest.iter().rev().fold(0, |word, byte| word << 8 | u64::from(*byte)),
     }
+}
+
+/// Copies all words of a region so many times, one after another. Gives the nanoseconds of the quickest copy, and of all.
+pub fn copies(lines: u64, times: u64) -> (u128, u128) {
+    let region = Region::new(lines);
+    let mut into = vec![0; region.durable.len()];
+    let (mut least, mut all) = (u128::MAX, 0);
+    for _ in 0..times {
+        let begun = Instant::now();
+        for (word, of) in into.iter_mut().zip(&region.durable) {
+            *word = of.load(Order::SeqCst);
+        }
+        black_box(&mut into);
+        let took = begun.elapsed().as_nanos();
+        least = least.min(took);
+        all += took;
+    }
+    (least, all)
 }

@@ -154,6 +154,7 @@ module _ {O : Type 0} (r : Running O) where
           own = keeps.own;
           answered = keeps.answered;
           scans = keeps.scans;
+          sets = keeps.sets;
           front = keeps.front;
           cur = keeps.cur;
           linked = keeps.times.linked;

@@ -215,6 +215,7 @@ module _ {O : Type 0} (r : Running O) (step : O → List ℕ → List ℕ → Li
         answered = ap (λ (x : Seated). x.known.times.answered) raised ∙ append-nil mid.known.times.answered ∙ ap (λ (x : Seated). x.known.times.answered) loaded;
         reads = ap (λ (x : Seated). x.known.times.reads) raised ∙ append-nil mid.known.times.reads ∙ ap (λ (x : Seated). x.known.times.reads) loaded;
       };
+      sets = ap (λ (x : Seated). x.known.sets) raised ∙ ap (λ (x : Seated). x.known.sets) loaded;
       images = ap (λ (x : Seated). x.known.images) raised ∙ ap (λ (x : Seated). x.known.images) loaded;
     }
 

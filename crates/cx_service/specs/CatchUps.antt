@@ -34,6 +34,7 @@ pub record CatchUpKeeps (before after : Seated) : Type 0 where
   pub front : before.known.local.front ≤ after.known.local.front
   pub steps : after.known.local.steps ≤ before.known.local.steps + 2
   pub times : KeepsTimes before.known.times after.known.times
+  pub sets : after.known.sets ≡ before.known.sets
   pub images : after.known.images ≡ before.known.images
 
 -- two steps were made, where their count is not at its end: the load of CUR, and the raise of DUR
