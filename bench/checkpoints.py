@@ -4,8 +4,8 @@
     checkpoints.py [--rounds N]     at 1,024 and 16,384 lines
 
 Build the programs first: python3 bench/build.py service_bench; cd bench/peers && cargo build --release --offline
-One caller takes a checkpoint every 100 ms, alone, and beside a plain copy of as many atomic words by the peer, in turn; the quickest of each
-counts. Then callers on one thread and on three update documents of 32 bytes at 100 keys, with and without a caller more that takes a
+One caller takes a checkpoint every 100 ms, alone, and in turn with it the peer makes plain copies of as many atomic words: one every 100 ms, whose
+words have left the nearest caches as those of a checkpoint have, and then one after another. The quickest of each counts. Then callers on one thread and on three update documents of 32 bytes at 100 keys, with and without a caller more that takes a
 checkpoint every 100 ms; the medians of the rounds stand.
 
 It takes two minutes.
@@ -26,6 +26,8 @@ LINES = (1024, 16384)
 THREADS = (1, 3)
 # the updates of each caller, and the checkpoints that are taken meanwhile
 UPDATES, TAKEN, ALONE = 150_000, 10, 20
+# the milliseconds before each checkpoint, and before a copy where it is made as seldom
+PAUSE = 100
 COPIES = 400
 
 
@@ -36,12 +38,13 @@ def numbers(*words):
 
 
 def quickest(lines, rounds):
-    """The nanoseconds of the quickest checkpoint, and of the quickest plain copy, each of all rounds."""
-    taken, copied = [], []
+    """The nanoseconds of the quickest checkpoint, of the quickest plain copy as seldom, and of that in a row, each of all rounds."""
+    rows = []
     for _ in range(rounds):
-        taken.append(numbers(BENCH, "checkpoints", 0, 0, ALONE, lines, 100)["least"])
-        copied.append(numbers(PEERS, "copy", "--lines", lines, "--times", COPIES)["least"])
-    return min(taken), min(copied)
+        taken = numbers(BENCH, "checkpoints", 0, 0, ALONE, lines, 100)["least"]
+        seldom = numbers(PEERS, "copy", "--lines", lines, "--times", ALONE, "--pause", PAUSE)["least"]
+        rows.append((taken, seldom, numbers(PEERS, "copy", "--lines", lines, "--times", COPIES)["least"]))
+    return [min(row[i] for row in rows) for i in range(3)]
 
 
 def updates_a_second(threads, lines, checkpoints):
@@ -55,10 +58,10 @@ def main():
     rounds = parser.parse_args().rounds
     if not os.path.exists(BENCH) or not os.path.exists(PEERS):
         sys.exit(__doc__)
-    print("lines  checkpoint ns  plain copy ns  ratio")
+    print("lines  checkpoint ns  plain copy as seldom  ratio  in a row  ratio")
     for lines in LINES:
-        taken, copied = quickest(lines, rounds)
-        print(f"{lines:5}  {taken:13}  {copied:13}  {taken / copied:5.2f}")
+        taken, seldom, in_a_row = quickest(lines, rounds)
+        print(f"{lines:5}  {taken:13}  {seldom:20}  {taken / seldom:5.2f}  {in_a_row:8}  {taken / in_a_row:5.2f}")
     print("lines  threads  updates a second without  with  ratio")
     for lines in LINES:
         for threads in THREADS:

@@ -25,7 +25,8 @@ from told import asked_words
 PAGES = ("README.md", "CHANGELOG.md", "CONTRIBUTING.md", "docs/*.md", "crates/README.md", "examples/README.md", "tools/README.md")
 HEADS = "crates/*/src/lib.rt"
 HEAD = re.compile(r"^//!.*$", re.M)
-SOURCE = re.compile(r"/(crates/.*\.(rt|antt|edit)|crates\.txt|(tools|bench|bindings)/.*\.(py|txt|rs|json|c|h|toml)|include/.*\.h|examples/.*|\.ci/run)")
+# the lists that check_names.py keeps name what may be gone
+SOURCE = re.compile(r"/(?!tools/(?:shared_names|kept_counts)\.txt)(crates/.*\.(rt|antt|edit)|crates\.txt|(tools|bench|bindings)/.*\.(py|txt|rs|json|c|h|toml)|include/.*\.h|examples/.*|\.ci/run)")
 WORD = re.compile(r"[^\W\d]\w*")
 TICKED = re.compile(r"`([^`\n]+)`")
 LINK = re.compile(r"\]\(([^)#\s]+)\)")

@@ -43,11 +43,14 @@ import stopped_clients
 import told
 from build_tests import Builds, Runs, Unproved
 from check_tests import QuickChecks
+from clause_tests import ClauseComparisons
 from document_tests import Documents, PageRules
 from end_tests import Ends
 from help_tests import Helps
 from history_tests import Histories
 from image_tests import ImageExplanations, ProgramOnImages, ReadImages, usage
+from name_tests import Names, SourceItems
+from number_tests import HouseNumbers
 from picture_tests import Pictures
 from plain_core import Core
 from pool_tests import PoolTexts, ProgramOnPools, pool_rows

@@ -5,10 +5,11 @@
 
 A read is entered where it was refused eight times, each time because the current replica was another between two steps of the reader. At
 full speed that does not come. Here the parent of the program holds its first thread, which works for the reader, before each instruction
-that changes a shared word, as a debugger does it (Linux on x86-64), so that the others publish between two steps of the reader. The program is
+that changes a shared word, as a debugger does it (Linux on x86-64), so that the others publish between two steps of the reader. Where these
+instructions are is found first, in a life of one client that reads; so the reader is held from its first read on. The program is
 the one given, or the proved one (tools/build --proved). One without a proof is slower between two steps, and enters no read.
 
-It takes 20 seconds.
+It takes 6 seconds.
 Example: held_reader.py
 Status 0, and 1 where the program cannot be held or its report is wrong; 2 where the words are others.
 """
@@ -33,15 +34,18 @@ from told import asked_words
 
 CLIENTS = 8
 # of each client that adds, and of the reader, which reads until the others go and it is held
-ADDITIONS = 10_000
-READS = 25_000
+ADDITIONS = 13_900
+READS = 2_000
+# of the one client in whose life the instructions are found
+READS_ALONE = 90_000
 MOST_SECONDS = 20
-# how long the reader is held before an instruction with a lock prefix
-HELD_SECONDS = 0.003
+# how long the reader is held before an instruction with a lock prefix, and how long it runs before it is looked at again
+HELD_SECONDS = 0.001
+RUN_SECONDS = 0.002
 # the refusals after which a read is entered
 REFUSALS = 8
-# the instructions that are stepped at most to find those, of which so many are watched
-MOST_STEPS = 40_000
+# the instructions of one look at most, and of those with a lock prefix so many are watched
+MOST_STEPS = 8_000
 WATCHED = 4
 PEEK_TEXT, PEEK_USER, POKE_USER, CONTINUE, SINGLE_STEP, DETACH, SEIZE, INTERRUPT = 1, 3, 6, 7, 9, 17, 0x4206, 0x4207
 ANY_THREAD = 0x40000000
@@ -77,47 +81,108 @@ def script():
     return ("\n".join(lines) + "\n").encode()
 
 
-def run_held(program, text):
-    """The status and the output of a run whose first thread is held from when its clients go, and how often it was."""
-    with tempfile.TemporaryFile() as given, tempfile.TemporaryFile() as written:
-        given.write(text)
-        given.seek(0)
-        ended = subprocess.Popen([program, "run"], stdin=given, stdout=written)
+def script_alone():
+    """One client, which reads."""
+    return ("\n".join(["lines 64", "life 1 power 0", *["0 get n"] * READS_ALONE]) + "\n").encode()
+
+
+class Held:
+    """A program that is run with a script as its input, whose first thread is seized before it reads that."""
+
+    def __init__(self, program, text):
+        self.written = tempfile.TemporaryFile()
+        self.ended = subprocess.Popen([program, "run"], stdin=subprocess.PIPE, stdout=self.written)
+        self.process = self.ended.pid
         try:
-            status, times = hold(ended.pid)
+            ptrace(SEIZE, self.process)
+            ptrace(INTERRUPT, self.process)
+            stopped(self.process)
         except NotHeld:
-            ended.kill()
+            self.ended.kill()
             raise
-        finally:
-            ended.poll()
-        written.seek(0)
-        return status, written.read(), times
+        path = os.path.realpath(program)
+        with open(f"/proc/{self.process}/maps", encoding="utf-8") as maps:
+            self.start = next(int(line.partition("-")[0], 16) for line in maps if line.rstrip().endswith(path))
+        self.text = text
+
+    def __enter__(self):
+        return self
+
+    def __exit__(self, kind, value, trace):
+        self.ended.kill()
+        self.ended.wait()
+        self.written.close()
+
+    def read_input(self):
+        """Lets the thread go on, and hands it its input."""
+        ptrace(CONTINUE, self.process)
+        with self.ended.stdin as stdin:
+            stdin.write(self.text)
+
+    def rest(self):
+        """Lets the thread go, and gives the status and the output of the program."""
+        ptrace(DETACH, self.process)
+        return os.waitstatus_to_exitcode(os.waitpid(self.process, 0)[1]), self.output()
+
+    def output(self):
+        self.written.seek(0)
+        return self.written.read()
 
 
-def hold(process):
-    """Holds the first thread of a process as long as it has others. Gives the status with which the process ends, and how often."""
-    times = 0
-    while threads(process) < CLIENTS:
-        ended, status = os.waitpid(process, os.WNOHANG)
-        if ended:
-            return os.waitstatus_to_exitcode(status), times
-    ptrace(SEIZE, process)
-    ptrace(INTERRUPT, process)
-    try:
-        stopped(process)
-        watch(process, locked_instructions(process))
+def locked_instructions(program):
+    """The places in a program of the instructions that change a shared word in a read, from one of them to the same one again."""
+    with Held(program, script_alone()) as held:
+        held.read_input()
+        while True:
+            time.sleep(RUN_SECONDS)
+            try:
+                ptrace(INTERRUPT, held.process)
+                stopped(held.process)
+                found = locked_round(held.process)
+                if found:
+                    return [address - held.start for address in found[:WATCHED]]
+                ptrace(CONTINUE, held.process)
+            except Ended as ended:
+                raise NotHeld("no read was seen") from ended
+
+
+def locked_round(process):
+    """The addresses of instructions with a lock prefix, from one of them to the same one again; none where that takes too many steps."""
+    found = []
+    for _ in range(MOST_STEPS):
+        address = ptrace(PEEK_USER, process, ADDRESS_AT)
+        if ptrace(PEEK_TEXT, process, address) & 0xFF == LOCK_PREFIX:
+            if address in found:
+                return found[found.index(address) :]
+            found.append(address)
+        single_step(process)
+    return []
+
+
+def run_held(program, text):
+    """The status and the output of a run whose first thread is held from its first read on, and how often it was."""
+    places, times = locked_instructions(program), 0
+    with Held(program, text) as held:
+        watch(held.process, [held.start + place for place in places])
         last = time.monotonic() + MOST_SECONDS
-        while threads(process) > CLIENTS / 2 and time.monotonic() < last:
-            ptrace(CONTINUE, process)
-            stopped(process)
-            times += 1
-            time.sleep(HELD_SECONDS)
-            pass_by(process)
-        watch(process, [])
-    except Ended as ended:
-        return ended.status, times
-    ptrace(DETACH, process)
-    return os.waitstatus_to_exitcode(os.waitpid(process, 0)[1]), times
+        try:
+            held.read_input()
+            stopped(held.process)
+            begun = False
+            while time.monotonic() < last:
+                others = threads(held.process) > CLIENTS / 2
+                if begun and not others:
+                    break
+                if others:
+                    begun, times = True, times + 1
+                    time.sleep(HELD_SECONDS)
+                pass_by(held.process)
+                ptrace(CONTINUE, held.process)
+                stopped(held.process)
+            watch(held.process, [])
+        except Ended as ended:
+            return ended.status, held.output(), times
+        return *held.rest(), times
 
 
 class Ended(Exception):
@@ -138,19 +203,6 @@ def stopped(process):
 def single_step(process):
     ptrace(SINGLE_STEP, process)
     stopped(process)
-
-
-def locked_instructions(process):
-    """The addresses of the first instructions that change a shared word, up to the first of them again."""
-    found = []
-    for _ in range(MOST_STEPS):
-        address = ptrace(PEEK_USER, process, ADDRESS_AT)
-        if ptrace(PEEK_TEXT, process, address) & 0xFF == LOCK_PREFIX:
-            if address in found or len(found) == WATCHED:
-                break
-            found.append(address)
-        single_step(process)
-    return found
 
 
 def watch(process, addresses):

@@ -2,13 +2,14 @@
 //!
 //!     peers run --form FORM --threads T --lines L --keys K --reads P --ms M
 //!     peers queue --producers P --consumers C --ms M
-//!     peers copy --lines L --times N
+//!     peers copy --lines L --times N [--pause MS]
 //!     peers selftest
 //!
 //! The forms: `btree_mutex` and `btree_rwlock`, a `BTreeMap` under a lock of std, not durable; `region_mutex`, the words of one region
 //! under a mutex, of which each changed word is also stored to a durable copy. P of 100 calls get a document, the others put one. `queue` is
 //! a `VecDeque` of at most 1,023 texts under a mutex, with a durable copy, into which producers push and from which consumers pop. `copy` is
-//! the plain copy of as many atomic words as a region of L lines has, N times: the nanoseconds of the quickest and of all.
+//! the plain copy of as many atomic words as a region of L lines has, N times, with MS milliseconds before each: the nanoseconds of the
+//! quickest and of all.
 
 mod check;
 mod queue;
@@ -18,11 +19,12 @@ mod work;
 use queue::Callers;
 use std::env;
 use std::process::ExitCode;
+use std::time::Duration;
 use work::{Run, run};
 
 const USAGE: &str = "usage: peers run --form btree_mutex|btree_rwlock|region_mutex --threads T --lines L --keys K --reads P --ms M
        peers queue --producers P --consumers C --ms M
-       peers copy --lines L --times N
+       peers copy --lines L --times N [--pause MS]
        peers selftest
 T is 1 to 8, and so is the sum of P and C, L 64 to 16384, P at most 100, and 3K is below L.";
 
@@ -37,8 +39,8 @@ fn main() -> ExitCode {
         println!("moved {moved} refused {refused} cpu {cpu} wall {wall}");
         return ExitCode::SUCCESS;
     }
-    if let Some((lines, times)) = copy_asked(&words) {
-        let (least, all) = region::copies(lines, times);
+    if let Some((lines, times, pause)) = copy_asked(&words) {
+        let (least, all) = region::copies(lines, times, pause);
         println!("copies {times} least {least} all {all}");
         return ExitCode::SUCCESS;
     }
@@ -74,13 +76,14 @@ fn queue_asked(words: &[String]) -> Option<Callers> {
     (1..=8).contains(&(producers + consumers)).then_some(Callers { producers, consumers, ms })
 }
 
-// The lines and the times of the copies that the words ask for.
-fn copy_asked(words: &[String]) -> Option<(u64, u64)> {
+// The lines and the times of the copies that the words ask for, and the pause before each.
+fn copy_asked(words: &[String]) -> Option<(u64, u64, Duration)> {
     let (first, rest) = words.split_first()?;
-    if first != "copy" || rest.len() != 4 {
+    if first != "copy" || (rest.len() != 4 && rest.len() != 6) {
         return None;
     }
-    Some((number_of(rest, "--lines", 64, 16384)?, number_of(rest, "--times", 1, 1_000_000)?))
+    let pause = if rest.len() == 6 { number_of(rest, "--pause", 1, 60_000)? } else { 0 };
+    Some((number_of(rest, "--lines", 64, 16384)?, number_of(rest, "--times", 1, 1_000_000)?, Duration::from_millis(pause)))
 }
 
 // The run that the words ask for.

@@ -3,7 +3,8 @@
 use std::cmp::Ordering;
 use std::hint::black_box;
 use std::sync::atomic::{AtomicU64, Ordering as Order};
-use std::time::Instant;
+use std::thread::sleep;
+use std::time::{Duration, Instant};
 
 /// The first word of the object part, whose lines have 8 words each.
 const OBJECT: usize = 1168;
@@ -316,12 +317,15 @@ fn packed(bytes: &[u8], i: usize) -> u64 {
     }
 }
 
-/// Copies all words of a region so many times, one after another. Gives the nanoseconds of the quickest copy, and of all.
-pub fn copies(lines: u64, times: u64) -> (u128, u128) {
+/// Copies all words of a region the given number of times, with a pause before each. Gives the nanoseconds of the quickest copy, and of all.
+pub fn copies(lines: u64, times: u64, pause: Duration) -> (u128, u128) {
     let region = Region::new(lines);
     let mut into = vec![0; region.durable.len()];
     let (mut least, mut all) = (u128::MAX, 0);
     for _ in 0..times {
+        if !pause.is_zero() {
+            sleep(pause);
+        }
         let begun = Instant::now();
         for (word, of) in into.iter_mut().zip(&region.durable) {
             *word = of.load(Order::SeqCst);

@@ -5,7 +5,7 @@ use Rattle.avl_words.specs.Tree.{Tree, Empty, Node, height, node_on, inner_up, c
 use Rattle.avl_words.specs.Ways.{Turn, under, whole, mended}
 use Rattle.avl_words.specs.Lines.{word_of, IsWithin}
 use Rattle.avl_words.specs.Words.{root, times}
-use Rattle.avl_words.specs.Links.{high_of, HasLink, IsSubtree, SameBut, IsOpen, IsHigh, CanJoin, Joins}
+use Rattle.avl_words.specs.Links.{high_of, HasLink, IsSubtree, SameBut, IsNodeOpen, IsHigh, CanJoin, Joins}
 use Rattle.avl_words.specs.Mending.{IsHanging, CanHang, Hangs, Spine, times_way, IsHung}
 use Rattle.avl_words.proofs.Frames.{times_self, times_on, high_is, stands_apart}
 use Rattle.avl_words.proofs.Rotations.{link_is}
@@ -57,10 +57,10 @@ mended_times k (turn ∷ way) t =
     omega arith
 
 -- one node
-open_left : (ws : List ℕ) (t : Tree ℕ) (x : ℕ) (s : Tree ℕ) → IsHanging ws 0 t x s → IsOpen ws t x s
+open_left : (ws : List ℕ) (t : Tree ℕ) (x : ℕ) (s : Tree ℕ) → IsHanging ws 0 t x s → IsNodeOpen ws t x s
 open_left ws t x s h = record { some = h.some; within = h.within; left = h.hung; right = h.beside; once = h.once; low = h.low }
 
-open_right : (ws : List ℕ) (t : Tree ℕ) (x : ℕ) (s : Tree ℕ) → IsHanging ws 1 t x s → IsOpen ws s x t
+open_right : (ws : List ℕ) (t : Tree ℕ) (x : ℕ) (s : Tree ℕ) → IsHanging ws 1 t x s → IsNodeOpen ws s x t
 open_right ws t x s h = record { some = h.some; within = h.within; left = h.beside; right = h.hung; once = λ line. (let n = h.once line in omega (arith, n)); low = h.low }
 
 -- the link to the sibling

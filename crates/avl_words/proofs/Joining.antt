@@ -4,11 +4,11 @@ use Rattle.std.proofs.lemmas.Bool.{cond-true, cond-false, le-leb, lt-leb}
 use Rattle.avl_words.specs.Tree.{Tree, Node, height, rotated}
 use Rattle.avl_words.specs.Lines.{IsWithin}
 use Rattle.avl_words.specs.Words.{root}
-use Rattle.avl_words.specs.Links.{with_node, IsLink, CanSet, IsOpen, IsHigh, CanRotate, Rotates, CanJoin, Joins}
+use Rattle.avl_words.specs.Links.{with_node, IsLink, CanSet, IsNodeOpen, IsHigh, CanRotate, Rotates, CanJoin, Joins}
 use Rattle.avl_words.proofs.Frames.{times_self, stands_on, but_set, but_more}
 use Rattle.avl_words.proofs.Rotations.{link_is, height_seen}
 
-pub open_swap : (ws : List ℕ) (l : Tree ℕ) (x : ℕ) (r : Tree ℕ) → IsOpen ws l x r → IsOpen ws r x l
+pub open_swap : (ws : List ℕ) (l : Tree ℕ) (x : ℕ) (r : Tree ℕ) → IsNodeOpen ws l x r → IsNodeOpen ws r x l
 open_swap ws l x r o = record {
   some = o.some;
   within = o.within;

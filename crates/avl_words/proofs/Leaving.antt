@@ -7,10 +7,10 @@ use Rattle.avl_words.specs.Removal.{least, gone_way, gone_rest, with_out}
 use Rattle.avl_words.proofs.Trees.{balanced_at}
 use Rattle.avl_words.proofs.Depth.{depth_bound, height_at}
 use Rattle.avl_words.proofs.Spots.{spot_whole}
-use Rattle.avl_words.specs.Changes.{IsThere, CanTake, Takes, HasTwo, IsBelow, CanDescend, IsLeast, Descends, IsGone, IsOut, Raises, IsDescending}
+use Rattle.avl_words.specs.Changes.{IsThere, CanTakeNode, TakesNode, HasTwo, IsBelow, CanDescend, IsLeastNode, Descends, IsGone, IsNodeOut, RaisesNode, IsDescending}
 use Rattle.avl_words.specs.Lines.{word_of, IsWithin, with_word}
-use Rattle.avl_words.specs.Words.{root, times, Stands, IsNoted}
-use Rattle.avl_words.specs.Links.{high_of, SameBut, IsMade}
+use Rattle.avl_words.specs.Words.{root, times, Stands, IsWayNoted}
+use Rattle.avl_words.specs.Links.{high_of, SameBut, IsTreeMade}
 use Rattle.avl_words.specs.Mending.{Settled, CanMend, Mends}
 use Rattle.avl_words.specs.Exact.{with_tree}
 use Rattle.avl_words.proofs.ExactWords.{only_words}
@@ -22,12 +22,12 @@ use Rattle.avl_words.proofs.Relinking.{settled_of}
 use Rattle.avl_words.proofs.Walks.{stands_at, noted_set}
 
 -- the node of a turn noted is another
-noted_below : (nodes sides : List ℕ) (way : List (Turn ℕ)) (d a : ℕ) → length way ≤ d → IsNoted nodes sides way → IsNoted (set nodes d a) sides way
+noted_below : (nodes sides : List ℕ) (way : List (Turn ℕ)) (d a : ℕ) → length way ≤ d → IsWayNoted nodes sides way → IsWayNoted (set nodes d a) sides way
 noted_below nodes sides [] d a le n = tt
 noted_below nodes sides (turn ∷ way) d a le n = (get_or-set_other nodes d (length way) a 0 (omega arith) ∙ n.0, n.1, n.2, noted_below nodes sides way d a (omega arith) n.3)
 
-pub noted_other : (nodes sides : List ℕ) (passed way : List (Turn ℕ)) (x m : ℕ) (s : Tree ℕ) → length way < length nodes → IsNoted nodes sides (passed ++ record { side = 1; item = x; sibling = s } ∷ way) →
-    IsNoted (set nodes (length way) m) sides (passed ++ record { side = 1; item = m; sibling = s } ∷ way)
+pub noted_other : (nodes sides : List ℕ) (passed way : List (Turn ℕ)) (x m : ℕ) (s : Tree ℕ) → length way < length nodes → IsWayNoted nodes sides (passed ++ record { side = 1; item = x; sibling = s } ∷ way) →
+    IsWayNoted (set nodes (length way) m) sides (passed ++ record { side = 1; item = m; sibling = s } ∷ way)
 noted_other nodes sides [] way x m s room n = (get_or-set_same nodes (length way) m 0 room, n.1, n.2, noted_below nodes sides way (length way) m (omega arith) n.3)
 noted_other nodes sides (turn ∷ passed) way x m s room n =
     let other : Turn ℕ = record { side = 1; item = x; sibling = s } in
@@ -47,20 +47,20 @@ descending_begins ws nodes sides depth node way c z d b =
     record { passed = []; left = c; item = z; right = d; same = refl; whole_is = refl; noted = b.noted; long = b.long; node_is = b.node_is; stands = b.stands }
 
 left_end : (nodes sides : List ℕ) (depth node : ℕ) (way passed : List (Turn ℕ)) (l : Tree ℕ) (x : ℕ) (r : Tree ℕ) (c : Tree ℕ) (z : ℕ) (d : Tree ℕ) (ws : List ℕ) → Stands ws l → root l ≡ 0 → least passed l x r ≡ least [] c z d →
-    IsNoted nodes sides (passed ++ way) → length (passed ++ way) ≡ depth → x ≡ node → IsLeast nodes sides depth node way c z d
+    IsWayNoted nodes sides (passed ++ way) → length (passed ++ way) ≡ depth → x ≡ node → IsLeastNode nodes sides depth node way c z d
 left_end nodes sides depth node way passed Empty x r c z d ws s e same noted long is = record {
-  noted = subst (λ q. IsNoted nodes sides (q.way ++ way)) same noted;
+  noted = subst (λ q. IsWayNoted nodes sides (q.way ++ way)) same noted;
   long = ap (λ q. length (q.way ++ way)) (sym same) ∙ long;
   node_is = ap (λ q. q.item) (sym same) ∙ is;
 }
 left_end nodes sides depth node way passed (Node a y b) x r c z d ws s e same noted long is = absurd (let some = s.0.some in omega arith)
 
-pub descending_ends : (ws nodes sides : List ℕ) (depth node left : ℕ) (way : List (Turn ℕ)) (c : Tree ℕ) (z : ℕ) (d : Tree ℕ) → IsDescending ws nodes sides depth node way c z d → word_of ws node 0 ≡ left → left ≡ 0 → IsLeast nodes sides depth node way c z d
+pub descending_ends : (ws nodes sides : List ℕ) (depth node left : ℕ) (way : List (Turn ℕ)) (c : Tree ℕ) (z : ℕ) (d : Tree ℕ) → IsDescending ws nodes sides depth node way c z d → word_of ws node 0 ≡ left → left ≡ 0 → IsLeastNode nodes sides depth node way c z d
 descending_ends ws nodes sides depth node left way c z d o w e =
     left_end nodes sides depth node way o.passed o.left o.item o.right c z d ws o.stands.1 (sym o.stands.0.left_is ∙ ap (λ n. word_of ws n 0) o.node_is ∙ w ∙ e) o.same o.noted o.long o.node_is
 
 left_on : (ws nodes sides : List ℕ) (depth node left : ℕ) (way passed : List (Turn ℕ)) (l : Tree ℕ) (x : ℕ) (r : Tree ℕ) (c : Tree ℕ) (z : ℕ) (d : Tree ℕ) → Stands ws l → root l ≡ left → left ≢ 0 → least passed l x r ≡ least [] c z d →
-    whole passed (Node l x r) ≡ Node c z d → IsNoted nodes sides (passed ++ way) → length (passed ++ way) ≡ depth → x ≡ node → depth < length nodes → depth < length sides →
+    whole passed (Node l x r) ≡ Node c z d → IsWayNoted nodes sides (passed ++ way) → length (passed ++ way) ≡ depth → x ≡ node → depth < length nodes → depth < length sides →
     IsDescending ws (set nodes depth node) (set sides depth 0) (depth + 1) left way c z d
 left_on ws nodes sides depth node left way passed Empty x r c z d s e n same w noted long is room space = absurd (n (sym e))
 left_on ws nodes sides depth node left way passed (Node a y b) x r c z d s e n same w noted long is room space = record {
@@ -105,7 +105,7 @@ module _ (ws nodes sides : List ℕ) (depth node left right : ℕ) (way : List (
     pub balanced : Balanced (whole way here)
     pub once : (line : ℕ) → times line (whole way here) ≤ 1
     pub low : height (whole way here) ≤ 64
-    pub noted : IsNoted nodes sides way
+    pub noted : IsWayNoted nodes sides way
     pub long : length way ≡ depth
     pub node_is : node ≡ root here
     pub left_is : word_of ws node 0 ≡ left
@@ -126,7 +126,7 @@ module _ (ws nodes sides : List ℕ) (depth node left right : ℕ) (way : List (
     but = record { long = refl; same = λ line i l h. refl };
   }
 
-  pub left_out : (here : Tree ℕ) → IsAtEnd here → left ≡ 0 → IsOut ws ws nodes sides depth depth right way here
+  pub left_out : (here : Tree ℕ) → IsAtEnd here → left ≡ 0 → IsNodeOut ws ws nodes sides depth depth right way here
   left_out Empty e z = tt
   left_out (Node Empty x r) e z =
       let s = stands_at ws way (Node Empty x r) e.stands in
@@ -139,7 +139,7 @@ module _ (ws nodes sides : List ℕ) (depth node left right : ℕ) (way : List (
       let is : y ≡ left = sym s.0.left_is ∙ ap (λ n. word_of ws n 0) (sym e.node_is) ∙ e.left_is in
       absurd (let some = s.1.0.some in omega arith)
 
-  pub right_out : (here : Tree ℕ) → IsAtEnd here → left ≢ 0 → right ≡ 0 → IsOut ws ws nodes sides depth depth left way here
+  pub right_out : (here : Tree ℕ) → IsAtEnd here → left ≢ 0 → right ≡ 0 → IsNodeOut ws ws nodes sides depth depth left way here
   right_out Empty e n z = tt
   right_out (Node Empty x r) e n z =
       let s = stands_at ws way (Node Empty x r) e.stands in
@@ -225,22 +225,22 @@ module _ (ws nodes sides : List ℕ) (depth node left right : ℕ) (way : List (
     least_within m is = subst (IsWithin ws) is (least_is_there ws nodes sides depth way p.a p.y p.b p.x p.c p.z p.d e.stands e.balanced e.once e.low).0.within
 
     pub raised : (nodes_now sides_now : List ℕ) (depth_now m rest : ℕ) (now : List ℕ) → length nodes_now ≡ 64 →
-        IsLeast nodes_now sides_now depth_now m (record { side = 1; item = p.x; sibling = Node p.a p.y p.b } ∷ way) p.c p.z p.d → word_of ws m 1 ≡ rest → now ≡ with_word m 0 left ws →
-        IsOut ws now (set nodes_now depth m) sides_now depth_now depth rest way here
+        IsLeastNode nodes_now sides_now depth_now m (record { side = 1; item = p.x; sibling = Node p.a p.y p.b } ∷ way) p.c p.z p.d → word_of ws m 1 ≡ rest → now ≡ with_word m 0 left ws →
+        IsNodeOut ws now (set nodes_now depth m) sides_now depth_now depth rest way here
     raised nodes_now sides_now depth_now m rest now long l word is =
         let q = least [] p.c p.z p.d in
         let up : List (Turn ℕ) = record { side = 1; item = q.item; sibling = Node p.a p.y p.b } ∷ way in
         let there = least_is_there ws nodes sides depth way p.a p.y p.b p.x p.c p.z p.d e.stands e.balanced e.once e.low in
         let words : with_word q.item 0 p.y ws ≡ now = ap (λ k. with_word k 0 p.y ws) l.node_is ∙ ap (λ v. with_word m 0 v ws) left_here ∙ sym is in
         let rest_is : root q.rest ≡ rest = sym there.0.right_is ∙ ap (λ k. word_of ws k 1) l.node_is ∙ word in
-        let noted : IsNoted (set nodes_now depth m) sides_now (q.way ++ up) = subst (λ k. IsNoted (set nodes_now depth m) sides_now (q.way ++ record { side = 1; item = k; sibling = Node p.a p.y p.b } ∷ way)) (sym l.node_is)
-        (subst (λ k. IsNoted (set nodes_now k m) sides_now (q.way ++ record { side = 1; item = m; sibling = Node p.a p.y p.b } ∷ way)) e.long (noted_other nodes_now sides_now q.way way p.x m (Node p.a p.y p.b) (omega (arith, e.long, room_two, long)) l.noted)) in
+        let noted : IsWayNoted (set nodes_now depth m) sides_now (q.way ++ up) = subst (λ k. IsWayNoted (set nodes_now depth m) sides_now (q.way ++ record { side = 1; item = k; sibling = Node p.a p.y p.b } ∷ way)) (sym l.node_is)
+        (subst (λ k. IsWayNoted (set nodes_now k m) sides_now (q.way ++ record { side = 1; item = m; sibling = Node p.a p.y p.b } ∷ way)) e.long (noted_other nodes_now sides_now q.way way p.x m (Node p.a p.y p.b) (omega (arith, e.long, room_two, long)) l.noted)) in
         let same : length (q.way ++ up) ≡ depth_now = (let a = length-append q.way up in let b = length-append q.way (record { side = 1; item = p.x; sibling = Node p.a p.y p.b } ∷ way) in let c = l.long in omega (arith, a, b, c)) in
         let hung = gone_hung ws (set nodes_now depth m) sides_now depth_now way p.a p.y p.b p.x p.c p.z p.d e.stands e.balanced e.once e.low noted same in
         let settled = subst (λ n. Settled (with_word q.item 0 p.y ws) n (q.way ++ up)) e.long (gone_settled ws nodes sides depth way p.a p.y p.b p.x p.c p.z p.d e.stands e.balanced e.once e.low e.noted) in
         let but : SameBut ws (with_word q.item 0 p.y ws) (whole (q.way ++ up) q.rest) = but_more ws (with_word q.item 0 p.y ws) (Node Empty q.item Empty) (whole (q.way ++ up) q.rest)
         (λ k. (let w = whole_times k (q.way ++ up) q.rest in let t = times_both k q.way up in omega (arith, w, t))) (link_but ws q.item 0 p.y (lit< tt)) in
-        subst (IsOut ws now (set nodes_now depth m) sides_now depth_now depth rest way) (sym p.is)
+        subst (IsNodeOut ws now (set nodes_now depth m) sides_now depth_now depth rest way) (sym p.is)
         (subst (λ k. IsGone ws now (set nodes_now depth m) sides_now depth_now depth k (q.way ++ up) q.rest) rest_is
         (subst (λ v. IsGone ws v (set nodes_now depth m) sides_now depth_now depth (root q.rest) (q.way ++ up) q.rest) words (record { hung = hung; settled_way = settled; but = but })))
 
@@ -262,11 +262,11 @@ at_end ws nodes sides order depth node left right t i l r =
     }
 
 -- from what is to hang there to the whole
-out_made : (ws mid now nodes sides : List ℕ) (depth settled rest high top : ℕ) (way : List (Turn ℕ)) (l : Tree ℕ) (x : ℕ) (r : Tree ℕ) → IsOut ws mid nodes sides depth settled rest way (Node l x r) → high_of rest mid ≡ high → Mends nodes sides depth settled rest high top mid now →
-    IsMade mid now (whole (gone_way way l r) (gone_rest l r)) (mended (gone_way way l r) (gone_rest l r)) top
+out_made : (ws mid now nodes sides : List ℕ) (depth settled rest high top : ℕ) (way : List (Turn ℕ)) (l : Tree ℕ) (x : ℕ) (r : Tree ℕ) → IsNodeOut ws mid nodes sides depth settled rest way (Node l x r) → high_of rest mid ≡ high → Mends nodes sides depth settled rest high top mid now →
+    IsTreeMade mid now (whole (gone_way way l r) (gone_rest l r)) (mended (gone_way way l r) (gone_rest l r)) top
 out_made ws mid now nodes sides depth settled rest high top way l x r o tall m = m (gone_way way l r) (gone_rest l r) o.hung tall o.settled_way
 
-out_words : (ws mid now nodes sides : List ℕ) (depth settled rest high top : ℕ) (way : List (Turn ℕ)) (here : Tree ℕ) → here ≢ Empty → IsOut ws mid nodes sides depth settled rest way here → high_of rest mid ≡ high → Mends nodes sides depth settled rest high top mid now →
+out_words : (ws mid now nodes sides : List ℕ) (depth settled rest high top : ℕ) (way : List (Turn ℕ)) (here : Tree ℕ) → here ≢ Empty → IsNodeOut ws mid nodes sides depth settled rest way here → high_of rest mid ≡ high → Mends nodes sides depth settled rest high top mid now →
     with_word 0 1 top now ≡ with_tree (with_out way here) ws
 unfolding with_tree
 out_words ws mid now nodes sides depth settled rest high top way Empty n o tall m = absurd (n refl)
@@ -280,23 +280,23 @@ out_words ws mid now nodes sides depth settled rest high top way (Node l x r) n 
 not_empty : (t : Tree ℕ) (node : ℕ) → node ≡ root t → node ≢ 0 → t ≢ Empty
 not_empty t node e n = λ f. n (e ∙ ap root f)
 
-pub takes : (ws mid now last nodes sides nodes_now sides_now : List ℕ) (depth node left right depth_now rest high top : ℕ) → word_of ws node 0 ≡ left → word_of ws node 1 ≡ right → Raises nodes sides depth node left right nodes_now sides_now depth_now rest ws mid →
-    high_of rest mid ≡ high → Mends nodes_now sides_now depth_now depth rest high top mid now → last ≡ with_word 0 1 top now → Takes nodes sides depth node ws last
+pub takes : (ws mid now last nodes sides nodes_now sides_now : List ℕ) (depth node left right depth_now rest high top : ℕ) → word_of ws node 0 ≡ left → word_of ws node 1 ≡ right → RaisesNode nodes sides depth node left right nodes_now sides_now depth_now rest ws mid →
+    high_of rest mid ≡ high → Mends nodes_now sides_now depth_now depth rest high top mid now → last ≡ with_word 0 1 top now → TakesNode nodes sides depth node ws last
 takes ws mid now last nodes sides nodes_now sides_now depth node left right depth_now rest high top l r u tall m e order t i =
     e ∙ out_words ws mid now nodes_now sides_now depth_now depth rest high top (spot order [] t).0 (spot order [] t).1 (not_empty (spot order [] t).1 node i.spot.node_is i.some) (u order t i l r) tall m
 
-out_hung : (ws mid nodes sides : List ℕ) (depth settled rest high : ℕ) (way : List (Turn ℕ)) (here : Tree ℕ) → here ≢ Empty → IsOut ws mid nodes sides depth settled rest way here → high_of rest mid ≡ high → CanMend mid nodes sides depth settled rest high
+out_hung : (ws mid nodes sides : List ℕ) (depth settled rest high : ℕ) (way : List (Turn ℕ)) (here : Tree ℕ) → here ≢ Empty → IsNodeOut ws mid nodes sides depth settled rest way here → high_of rest mid ≡ high → CanMend mid nodes sides depth settled rest high
 out_hung ws mid nodes sides depth settled rest high way Empty n o tall = absurd (n refl)
 out_hung ws mid nodes sides depth settled rest high way (Node l x r) n o tall = record { way = gone_way way l r; tree = gone_rest l r; hung = o.hung; high_is = tall; settled_way = o.settled_way }
 
-pub can_mend_out : (ws mid nodes sides nodes_now sides_now : List ℕ) (depth node left right depth_now rest high : ℕ) → HasTwo ws nodes sides depth node left right → Raises nodes sides depth node left right nodes_now sides_now depth_now rest ws mid →
+pub can_mend_out : (ws mid nodes sides nodes_now sides_now : List ℕ) (depth node left right depth_now rest high : ℕ) → HasTwo ws nodes sides depth node left right → RaisesNode nodes sides depth node left right nodes_now sides_now depth_now rest ws mid →
     high_of rest mid ≡ high → CanMend mid nodes_now sides_now depth_now depth rest high
 can_mend_out ws mid nodes sides nodes_now sides_now depth node left right depth_now rest high h u tall =
     let i = h.can.there in
     out_hung ws mid nodes_now sides_now depth_now depth rest high (spot h.can.order [] h.can.tree).0 (spot h.can.order [] h.can.tree).1 (not_empty (spot h.can.order [] h.can.tree).1 node i.spot.node_is i.some) (u h.can.order h.can.tree i h.left_is h.right_is) tall
 
 -- what is to hang there is a node that is there, or nothing
-pub rest_there : (ws mid nodes sides nodes_now sides_now : List ℕ) (depth node left right depth_now rest : ℕ) → HasTwo ws nodes sides depth node left right → Raises nodes sides depth node left right nodes_now sides_now depth_now rest ws mid →
+pub rest_there : (ws mid nodes sides nodes_now sides_now : List ℕ) (depth node left right depth_now rest : ℕ) → HasTwo ws nodes sides depth node left right → RaisesNode nodes sides depth node left right nodes_now sides_now depth_now rest ws mid →
     rest ≢ 0 → IsWithin mid rest
 rest_there ws mid nodes sides nodes_now sides_now depth node left right depth_now rest h u n =
     (let c = can_mend_out ws mid nodes sides nodes_now sides_now depth node left right depth_now rest (high_of rest mid) h u refl in at_root c.tree c.hung.stands c.hung.root_is)
@@ -305,7 +305,7 @@ rest_there ws mid nodes sides nodes_now sides_now depth node left right depth_no
     at_root Empty s e = absurd (n (sym e))
     at_root (Node l x r) s e = subst (IsWithin mid) e s.0.within
 
-pub out_header : (ws mid now nodes sides nodes_now sides_now : List ℕ) (depth node left right depth_now rest high top : ℕ) → HasTwo ws nodes sides depth node left right → Raises nodes sides depth node left right nodes_now sides_now depth_now rest ws mid →
+pub out_header : (ws mid now nodes sides nodes_now sides_now : List ℕ) (depth node left right depth_now rest high top : ℕ) → HasTwo ws nodes sides depth node left right → RaisesNode nodes sides depth node left right nodes_now sides_now depth_now rest ws mid →
     high_of rest mid ≡ high → Mends nodes_now sides_now depth_now depth rest high top mid now → IsWithin now 0
 out_header ws mid now nodes sides nodes_now sides_now depth node left right depth_now rest high top h u tall m =
     let header = h.can.there.header in
@@ -314,11 +314,11 @@ out_header ws mid now nodes sides nodes_now sides_now depth node left right dept
     let before = out_kept (spot h.can.order [] h.can.tree).1 (not_empty (spot h.can.order [] h.can.tree).1 node h.can.there.spot.node_is h.can.there.some) (u h.can.order h.can.tree h.can.there h.left_is h.right_is) in
     omega arith
   where
-    out_kept : (here : Tree ℕ) → here ≢ Empty → IsOut ws mid nodes_now sides_now depth_now depth rest (spot h.can.order [] h.can.tree).0 here → length mid ≡ length ws
+    out_kept : (here : Tree ℕ) → here ≢ Empty → IsNodeOut ws mid nodes_now sides_now depth_now depth rest (spot h.can.order [] h.can.tree).0 here → length mid ≡ length ws
     out_kept Empty n o = absurd (n refl)
     out_kept (Node l x r) n o = o.but.long
 
-pub node_there : (ws nodes sides : List ℕ) (depth node : ℕ) → CanTake ws nodes sides depth node → IsWithin ws node
+pub node_there : (ws nodes sides : List ℕ) (depth node : ℕ) → CanTakeNode ws nodes sides depth node → IsWithin ws node
 node_there ws nodes sides depth node c =
     let i = c.there in
     let e = spot_whole c.order [] c.tree in
@@ -328,19 +328,19 @@ node_there ws nodes sides depth node c =
     at_root Empty s e n = absurd (n e)
     at_root (Node l x r) s e n = subst (IsWithin ws) (sym e) s.0.within
 
-pub takes_from : (x y mid now last nodes sides nodes_now sides_now : List ℕ) (depth node left right depth_now rest high top : ℕ) → y ≡ x → HasTwo y nodes sides depth node left right → Raises nodes sides depth node left right nodes_now sides_now depth_now rest y mid →
-    high_of rest mid ≡ high → Mends nodes_now sides_now depth_now depth rest high top mid now → last ≡ with_word 0 1 top now → Takes nodes sides depth node x last
+pub takes_from : (x y mid now last nodes sides nodes_now sides_now : List ℕ) (depth node left right depth_now rest high top : ℕ) → y ≡ x → HasTwo y nodes sides depth node left right → RaisesNode nodes sides depth node left right nodes_now sides_now depth_now rest y mid →
+    high_of rest mid ≡ high → Mends nodes_now sides_now depth_now depth rest high top mid now → last ≡ with_word 0 1 top now → TakesNode nodes sides depth node x last
 takes_from x y mid now last nodes sides nodes_now sides_now depth node left right depth_now rest high top e h u tall m l =
-    subst (λ w. Takes nodes sides depth node w last) e (takes y mid now last nodes sides nodes_now sides_now depth node left right depth_now rest high top h.left_is h.right_is u tall m l)
+    subst (λ w. TakesNode nodes sides depth node w last) e (takes y mid now last nodes sides nodes_now sides_now depth node left right depth_now rest high top h.left_is h.right_is u tall m l)
 
-pub one_raises_left : (x y nodes sides : List ℕ) (depth node left right : ℕ) → x ≡ y → left ≡ 0 → Raises nodes sides depth node left right nodes sides depth right x y
+pub one_raises_left : (x y nodes sides : List ℕ) (depth node left right : ℕ) → x ≡ y → left ≡ 0 → RaisesNode nodes sides depth node left right nodes sides depth right x y
 one_raises_left x y nodes sides depth node left right e z order t i l r =
-    subst (λ w. IsOut x w nodes sides depth depth right (spot order [] t).0 (spot order [] t).1) e
+    subst (λ w. IsNodeOut x w nodes sides depth depth right (spot order [] t).0 (spot order [] t).1) e
     (left_out x nodes sides depth node left right (spot order [] t).0 (spot order [] t).1 (at_end x nodes sides order depth node left right t i l r) z)
 
-pub one_raises_right : (x y nodes sides : List ℕ) (depth node left right : ℕ) → x ≡ y → left ≢ 0 → right ≡ 0 → Raises nodes sides depth node left right nodes sides depth left x y
+pub one_raises_right : (x y nodes sides : List ℕ) (depth node left right : ℕ) → x ≡ y → left ≢ 0 → right ≡ 0 → RaisesNode nodes sides depth node left right nodes sides depth left x y
 one_raises_right x y nodes sides depth node left right e n z order t i l r =
-    subst (λ w. IsOut x w nodes sides depth depth left (spot order [] t).0 (spot order [] t).1) e
+    subst (λ w. IsNodeOut x w nodes sides depth depth left (spot order [] t).0 (spot order [] t).1) e
     (right_out x nodes sides depth node left right (spot order [] t).0 (spot order [] t).1 (at_end x nodes sides order depth node left right t i l r) n z)
 
 -- the end of the loop is never reached: no tree goes down so far
@@ -375,9 +375,9 @@ two_within ws nodes sides nodes_now sides_now depth node left right depth_now m 
 
 pub two_raises : (x y nodes sides nodes_now sides_now : List ℕ) (now : List ℕ) (depth node left right depth_now m rest : ℕ) → left ≢ 0 → right ≢ 0 → length nodes ≡ 64 → length sides ≡ 64 → length nodes_now ≡ 64 → y ≡ x →
     Descends (set nodes depth node) (set sides depth 1) (depth + 1) right nodes_now sides_now depth_now m y → word_of y m 1 ≡ rest → now ≡ with_word m 0 left y →
-    Raises nodes sides depth node left right (set nodes_now depth m) sides_now depth_now rest x now
+    RaisesNode nodes sides depth node left right (set nodes_now depth m) sides_now depth_now rest x now
 two_raises x y nodes sides nodes_now sides_now now depth node left right depth_now m rest n k nl sl ll e d w is =
-    subst (λ v. Raises nodes sides depth node left right (set nodes_now depth m) sides_now depth_now rest v now) e (λ order t i l r. (
+    subst (λ v. RaisesNode nodes sides depth node left right (set nodes_now depth m) sides_now depth_now rest v now) e (λ order t i l r. (
     let end = at_end y nodes sides order depth node left right t i l r in
     let way = (spot order [] t).0 in
     let here = (spot order [] t).1 in

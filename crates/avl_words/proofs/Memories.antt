@@ -3,7 +3,7 @@ use Rattle.std.proofs.Common.{◌≡◌, ◌+◌, ◌*◌, ◌≤◌, ◌^◌, �
 use Rattle.cx_base.specs.Calls.{Changes, Finds}
 use Rattle.cx_base.specs.Memory.{Words, Becomes, Framed, Reads, Always}
 use Rattle.cx_base.specs.declared.memory.Memory.{Ghosts}
-use Rattle.avl_words.specs.Lines.{CanLoad, CanStore, IsWithin, IsPartLength}
+use Rattle.avl_words.specs.Lines.{IsLoadable, IsStorable, IsWithin, IsPartLength}
 use Rattle.cx_base.proofs.MemoryLemmas.{always_at_most}
 
 -- a line that is there in all the words that stand is within the memory, and its places are small
@@ -54,8 +54,8 @@ module _ {Memory T E : Type 0} {m : Ghosts Memory} {old new : Memory} {result : 
   changed d h f = record { done = d; halts = h; framed = f }
 
 module _ {Memory : Type 0} {m : Ghosts Memory} {memory : Memory} {P : List ℕ → Type 0} where
-  pub loadable : IsPartLength (m.size memory) → Always (m.stands memory) P → CanLoad m memory P
+  pub loadable : IsPartLength (m.size memory) → Always (m.stands memory) P → IsLoadable m memory P
   loadable s a = record { sized = s; all = a }
 
-  pub storable : IsPartLength (m.size memory) → IsTrue (m.writable memory) → Always (m.stands memory) P → CanStore m memory P
+  pub storable : IsPartLength (m.size memory) → IsTrue (m.writable memory) → Always (m.stands memory) P → IsStorable m memory P
   storable s w a = record { sized = s; writable = w; all = a }

@@ -10,8 +10,8 @@ use Rattle.avl_words.proofs.Depth.{depth_bound, height_at}
 use Rattle.avl_words.proofs.Spots.{spot_whole, spot_items, new_items, new_balanced, size_is}
 use Rattle.avl_words.specs.Lines.{word_of, IsWithin, with_word}
 use Rattle.avl_words.specs.Words.{root, times, IsNode, Stands, IsTree, IsSpot}
-use Rattle.avl_words.specs.Links.{IsMade}
-use Rattle.avl_words.specs.Changes.{CanPut, Puts}
+use Rattle.avl_words.specs.Links.{IsTreeMade}
+use Rattle.avl_words.specs.Changes.{CanPut, PutsNode}
 use Rattle.avl_words.specs.Mending.{Spine, IsLow, IsHung, Settled, CanMend, Mends}
 use Rattle.avl_words.specs.Exact.{with_tree}
 use Rattle.avl_words.proofs.Walks.{stands_at}
@@ -54,7 +54,7 @@ line_some ws Empty s = refl
 line_some ws (Node l x r) s = (let a = line_some ws l s.1 in let b = line_some ws r s.2 in let some = s.0.some in let c = times_other x 0 (λ e. absurd (omega arith)) in omega (arith, c))
 
 -- a tree that was made stands for the words once the header names its root
-pub made_tree : (ws now : List ℕ) (old new : Tree ℕ) (top : ℕ) → 8 ≤ length ws → IsMade ws now old new top → Balanced new → ((line : ℕ) → times line new ≤ 1) → size new < 2 ^ 32 → IsTree (with_word 0 1 top now) new
+pub made_tree : (ws now : List ℕ) (old new : Tree ℕ) (top : ℕ) → 8 ≤ length ws → IsTreeMade ws now old new top → Balanced new → ((line : ℕ) → times line new ≤ 1) → size new < 2 ^ 32 → IsTree (with_word 0 1 top now) new
 made_tree ws now old new top header m b once few =
     let long = m.but.long in
     record {
@@ -67,7 +67,7 @@ made_tree ws now old new top header m b once few =
     }
 
 -- its words are the only ones
-pub made_words : (ws now : List ℕ) (old new : Tree ℕ) (top : ℕ) → ((line : ℕ) → times line old ≤ times line new) → IsMade ws now old new top → with_word 0 1 top now ≡ with_tree new ws
+pub made_words : (ws now : List ℕ) (old new : Tree ℕ) (top : ℕ) → ((line : ℕ) → times line old ≤ times line new) → IsTreeMade ws now old new top → with_word 0 1 top now ≡ with_tree new ws
 unfolding with_tree
 made_words ws now old new top le m =
     ap (λ k. with_word 0 1 k now) (sym m.root_is) ∙ ap (with_word 0 1 (root new)) (only_words ws now new (but_more ws now old new le m.but) m.stands)
@@ -121,13 +121,13 @@ module _ (ws nodes sides : List ℕ) (order : ℕ → Ordering) (depth node : �
       let s = length-append (before way) (behind way) in
       omega (arith, p, q, r, s)
 
-  pub new_tree : (now : List ℕ) (top : ℕ) → 8 ≤ length ws → size t + 1 < 2 ^ 32 → IsMade ws now (whole (spot order [] t).0 (Node Empty node Empty)) (with_new order node t) top → IsTree (with_word 0 1 top now) (with_new order node t)
+  pub new_tree : (now : List ℕ) (top : ℕ) → 8 ≤ length ws → size t + 1 < 2 ^ 32 → IsTreeMade ws now (whole (spot order [] t).0 (Node Empty node Empty)) (with_new order node t) top → IsTree (with_word 0 1 top now) (with_new order node t)
   new_tree now top header room m =
       made_tree ws now (whole (spot order [] t).0 (Node Empty node Empty)) (with_new order node t) top header m (new_balanced order node t gap_empty i.balanced)
       (λ k. (let e = new_times k in let h = once_more node k t apart (i.once k) in omega (arith, e, h)))
       (let e = new_size in omega arith)
 
-  pub new_words : (now : List ℕ) (top : ℕ) → IsMade ws now (whole (spot order [] t).0 (Node Empty node Empty)) (with_new order node t) top → with_word 0 1 top now ≡ with_tree (with_new order node t) ws
+  pub new_words : (now : List ℕ) (top : ℕ) → IsTreeMade ws now (whole (spot order [] t).0 (Node Empty node Empty)) (with_new order node t) top → with_word 0 1 top now ≡ with_tree (with_new order node t) ws
   new_words now top m =
       made_words ws now (whole (spot order [] t).0 (Node Empty node Empty)) (with_new order node t) top
       (λ k. (let e = mended_times k (spot order [] t).0 (Node Empty node Empty) in let w = whole_times k (spot order [] t).0 (Node Empty node Empty) in omega (arith, e, w))) m
@@ -145,7 +145,7 @@ can_mend_leaf ws nodes sides depth node c =
       settled_way = settled_leaf ws nodes sides c.order depth node c.tree b.tree b.spot b.leaf b.apart;
     }
 
-pub puts : (ws now last nodes sides : List ℕ) (depth node top : ℕ) → Mends nodes sides depth depth node 1 top ws now → last ≡ with_word 0 1 top now → Puts nodes sides depth node ws last
+pub puts : (ws now last nodes sides : List ℕ) (depth node top : ℕ) → Mends nodes sides depth depth node 1 top ws now → last ≡ with_word 0 1 top now → PutsNode nodes sides depth node ws last
 puts ws now last nodes sides depth node top m e order t b =
     let h = hung_leaf ws nodes sides order depth node t b.tree b.spot b.leaf b.apart in
     e ∙ new_words ws nodes sides order depth node t b.tree b.spot b.leaf b.apart now top

@@ -4,8 +4,8 @@ use Rattle.avl_words.specs.Tree.{Tree, Empty, Node, height, Balanced, node_on}
 use Rattle.avl_words.specs.Ways.{Turn, whole}
 use Rattle.avl_words.proofs.Trees.{height_on}
 use Rattle.avl_words.specs.Lines.{word_of, IsWithin, with_word}
-use Rattle.avl_words.specs.Words.{root, times, Stands, IsNoted}
-use Rattle.avl_words.specs.Links.{SameBut, IsMade}
+use Rattle.avl_words.specs.Words.{root, times, Stands, IsWayNoted}
+use Rattle.avl_words.specs.Links.{SameBut, IsTreeMade}
 use Rattle.avl_words.specs.Mending.{Spine, times_way, IsHung, Stood, Settled, CanRelink, Relinks}
 use Rattle.avl_words.proofs.Frames.{times_self, root_on, but_more, stands_apart, link_but}
 use Rattle.avl_words.proofs.Hanging.{spine_kept, whole_times}
@@ -17,14 +17,14 @@ stood_turn ws zero t x s l h = (h.0.left_is, h.0.height_is)
 stood_turn ws (suc zero) t x s l h = (h.0.right_is, h.0.height_is)
 stood_turn ws (suc (suc k)) t x s l h = absurd (omega arith)
 
-pub stood_of : (ws nodes sides : List ℕ) (way : List (Turn ℕ)) (t : Tree ℕ) → IsNoted nodes sides way → Stands ws (whole way t) → Stood ws way t
+pub stood_of : (ws nodes sides : List ℕ) (way : List (Turn ℕ)) (t : Tree ℕ) → IsWayNoted nodes sides way → Stands ws (whole way t) → Stood ws way t
 stood_of ws nodes sides [] t n s = tt
 stood_of ws nodes sides (turn ∷ way) t n s =
     let up = node_on turn.side t turn.item turn.sibling in
     let h = stood_turn ws turn.side t turn.item turn.sibling n.2 (stands_at ws way up s) in
     (h.0, h.1, stood_of ws nodes sides way up n.3 s)
 
-pub settled_of : (ws nodes sides : List ℕ) (n : ℕ) (way : List (Turn ℕ)) (t : Tree ℕ) → IsNoted nodes sides way → Stands ws (whole way t) → Balanced (whole way t) → Settled ws n way
+pub settled_of : (ws nodes sides : List ℕ) (n : ℕ) (way : List (Turn ℕ)) (t : Tree ℕ) → IsWayNoted nodes sides way → Stands ws (whole way t) → Balanced (whole way t) → Settled ws n way
 settled_of ws nodes sides n [] t noted s b = tt
 settled_of ws nodes sides n (turn ∷ way) t noted s b = (
   (λ le. record { tree = t; stood = stood_of ws nodes sides (turn ∷ way) t noted s; balanced = b }),
@@ -32,7 +32,7 @@ settled_of ws nodes sides n (turn ∷ way) t noted s b = (
 )
 
 -- of nodes none of which has changed
-pub stood_kept : (a b nodes sides : List ℕ) (t : Tree ℕ) (way : List (Turn ℕ)) (old : Tree ℕ) → SameBut a b t → IsNoted nodes sides way → ((line : ℕ) → times_way line way + times line t ≤ 1) → Stood a way old → Stood b way old
+pub stood_kept : (a b nodes sides : List ℕ) (t : Tree ℕ) (way : List (Turn ℕ)) (old : Tree ℕ) → SameBut a b t → IsWayNoted nodes sides way → ((line : ℕ) → times_way line way + times line t ≤ 1) → Stood a way old → Stood b way old
 stood_kept a b nodes sides t [] old but n once s = tt
 stood_kept a b nodes sides t (turn ∷ way) old but n once s =
     let none : times turn.item t ≡ 0 = (let c = once turn.item in let o = times_self turn.item in omega (arith, c, o)) in (
@@ -41,14 +41,14 @@ stood_kept a b nodes sides t (turn ∷ way) old but n once s =
       stood_kept a b nodes sides t way (node_on turn.side old turn.item turn.sibling) but n.3 (λ k. (let c = once k in omega (arith, c))) s.2,
     )
 
-pub settled_kept : (a b nodes sides : List ℕ) (t : Tree ℕ) (n : ℕ) (way : List (Turn ℕ)) → SameBut a b t → IsNoted nodes sides way → ((line : ℕ) → times_way line way + times line t ≤ 1) → Settled a n way → Settled b n way
+pub settled_kept : (a b nodes sides : List ℕ) (t : Tree ℕ) (n : ℕ) (way : List (Turn ℕ)) → SameBut a b t → IsWayNoted nodes sides way → ((line : ℕ) → times_way line way + times line t ≤ 1) → Settled a n way → Settled b n way
 settled_kept a b nodes sides t n [] but noted once s = tt
 settled_kept a b nodes sides t n (turn ∷ way) but noted once s = (
   (λ le. (let h = s.0 le in record { tree = h.tree; stood = stood_kept a b nodes sides t (turn ∷ way) h.tree but noted once h.stood; balanced = h.balanced })),
   settled_kept a b nodes sides t n way but noted.3 (λ k. (let c = once k in omega (arith, c))) s.1,
 )
 
--- turns behind so many say nothing
+-- turns behind the given number say nothing
 pub settled_behind : (ws : List ℕ) (passed : List (Turn ℕ)) (turn : Turn ℕ) (way : List (Turn ℕ)) → Settled ws (length way) way → Settled ws (length way) (passed ++ turn ∷ way)
 settled_behind ws [] turn way s = ((λ le. absurd (let m : suc (length way) ≤ length way = le in omega arith)), s)
 settled_behind ws (p ∷ passed) turn way s = (
@@ -65,7 +65,7 @@ node_stands ws (suc (suc k)) t x s l some within a b high p q = absurd (omega ar
 level_on : (side : ℕ) (old t : Tree ℕ) (x : ℕ) (s : Tree ℕ) → height old ≡ height t → height (node_on side old x s) ≡ height (node_on side t x s)
 level_on side old t x s e = height_on side old x s ∙ ap (λ n. 1 + max n (height s)) e ∙ sym (height_on side t x s)
 
-pub stood_stands : (ws nodes sides : List ℕ) (way : List (Turn ℕ)) (old t : Tree ℕ) → IsNoted nodes sides way → Spine ws way → Stood ws way old → Stands ws t → root old ≡ root t → height old ≡ height t → Stands ws (whole way t)
+pub stood_stands : (ws nodes sides : List ℕ) (way : List (Turn ℕ)) (old t : Tree ℕ) → IsWayNoted nodes sides way → Spine ws way → Stood ws way old → Stands ws t → root old ≡ root t → height old ≡ height t → Stands ws (whole way t)
 stood_stands ws nodes sides [] old t n p s h e level = h
 stood_stands ws nodes sides (turn ∷ way) old t n p s h e level =
     let up = level_on turn.side old t turn.item turn.sibling level in
@@ -74,12 +74,12 @@ stood_stands ws nodes sides (turn ∷ way) old t n p s h e level =
     (root_on turn.side old turn.item turn.sibling ∙ sym (root_on turn.side t turn.item turn.sibling)) up
 
 -- the first node noted is on top
-pub root_noted : (nodes sides : List ℕ) (turn : Turn ℕ) (way : List (Turn ℕ)) (t : Tree ℕ) → IsNoted nodes sides (turn ∷ way) → root (whole (turn ∷ way) t) ≡ get_or nodes 0 0
+pub root_noted : (nodes sides : List ℕ) (turn : Turn ℕ) (way : List (Turn ℕ)) (t : Tree ℕ) → IsWayNoted nodes sides (turn ∷ way) → root (whole (turn ∷ way) t) ≡ get_or nodes 0 0
 root_noted nodes sides turn [] t n = root_on turn.side t turn.item turn.sibling ∙ sym n.0
 root_noted nodes sides turn (next ∷ way) t n = root_noted nodes sides next way (node_on turn.side t turn.item turn.sibling) n.3
 
 -- the link to the tree is stored
-module _ (ws nodes sides : List ℕ) (turn : Turn ℕ) (way : List (Turn ℕ)) (t old : Tree ℕ) (node : ℕ) (n : IsNoted nodes sides (turn ∷ way)) (p : Spine ws (turn ∷ way)) (h : Stands ws t) (e : root t ≡ node)
+module _ (ws nodes sides : List ℕ) (turn : Turn ℕ) (way : List (Turn ℕ)) (t old : Tree ℕ) (node : ℕ) (n : IsWayNoted nodes sides (turn ∷ way)) (p : Spine ws (turn ∷ way)) (h : Stands ws t) (e : root t ≡ node)
     (once : (line : ℕ) → times_way line (turn ∷ way) + times line t ≤ 1) (s : Stood ws (turn ∷ way) old) (level : height old ≡ height t) where
   abbrev now : List ℕ
   now = with_word turn.item turn.side node ws
@@ -102,7 +102,7 @@ module _ (ws nodes sides : List ℕ) (turn : Turn ℕ) (way : List (Turn ℕ)) (
   apart : (line : ℕ) → times_way line way + times line one ≤ 1
   apart k = (let c = once k in omega (arith, c))
 
-  pub relinked : IsMade ws now (whole (turn ∷ way) t) (whole (turn ∷ way) t) (get_or nodes 0 0)
+  pub relinked : IsTreeMade ws now (whole (turn ∷ way) t) (whole (turn ∷ way) t) (get_or nodes 0 0)
   relinked = record {
     stands = stood_stands now nodes sides way (node_on turn.side old turn.item turn.sibling) (node_on turn.side t turn.item turn.sibling) n.3
         (spine_kept ws now one way but apart p.4) (stood_kept ws now nodes sides one way (node_on turn.side old turn.item turn.sibling) but n.3 apart s.2) up_stands
@@ -122,7 +122,7 @@ relinks ws now nodes sides depth node some is (turn ∷ way) t old h s level =
     let l : length way ≡ depth - 1 = (let m = h.long in omega arith) in
     let words : with_word turn.item turn.side node ws ≡ now =
     ap (λ k. with_word k turn.side node ws) (sym h.noted.0 ∙ ap (λ k. get_or nodes k 0) l) ∙ ap (λ k. with_word (get_or nodes (depth - 1) 0) k node ws) (sym h.noted.1 ∙ ap (λ k. get_or sides k 0) l) ∙ sym is in
-    subst (λ v. IsMade ws v (whole (turn ∷ way) t) (whole (turn ∷ way) t) (get_or nodes 0 0)) words
+    subst (λ v. IsTreeMade ws v (whole (turn ∷ way) t) (whole (turn ∷ way) t) (get_or nodes 0 0)) words
     (relinked ws nodes sides turn way t old node h.noted h.spine h.stands h.root_is h.once s level)
 
 pub relink_there : (ws nodes sides : List ℕ) (depth node : ℕ) → CanRelink ws nodes sides depth node → 1 ≤ depth → IsWithin ws (get_or nodes (depth - 1) 0) × (get_or sides (depth - 1) 0 < 2)

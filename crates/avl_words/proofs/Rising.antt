@@ -5,7 +5,7 @@ use Rattle.avl_words.specs.Ways.{Turn, under, whole, mended}
 use Rattle.avl_words.proofs.Stopping.{mended_level}
 use Rattle.avl_words.specs.Lines.{word_of, IsWithin}
 use Rattle.avl_words.specs.Words.{root, times, Stands}
-use Rattle.avl_words.specs.Links.{SameBut, IsMade, IsHigh}
+use Rattle.avl_words.specs.Links.{SameBut, IsTreeMade, IsHigh}
 use Rattle.avl_words.specs.Mending.{IsHanging, CanHang, Hangs, times_way, IsHung, Stood, Settled, CanRelink, Relinks, CanMend, Mends, IsMending, Mending}
 use Rattle.avl_words.proofs.Frames.{times_on, but_then, but_more}
 use Rattle.avl_words.proofs.Hanging.{spine_kept, hanging_is, hung_at, side_at, last_is, under_times, whole_times}
@@ -78,7 +78,7 @@ mending_goes_on before mid now nodes sides depth settled node high rest top top_
     went_on before mid now nodes sides rest settled way t top top_high next next_high some a.rest a.tree a.hung a.settled_way a.same a.lines a.but hangs
 
 ends : (before now nodes sides : List ℕ) (way : List (Turn ℕ)) (t : Tree ℕ) (top : ℕ) (rest : List (Turn ℕ)) (tree : Tree ℕ) → IsHung now nodes sides 0 rest tree top → mended rest tree ≡ mended way t → SameBut before now (whole way t) →
-    IsMade before now (whole way t) (mended way t) top
+    IsTreeMade before now (whole way t) (mended way t) top
 ends before now nodes sides way t top [] tree h e b = record { stands = subst (Stands now) e h.stands; root_is = ap root (sym e) ∙ h.root_is; but = b }
 ends before now nodes sides way t top (turn ∷ rest) tree h e b = absurd (let l = h.long in omega arith)
 
@@ -132,7 +132,7 @@ mending_stops before mid now last nodes sides depth settled node first_high rest
     (let a = m way t h0 tall s0 in by_way a.rest a.tree a.hung a.settled_way a.same a.lines a.but)
   where
     by_way : (left : List (Turn ℕ)) (tree : Tree ℕ) → IsHung mid nodes sides rest left tree top → Settled mid settled left → mended left tree ≡ mended way t →
-        ((line : ℕ) → times_way line left + times line tree ≡ times_way line way + times line t) → SameBut before mid (whole way t) → IsMade before last (whole way t) (mended way t) root_now
+        ((line : ℕ) → times_way line left + times line tree ≡ times_way line way + times line t) → SameBut before mid (whole way t) → IsTreeMade before last (whole way t) (mended way t) root_now
     by_way [] tree h s same lines but = absurd (let l = h.long in omega arith)
     by_way (turn ∷ left) tree h s same lines but =
         let v = leveled mid now nodes sides rest settled turn left tree top next next_high high h s le seen e hangs in

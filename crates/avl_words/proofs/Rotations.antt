@@ -4,7 +4,7 @@ use Rattle.std.proofs.lemmas.Bool.{cond-true, cond-false, le-leb, lt-leb}
 use Rattle.avl_words.specs.Tree.{Tree, Empty, Node, height, node_on, inner_up, child_up, rotated}
 use Rattle.avl_words.specs.Lines.{word_of, IsWithin}
 use Rattle.avl_words.specs.Words.{root, times, IsNode, Stands}
-use Rattle.avl_words.specs.Links.{high_of, with_node, IsLink, CanSet, SameBut, IsOpen, IsHigh, CanRotate, Rotates}
+use Rattle.avl_words.specs.Links.{high_of, with_node, IsLink, CanSet, SameBut, IsNodeOpen, IsHigh, CanRotate, Rotates}
 use Rattle.avl_words.proofs.Trees.{height_on}
 use Rattle.avl_words.proofs.Frames.{times_self, times_on, root_on, stands_set, high_is, IsThere, there_set, stands_on, but_set, but_then}
 
@@ -47,7 +47,7 @@ pub record HasView (ws : List ℕ) (side node child low outer inner : ℕ) (t : 
 there_node : (ws : List ℕ) (x : ℕ) (left right high : ℕ) → IsNode ws x left right high → IsThere ws x
 there_node ws x left right high n = record { some = n.some; within = n.within }
 
-pub view_of : (ws : List ℕ) (side node child low outer inner : ℕ) (t : Tree ℕ) (x : ℕ) (s : Tree ℕ) → side < 2 → IsOpen ws t x s → x ≡ node → root t ≡ child → root s ≡ low →
+pub view_of : (ws : List ℕ) (side node child low outer inner : ℕ) (t : Tree ℕ) (x : ℕ) (s : Tree ℕ) → side < 2 → IsNodeOpen ws t x s → x ≡ node → root t ≡ child → root s ≡ low →
     height s + 2 ≤ height t → word_of ws child side ≡ outer → word_of ws child (1 - side) ≡ inner → HasView ws side node child low outer inner t x s
 view_of ws side node child low outer inner Empty x s l o e f g h p q = absurd (omega arith)
 view_of ws zero node child low outer inner (Node u y v) x s l o e f g h p q = record {
@@ -282,7 +282,7 @@ can_same : (ws vs : List ℕ) (a b bh c ch d e eh f fh : ℕ) → ws ≡ vs → 
 can_same ws vs a b bh c ch d e eh f fh p q r s t u h =
     subst (λ v. CanSet v d e eh f fh) p (subst (λ n. CanSet ws n e eh f fh) q (subst (λ n. CanSet ws a n eh f fh) r (subst (λ n. CanSet ws a b n f fh) s (subst (λ n. CanSet ws a b bh n fh) t (subst (CanSet ws a b bh c) u h)))))
 
-seen_view : (ws : List ℕ) (side node child low outer inner oh ih : ℕ) (t : Tree ℕ) (x : ℕ) (s : Tree ℕ) → side < 2 → IsSeen ws side child outer inner oh ih → IsOpen ws t x s → x ≡ node → root t ≡ child → root s ≡ low →
+seen_view : (ws : List ℕ) (side node child low outer inner oh ih : ℕ) (t : Tree ℕ) (x : ℕ) (s : Tree ℕ) → side < 2 → IsSeen ws side child outer inner oh ih → IsNodeOpen ws t x s → x ≡ node → root t ≡ child → root s ≡ low →
     height s + 2 ≤ height t → HasView ws side node child low outer inner t x s
 seen_view ws side node child low outer inner oh ih t x s l seen o e f g h = view_of ws side node child low outer inner t x s l o e f g h seen.outer_is seen.inner_is
 
@@ -298,7 +298,7 @@ record IsSeenView (ws : List ℕ) (side node child low low_height outer inner oh
   low_high : height s ≡ low_height
   lower_high : height (node_on side has.b x s) ≡ 1 + max ih low_height
 
-see_view : (ws : List ℕ) (side node child low lh outer inner oh ih : ℕ) (t : Tree ℕ) (x : ℕ) (s : Tree ℕ) → side < 2 → IsSeen ws side child outer inner oh ih → IsOpen ws t x s → x ≡ node → root t ≡ child → root s ≡ low →
+see_view : (ws : List ℕ) (side node child low lh outer inner oh ih : ℕ) (t : Tree ℕ) (x : ℕ) (s : Tree ℕ) → side < 2 → IsSeen ws side child outer inner oh ih → IsNodeOpen ws t x s → x ≡ node → root t ≡ child → root s ≡ low →
     high_of low ws ≡ lh → height s + 2 ≤ height t → IsSeenView ws side node child low lh outer inner oh ih t x s
 see_view ws side node child low lh outer inner oh ih t x s l seen o e f g low_is h =
     let v = seen_view ws side node child low outer inner oh ih t x s l seen o e f g h in

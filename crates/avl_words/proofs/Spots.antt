@@ -6,7 +6,7 @@ use Rattle.std.specs.declared.cmp.Ordering.TheVariants.{Less, Equal, Greater}
 use Rattle.std.proofs.lemmas.List.{append-nil}
 use Rattle.std.proofs.lemmas.List.Elements.{All-nil, All-cons, All-head, All-tail, All-push, All-same}
 use Rattle.avl_words.specs.Tree.{Tree, Empty, Node, items, size, Balanced}
-use Rattle.avl_words.specs.Ways.{Turn, by_order, whole, before, behind, spot, Cut, Ends, with_new}
+use Rattle.avl_words.specs.Ways.{Turn, by_order, whole, before, behind, spot, IsCutBy, WayEnds, with_new}
 use Rattle.avl_words.proofs.Trees.{whole_items, mended_items, mended_balanced}
 
 pub by_order_both : {B : Type 0} (o : Ordering) (a b c : B) (P : B → Type 0) → (o ≡ Less → P a) → (o ≡ Equal → P b) → (o ≡ Greater → P c) → P (by_order o a b c)
@@ -32,11 +32,11 @@ module _ {A : Type 0} where
   size_is (Node l x r) = (let a = size_is l in let b = size_is r in let c = length-append (items l) (x ∷ items r) in omega (arith, c))
 
   module _ (order : A → Ordering) where
-    cut_above : (xs : List A) (x : A) (ys : List A) → Cut order (xs ++ x ∷ ys) → order x ≢ Less → All (λ y. order y ≡ Greater) ys
+    cut_above : (xs : List A) (x : A) (ys : List A) → IsCutBy order (xs ++ x ∷ ys) → order x ≢ Less → All (λ y. order y ≡ Greater) ys
     cut_above [] x ys c n = c.0 n
     cut_above (z ∷ xs) x ys c n = cut_above xs x ys c.1 n
 
-    cut_below : (xs : List A) (x : A) (ys : List A) → Cut order (xs ++ x ∷ ys) → order x ≢ Greater → All (λ y. order y ≡ Less) xs
+    cut_below : (xs : List A) (x : A) (ys : List A) → IsCutBy order (xs ++ x ∷ ys) → order x ≢ Greater → All (λ y. order y ≡ Less) xs
     cut_below [] x ys c n = All-nil (λ y. order y ≡ Less)
     cut_below (z ∷ xs) x ys c n =
         All-cons (λ y. order y ≡ Less) z xs (less_from (order z) (λ m. n (All-head (λ y. order y ≡ Greater) x ys (all_right (λ y. order y ≡ Greater) xs (x ∷ ys) (c.0 m)))))
@@ -57,10 +57,10 @@ module _ {A : Type 0} where
         by_order_both (order x) (spot order (record { side = 1; item = x; sibling = l } ∷ way) r) (way, Node l x r) (spot order (record { side = 0; item = x; sibling = r } ∷ way) l) (λ s. whole s.0 s.1 ≡ whole way (Node l x r))
         (λ _. spot_whole (record { side = 1; item = x; sibling = l } ∷ way) r) (λ _. refl) (λ _. spot_whole (record { side = 0; item = x; sibling = r } ∷ way) l)
 
-    pub spot_ends : (way : List (Turn A)) (t : Tree A) → Ends order (spot order way t).1
+    pub spot_ends : (way : List (Turn A)) (t : Tree A) → WayEnds order (spot order way t).1
     spot_ends way Empty = tt
     spot_ends way (Node l x r) =
-        by_order_both (order x) (spot order (record { side = 1; item = x; sibling = l } ∷ way) r) (way, Node l x r) (spot order (record { side = 0; item = x; sibling = r } ∷ way) l) (λ s. Ends order s.1)
+        by_order_both (order x) (spot order (record { side = 1; item = x; sibling = l } ∷ way) r) (way, Node l x r) (spot order (record { side = 0; item = x; sibling = r } ∷ way) l) (λ s. WayEnds order s.1)
         (λ _. spot_ends (record { side = 1; item = x; sibling = l } ∷ way) r) (λ e. e) (λ _. spot_ends (record { side = 0; item = x; sibling = r } ∷ way) l)
 
     -- what stands before a place is below what is sought, and what stands behind it is above
@@ -68,31 +68,31 @@ module _ {A : Type 0} where
       pub lower : All (λ y. order y ≡ Less) (before way)
       pub higher : All (λ y. order y ≡ Greater) (behind way)
 
-    right_between : (way : List (Turn A)) (l : Tree A) (x : A) (r : Tree A) → Cut order (items (whole way (Node l x r))) → order x ≡ Less → IsBetween way → IsBetween (record { side = 1; item = x; sibling = l } ∷ way)
+    right_between : (way : List (Turn A)) (l : Tree A) (x : A) (r : Tree A) → IsCutBy order (items (whole way (Node l x r))) → order x ≡ Less → IsBetween way → IsBetween (record { side = 1; item = x; sibling = l } ∷ way)
     right_between way l x r c e b =
-        let below = cut_below (before way ++ items l) x (items r ++ behind way) (subst (Cut order) (parted way l x r) c) (λ f. (let g : Less ≡ Greater = sym e ∙ f in cc)) in
+        let below = cut_below (before way ++ items l) x (items r ++ behind way) (subst (IsCutBy order) (parted way l x r) c) (λ f. (let g : Less ≡ Greater = sym e ∙ f in cc)) in
         record {
           lower = All-same (λ y. order y ≡ Less) (before way ++ (items l ++ x ∷ [])) ((before way ++ items l) ++ x ∷ []) (sym (append_assoc (before way) (items l) (x ∷ [])))
               (All-push (λ y. order y ≡ Less) (before way ++ items l) x below e);
           higher = b.higher;
         }
 
-    left_between : (way : List (Turn A)) (l : Tree A) (x : A) (r : Tree A) → Cut order (items (whole way (Node l x r))) → order x ≡ Greater → IsBetween way → IsBetween (record { side = 0; item = x; sibling = r } ∷ way)
+    left_between : (way : List (Turn A)) (l : Tree A) (x : A) (r : Tree A) → IsCutBy order (items (whole way (Node l x r))) → order x ≡ Greater → IsBetween way → IsBetween (record { side = 0; item = x; sibling = r } ∷ way)
     left_between way l x r c e b =
-        let above = cut_above (before way ++ items l) x (items r ++ behind way) (subst (Cut order) (parted way l x r) c) (λ f. (let g : Greater ≡ Less = sym e ∙ f in cc)) in
+        let above = cut_above (before way ++ items l) x (items r ++ behind way) (subst (IsCutBy order) (parted way l x r) c) (λ f. (let g : Greater ≡ Less = sym e ∙ f in cc)) in
         record {
           lower = All-same (λ y. order y ≡ Less) (before way ++ []) (before way) (append-nil (before way)) b.lower;
           higher = All-cons (λ y. order y ≡ Greater) x (items r ++ behind way) e above;
         }
 
-    pub spot_between : (way : List (Turn A)) (t : Tree A) → Cut order (items (whole way t)) → IsBetween way → IsBetween (spot order way t).0
+    pub spot_between : (way : List (Turn A)) (t : Tree A) → IsCutBy order (items (whole way t)) → IsBetween way → IsBetween (spot order way t).0
     spot_between way Empty c b = b
     spot_between way (Node l x r) c b =
         by_order_both (order x) (spot order (record { side = 1; item = x; sibling = l } ∷ way) r) (way, Node l x r) (spot order (record { side = 0; item = x; sibling = r } ∷ way) l) (λ s. IsBetween s.0)
         (λ e. spot_between (record { side = 1; item = x; sibling = l } ∷ way) r c (right_between way l x r c e b)) (λ _. b)
         (λ e. spot_between (record { side = 0; item = x; sibling = r } ∷ way) l c (left_between way l x r c e b))
 
-    pub top_between : (t : Tree A) → Cut order (items t) → IsBetween (spot order [] t).0
+    pub top_between : (t : Tree A) → IsCutBy order (items t) → IsBetween (spot order [] t).0
     top_between t c = spot_between [] t c (record { lower = All-nil (λ y. order y ≡ Less); higher = All-nil (λ y. order y ≡ Greater) })
 
     -- the items as they stand around the place

@@ -3,7 +3,7 @@ use Rattle.std.proofs.Common.{◌≡◌, ◌+◌, ◌*◌, ◌≤◌, max, ℕ, 
 use Rattle.avl_words.specs.Tree.{Tree, Empty, Node, height, Balanced, node_on}
 use Rattle.avl_words.specs.Ways.{Turn, whole}
 use Rattle.avl_words.specs.Lines.{with_word}
-use Rattle.avl_words.specs.Words.{root, times, Stands, IsNoted}
+use Rattle.avl_words.specs.Words.{root, times, Stands, IsWayNoted}
 use Rattle.avl_words.specs.Mending.{Spine, times_way, IsHung, Settled}
 use Rattle.avl_words.proofs.Relinking.{settled_of, settled_kept, settled_behind}
 use Rattle.avl_words.specs.Removal.{Least, least}
@@ -57,7 +57,7 @@ module _ (ws nodes sides : List ℕ) (depth : ℕ) (way : List (Turn ℕ)) (a : 
       let e = ap (times k) (least_whole [] c z d) in
       omega (arith, o, p, r, e)
 
-  pub gone_hung : IsNoted nodes sides (q.way ++ up_way) → length (q.way ++ up_way) ≡ depth → IsHung now nodes sides depth (q.way ++ up_way) q.rest (root q.rest)
+  pub gone_hung : IsWayNoted nodes sides (q.way ++ up_way) → length (q.way ++ up_way) ≡ depth → IsHung now nodes sides depth (q.way ++ up_way) q.rest (root q.rest)
   gone_hung noted long =
       let but = link_but ws q.item 0 (root (Node a y b)) (lit< tt) in
       let e : whole (q.way ++ up_way) (Node Empty q.item q.rest) ≡ whole way (Node (Node a y b) q.item (Node c z d)) = whole_both q.way up_way (Node Empty q.item q.rest) ∙ ap (whole up_way) (least_whole [] c z d) in
@@ -83,7 +83,7 @@ module _ (ws nodes sides : List ℕ) (depth : ℕ) (way : List (Turn ℕ)) (a : 
       }
 
   -- the nodes above the one taken out stand as they did
-  pub gone_settled : IsNoted nodes sides way → Settled now (length way) (q.way ++ up_way)
+  pub gone_settled : IsWayNoted nodes sides way → Settled now (length way) (q.way ++ up_way)
   gone_settled noted =
       settled_behind now q.way (record { side = 1; item = q.item; sibling = Node a y b }) way
       (settled_kept ws now nodes sides (Node Empty q.item Empty) (length way) way (link_but ws q.item 0 (root (Node a y b)) (lit< tt)) noted (λ k. (let o = counted k in omega (arith, o)))

@@ -6,7 +6,7 @@ use Rattle.std.proofs.Math.Pow.{pow_mono}
 use Rattle.avl_words.specs.Tree.{Tree, Empty, Node, height, items, size, node_on}
 use Rattle.avl_words.specs.Ways.{Turn, whole, behind, spot}
 use Rattle.avl_words.specs.Lines.{word_of, IsWithin}
-use Rattle.avl_words.specs.Words.{root, Stands, IsTree, IsNoted, IsOnWay, IsSpot}
+use Rattle.avl_words.specs.Words.{root, Stands, IsTree, IsWayNoted, IsOnWay, IsSpot}
 use Rattle.avl_words.proofs.Depth.{depth_law, depth_bound, height_at}
 use Rattle.avl_words.proofs.Spots.{spot_right, spot_here, spot_left, spot_whole}
 
@@ -19,7 +19,7 @@ pub stands_at : (ws : List ℕ) (way : List (Turn ℕ)) (t : Tree ℕ) → Stand
 stands_at ws [] t s = s
 stands_at ws (turn ∷ way) t s = parts_stand ws turn.side t turn.item turn.sibling (stands_at ws way (node_on turn.side t turn.item turn.sibling) s)
 
-pub noted_set : (nodes sides : List ℕ) (way : List (Turn ℕ)) (d a b : ℕ) → length way ≤ d → IsNoted nodes sides way → IsNoted (set nodes d a) (set sides d b) way
+pub noted_set : (nodes sides : List ℕ) (way : List (Turn ℕ)) (d a b : ℕ) → length way ≤ d → IsWayNoted nodes sides way → IsWayNoted (set nodes d a) (set sides d b) way
 noted_set nodes sides [] d a b le n = tt
 noted_set nodes sides (turn ∷ way) d a b le n =
     (get_or-set_other nodes d (length way) a 0 (omega arith) ∙ n.0, get_or-set_other sides d (length way) b 0 (omega arith) ∙ n.1, n.2, noted_set nodes sides way d a b (omega arith) n.3)
@@ -58,7 +58,7 @@ module _ (ws : List ℕ) (order : ℕ → Ordering) (t : Tree ℕ) (i : IsTree w
     pub behind_is : behind on.way ≡ first ∷ rest
 
   on_right : (nodes sides : List ℕ) (d node next : ℕ) (way : List (Turn ℕ)) (l : Tree ℕ) (x : ℕ) (r : Tree ℕ) → d < 64 → length nodes ≡ 64 → length sides ≡ 64 → whole way (Node l x r) ≡ t → spot order [] t ≡ spot order way (Node l x r) →
-      node ≡ x → Stands ws (Node l x r) → order node ≡ Less → word_of ws node 1 ≡ next → length way ≡ d → IsNoted nodes sides way → IsRight (set nodes d node) (set sides d 1) (d + 1) next (behind way)
+      node ≡ x → Stands ws (Node l x r) → order node ≡ Less → word_of ws node 1 ≡ next → length way ≡ d → IsWayNoted nodes sides way → IsRight (set nodes d node) (set sides d 1) (d + 1) next (behind way)
   on_right nodes sides d node next way l x r room nl sl w same e s less word long noted = record {
     on = record {
       way = record { side = 1; item = x; sibling = l } ∷ way;
@@ -78,7 +78,7 @@ module _ (ws : List ℕ) (order : ℕ → Ordering) (t : Tree ℕ) (i : IsTree w
   }
 
   on_left : (nodes sides : List ℕ) (d node next : ℕ) (way : List (Turn ℕ)) (l : Tree ℕ) (x : ℕ) (r : Tree ℕ) → d < 64 → length nodes ≡ 64 → length sides ≡ 64 → whole way (Node l x r) ≡ t → spot order [] t ≡ spot order way (Node l x r) →
-      node ≡ x → Stands ws (Node l x r) → order node ≡ Greater → word_of ws node 0 ≡ next → length way ≡ d → IsNoted nodes sides way → IsLeft (set nodes d node) (set sides d 0) (d + 1) next node
+      node ≡ x → Stands ws (Node l x r) → order node ≡ Greater → word_of ws node 0 ≡ next → length way ≡ d → IsWayNoted nodes sides way → IsLeft (set nodes d node) (set sides d 0) (d + 1) next node
   on_left nodes sides d node next way l x r room nl sl w same e s more word long noted = record {
     on = record {
       way = record { side = 0; item = x; sibling = r } ∷ way;
@@ -99,12 +99,12 @@ module _ (ws : List ℕ) (order : ℕ → Ordering) (t : Tree ℕ) (i : IsTree w
   }
 
   go_right : (nodes sides : List ℕ) (d node next : ℕ) (way : List (Turn ℕ)) (here : Tree ℕ) → d < 64 → length nodes ≡ 64 → length sides ≡ 64 → whole way here ≡ t → spot order [] t ≡ spot order way here →
-      node ≡ root here → node ≢ 0 → Stands ws here → order node ≡ Less → word_of ws node 1 ≡ next → length way ≡ d → IsNoted nodes sides way → IsRight (set nodes d node) (set sides d 1) (d + 1) next (behind way)
+      node ≡ root here → node ≢ 0 → Stands ws here → order node ≡ Less → word_of ws node 1 ≡ next → length way ≡ d → IsWayNoted nodes sides way → IsRight (set nodes d node) (set sides d 1) (d + 1) next (behind way)
   go_right nodes sides d node next way Empty room nl sl w same e n s less word long noted = absurd (n e)
   go_right nodes sides d node next way (Node l x r) room nl sl w same e n s less word long noted = on_right nodes sides d node next way l x r room nl sl w same e s less word long noted
 
   go_left : (nodes sides : List ℕ) (d node next : ℕ) (way : List (Turn ℕ)) (here : Tree ℕ) → d < 64 → length nodes ≡ 64 → length sides ≡ 64 → whole way here ≡ t → spot order [] t ≡ spot order way here →
-      node ≡ root here → node ≢ 0 → Stands ws here → order node ≡ Greater → word_of ws node 0 ≡ next → length way ≡ d → IsNoted nodes sides way → IsLeft (set nodes d node) (set sides d 0) (d + 1) next node
+      node ≡ root here → node ≢ 0 → Stands ws here → order node ≡ Greater → word_of ws node 0 ≡ next → length way ≡ d → IsWayNoted nodes sides way → IsLeft (set nodes d node) (set sides d 0) (d + 1) next node
   go_left nodes sides d node next way Empty room nl sl w same e n s more word long noted = absurd (n e)
   go_left nodes sides d node next way (Node l x r) room nl sl w same e n s more word long noted = on_left nodes sides d node next way l x r room nl sl w same e s more word long noted
 
@@ -119,21 +119,21 @@ module _ (ws : List ℕ) (order : ℕ → Ordering) (t : Tree ℕ) (i : IsTree w
       go_left nodes sides d node next o.way o.here room nl sl o.whole_is o.same o.node_is n (here_stands nodes sides d node o) more word o.long o.noted
 
   -- how the walk ends
-  ended : (nodes sides : List ℕ) (d node : ℕ) (way : List (Turn ℕ)) (here : Tree ℕ) → spot order [] t ≡ (way, here) → node ≡ root here → length way ≡ d → IsNoted nodes sides way → IsSpot nodes sides order d node t
+  ended : (nodes sides : List ℕ) (d node : ℕ) (way : List (Turn ℕ)) (here : Tree ℕ) → spot order [] t ≡ (way, here) → node ≡ root here → length way ≡ d → IsWayNoted nodes sides way → IsSpot nodes sides order d node t
   ended nodes sides d node way here e f long noted = record {
     node_is = f ∙ ap (λ s. root s.1) (sym e);
-    noted = subst (IsNoted nodes sides) (ap (λ s. s.0) (sym e)) noted;
+    noted = subst (IsWayNoted nodes sides) (ap (λ s. s.0) (sym e)) noted;
     long = ap (λ s. length s.0) e ∙ long;
   }
 
-  end_none : (nodes sides : List ℕ) (d node : ℕ) (way : List (Turn ℕ)) (here : Tree ℕ) → Stands ws here → spot order [] t ≡ spot order way here → node ≡ root here → node ≡ 0 → length way ≡ d → IsNoted nodes sides way → IsSpot nodes sides order d node t
+  end_none : (nodes sides : List ℕ) (d node : ℕ) (way : List (Turn ℕ)) (here : Tree ℕ) → Stands ws here → spot order [] t ≡ spot order way here → node ≡ root here → node ≡ 0 → length way ≡ d → IsWayNoted nodes sides way → IsSpot nodes sides order d node t
   end_none nodes sides d node way Empty s same e z long noted = ended nodes sides d node way Empty same e long noted
   end_none nodes sides d node way (Node l x r) s same e z long noted = absurd (let some = s.0.some in omega arith)
 
   pub way_ends : (nodes sides : List ℕ) (d node : ℕ) → IsOnWay nodes sides order d node t → node ≡ 0 → IsSpot nodes sides order d node t
   way_ends nodes sides d node o z = end_none nodes sides d node o.way o.here (here_stands nodes sides d node o) o.same o.node_is z o.long o.noted
 
-  end_same : (nodes sides : List ℕ) (d node : ℕ) (way : List (Turn ℕ)) (here : Tree ℕ) → spot order [] t ≡ spot order way here → node ≡ root here → order node ≡ Equal → length way ≡ d → IsNoted nodes sides way → IsSpot nodes sides order d node t
+  end_same : (nodes sides : List ℕ) (d node : ℕ) (way : List (Turn ℕ)) (here : Tree ℕ) → spot order [] t ≡ spot order way here → node ≡ root here → order node ≡ Equal → length way ≡ d → IsWayNoted nodes sides way → IsSpot nodes sides order d node t
   end_same nodes sides d node way Empty same e q long noted = ended nodes sides d node way Empty same e long noted
   end_same nodes sides d node way (Node l x r) same e q long noted = ended nodes sides d node way (Node l x r) (same ∙ spot_here order way l x r (ap order (sym e) ∙ q)) e long noted
 

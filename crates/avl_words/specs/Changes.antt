@@ -5,7 +5,7 @@ use Rattle.avl_words.specs.Tree.{Tree, Empty, Node, height}
 use Rattle.avl_words.specs.Ways.{Turn, whole, spot, with_new}
 use Rattle.avl_words.specs.Removal.{least, gone_way, gone_rest, without}
 use Rattle.avl_words.specs.Lines.{word_of}
-use Rattle.avl_words.specs.Words.{times, IsNode, Stands, IsTree, IsNoted, IsSpot}
+use Rattle.avl_words.specs.Words.{times, IsNode, Stands, IsTree, IsWayNoted, IsSpot}
 use Rattle.avl_words.specs.Links.{SameBut}
 use Rattle.avl_words.specs.Mending.{IsHung, Settled}
 use Rattle.avl_words.specs.Exact.{with_tree}
@@ -23,8 +23,8 @@ pub record CanPut (words nodes sides : List ℕ) (depth node : ℕ) : Type 0 whe
   pub tree : Tree ℕ
   pub beside : IsBeside words nodes sides order depth node tree
 
-abbrev pub Puts : List ℕ → List ℕ → ℕ → ℕ → List ℕ → List ℕ → Type 0
-Puts nodes sides depth node before now =
+abbrev pub PutsNode : List ℕ → List ℕ → ℕ → ℕ → List ℕ → List ℕ → Type 0
+PutsNode nodes sides depth node before now =
     (order : ℕ → Ordering) (t : Tree ℕ) → IsBeside before nodes sides order depth node t → now ≡ with_tree (with_new order node t) before
 
 -- a walk ended at a node
@@ -34,24 +34,24 @@ pub record IsThere (words nodes sides : List ℕ) (order : ℕ → Ordering) (de
   pub spot : IsSpot nodes sides order depth node t
   pub some : node ≢ 0
 
-pub record CanTake (words nodes sides : List ℕ) (depth node : ℕ) : Type 0 where
+pub record CanTakeNode (words nodes sides : List ℕ) (depth node : ℕ) : Type 0 where
   pub order : ℕ → Ordering
   pub tree : Tree ℕ
   pub there : IsThere words nodes sides order depth node tree
 
-abbrev pub Takes : List ℕ → List ℕ → ℕ → ℕ → List ℕ → List ℕ → Type 0
-Takes nodes sides depth node before now =
+abbrev pub TakesNode : List ℕ → List ℕ → ℕ → ℕ → List ℕ → List ℕ → Type 0
+TakesNode nodes sides depth node before now =
     (order : ℕ → Ordering) (t : Tree ℕ) → IsThere before nodes sides order depth node t → now ≡ with_tree (without order t) before
 
 -- the node of a walk's end, and its two children
 pub record HasTwo (words nodes sides : List ℕ) (depth node left right : ℕ) : Type 0 where
-  pub can : CanTake words nodes sides depth node
+  pub can : CanTakeNode words nodes sides depth node
   pub left_is : word_of words node 0 ≡ left
   pub right_is : word_of words node 1 ≡ right
 
 -- a way that is noted, at whose end a tree stands
 pub record IsBelow (words nodes sides : List ℕ) (depth node : ℕ) (way : List (Turn ℕ)) (c : Tree ℕ) (z : ℕ) (d : Tree ℕ) : Type 0 where
-  pub noted : IsNoted nodes sides way
+  pub noted : IsWayNoted nodes sides way
   pub long : length way ≡ depth
   pub stands : Stands words (Node c z d)
   pub node_is : z ≡ node
@@ -65,14 +65,14 @@ pub record CanDescend (words nodes sides : List ℕ) (depth node : ℕ) : Type 0
   pub room : depth + height (Node left item right) ≤ 64
 
 -- the way on to the least node below is noted too
-pub record IsLeast (nodes sides : List ℕ) (depth node : ℕ) (way : List (Turn ℕ)) (c : Tree ℕ) (z : ℕ) (d : Tree ℕ) : Type 0 where
-  pub noted : IsNoted nodes sides ((least [] c z d).way ++ way)
+pub record IsLeastNode (nodes sides : List ℕ) (depth node : ℕ) (way : List (Turn ℕ)) (c : Tree ℕ) (z : ℕ) (d : Tree ℕ) : Type 0 where
+  pub noted : IsWayNoted nodes sides ((least [] c z d).way ++ way)
   pub long : length ((least [] c z d).way ++ way) ≡ depth
   pub node_is : (least [] c z d).item ≡ node
 
 abbrev pub Descends : List ℕ → List ℕ → ℕ → ℕ → List ℕ → List ℕ → ℕ → ℕ → List ℕ → Type 0
 Descends nodes sides depth node nodes_now sides_now depth_now node_now words =
-    (way : List (Turn ℕ)) (c : Tree ℕ) (z : ℕ) (d : Tree ℕ) → IsBelow words nodes sides depth node way c z d → IsLeast nodes_now sides_now depth_now node_now way c z d
+    (way : List (Turn ℕ)) (c : Tree ℕ) (z : ℕ) (d : Tree ℕ) → IsBelow words nodes sides depth node way c z d → IsLeastNode nodes_now sides_now depth_now node_now way c z d
 
 -- a tree is to hang at the end of a way, to stand for the one without a node
 pub record IsGone (before now nodes sides : List ℕ) (depth settled node : ℕ) (way : List (Turn ℕ)) (t : Tree ℕ) : Type 0 where
@@ -80,14 +80,14 @@ pub record IsGone (before now nodes sides : List ℕ) (depth settled node : ℕ)
   pub settled_way : Settled now settled way
   pub but : SameBut before now (whole way t)
 
-abbrev pub IsOut : List ℕ → List ℕ → List ℕ → List ℕ → ℕ → ℕ → ℕ → List (Turn ℕ) → Tree ℕ → Type 0
-IsOut before now nodes sides depth settled node way Empty = Unit {0}
-IsOut before now nodes sides depth settled node way (Node l x r) = IsGone before now nodes sides depth settled node (gone_way way l r) (gone_rest l r)
+abbrev pub IsNodeOut : List ℕ → List ℕ → List ℕ → List ℕ → ℕ → ℕ → ℕ → List (Turn ℕ) → Tree ℕ → Type 0
+IsNodeOut before now nodes sides depth settled node way Empty = Unit {0}
+IsNodeOut before now nodes sides depth settled node way (Node l x r) = IsGone before now nodes sides depth settled node (gone_way way l r) (gone_rest l r)
 
-abbrev pub Raises : List ℕ → List ℕ → ℕ → ℕ → ℕ → ℕ → List ℕ → List ℕ → ℕ → ℕ → List ℕ → List ℕ → Type 0
-Raises nodes sides depth node left right nodes_now sides_now depth_now rest before now =
+abbrev pub RaisesNode : List ℕ → List ℕ → ℕ → ℕ → ℕ → ℕ → List ℕ → List ℕ → ℕ → ℕ → List ℕ → List ℕ → Type 0
+RaisesNode nodes sides depth node left right nodes_now sides_now depth_now rest before now =
     (order : ℕ → Ordering) (t : Tree ℕ) → IsThere before nodes sides order depth node t → word_of before node 0 ≡ left → word_of before node 1 ≡ right →
-    IsOut before now nodes_now sides_now depth_now depth rest (spot order [] t).0 (spot order [] t).1
+    IsNodeOut before now nodes_now sides_now depth_now depth rest (spot order [] t).0 (spot order [] t).1
 
 -- so far down
 pub record IsDescending (words nodes sides : List ℕ) (depth node : ℕ) (way : List (Turn ℕ)) (c : Tree ℕ) (z : ℕ) (d : Tree ℕ) : Type 0 where
@@ -97,7 +97,7 @@ pub record IsDescending (words nodes sides : List ℕ) (depth node : ℕ) (way :
   pub right : Tree ℕ
   pub same : least passed left item right ≡ least [] c z d
   pub whole_is : whole passed (Node left item right) ≡ Node c z d
-  pub noted : IsNoted nodes sides (passed ++ way)
+  pub noted : IsWayNoted nodes sides (passed ++ way)
   pub long : length (passed ++ way) ≡ depth
   pub node_is : item ≡ node
   pub stands : Stands words (Node left item right)

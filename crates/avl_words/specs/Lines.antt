@@ -18,19 +18,19 @@ IsWithin words line = 8 * line + 8 ≤ length words
 abbrev pub with_word : ℕ → ℕ → ℕ → List ℕ → List ℕ
 with_word line i v words = slice_set words (8 * line + i) v
 
--- so many words are 1 to 2 ^ 32 lines
+-- n words are whole lines, from 1 to 2 ^ 32 of them
 pub record IsPartLength (n : ℕ) : Type 0 where
   pub whole : n ≡ 8 * (n / 8)
   pub some : 1 ≤ n / 8
   pub few : n / 8 ≤ 2 ^ 32
 
--- A memory of so many lines that may be loaded, and all the words that may be there are so.
-pub record CanLoad {Memory : Type 0} (m : Ghosts Memory) (memory : Memory) (P : List ℕ → Type 0) : Type 0 where
+-- A memory of such a length that may be loaded, and P holds of all words that may be in it.
+pub record IsLoadable {Memory : Type 0} (m : Ghosts Memory) (memory : Memory) (P : List ℕ → Type 0) : Type 0 where
   pub sized : IsPartLength (m.size memory)
   pub all : Always (m.stands memory) P
 
 -- the same of one that may be stored to
-pub record CanStore {Memory : Type 0} (m : Ghosts Memory) (memory : Memory) (P : List ℕ → Type 0) : Type 0 where
+pub record IsStorable {Memory : Type 0} (m : Ghosts Memory) (memory : Memory) (P : List ℕ → Type 0) : Type 0 where
   pub sized : IsPartLength (m.size memory)
   pub writable : IsTrue (m.writable memory)
   pub all : Always (m.stands memory) P

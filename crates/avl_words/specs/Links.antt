@@ -41,7 +41,7 @@ pub record SameBut (before now : List ℕ) (t : Tree ℕ) : Type 0 where
   pub same : (line i : ℕ) → i < 8 → (times line t ≡ 0) ⊎ (3 ≤ i) → word_of now line i ≡ word_of before line i
 
 -- A node that is there, its children's trees, and all lines apart. The node's own links and height may be anything.
-pub record IsOpen (words : List ℕ) (l : Tree ℕ) (x : ℕ) (r : Tree ℕ) : Type 0 where
+pub record IsNodeOpen (words : List ℕ) (l : Tree ℕ) (x : ℕ) (r : Tree ℕ) : Type 0 where
   pub some : 1 ≤ x
   pub within : IsWithin words x
   pub left : Stands words l
@@ -50,14 +50,14 @@ pub record IsOpen (words : List ℕ) (l : Tree ℕ) (x : ℕ) (r : Tree ℕ) : T
   pub low : height (Node l x r) ≤ 2 ^ 32
 
 -- a tree of the same lines stands now
-pub record IsMade (before now : List ℕ) (old new : Tree ℕ) (node : ℕ) : Type 0 where
+pub record IsTreeMade (before now : List ℕ) (old new : Tree ℕ) (node : ℕ) : Type 0 where
   pub stands : Stands now new
   pub root_is : root new ≡ node
   pub but : SameBut before now old
 
 -- so high
 pub record IsHigh (before now : List ℕ) (old new : Tree ℕ) (node high : ℕ) : Type 0 where
-  pub made : IsMade before now old new node
+  pub made : IsTreeMade before now old new node
   pub high_is : height new ≡ high
 
 -- the child at a side is higher than the other
@@ -65,7 +65,7 @@ pub record CanRotate (words : List ℕ) (node side child low low_high : ℕ) : T
   pub item : ℕ
   pub high_tree : Tree ℕ
   pub low_tree : Tree ℕ
-  pub open_node : IsOpen words high_tree item low_tree
+  pub open_node : IsNodeOpen words high_tree item low_tree
   pub node_is : item ≡ node
   pub child_is : root high_tree ≡ child
   pub low_is : root low_tree ≡ low
@@ -74,14 +74,14 @@ pub record CanRotate (words : List ℕ) (node side child low low_high : ℕ) : T
 
 abbrev pub Rotates : ℕ → ℕ → ℕ → ℕ → ℕ → ℕ → List ℕ → List ℕ → Type 0
 Rotates node side child low top high before now =
-    (x : ℕ) (t : Tree ℕ) (s : Tree ℕ) → IsOpen before t x s → x ≡ node → root t ≡ child → root s ≡ low → height s + 2 ≤ height t → IsHigh before now (Node t x s) (rotated side t x s) top high
+    (x : ℕ) (t : Tree ℕ) (s : Tree ℕ) → IsNodeOpen before t x s → x ≡ node → root t ≡ child → root s ≡ low → height s + 2 ≤ height t → IsHigh before now (Node t x s) (rotated side t x s) top high
 
 -- a node with its links, and the trees below them with their heights; its own height may be anything
 pub record CanJoin (words : List ℕ) (node left left_high right right_high : ℕ) : Type 0 where
   pub item : ℕ
   pub left_tree : Tree ℕ
   pub right_tree : Tree ℕ
-  pub open_node : IsOpen words left_tree item right_tree
+  pub open_node : IsNodeOpen words left_tree item right_tree
   pub node_is : item ≡ node
   pub left_is : root left_tree ≡ left
   pub left_high_is : high_of left words ≡ left_high
@@ -90,4 +90,4 @@ pub record CanJoin (words : List ℕ) (node left left_high right right_high : �
 
 abbrev pub Joins : ℕ → ℕ → ℕ → ℕ → ℕ → List ℕ → List ℕ → Type 0
 Joins node left right top high before now =
-    (x : ℕ) (l : Tree ℕ) (r : Tree ℕ) → IsOpen before l x r → x ≡ node → root l ≡ left → root r ≡ right → IsHigh before now (Node l x r) (joined l x r) top high
+    (x : ℕ) (l : Tree ℕ) (r : Tree ℕ) → IsNodeOpen before l x r → x ≡ node → root l ≡ left → root r ≡ right → IsHigh before now (Node l x r) (joined l x r) top high

@@ -3,8 +3,8 @@ use Rattle.std.specs.Prelude.{◌≡◌, ◌^◌, ◌+◌, ◌-◌, ◌≤◌, �
 use Rattle.avl_words.specs.Tree.{Tree, height, node_on, Balanced}
 use Rattle.avl_words.specs.Ways.{Turn, under, whole, mended}
 use Rattle.avl_words.specs.Lines.{word_of, IsWithin}
-use Rattle.avl_words.specs.Words.{root, times, Stands, IsNoted}
-use Rattle.avl_words.specs.Links.{high_of, SameBut, IsMade, IsHigh}
+use Rattle.avl_words.specs.Words.{root, times, Stands, IsWayNoted}
+use Rattle.avl_words.specs.Links.{high_of, SameBut, IsTreeMade, IsHigh}
 
 -- A node at one side of which a tree is to hang, and at the other the tree that is there. Its link to the side, and its height, may be anything.
 pub record IsHanging (words : List ℕ) (side : ℕ) (t : Tree ℕ) (x : ℕ) (sibling : Tree ℕ) : Type 0 where
@@ -47,7 +47,7 @@ IsLow (turn ∷ way) t = (height (node_on turn.side t turn.item turn.sibling) �
 
 -- a way that was noted, and a tree that is to hang at its end
 pub record IsHung (words nodes sides : List ℕ) (depth : ℕ) (way : List (Turn ℕ)) (t : Tree ℕ) (node : ℕ) : Type 0 where
-  pub noted : IsNoted nodes sides way
+  pub noted : IsWayNoted nodes sides way
   pub long : length way ≡ depth
   pub spine : Spine words way
   pub stands : Stands words t
@@ -68,7 +68,7 @@ pub record IsStood (words : List ℕ) (way : List (Turn ℕ)) : Type 0 where
   pub stood : Stood words way tree
   pub balanced : Balanced (whole way tree)
 
--- the first so many nodes of a way do
+-- the first nodes of a way do, as many as given
 abbrev pub Settled : List ℕ → ℕ → List (Turn ℕ) → Type 0
 Settled words n [] = Unit {0}
 Settled words n (turn ∷ way) = (length (turn ∷ way) ≤ n → IsStood words (turn ∷ way)) × Settled words n way
@@ -84,7 +84,7 @@ pub record CanRelink (words nodes sides : List ℕ) (depth node : ℕ) : Type 0 
 
 abbrev pub Relinks : List ℕ → List ℕ → ℕ → ℕ → ℕ → List ℕ → List ℕ → Type 0
 Relinks nodes sides depth node top before now =
-    (way : List (Turn ℕ)) (t : Tree ℕ) (old : Tree ℕ) → IsHung before nodes sides depth way t node → Stood before way old → height old ≡ height t → IsMade before now (whole way t) (whole way t) top
+    (way : List (Turn ℕ)) (t : Tree ℕ) (old : Tree ℕ) → IsHung before nodes sides depth way t node → Stood before way old → height old ≡ height t → IsTreeMade before now (whole way t) (whole way t) top
 
 pub record CanMend (words nodes sides : List ℕ) (depth settled node high : ℕ) : Type 0 where
   pub way : List (Turn ℕ)
@@ -95,7 +95,7 @@ pub record CanMend (words nodes sides : List ℕ) (depth settled node high : ℕ
 
 abbrev pub Mends : List ℕ → List ℕ → ℕ → ℕ → ℕ → ℕ → ℕ → List ℕ → List ℕ → Type 0
 Mends nodes sides depth settled node high top before now =
-    (way : List (Turn ℕ)) (t : Tree ℕ) → IsHung before nodes sides depth way t node → high_of node before ≡ high → Settled before settled way → IsMade before now (whole way t) (mended way t) top
+    (way : List (Turn ℕ)) (t : Tree ℕ) → IsHung before nodes sides depth way t node → high_of node before ≡ high → Settled before settled way → IsTreeMade before now (whole way t) (mended way t) top
 
 -- so far up
 pub record IsMending (before now nodes sides : List ℕ) (depth settled : ℕ) (way : List (Turn ℕ)) (t : Tree ℕ) (top high : ℕ) : Type 0 where

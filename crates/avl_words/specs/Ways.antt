@@ -56,14 +56,14 @@ module _ {A : Type 0} where
       by_order (order x) (spot order (record { side = 1; item = x; sibling = l } ∷ way) r) (way, Node l x r) (spot order (record { side = 0; item = x; sibling = r } ∷ way) l)
 
   -- items in order: those below what is sought, at most one that is the same, and those above
-  abbrev pub Cut : (A → Ordering) → List A → Type 0
-  Cut order [] = Unit {0}
-  Cut order (x ∷ xs) = (order x ≢ Less → All (λ y. order y ≡ Greater) xs) × Cut order xs
+  abbrev pub IsCutBy : (A → Ordering) → List A → Type 0
+  IsCutBy order [] = Unit {0}
+  IsCutBy order (x ∷ xs) = (order x ≢ Less → All (λ y. order y ≡ Greater) xs) × IsCutBy order xs
 
   -- such a walk ends at nothing, or at what is sought
-  abbrev pub Ends : (A → Ordering) → Tree A → Type 0
-  Ends order Empty = Unit {0}
-  Ends order (Node l x r) = order x ≡ Equal
+  abbrev pub WayEnds : (A → Ordering) → Tree A → Type 0
+  WayEnds order Empty = Unit {0}
+  WayEnds order (Node l x r) = order x ≡ Equal
 
   -- a new item is put where such a walk ends
   abbrev pub with_new : (A → Ordering) → A → Tree A → Tree A

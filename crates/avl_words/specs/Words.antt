@@ -35,10 +35,10 @@ pub record IsTree (words : List ℕ) (t : Tree ℕ) : Type 0 where
   pub few : size t < 2 ^ 32
 
 -- a way down, noted: the node and the side of each turn, the first one first
-abbrev pub IsNoted : List ℕ → List ℕ → List (Turn ℕ) → Type 0
-IsNoted nodes sides [] = Unit {0}
-IsNoted nodes sides (turn ∷ way) =
-    (slice_index nodes (length way) ≡ turn.item) × (slice_index sides (length way) ≡ turn.side) × (turn.side < 2) × IsNoted nodes sides way
+abbrev pub IsWayNoted : List ℕ → List ℕ → List (Turn ℕ) → Type 0
+IsWayNoted nodes sides [] = Unit {0}
+IsWayNoted nodes sides (turn ∷ way) =
+    (slice_index nodes (length way) ≡ turn.item) × (slice_index sides (length way) ≡ turn.side) × (turn.side < 2) × IsWayNoted nodes sides way
 
 -- so far down a tree, on the way to where a walk ends
 pub record IsOnWay (nodes sides : List ℕ) (order : ℕ → Ordering) (depth node : ℕ) (t : Tree ℕ) : Type 0 where
@@ -47,11 +47,11 @@ pub record IsOnWay (nodes sides : List ℕ) (order : ℕ → Ordering) (depth no
   pub whole_is : whole way here ≡ t
   pub same : spot order [] t ≡ spot order way here
   pub node_is : node ≡ root here
-  pub noted : IsNoted nodes sides way
+  pub noted : IsWayNoted nodes sides way
   pub long : length way ≡ depth
 
 -- where a walk ends
 pub record IsSpot (nodes sides : List ℕ) (order : ℕ → Ordering) (depth node : ℕ) (t : Tree ℕ) : Type 0 where
   pub node_is : node ≡ root (spot order [] t).1
-  pub noted : IsNoted nodes sides (spot order [] t).0
+  pub noted : IsWayNoted nodes sides (spot order [] t).0
   pub long : length (spot order [] t).0 ≡ depth

@@ -2,13 +2,13 @@
 
 ghost use Rattle.std.specs.Prelude.{◌≡◌, ◌+◌, ◌*◌, ◌<◌, ◌≤◌, ◌^◌};
 ghost use Rattle.cx_base.specs.Calls.{Changes, Loads, Stores};
-ghost use Rattle.avl_words.specs.Lines.{CanLoad, CanStore, IsWithin, with_word};
+ghost use Rattle.avl_words.specs.Lines.{IsLoadable, IsStorable, IsWithin, with_word};
 
 use cx_base::{Halt, Memory, store_word};
 
 /// Where the words of a line begin.
 pub fn start_of<M: Memory>(mem: &M, line: u64) -> u64
-    requires { CanLoad M.Memory mem.now (λ ws. IsWithin ws line) }
+    requires { IsLoadable M.Memory mem.now (λ ws. IsWithin ws line) }
     ensures is { result ≡ 8 * line }
     ensures within { result + 8 ≤ M.size mem.now }
     ensures small { result + 8 ≤ 2 ^ 35 }
@@ -16,9 +16,9 @@ pub fn start_of<M: Memory>(mem: &M, line: u64) -> u64
     8 * line
 }
 
-/// Loads word `place` of a line.
+/// Loads word `place` of a line. `Halt` comes only where no access is left.
 pub fn word<M: Memory>(mem: &mut M, line: u64, place: u64) -> Result<u64, Halt>
-    requires memory { CanLoad M.Memory mem.old (λ ws. IsWithin ws line) }
+    requires memory { IsLoadable M.Memory mem.old (λ ws. IsWithin ws line) }
     requires place { place < 8 }
     ensures { Loads M.Memory mem.old mem.new result (8 * line + place) }
 {
@@ -26,9 +26,9 @@ pub fn word<M: Memory>(mem: &mut M, line: u64, place: u64) -> Result<u64, Halt>
     mem.load(start + place)
 }
 
-/// Stores word `place` of a line.
+/// Stores word `place` of a line. `Halt` comes only where no access is left.
 pub fn put<M: Memory>(mem: &mut M, line: u64, place: u64, v: u64) -> Result<(), Halt>
-    requires memory { CanStore M.Memory mem.old (λ ws. IsWithin ws line) }
+    requires memory { IsStorable M.Memory mem.old (λ ws. IsWithin ws line) }
     requires place { place < 8 }
     ensures { Stores M.Memory mem.old mem.new result (8 * line + place) v }
 {
@@ -36,9 +36,9 @@ pub fn put<M: Memory>(mem: &mut M, line: u64, place: u64, v: u64) -> Result<(), 
     mem.store(start + place, v)
 }
 
-/// Stores a word where it is another.
+/// Stores word `place` of a line, unless that is the word there already. `Halt` comes only where no access is left.
 pub fn put_new<M: Memory>(mem: &mut M, line: u64, place: u64, v: u64) -> Result<(), Halt>
-    requires memory { CanStore M.Memory mem.old (λ ws. IsWithin ws line) }
+    requires memory { IsStorable M.Memory mem.old (λ ws. IsWithin ws line) }
     requires place { place < 8 }
     ensures { Changes M.Memory mem.old mem.new result (λ _ old now. now ≡ with_word line place v old) }
 {

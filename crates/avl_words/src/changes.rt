@@ -5,18 +5,18 @@ ghost use Rattle.std.specs.declared.cmp.Ordering.{Ordering};
 ghost use Rattle.cx_base.specs.Calls.{Changes, Finds};
 ghost use Rattle.avl_words.specs.Removal.{gone_way, gone_rest};
 ghost use Rattle.avl_words.specs.Tree.{Tree};
-ghost use Rattle.avl_words.specs.Changes.{CanPut, Puts, CanTake, Takes, HasTwo, CanDescend, Descends, Raises};
-ghost use Rattle.avl_words.specs.Lines.{CanLoad, CanStore};
+ghost use Rattle.avl_words.specs.Changes.{CanPut, PutsNode, CanTakeNode, TakesNode, HasTwo, CanDescend, Descends, RaisesNode};
+ghost use Rattle.avl_words.specs.Lines.{IsLoadable, IsStorable};
 
 use crate::blocks::{put_new, word};
 use crate::links::{Subtree, height_of};
 use crate::mending::{Way, mend};
 use cx_base::{Halt, Memory};
 
-/// Puts a leaf where a walk ended at nothing, and balances the tree.
+/// Puts a leaf where a walk ended at nothing, and balances the tree. `Halt` comes only where no access is left.
 pub fn put_node<M: Memory>(mem: &mut M, way: &Way, node: u64) -> Result<(), Halt>
-    requires { CanStore M.Memory mem.old (λ ws. CanPut ws way.now.nodes way.now.sides way.now.depth node) }
-    ensures { Changes M.Memory mem.old mem.new result (λ _. Puts way.now.nodes way.now.sides way.now.depth node) }
+    requires { IsStorable M.Memory mem.old (λ ws. CanPut ws way.now.nodes way.now.sides way.now.depth node) }
+    ensures { Changes M.Memory mem.old mem.new result (λ _. PutsNode way.now.nodes way.now.sides way.now.depth node) }
 {
     let leaf = Subtree {
         root: node,
@@ -29,7 +29,7 @@ pub fn put_node<M: Memory>(mem: &mut M, way: &Way, node: u64) -> Result<(), Halt
 
 /// Notes the way from a node down to the least node below it, and gives that node.
 fn descend<M: Memory>(mem: &mut M, way: &mut Way, node: u64) -> Result<u64, Halt>
-    requires { CanLoad M.Memory mem.old (λ ws. CanDescend ws way.old.nodes way.old.sides way.old.depth node) }
+    requires { IsLoadable M.Memory mem.old (λ ws. CanDescend ws way.old.nodes way.old.sides way.old.depth node) }
     ensures { Finds M.Memory mem.old mem.new result (λ least. Descends way.old.nodes way.old.sides way.old.depth node way.new.nodes way.new.sides way.new.depth least) }
 {
     let mut least = node;
@@ -56,9 +56,9 @@ fn next_up<M: Memory>(
     left: u64,
     right: u64,
 ) -> Result<u64, Halt>
-    requires memory { CanStore M.Memory mem.old (λ ws. HasTwo ws way.old.nodes way.old.sides way.old.depth node left right) }
+    requires memory { IsStorable M.Memory mem.old (λ ws. HasTwo ws way.old.nodes way.old.sides way.old.depth node left right) }
     requires some { (left ≢ 0) × (right ≢ 0) }
-    ensures { Changes M.Memory mem.old mem.new result (λ rest. Raises way.old.nodes way.old.sides way.old.depth node left right way.new.nodes way.new.sides way.new.depth rest) }
+    ensures { Changes M.Memory mem.old mem.new result (λ rest. RaisesNode way.old.nodes way.old.sides way.old.depth node left right way.new.nodes way.new.sides way.new.depth rest) }
 {
     let at = way.depth;
     way.nodes[at] = node;
@@ -79,8 +79,8 @@ fn hung_up<M: Memory>(
     left: u64,
     right: u64,
 ) -> Result<u64, Halt>
-    requires { CanStore M.Memory mem.old (λ ws. HasTwo ws way.old.nodes way.old.sides way.old.depth node left right) }
-    ensures { Changes M.Memory mem.old mem.new result (λ rest. Raises way.old.nodes way.old.sides way.old.depth node left right way.new.nodes way.new.sides way.new.depth rest) }
+    requires { IsStorable M.Memory mem.old (λ ws. HasTwo ws way.old.nodes way.old.sides way.old.depth node left right) }
+    ensures { Changes M.Memory mem.old mem.new result (λ rest. RaisesNode way.old.nodes way.old.sides way.old.depth node left right way.new.nodes way.new.sides way.new.depth rest) }
 {
     if left == 0 {
         return Ok(right);
@@ -92,10 +92,10 @@ fn hung_up<M: Memory>(
 }
 
 /// Takes the node of a walk's end out, and balances the tree: its one child takes its place, or the least node behind it
-/// does, whose own place its right child takes. Words 0 to 2 of the node's own line stay as they are.
+/// does, whose own place its right child takes. Words 0 to 2 of the node's own line stay as they are. `Halt` comes only where no access is left.
 pub fn take_node<M: Memory>(mem: &mut M, way: &mut Way, node: u64) -> Result<(), Halt>
-    requires { CanStore M.Memory mem.old (λ ws. CanTake ws way.old.nodes way.old.sides way.old.depth node) }
-    ensures { Changes M.Memory mem.old mem.new result (λ _. Takes way.old.nodes way.old.sides way.old.depth node) }
+    requires { IsStorable M.Memory mem.old (λ ws. CanTakeNode ws way.old.nodes way.old.sides way.old.depth node) }
+    ensures { Changes M.Memory mem.old mem.new result (λ _. TakesNode way.old.nodes way.old.sides way.old.depth node) }
 {
     let left = word(mem, node, 0)?;
     let right = word(mem, node, 1)?;

@@ -1,6 +1,9 @@
-//! Trees of items, balanced by height, as definitions and laws: rotations, the repair of a way, an item put in and taken out. What an
-//! item is does not matter to any of them. And such a tree over the lines of a memory: links and heights, a node balanced, and the
-//! repair of a way.
+//! A search tree that stays shallow, over words that replicas copy, flush and recover as plain words: links are numbers of lines, and there are no
+//! pointers and no allocator.
+//!
+//! From: Adelson-Velsky and Landis 1962. The heights of two siblings differ by at most one, and rotations mend a node where they would differ by two.
+//! This differs: a node keeps its height and not its balance, and the way down is kept in an array, so that nothing recurses. Rotations, the repair
+//! of a way, an item put in and one taken out are first definitions over trees of any items, with their laws; the calls over words do just that.
 //!
 //! - A balanced tree of height h has n items with 2^h ≤ (n + 1)^2: `trees_are_shallow`.
 //! - A new item stands where a walk by an order ends, and without an item the others stand in order; the tree stays balanced: `items_are_put`,

@@ -2,7 +2,7 @@
 
 ghost use Rattle.std.specs.Prelude.{◌≡◌, ◌≢◌, ◌+◌, ◌*◌, ◌<◌, ◌≤◌, max, IfOk};
 ghost use Rattle.cx_base.specs.Calls.{Changes, Finds};
-ghost use Rattle.avl_words.specs.Lines.{CanLoad, CanStore, IsWithin};
+ghost use Rattle.avl_words.specs.Lines.{IsLoadable, IsStorable, IsWithin};
 ghost use Rattle.avl_words.specs.Links.{high_of, with_node, CanSet, HasLink, IsSubtree, CanRotate, Rotates, CanJoin, Joins};
 
 use crate::blocks::{put_new, word};
@@ -15,17 +15,17 @@ pub struct Subtree {
     pub height: u64,
 }
 
-/// The height of the tree below a link.
+/// The height of the tree below a link. `Halt` comes only where no access is left.
 pub fn height_of<M: Memory>(mem: &mut M, node: u64) -> Result<u64, Halt>
-    requires { CanLoad M.Memory mem.old (λ ws. node ≢ 0 → IsWithin ws node) }
+    requires { IsLoadable M.Memory mem.old (λ ws. node ≢ 0 → IsWithin ws node) }
     ensures { Finds M.Memory mem.old mem.new result (λ h ws. high_of node ws ≡ h) }
 {
     if node == 0 { Ok(0) } else { word(mem, node, 2) }
 }
 
-/// The tree below the link at a side of a node.
+/// The tree below the link at a side of a node. `Halt` comes only where no access is left.
 pub fn below<M: Memory>(mem: &mut M, node: u64, side: u64) -> Result<Subtree, Halt>
-    requires memory { CanLoad M.Memory mem.old (λ ws. HasLink ws node side) }
+    requires memory { IsLoadable M.Memory mem.old (λ ws. HasLink ws node side) }
     requires side { side < 2 }
     ensures { Finds M.Memory mem.old mem.new result (λ t. IsSubtree node side t.root t.height) }
 {
@@ -34,7 +34,7 @@ pub fn below<M: Memory>(mem: &mut M, node: u64, side: u64) -> Result<Subtree, Ha
     Ok(Subtree { root, height })
 }
 
-/// Gives a node its children, the first at a side, and its height.
+/// Gives a node its children, the first at a side, and its height. `Halt` comes only where no access is left.
 pub fn set_node<M: Memory>(
     mem: &mut M,
     node: u64,
@@ -42,7 +42,7 @@ pub fn set_node<M: Memory>(
     a: Subtree,
     b: Subtree,
 ) -> Result<Subtree, Halt>
-    requires memory { CanStore M.Memory mem.old (λ ws. CanSet ws node a.root a.height b.root b.height) }
+    requires memory { IsStorable M.Memory mem.old (λ ws. CanSet ws node a.root a.height b.root b.height) }
     requires side { side < 2 }
     ensures changes { Changes M.Memory mem.old mem.new result (λ _ old now. now ≡ with_node node side a.root b.root old) }
     ensures root { IfOk result (λ top. top.root ≡ node) }
@@ -56,7 +56,7 @@ pub fn set_node<M: Memory>(
 }
 
 /// A child at a side, which is two higher than the other child, goes up, or its own child at the other side does.
-/// Gives the tree on top.
+/// Gives the tree on top. `Halt` comes only where no access is left.
 pub fn rotate<M: Memory>(
     mem: &mut M,
     node: u64,
@@ -64,7 +64,7 @@ pub fn rotate<M: Memory>(
     child: u64,
     low: Subtree,
 ) -> Result<Subtree, Halt>
-    requires memory { CanStore M.Memory mem.old (λ ws. CanRotate ws node side child low.root low.height) }
+    requires memory { IsStorable M.Memory mem.old (λ ws. CanRotate ws node side child low.root low.height) }
     requires side { side < 2 }
     ensures { Changes M.Memory mem.old mem.new result (λ top. Rotates node side child low.root top.root top.height) }
 {
@@ -84,14 +84,14 @@ pub fn rotate<M: Memory>(
     }
 }
 
-/// Balances a node where its children's heights differ by two, and sets its height. Gives the tree on top.
+/// Balances a node where its children's heights differ by two, and sets its height. Gives the tree on top. `Halt` comes only where no access is left.
 pub fn join<M: Memory>(
     mem: &mut M,
     node: u64,
     left: Subtree,
     right: Subtree,
 ) -> Result<Subtree, Halt>
-    requires { CanStore M.Memory mem.old (λ ws. CanJoin ws node left.root left.height right.root right.height) }
+    requires { IsStorable M.Memory mem.old (λ ws. CanJoin ws node left.root left.height right.root right.height) }
     ensures { Changes M.Memory mem.old mem.new result (λ top. Joins node left.root right.root top.root top.height) }
 {
     if left.height + 2 <= right.height {

@@ -2,7 +2,7 @@
 
 ghost use Rattle.std.specs.Prelude.{◌≡◌, ◌<◌, ◌≤◌, length};
 ghost use Rattle.cx_base.specs.Calls.{Changes};
-ghost use Rattle.avl_words.specs.Lines.{CanStore};
+ghost use Rattle.avl_words.specs.Lines.{IsStorable};
 ghost use Rattle.avl_words.specs.Mending.{CanHang, Hangs, CanRelink, Relinks, CanMend, Mends};
 
 use crate::blocks::{put_new, word};
@@ -32,9 +32,9 @@ impl Way {
     }
 }
 
-/// Hangs a tree at a side of a node, and balances it. Gives the tree on top.
+/// Hangs a tree at a side of a node, and balances it. Gives the tree on top. `Halt` comes only where no access is left.
 pub fn hang<M: Memory>(mem: &mut M, node: u64, side: u64, child: Subtree) -> Result<Subtree, Halt>
-    requires memory { CanStore M.Memory mem.old (λ ws. CanHang ws node side child.root child.height) }
+    requires memory { IsStorable M.Memory mem.old (λ ws. CanHang ws node side child.root child.height) }
     requires side { side < 2 }
     ensures { Changes M.Memory mem.old mem.new result (λ top. Hangs node side child.root top.root top.height) }
 {
@@ -48,9 +48,9 @@ pub fn hang<M: Memory>(mem: &mut M, node: u64, side: u64, child: Subtree) -> Res
     }
 }
 
-/// Links a tree to the end of a way of so many nodes, which stand for a tree as high as it. Gives the node on top of all.
+/// Links a tree to the end of the first `depth` nodes of a way, which stand for a tree as high as it. Gives the node on top of all.
 fn relink<M: Memory>(mem: &mut M, way: &Way, depth: usize, node: u64) -> Result<u64, Halt>
-    requires memory { CanStore M.Memory mem.old (λ ws. CanRelink ws way.now.nodes way.now.sides depth node) }
+    requires memory { IsStorable M.Memory mem.old (λ ws. CanRelink ws way.now.nodes way.now.sides depth node) }
     requires depth { depth ≤ 64 }
     ensures { Changes M.Memory mem.old mem.new result (λ top. Relinks way.now.nodes way.now.sides depth node top) }
 {
@@ -63,9 +63,9 @@ fn relink<M: Memory>(mem: &mut M, way: &Way, depth: usize, node: u64) -> Result<
 
 /// Hangs a tree at the end of a way, and balances each node of the way. Gives the node on top of all. The first
 /// `settled` nodes of the way stand as they did before the change: where one of them has the height that it had, those
-/// above it stay as they are.
+/// above it stay as they are. `Halt` comes only where no access is left.
 pub fn mend<M: Memory>(mem: &mut M, way: &Way, settled: usize, tree: Subtree) -> Result<u64, Halt>
-    requires { CanStore M.Memory mem.old (λ ws. CanMend ws way.now.nodes way.now.sides way.now.depth settled tree.root tree.height) }
+    requires { IsStorable M.Memory mem.old (λ ws. CanMend ws way.now.nodes way.now.sides way.now.depth settled tree.root tree.height) }
     ensures { Changes M.Memory mem.old mem.new result (λ top. Mends way.now.nodes way.now.sides way.now.depth settled tree.root tree.height top) }
 {
     let mut top = tree;

@@ -10,7 +10,7 @@ use Rattle.std.proofs.lemmas.List.Folds.{sum_by-replicate}
 use Rattle.std.proofs.lemmas.List.Sums.{sum_by-set, sum_by-take-le, sum_by_more, sum_by_more_le}
 use Rattle.cx_base.specs.Memory.{Words}
 use Rattle.cx_base.specs.WordLaws.{Words-set}
-use Rattle.bank.specs.Meaning.{Fits, IsBank, accounts_in, amount_of, are_accounts, bank_opening, bank_reads, bank_step, blank, covers, given, image_after, is_reading, reply_to, taken, with_amount}
+use Rattle.bank.specs.Meaning.{FitsAccounts, IsBank, accounts_in, amount_of, are_accounts, bank_opening, bank_reads, bank_step, blank, covers, given, accounts_after, is_reading, reply_to, withdrawn, with_amount}
 use Rattle.bank.specs.Operations.{op_in, reply_words, words_with}
 use Rattle.bank.specs.declared.operations.Op.{Op}
 use Rattle.bank.specs.declared.operations.Op.TheVariants.{Transfer, Balance, Audit, Other}
@@ -27,7 +27,7 @@ IsSmallReply (Value has) = Small has
 IsSmallReply _ = Unit {0}
 
 module _ (count : ℕ) (image : List ℕ) (long : count < length image) where
-  -- the accounts are so many
+  -- there are this many accounts
   accounts_long : length (accounts_in count image) ≡ count
   accounts_long = omega (arith, length-take count (drop 1 image), length-drop 1 image)
 
@@ -57,9 +57,9 @@ module _ (count : ℕ) (image : List ℕ) (long : count < length image) where
 
 -- a transfer that is covered leaves the sum
 moved_sum : (count : ℕ) (image : List ℕ) (from to amount : ℕ) → count < length image → from < count → to < count → amount ≤ amount_of image from
-    → sum (accounts_in count (given (taken image from amount) to amount)) ≡ sum (accounts_in count image)
+    → sum (accounts_in count (given (withdrawn image from amount) to amount)) ≡ sum (accounts_in count image)
 moved_sum count image from to amount long f t covered =
-    let one = taken image from amount in
+    let one = withdrawn image from amount in
     let one_long : count < length one = omega (arith, length-set image (from + 1) (amount_of image from - amount)) in
     let a : sum (accounts_in count one) + amount_of image from ≡ sum (accounts_in count image) + (amount_of image from - amount) = sum_put count image long from (amount_of image from - amount) f in
     let b : sum (accounts_in count (given one to amount)) + amount_of one to ≡ sum (accounts_in count one) + (amount_of one to + amount) = sum_put count one one_long to (amount_of one to + amount) t in
@@ -71,22 +71,22 @@ by_test P true x y p q = p refl
 by_test P false x y p q = q
 
 -- a test that passed: there are both accounts, and the amount is covered
-pub record IsCovered (count : ℕ) (image : List ℕ) (from to amount : ℕ) : Type 0 where
+pub record IsAmountCovered (count : ℕ) (image : List ℕ) (from to amount : ℕ) : Type 0 where
   pub from_is : from < count
   pub to_is : to < count
   pub enough : amount ≤ amount_of image from
 
-covered_of : (count : ℕ) (image : List ℕ) (from to amount : ℕ) → (are_accounts count from to && covers image from amount) ≡ true → IsCovered count image from to amount
+covered_of : (count : ℕ) (image : List ℕ) (from to amount : ℕ) → (are_accounts count from to && covers image from amount) ≡ true → IsAmountCovered count image from to amount
 covered_of count image from to amount passes =
     let p = and_parts (are_accounts count from to) (covers image from amount) passes in
     let q = and_parts (nat_lt from count) (nat_lt to count) p.0 in
     record { from_is = leb-true (suc from) count q.0; to_is = leb-true (suc to) count q.1; enough = leb-true amount (amount_of image from) p.1 }
 
 -- no operation changes the sum
-pub sum_after : (count : ℕ) (image : List ℕ) (op : Op) → count < length image → sum (accounts_in count (image_after count image op)) ≡ sum (accounts_in count image)
+pub sum_after : (count : ℕ) (image : List ℕ) (op : Op) → count < length image → sum (accounts_in count (accounts_after count image op)) ≡ sum (accounts_in count image)
 sum_after count image (Transfer from to amount) long =
     by_test (λ (next : List ℕ). sum (accounts_in count next) ≡ sum (accounts_in count image)) (are_accounts count from to && covers image from amount)
-    (given (taken image from amount) to amount) image
+    (given (withdrawn image from amount) to amount) image
     (λ passes. (let c = covered_of count image from to amount passes in moved_sum count image from to amount long c.from_is c.to_is c.enough))
     refl
 sum_after count image (Balance account) long = refl
@@ -105,7 +105,7 @@ blank_words lines some = record {
 }
 
 -- the opening image is one
-pub opens : (lines count total : ℕ) → Fits lines count total → IsBank lines count total (bank_opening lines total)
+pub opens : (lines count total : ℕ) → FitsAccounts lines count total → IsBank lines count total (bank_opening lines total)
 opens lines count total fits =
     let words : Words (8 * lines) (blank lines) = blank_words lines (omega (arith, fits.few)) in
     let zeros : List ℕ = replicate (8 * lines - 1) 0 in
@@ -116,18 +116,18 @@ opens lines count total fits =
     record { words = Words-set (8 * lines) (blank lines) 1 total (omega (arith, fits.small)) words; version = refl; sum_is = omega (arith, none, put, first) }
 
 -- a bank has more words than accounts
-long_of : (lines count total : ℕ) → Fits lines count total → (image : List ℕ) → IsBank lines count total image → count < length image
+long_of : (lines count total : ℕ) → FitsAccounts lines count total → (image : List ℕ) → IsBank lines count total image → count < length image
 long_of lines count total fits image i = omega (arith, fits.few, i.words.long)
 
 -- what an account has is of 64 bits
-amount_small : (lines count total : ℕ) → Fits lines count total → (image : List ℕ) → IsBank lines count total image → (account : ℕ) → account < count → Small (amount_of image account)
+amount_small : (lines count total : ℕ) → FitsAccounts lines count total → (image : List ℕ) → IsBank lines count total image → (account : ℕ) → account < count → Small (amount_of image account)
 amount_small lines count total fits image i account there = omega (arith, fits.small, i.sum_is, account_within count image (long_of lines count total fits image i) account there)
 
 -- so a transfer leaves words of 64 bits: the sum is as it was
-given_words : (lines count total : ℕ) → Fits lines count total → (image : List ℕ) → IsBank lines count total image → (from to amount : ℕ) → IsCovered count image from to amount → Words (8 * lines) (given (taken image from amount) to amount)
+given_words : (lines count total : ℕ) → FitsAccounts lines count total → (image : List ℕ) → IsBank lines count total image → (from to amount : ℕ) → IsAmountCovered count image from to amount → Words (8 * lines) (given (withdrawn image from amount) to amount)
 given_words lines count total fits image i from to amount c =
     let long = long_of lines count total fits image i in
-    let one = taken image from amount in
+    let one = withdrawn image from amount in
     let left = amount_of image from - amount in
     let has : Small (amount_of image from) = amount_small lines count total fits image i from c.from_is in
     let one_words : Words (8 * lines) one = Words-set (8 * lines) image (from + 1) left (omega arith) i.words in
@@ -139,12 +139,12 @@ given_words lines count total fits image i from to amount c =
     Words-set (8 * lines) one (to + 1) (amount_of one to + amount) (omega (arith, here, within, same, i.sum_is, fits.small)) one_words
 
 -- a step of an image leaves an image
-kept : (lines count total : ℕ) → Fits lines count total → (image : List ℕ) (op : Op) → IsBank lines count total image → IsBank lines count total (image_after count image op)
+kept : (lines count total : ℕ) → FitsAccounts lines count total → (image : List ℕ) (op : Op) → IsBank lines count total image → IsBank lines count total (accounts_after count image op)
 kept lines count total fits image (Transfer from to amount) i =
-    by_test (IsBank lines count total) (are_accounts count from to && covers image from amount) (given (taken image from amount) to amount) image
+    by_test (IsBank lines count total) (are_accounts count from to && covers image from amount) (given (withdrawn image from amount) to amount) image
     (λ passes.
     (let c = covered_of count image from to amount passes in
-    let one = taken image from amount in
+    let one = withdrawn image from amount in
     record {
       words = given_words lines count total fits image i from to amount c;
       version = get_or-set_other one (to + 1) 0 (amount_of one to + amount) 0 (λ e. omega (arith, e)) ∙ get_or-set_other image (from + 1) 0 (amount_of image from - amount) 0 (λ e. omega (arith, e)) ∙ i.version;
@@ -155,7 +155,7 @@ kept lines count total fits image (Balance account) i = i
 kept lines count total fits image Audit i = i
 kept lines count total fits image Other i = i
 
-pub keeps : (lines count total : ℕ) → Fits lines count total → (image op : List ℕ) → IsBank lines count total image → IsBank lines count total (bank_step count image op).0
+pub keeps : (lines count total : ℕ) → FitsAccounts lines count total → (image op : List ℕ) → IsBank lines count total image → IsBank lines count total (bank_step count image op).0
 keeps lines count total fits image op i = kept lines count total fits image (op_in op) i
 
 -- an image has 8 words in each line, the first of which is the version
@@ -180,7 +180,7 @@ reply_fits (Value has) small = words_with_fit 3 has (lit< tt) small
 reply_fits Missing small = words_with_fit 4 0 (lit< tt) (lit< tt)
 reply_fits NoOperation small = words_with_fit 0 0 (lit< tt) (lit< tt)
 
-told : (lines count total : ℕ) → Fits lines count total → (image : List ℕ) (op : Op) → IsBank lines count total image → IsSmallReply (reply_to count image op)
+told : (lines count total : ℕ) → FitsAccounts lines count total → (image : List ℕ) (op : Op) → IsBank lines count total image → IsSmallReply (reply_to count image op)
 told lines count total fits image (Transfer from to amount) i =
     by_test IsSmallReply (are_accounts count from to) (cond (covers image from amount) Moved (Overdraft (amount_of image from))) Missing
     (λ passes.
@@ -192,11 +192,11 @@ told lines count total fits image (Balance account) i =
 told lines count total fits image Audit i = omega (arith, fits.small, i.sum_is)
 told lines count total fits image Other i = tt
 
-pub replies : (lines count total : ℕ) → Fits lines count total → (image op : List ℕ) → IsBank lines count total image → Words 144 (bank_step count image op).1
+pub replies : (lines count total : ℕ) → FitsAccounts lines count total → (image op : List ℕ) → IsBank lines count total image → Words 144 (bank_step count image op).1
 replies lines count total fits image op i = reply_fits (reply_to count image (op_in op)) (told lines count total fits image (op_in op) i)
 
 -- an operation that only reads leaves the image
-left_by_reading : (count : ℕ) (image : List ℕ) (op : Op) → IsTrue (is_reading op) → image_after count image op ≡ image
+left_by_reading : (count : ℕ) (image : List ℕ) (op : Op) → IsTrue (is_reading op) → accounts_after count image op ≡ image
 left_by_reading count image (Transfer from to amount) reads = cc
 left_by_reading count image (Balance account) reads = refl
 left_by_reading count image Audit reads = refl
@@ -206,19 +206,19 @@ pub leaves : (lines count total : ℕ) (image op : List ℕ) → IsTrue (bank_re
 leaves lines count total image op reads = left_by_reading count image (op_in op) reads
 
 -- An account has at most the total, also behind what is taken from another, and then less by that.
-pub amount_at_most : (lines count total : ℕ) → Fits lines count total → (image : List ℕ) → IsBank lines count total image → (account : ℕ) → account < count → amount_of image account < total + 1
+pub amount_at_most : (lines count total : ℕ) → FitsAccounts lines count total → (image : List ℕ) → IsBank lines count total image → (account : ℕ) → account < count → amount_of image account < total + 1
 amount_at_most lines count total fits image i account there = omega (arith, i.sum_is, account_within count image (long_of lines count total fits image i) account there)
 
-pub taken_at_most : (lines count total : ℕ) → Fits lines count total → (image : List ℕ) → IsBank lines count total image → (from to amount : ℕ) → from < count → to < count → amount ≤ amount_of image from
-    → amount_of (taken image from amount) to < total - amount + 1
+pub taken_at_most : (lines count total : ℕ) → FitsAccounts lines count total → (image : List ℕ) → IsBank lines count total image → (from to amount : ℕ) → from < count → to < count → amount ≤ amount_of image from
+    → amount_of (withdrawn image from amount) to < total - amount + 1
 taken_at_most lines count total fits image i from to amount f t enough =
     let long = long_of lines count total fits image i in
-    let one = taken image from amount in
+    let one = withdrawn image from amount in
     let one_long : count < length one = omega (arith, long, length-set image (from + 1) (amount_of image from - amount)) in
     let put : sum (accounts_in count one) + amount_of image from ≡ sum (accounts_in count image) + (amount_of image from - amount) = sum_put count image long from (amount_of image from - amount) f in
     omega (arith, i.sum_is, put, account_within count one one_long to t)
 
-module _ (lines count total : ℕ) (fits : Fits lines count total) (image : List ℕ) (i : IsBank lines count total image) (account : ℕ) (there : account < count) where
+module _ (lines count total : ℕ) (fits : FitsAccounts lines count total) (image : List ℕ) (i : IsBank lines count total image) (account : ℕ) (there : account < count) where
   within : account < length (accounts_in count image)
   within = omega (arith, accounts_long count image (long_of lines count total fits image i))
 

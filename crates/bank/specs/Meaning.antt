@@ -7,17 +7,17 @@ use Rattle.bank.specs.declared.operations.Op.TheVariants.{Transfer, Balance, Aud
 use Rattle.bank.specs.declared.operations.Reply.{Reply}
 use Rattle.bank.specs.declared.operations.Reply.TheVariants.{Moved, Overdraft, Value, Missing, NoOperation}
 
--- so many accounts fit so many lines, and what they have together a word
-pub record Fits (lines count total : ℕ) : Type 0 where
+-- this many accounts fit this many lines, and what they have together a word
+pub record FitsAccounts (lines count total : ℕ) : Type 0 where
   pub some : 1 ≤ count
   pub few : count < 8 * lines
   pub small : total + 1 < 2 ^ 64
 
--- what the accounts have: so many words behind the version
+-- what the accounts have: this many words after the version
 abbrev pub accounts_in : ℕ → List ℕ → List ℕ
 accounts_in count image = take count (drop 1 image)
 
--- an image in so many lines: the version, so many accounts, whose sum is the total, and any words behind them
+-- an image in this many lines: the version, this many accounts, whose sum is the total, and any words after them
 pub record IsBank (lines count total : ℕ) (image : List ℕ) : Type 0 where
   pub words : Words (8 * lines) image
   pub version : slice_index image 0 ≡ 1
@@ -38,8 +38,8 @@ abbrev pub bank_opening : ℕ → ℕ → List ℕ
 bank_opening lines total = with_amount (blank lines) 0 total
 
 -- an amount taken from an account, and then given to another, which may be the same
-abbrev pub taken : List ℕ → ℕ → ℕ → List ℕ
-taken image from amount = with_amount image from (amount_of image from - amount)
+abbrev pub withdrawn : List ℕ → ℕ → ℕ → List ℕ
+withdrawn image from amount = with_amount image from (amount_of image from - amount)
 
 abbrev pub given : List ℕ → ℕ → ℕ → List ℕ
 given image to amount = with_amount image to (amount_of image to + amount)
@@ -61,19 +61,19 @@ reply_to count image (Balance account) = if nat_lt account count then Value (amo
 reply_to count image Audit = Value (sum (accounts_in count image))
 reply_to count image Other = NoOperation
 
-abbrev pub image_after : ℕ → List ℕ → Op → List ℕ
-image_after count image (Transfer from to amount) =
-    if are_accounts count from to && covers image from amount then given (taken image from amount) to amount else image
-image_after count image _ = image
+abbrev pub accounts_after : ℕ → List ℕ → Op → List ℕ
+accounts_after count image (Transfer from to amount) =
+    if are_accounts count from to && covers image from amount then given (withdrawn image from amount) to amount else image
+accounts_after count image _ = image
 
 -- one step: the image after an operation's words, and the reply's words
 abbrev pub bank_step : ℕ → List ℕ → List ℕ → List ℕ × List ℕ
-bank_step count image op = (image_after count image (op_in op), reply_words (reply_to count image (op_in op)))
+bank_step count image op = (accounts_after count image (op_in op), reply_words (reply_to count image (op_in op)))
 
 -- an operation was done on an image: this is its reply, and this the image after it
-pub record Does (count : ℕ) (op : Op) (reply : Reply) (before now : List ℕ) : Type 0 where
+pub record StepsAccounts (count : ℕ) (op : Op) (reply : Reply) (before now : List ℕ) : Type 0 where
   pub told : reply ≡ reply_to count before op
-  pub after : now ≡ image_after count before op
+  pub after : now ≡ accounts_after count before op
 
 -- whether an operation, or what words ask for, only reads
 abbrev pub is_reading : Op → Bool

@@ -4,18 +4,18 @@ ghost use Rattle.std.specs.Prelude.{◌≡◌, ◌+◌, ◌*◌, ◌^◌, ◌<�
 ghost use Rattle.cx_base.specs.Calls.{Changes, Finds};
 ghost use Rattle.cx_base.specs.Memory.{Always};
 ghost use Rattle.cx_base.specs.OldFormat.{no_old_format, takes_over_nothing};
-ghost use Rattle.bank.specs.Meaning.{Does, Fits, IsBank, accounts_in, bank_opening, bank_reads, bank_step, blank};
+ghost use Rattle.bank.specs.Meaning.{StepsAccounts, FitsAccounts, IsBank, accounts_in, bank_opening, bank_reads, bank_step, blank};
 ghost use Rattle.bank.specs.Laws as laws;
 ghost use Rattle.bank.specs.declared.operations.Op.TheVariants.{Transfer, Balance, Audit};
 
 use crate::operations::{Op, Reply};
-use cx_base::{Halt, Memory, Object, load_below};
+use cx_base::{Halt, Memory, Object, OpWords, load_below};
 use std::alloc::{AllocError, Global};
 
 /// The first word of each image.
 const VERSION: u64 = 1;
 
-/// So many accounts that have a total together, all of it in account 0 at first. What they have stands in a memory that is lent to each
+/// A number of accounts that have a total together, all of it in account 0 at first. What they have stands in a memory that is lent to each
 /// call: account k in word k + 1. The value itself is only what is fixed, and it is copied where a service and its recovery both need it.
 #[derive(Clone, Copy, Debug)]
 pub struct Bank {
@@ -23,14 +23,14 @@ pub struct Bank {
     count: u64,
     total: u64,
     ghost within: { lines ≤ 2 ^ 32 },
-    ghost fits: { Fits lines count total },
+    ghost fits: { FitsAccounts lines count total },
 }
 
 impl Bank {
-    /// So many accounts in so many lines of 8 words; a service takes 64 lines at least.
+    /// `count` accounts in `lines` lines of 8 words; a service takes 64 lines at least.
     pub fn of(lines: u64, count: u64, total: u64) -> Bank
         requires within { lines ≤ 2 ^ 32 }
-        requires fits { Fits lines count total }
+        requires fits { FitsAccounts lines count total }
         ensures lines { result.lines ≡ lines }
         ensures count { result.count ≡ count }
         ensures total { result.total ≡ total }
@@ -54,7 +54,7 @@ impl Bank {
         requires size { M.size mem.old ≡ 8 * self.now.lines }
         requires writable { IsTrue (M.writable mem.old) }
         requires lawful { Always (M.stands mem.old) (IsBank self.now.lines self.now.count self.now.total) }
-        ensures { Changes M.Memory mem.old mem.new result (Does self.now.count op) }
+        ensures { Changes M.Memory mem.old mem.new result (StepsAccounts self.now.count op) }
     {
         match op {
             Op::Transfer { from, to, amount } => self.transfer(mem, from, to, amount),
@@ -75,7 +75,7 @@ impl Bank {
         requires size { M.size mem.old ≡ 8 * self.now.lines }
         requires writable { IsTrue (M.writable mem.old) }
         requires lawful { Always (M.stands mem.old) (IsBank self.now.lines self.now.count self.now.total) }
-        ensures { Changes M.Memory mem.old mem.new result (Does self.now.count (Transfer from to amount)) }
+        ensures { Changes M.Memory mem.old mem.new result (StepsAccounts self.now.count (Transfer from to amount)) }
     {
         if !self.has(from) || !self.has(to) {
             return Ok(Reply::Missing);
@@ -94,7 +94,7 @@ impl Bank {
     fn balance<M: Memory>(&self, mem: &mut M, account: u64) -> Result<Reply, Halt>
         requires size { M.size mem.old ≡ 8 * self.now.lines }
         requires lawful { Always (M.stands mem.old) (IsBank self.now.lines self.now.count self.now.total) }
-        ensures { Finds M.Memory mem.old mem.new result (λ reply now. Does self.now.count (Balance account) reply now now) }
+        ensures { Finds M.Memory mem.old mem.new result (λ reply now. StepsAccounts self.now.count (Balance account) reply now now) }
     {
         if !self.has(account) {
             return Ok(Reply::Missing);
@@ -106,7 +106,7 @@ impl Bank {
     fn audit<M: Memory>(&self, mem: &mut M) -> Result<Reply, Halt>
         requires size { M.size mem.old ≡ 8 * self.now.lines }
         requires lawful { Always (M.stands mem.old) (IsBank self.now.lines self.now.count self.now.total) }
-        ensures { Finds M.Memory mem.old mem.new result (λ reply now. Does self.now.count Audit reply now now) }
+        ensures { Finds M.Memory mem.old mem.new result (λ reply now. StepsAccounts self.now.count Audit reply now now) }
     {
         let mut sum = 0;
         for account in 0..self.count {
@@ -213,21 +213,32 @@ impl Object for Bank {
         mem.store(1, self.total)
     }
 
-    fn reads(&self, op: &[u64; 144]) -> bool {
+    fn reads(&self, op: &OpWords) -> bool {
         Op::of(op).only_reads()
     }
 
-    fn run<M: Memory>(&self, mem: &mut M, op: &[u64; 144]) -> Result<[u64; 144], Halt> {
-        let reply = self.answer(mem, Op::of(op))?;
-        Ok(reply.words())
+    fn run_into<M: Memory>(
+        &self,
+        mem: &mut M,
+        op: &OpWords,
+        reply: &mut OpWords,
+    ) -> Result<(), Halt> {
+        *reply = self.answer(mem, Op::of(op))?.words();
+        Ok(())
     }
 
-    fn query<M: Memory>(&self, mem: &mut M, op: &[u64; 144]) -> Result<[u64; 144], Halt> {
-        match Op::of(op) {
-            Op::Balance { account } => Ok(self.balance(mem, account)?.words()),
-            Op::Audit => Ok(self.audit(mem)?.words()),
+    fn query_into<M: Memory>(
+        &self,
+        mem: &mut M,
+        op: &OpWords,
+        reply: &mut OpWords,
+    ) -> Result<(), Halt> {
+        *reply = match Op::of(op) {
+            Op::Balance { account } => self.balance(mem, account)?.words(),
+            Op::Audit => self.audit(mem)?.words(),
             _ => unreachable!(),
-        }
+        };
+        Ok(())
     }
 
     fn check(&self, _alloc: Global, words: &[u64]) -> Result<bool, AllocError> {

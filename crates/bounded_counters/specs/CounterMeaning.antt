@@ -25,7 +25,7 @@ IsOpValue Other = Unit {0}
 abbrev pub counter_encoding : Encoding Op Reply
 counter_encoding = record { op_words = op_words; reply_words = reply_words }
 
--- what the operations mean in so many lines, below a bound
+-- what the operations mean in this many lines, below a bound
 abbrev pub counter_meaning : ℕ → ℕ → Meaning Op Reply (List ℕ)
 counter_meaning lines bound = record {
   encoding = counter_encoding;

@@ -10,7 +10,7 @@ use Rattle.bounded_counters.specs.declared.operations.Reply.TheVariants.{Value, 
 abbrev pub has_counter : List ℕ → ℕ → Bool
 has_counter counters counter = nat_lt counter (length counters)
 
--- what an addition to a counter comes to, and whether it stays below the bound
+-- the sum of an addition to a counter, and whether it stays below the bound
 abbrev pub sum_at : List ℕ → ℕ → ℕ → ℕ
 sum_at counters counter amount = slice_index counters counter + amount
 
@@ -35,7 +35,7 @@ counters_after bound counters (Add counter amount) =
     else counters
 counters_after bound counters _ = counters
 
--- an image of so many lines: the version, and behind it one word for each counter, which is below the bound
+-- an image of this many lines: the version, and behind it one word for each counter, which is below the bound
 pub record IsCounters (lines bound : ℕ) (image : List ℕ) : Type 0 where
   pub counters : List ℕ
   pub is : image ≡ 1 ∷ counters
@@ -52,7 +52,7 @@ counters_step bound image op =
     (1 ∷ counters_after bound (drop 1 image) (op_in op), reply_words (counters_reply bound (drop 1 image) (op_in op)))
 
 -- an operation was done on an image: this is its reply, and this the image after it
-pub record Counts (bound : ℕ) (op : Op) (reply : Reply) (before now : List ℕ) : Type 0 where
+pub record StepsCounters (bound : ℕ) (op : Op) (reply : Reply) (before now : List ℕ) : Type 0 where
   pub told : reply ≡ counters_reply bound (drop 1 before) op
   pub after : now ≡ 1 ∷ counters_after bound (drop 1 before) op
 

@@ -13,12 +13,12 @@ words_with kind first second = kind ∷ first ∷ second ∷ replicate 141 0
 abbrev pub add_words : ℕ → ℕ → List ℕ
 add_words counter amount = words_with 1 counter amount
 
-abbrev pub read_words : ℕ → List ℕ
-read_words counter = words_with 2 counter 0
+abbrev pub reading_words : ℕ → List ℕ
+reading_words counter = words_with 2 counter 0
 
 abbrev pub op_words : Op → List ℕ
 op_words (Add counter amount) = add_words counter amount
-op_words (Read counter) = read_words counter
+op_words (Read counter) = reading_words counter
 op_words Other = words_with 0 0 0
 
 -- the operation that words stand for
@@ -43,6 +43,6 @@ reply_in words =
     else (if slice_index words 0 == 2 then Full else (if slice_index words 0 == 3 then Missing else NoOperation))
 
 -- the reply has these words; where there is none, none has
-abbrev pub IsReplyOf : List ℕ → Option Reply → Type 0
-IsReplyOf words (Some reply) = reply_words reply ≡ words
-IsReplyOf words None = (reply : Reply) → Unit {0} → reply_words reply ≢ words
+abbrev pub IsCounterReply : List ℕ → Option Reply → Type 0
+IsCounterReply words (Some reply) = reply_words reply ≡ words
+IsCounterReply words None = (reply : Reply) → Unit {0} → reply_words reply ≢ words

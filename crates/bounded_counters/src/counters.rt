@@ -4,17 +4,17 @@ ghost use Rattle.std.specs.Prelude.{◌≡◌, ◌-◌, ◌*◌, ◌^◌, ◌<�
 ghost use Rattle.cx_base.specs.Calls.{Changes, Finds};
 ghost use Rattle.cx_base.specs.Memory.{Always};
 ghost use Rattle.cx_base.specs.OldFormat.{no_old_format, takes_over_nothing};
-ghost use Rattle.bounded_counters.specs.Counters.{Counts, IsCounters, counters_step, counters_read_only, counters_opening};
+ghost use Rattle.bounded_counters.specs.Counters.{StepsCounters, IsCounters, counters_step, counters_read_only, counters_opening};
 ghost use Rattle.bounded_counters.specs.CounterLaws as laws;
 ghost use Rattle.bounded_counters.specs.declared.operations.Op.TheVariants.{Add, Read};
 
 use crate::operations::{Op, Reply};
-use cx_base::{Halt, Memory, Object, load_below};
+use cx_base::{Halt, Memory, Object, OpWords, load_below};
 use std::alloc::{AllocError, Global};
 
 const VERSION: u64 = 1;
 
-/// Counters that start at 0 and stay below a bound: one for each word of so many lines but the first. What they have
+/// Counters that start at 0 and stay below a bound: one for each word of a number of lines, but the first. What they have
 /// stands in a memory that is lent to each call; the value itself is only the number of lines and the bound.
 #[derive(Drop)]
 pub struct Counters {
@@ -27,7 +27,7 @@ pub struct Counters {
 }
 
 impl Counters {
-    /// Counters in so many lines of 8 words, each below the bound.
+    /// Counters in `lines` lines of 8 words, each below the bound.
     pub fn of(lines: u64, bound: u64) -> Counters
         requires some { 1 ≤ lines }
         requires few { lines ≤ 2 ^ 32 }
@@ -57,7 +57,7 @@ impl Counters {
         requires size { M.size mem.old ≡ 8 * self.now.lines }
         requires writable { IsTrue (M.writable mem.old) }
         requires lawful { Always (M.stands mem.old) (IsCounters self.now.lines self.now.bound) }
-        ensures { Changes M.Memory mem.old mem.new result (Counts self.now.bound op) }
+        ensures { Changes M.Memory mem.old mem.new result (StepsCounters self.now.bound op) }
     {
         match op {
             Op::Add { counter, amount } => self.add(mem, counter, amount),
@@ -71,7 +71,7 @@ impl Counters {
         requires size { M.size mem.old ≡ 8 * self.now.lines }
         requires writable { IsTrue (M.writable mem.old) }
         requires lawful { Always (M.stands mem.old) (IsCounters self.now.lines self.now.bound) }
-        ensures { Changes M.Memory mem.old mem.new result (Counts self.now.bound (Add counter amount)) }
+        ensures { Changes M.Memory mem.old mem.new result (StepsCounters self.now.bound (Add counter amount)) }
     {
         if !self.has(counter) {
             return Ok(Reply::Missing);
@@ -88,7 +88,7 @@ impl Counters {
     fn read<M: Memory>(&self, mem: &mut M, counter: u64) -> Result<Reply, Halt>
         requires size { M.size mem.old ≡ 8 * self.now.lines }
         requires lawful { Always (M.stands mem.old) (IsCounters self.now.lines self.now.bound) }
-        ensures { Finds M.Memory mem.old mem.new result (λ reply now. Counts self.now.bound (Read counter) reply now now) }
+        ensures { Finds M.Memory mem.old mem.new result (λ reply now. StepsCounters self.now.bound (Read counter) reply now now) }
     {
         if !self.has(counter) {
             return Ok(Reply::Missing);
@@ -149,23 +149,34 @@ impl Object for Counters {
         Ok(())
     }
 
-    fn reads(&self, op: &[u64; 144]) -> bool {
+    fn reads(&self, op: &OpWords) -> bool {
         match Op::of(op) {
             Op::Read { .. } => true,
             _ => false,
         }
     }
 
-    fn run<M: Memory>(&self, mem: &mut M, op: &[u64; 144]) -> Result<[u64; 144], Halt> {
-        let reply = self.answer(mem, Op::of(op))?;
-        Ok(reply.words())
+    fn run_into<M: Memory>(
+        &self,
+        mem: &mut M,
+        op: &OpWords,
+        reply: &mut OpWords,
+    ) -> Result<(), Halt> {
+        *reply = self.answer(mem, Op::of(op))?.words();
+        Ok(())
     }
 
-    fn query<M: Memory>(&self, mem: &mut M, op: &[u64; 144]) -> Result<[u64; 144], Halt> {
-        match Op::of(op) {
-            Op::Read { counter } => Ok(self.read(mem, counter)?.words()),
+    fn query_into<M: Memory>(
+        &self,
+        mem: &mut M,
+        op: &OpWords,
+        reply: &mut OpWords,
+    ) -> Result<(), Halt> {
+        *reply = match Op::of(op) {
+            Op::Read { counter } => self.read(mem, counter)?.words(),
             _ => unreachable!(),
-        }
+        };
+        Ok(())
     }
 
     fn check(&self, _alloc: Global, words: &[u64]) -> Result<bool, AllocError> {

@@ -4,6 +4,8 @@ ghost use Rattle.std.specs.Prelude.{◌≡◌, ℕ};
 ghost use Rattle.bounded_counters.specs.Counters.{is_reading};
 ghost use Rattle.bounded_counters.specs.Operations as spec;
 
+use cx_base::{OP_WORDS, OpWords};
+
 /// What 144 words ask for. Counters are numbered from 0.
 #[derive(Clone, Copy, Debug, PartialEq, Eq)]
 pub enum Op {
@@ -29,22 +31,22 @@ pub enum Reply {
 }
 
 /// The words of an addition.
-pub fn add_words(counter: u64, amount: u64) -> [u64; 144]
+pub fn add_words(counter: u64, amount: u64) -> OpWords
     ensures { result ≡ spec.add_words counter amount }
 {
     words_with(1, counter, amount)
 }
 
 /// The words of a reading.
-pub fn read_words(counter: u64) -> [u64; 144]
-    ensures { result ≡ spec.read_words counter }
+pub fn read_words(counter: u64) -> OpWords
+    ensures { result ≡ spec.reading_words counter }
 {
     words_with(2, counter, 0)
 }
 
 impl Op {
     /// The operation as words; they stand for it.
-    pub fn words(self) -> [u64; 144]
+    pub fn words(self) -> OpWords
         ensures { result ≡ spec.op_words self }
     {
         match self {
@@ -65,7 +67,7 @@ impl Op {
     }
 
     /// The operation that words stand for.
-    pub fn of(words: &[u64; 144]) -> Op
+    pub fn of(words: &OpWords) -> Op
         ensures { result ≡ spec.op_in words.now }
     {
         match words[0] {
@@ -81,7 +83,7 @@ impl Op {
 
 impl Reply {
     /// The reply as words.
-    pub fn words(self) -> [u64; 144]
+    pub fn words(self) -> OpWords
         ensures { result ≡ spec.reply_words self }
     {
         match self {
@@ -93,8 +95,8 @@ impl Reply {
     }
 
     /// The reply that has these words, if one has.
-    pub fn of(words: &[u64; 144]) -> Option<Reply>
-        ensures { spec.IsReplyOf words.now result }
+    pub fn of(words: &OpWords) -> Option<Reply>
+        ensures { spec.IsCounterReply words.now result }
     {
         let reply = Reply::read(words);
         if reply.words() == *words {
@@ -105,7 +107,7 @@ impl Reply {
     }
 
     // What a reply's words tell of it.
-    fn read(words: &[u64; 144]) -> Reply
+    fn read(words: &OpWords) -> Reply
         ensures { result ≡ spec.reply_in words.now }
     {
         match words[0] {
@@ -121,15 +123,15 @@ impl Reply {
 #[tactic(auto, unfolding(crate::specs::Operations::words_with))]
 pub fn operations_are_read()
     ensures additions { (counter amount : ℕ) → spec.op_in (spec.add_words counter amount) ≡ Op.Add counter amount }
-    ensures readings { (counter : ℕ) → spec.op_in (spec.read_words counter) ≡ Op.Read counter }
+    ensures readings { (counter : ℕ) → spec.op_in (spec.reading_words counter) ≡ Op.Read counter }
 {}
 
 /// The words of a kind and two numbers.
 #[tactic(auto, unfolding(crate::specs::Operations::words_with))]
-fn words_with(kind: u64, first: u64, second: u64) -> [u64; 144]
+fn words_with(kind: u64, first: u64, second: u64) -> OpWords
     ensures { result ≡ spec.words_with kind first second }
 {
-    let mut words = [0; 144];
+    let mut words = [0; OP_WORDS];
     words[0] = kind;
     words[1] = first;
     words[2] = second;

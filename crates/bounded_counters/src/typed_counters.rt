@@ -5,7 +5,7 @@ ghost use Rattle.bounded_counters.specs.CounterMeaning.{counter_meaning, counter
 
 use crate::counters::Counters;
 use crate::operations::{Op, Reply};
-use cx_base::Object;
+use cx_base::{Object, OpWords};
 use std::alloc::{AllocError, Global};
 use typed_object::TypedObject;
 
@@ -24,7 +24,7 @@ impl TypedObject for Counters {
         Counters::of(self.lines(), self.bound())
     }
 
-    fn words_of(&self, op: &Op) -> [u64; 144] {
+    fn words_of(&self, op: &Op) -> OpWords {
         op.words()
     }
 
@@ -32,7 +32,7 @@ impl TypedObject for Counters {
         op.only_reads()
     }
 
-    fn reply_of(&self, _alloc: Global, words: &[u64; 144]) -> Result<Option<Reply>, AllocError> {
+    fn reply_of(&self, _alloc: Global, words: &OpWords) -> Result<Option<Reply>, AllocError> {
         Ok(Reply::of(words))
     }
 

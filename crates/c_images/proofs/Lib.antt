@@ -1,3 +1,4 @@
 pub mod Keeping
+pub mod Repeated
 pub mod Slots
 pub mod Written

@@ -1,40 +1,45 @@
 -- What is written is what a loss of power leaves, and is taken up.
-use Rattle.std.proofs.Common.{◌≡◌, ◌<◌, ◌≤◌, ◌∙◌, ℕ, List, Result, Ok, Err, ap, sym, subst, refl, arith}
+use Rattle.std.proofs.Common.{◌≡◌, ◌<◌, ◌≤◌, ◌∙◌, ℕ, List, Result, Ok, Err, ap, sym, subst, refl, arith, length}
 use Rattle.std.specs.Prelude.{MatchResult}
 use Rattle.cx_base.specs.OldFormat.{OldFormat}
 use Rattle.cx_core.specs.declared.entry.Base.{Base}
 use Rattle.cx_core.specs.declared.entry.Image.{Image}
 use Rattle.cx_table.specs.declared.remains.Remains.{Remains}
-use Rattle.recovery.specs.Crashes.{IsLeftOf, IsWhole}
+use Rattle.recovery.specs.Crashes.{IsLeftOf}
 use Rattle.recovery.specs.Images.{image_size}
 use Rattle.recovery.specs.Recovery.{IsFaultOf, IsRecovered, NumbersWithin}
 use Rattle.recovery.specs.declared.recovering.ImageFault.{ImageFault}
 use Rattle.recovery.specs.declared.recovering.ImageFault.TheVariants.{Memory}
-use Rattle.c_images.specs.Words.{IsHeaded, IsTakenUp, IsKind, IsWordsFault, IsWritten, Says}
+use Rattle.c_images.specs.Words.{HasHead, IsHeaded, IsKind, IsTakenUp, IsWordsFault, AreRemainsWritten, SaysImage, object_kind_in}
 use Rattle.c_images.specs.declared.reading.WordsFault.{WordsFault}
 use Rattle.c_images.specs.declared.reading.WordsFault.TheVariants.{Head, Kind, Image as ImageRefused, Numbers}
 
-pub headed : (kind choice : ℕ) (r : Remains) (words : List ℕ) → IsKind kind → IsWhole r → IsWritten kind r choice words → IsHeaded words
-headed kind choice r words known whole is = record {
-  enough = omega (arith, is.left.long);
-  name = is.name;
-  format = is.format;
-  kind = subst IsKind (sym is.kind_is) known;
-  zeros = is.zeros;
-  some = subst (λ n. 1 ≤ n) (sym is.callers) whole.some;
-  few = subst (λ n. n ≤ 8) (sym is.callers) whole.few;
-  least = subst (λ n. 64 ≤ n) (sym is.lines) whole.enough;
-  most = subst (λ n. n ≤ 16384) (sym is.lines) whole.small;
-}
+-- words with a head whose numbers are within the limits
+pub headed : (kind callers lines root : ℕ) (words : List ℕ) → HasHead kind callers lines root words → IsKind kind → 8 ≤ length words → 1 ≤ callers → callers ≤ 8 → 64 ≤ lines → lines ≤ 16384
+    → IsHeaded words × (object_kind_in words ≡ kind)
+headed kind callers lines root words has known enough some few least most = (
+  record {
+    enough = enough;
+    name = has.name;
+    format = has.format;
+    kind = subst IsKind (sym has.kind_is) known;
+    zeros = has.zeros;
+    some = subst (λ n. 1 ≤ n) (sym has.callers_are) some;
+    few = subst (λ n. n ≤ 8) (sym has.callers_are) few;
+    least = subst (λ n. 64 ≤ n) (sym has.lines_are) least;
+    most = subst (λ n. n ≤ 16384) (sym has.lines_are) most;
+  },
+  has.kind_is,
+)
 
-pub left_of : (kind choice : ℕ) (r : Remains) (words : List ℕ) (image : Image) → IsWritten kind r choice words → Says words image → IsLeftOf r choice image
+pub left_of : (kind choice : ℕ) (r : Remains) (words : List ℕ) (image : Image) → AreRemainsWritten kind r choice words → SaysImage words image → IsLeftOf r choice image
 left_of kind choice r words image is says =
     let count : image.count ≡ image_size r.callers r.lines = (let long = is.left.long in let said = says.count in omega (arith, long, said)) in
     record {
-      callers = says.callers ∙ is.callers;
-      lines = says.lines ∙ is.lines;
+      callers = says.callers ∙ is.head.callers_are;
+      lines = says.lines ∙ is.head.lines_are;
       count = count;
-      root = says.root ∙ is.root;
+      root = says.root ∙ is.head.root_is;
       pairs = record {
         rising = says.pairs.rising;
         below = says.pairs.below;
@@ -44,13 +49,13 @@ left_of kind choice r words image is says =
     }
 
 -- a fault of recovery is one of words that say the image
-pub refused : (version : ℕ) (lawful : List ℕ → Type 0) (old : OldFormat) (words : List ℕ) (image : Image) (fault : ImageFault) → Says words image → IsFaultOf version lawful old image fault
+pub refused : (version : ℕ) (lawful : List ℕ → Type 0) (old : OldFormat) (words : List ℕ) (image : Image) (fault : ImageFault) → SaysImage words image → IsFaultOf version lawful old image fault
     → IsWordsFault version lawful old words (ImageRefused fault)
 refused version lawful old words image Memory says is = tt
 refused version lawful old words image fault says is = record { image = image; says = says; is = is }
 
 -- what recovery gives is taken up where its numbers are within the place, and refused where they are not
-pub within : (version : ℕ) (lawful : List ℕ → Type 0) (old : OldFormat) (words : List ℕ) (image : Image) (base : Base) (answer : Result Base WordsFault) → Says words image → IsRecovered version lawful old image base
+pub within : (version : ℕ) (lawful : List ℕ → Type 0) (old : OldFormat) (words : List ℕ) (image : Image) (base : Base) (answer : Result Base WordsFault) → SaysImage words image → IsRecovered version lawful old image base
     → MatchResult answer (λ same. (same ≡ base) × NumbersWithin base) (λ fault. (fault ≡ Numbers) × (¬ NumbersWithin base))
     → MatchResult answer (IsTakenUp version lawful old words) (IsWordsFault version lawful old words)
 within version lawful old words image base (Ok same) says is told = subst (IsTakenUp version lawful old words) (sym told.0) (record { image = image; says = says; recovered = is; numbers = told.1 })
@@ -59,7 +64,7 @@ within version lawful old words image base (Err fault) says is told = subst (IsW
 -- Where recovery refuses no image that these words say but for want of memory, and what it gives is kept and has numbers within its place, so it is with the words
 -- themselves.
 pub taken_up : (version : ℕ) (lawful : List ℕ → Type 0) (old : OldFormat) (words : List ℕ) (kept : Base → Type 0)
-    → ((image : Image) → Says words image → (answer : Result Base ImageFault) → MatchResult answer (IsRecovered version lawful old image) (IsFaultOf version lawful old image) → MatchResult answer kept (λ fault. fault ≡ Memory))
+    → ((image : Image) → SaysImage words image → (answer : Result Base ImageFault) → MatchResult answer (IsRecovered version lawful old image) (IsFaultOf version lawful old image) → MatchResult answer kept (λ fault. fault ≡ Memory))
     → ((base : Base) → kept base → NumbersWithin base)
     → (answer : Result Base WordsFault) → MatchResult answer (IsTakenUp version lawful old words) (IsWordsFault version lawful old words) → MatchResult answer kept (λ fault. fault ≡ ImageRefused Memory)
 taken_up version lawful old words kept recovers numbers (Ok base) told = recovers told.image told.says (Ok base) told.recovered

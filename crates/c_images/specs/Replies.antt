@@ -3,7 +3,9 @@ use Rattle.std.specs.Prelude.{◌≡◌, ◌≢◌, ◌⊎◌, ◌<◌, ℕ, Lis
 use Rattle.cx_base.specs.Memory.{Words}
 use Rattle.cx_core.specs.Region.{slot_number, slot_reply}
 use Rattle.doc_model.specs.Words.{AreOfNoReply as AreOfNoDocumentReply}
-use Rattle.fifo_model.specs.Words.{AreOfNoReply as AreOfNoQueueReply}
+use Rattle.fifo_object.specs.Words.{AreOfNoReply as AreOfNoQueueReply}
+use Rattle.c_images.specs.declared.replies.ReplyKind.{ReplyKind}
+use Rattle.c_images.specs.declared.replies.ReplyKind.TheVariants.{Document, Queue}
 
 -- some reply of a document store within the limits has these words, or of a queue
 abbrev pub IsDocumentReply : List ℕ → Type 0
@@ -11,6 +13,10 @@ IsDocumentReply words = ¬ AreOfNoDocumentReply words
 
 abbrev pub IsQueueReply : List ℕ → Type 0
 IsQueueReply words = ¬ AreOfNoQueueReply words
+
+abbrev pub IsReplyOfKind : ReplyKind → List ℕ → Type 0
+IsReplyOfKind Document = IsDocumentReply
+IsReplyOfKind Queue = IsQueueReply
 
 -- what a result may keep: the words of a reply, or 144 zeros, which answer words of no operation
 abbrev pub IsKeptReply : (List ℕ → Type 0) → List ℕ → Type 0

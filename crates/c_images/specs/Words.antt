@@ -14,8 +14,8 @@ use Rattle.c_images.specs.declared.reading.WordsFault.{WordsFault}
 use Rattle.c_images.specs.declared.reading.WordsFault.TheVariants.{Head as HeadFault, Kind, Image as ImageRefused, Numbers}
 
 -- the words of a head: the name and the format, the kind of object, the callers, the lines and the root
-abbrev pub kind_in : List ℕ → ℕ
-kind_in words = slice_index words 2
+abbrev pub object_kind_in : List ℕ → ℕ
+object_kind_in words = slice_index words 2
 
 abbrev pub callers_in : List ℕ → ℕ
 callers_in words = slice_index words 3
@@ -39,7 +39,7 @@ pub record IsHeaded (words : List ℕ) : Type 0 where
   pub enough : 8 ≤ length words
   pub name : slice_index words 0 ≡ 8462387323625302375
   pub format : slice_index words 1 ≡ 1
-  pub kind : IsKind (kind_in words)
+  pub kind : IsKind (object_kind_in words)
   pub zeros : AreZeros words
   pub some : 1 ≤ callers_in words
   pub few : callers_in words ≤ 8
@@ -55,56 +55,60 @@ pub record IsSaid (words : List ℕ) (head : Head) : Type 0 where
 
 -- words with this head, of an object of this kind
 abbrev pub IsHeadOf : ℕ → List ℕ → Head → Type 0
-IsHeadOf kind words head = (kind_in words ≡ kind) × IsSaid words head
+IsHeadOf kind words head = (object_kind_in words ≡ kind) × IsSaid words head
 
 -- why there is none: they begin with no head, or are of another kind
 abbrev pub IsHeadFault : ℕ → List ℕ → WordsFault → Type 0
 IsHeadFault kind words HeadFault = ¬ IsHeaded words
-IsHeadFault kind words (Kind found) = IsHeaded words × (found ≡ kind_in words) × (kind_in words ≢ kind)
+IsHeadFault kind words (Kind found) = IsHeaded words × (found ≡ object_kind_in words) × (object_kind_in words ≢ kind)
 IsHeadFault kind words fault = ⊥
 
--- the image that words say: the numbers of the head, and the words behind it
-pub record Says (words : List ℕ) (image : Image) : Type 0 where
+-- the image that words say: the numbers of the head, and the words after it
+pub record SaysImage (words : List ℕ) (image : Image) : Type 0 where
   pub callers : image.callers ≡ callers_in words
   pub lines : image.lines ≡ lines_in words
   pub root : image.root ≡ root_in words
   pub count : length words ≡ image.count + 8
   pub pairs : Gives (λ at. slice_index words (at + 8)) image.count image.pairs
 
--- the first so many words behind the head are those that a loss of power leaves, of so many in all
+-- up to an end, the words after the head are those that a crash leaves; there are as many in all as the other number says
 pub record AreLeftWords (r : Remains) (choice end_ count : ℕ) (words : List ℕ) : Type 0 where
   pub long : length words ≡ count + 8
   pub each : (at : ℕ) → at < end_ → slice_index words (at + 8) ≡ left_word r choice at
 
--- words of what a loss of power leaves of a closed service by choice, whose object is of this kind
-pub record IsWritten (kind : ℕ) (r : Remains) (choice : ℕ) (words : List ℕ) : Type 0 where
+-- words that begin with the head of these numbers
+pub record HasHead (kind callers lines root : ℕ) (words : List ℕ) : Type 0 where
   pub name : slice_index words 0 ≡ 8462387323625302375
   pub format : slice_index words 1 ≡ 1
-  pub kind_is : kind_in words ≡ kind
-  pub callers : callers_in words ≡ r.callers
-  pub lines : lines_in words ≡ r.lines
-  pub root : root_in words ≡ left_root r choice
+  pub kind_is : object_kind_in words ≡ kind
+  pub callers_are : callers_in words ≡ callers
+  pub lines_are : lines_in words ≡ lines
+  pub root_is : root_in words ≡ root
   pub zeros : AreZeros words
+
+-- words of what a crash leaves of a closed service by choice, whose object is of this kind
+pub record AreRemainsWritten (kind : ℕ) (r : Remains) (choice : ℕ) (words : List ℕ) : Type 0 where
+  pub head : HasHead kind r.callers r.lines (left_root r choice) words
   pub left : AreLeftWords r choice (image_size r.callers r.lines) (image_size r.callers r.lines) words
 
 -- The base that is taken up from words, for an object with this version, these lawful images and this old format: the one that recovery gives for the image
 -- that they say. No number of its results is above its place.
 pub record IsTakenUp (version : ℕ) (lawful : List ℕ → Type 0) (old : OldFormat) (words : List ℕ) (base : Base) : Type 0 where
   pub image : Image
-  pub says : Says words image
+  pub says : SaysImage words image
   pub recovered : IsRecovered version lawful old image base
   pub numbers : NumbersWithin base
 
 -- recovery refuses the image that they say
-pub record IsRefused (version : ℕ) (lawful : List ℕ → Type 0) (old : OldFormat) (words : List ℕ) (fault : ImageFault) : Type 0 where
+pub record AreWordsRefused (version : ℕ) (lawful : List ℕ → Type 0) (old : OldFormat) (words : List ℕ) (fault : ImageFault) : Type 0 where
   pub image : Image
-  pub says : Says words image
+  pub says : SaysImage words image
   pub is : IsFaultOf version lawful old image fault
 
 -- it gives a base of which a result has a number above the place
 pub record HasNumberAbove (version : ℕ) (lawful : List ℕ → Type 0) (old : OldFormat) (words : List ℕ) : Type 0 where
   pub image : Image
-  pub says : Says words image
+  pub says : SaysImage words image
   pub base : Base
   pub recovered : IsRecovered version lawful old image base
   pub above : ¬ NumbersWithin base
@@ -112,6 +116,6 @@ pub record HasNumberAbove (version : ℕ) (lawful : List ℕ → Type 0) (old : 
 -- why no base is taken up from words with a head
 abbrev pub IsWordsFault : ℕ → (List ℕ → Type 0) → OldFormat → List ℕ → WordsFault → Type 0
 IsWordsFault version lawful old words (ImageRefused Memory) = Unit {0}
-IsWordsFault version lawful old words (ImageRefused fault) = IsRefused version lawful old words fault
+IsWordsFault version lawful old words (ImageRefused fault) = AreWordsRefused version lawful old words fault
 IsWordsFault version lawful old words Numbers = HasNumberAbove version lawful old words
 IsWordsFault version lawful old words fault = ⊥

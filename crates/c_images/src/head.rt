@@ -20,7 +20,8 @@ pub struct Head {
     pub root: u64,
 }
 
-/// The head of words that say an image of an object of this kind.
+/// The head of words that say an image of an object of this kind. `Err` says that the words begin with no head, or with the head of an
+/// object of another kind, which is named.
 pub fn head_of(words: &[u64], kind: u64) -> Result<Head, WordsFault>
     ensures { MatchResult result (IsHeadOf kind words.now) (IsHeadFault kind words.now) }
 {

@@ -1,29 +1,31 @@
-//! That what is written is taken up, and keeps replies.
+//! That what is written and what is taken is taken up, and keeps replies.
 
-ghost use Rattle.std.specs.Prelude.{◌≡◌, ◌<◌, ℕ, List, MatchResult};
-ghost use Rattle.cx_rule.specs.Running.{Running, instance_at};
+ghost use Rattle.std.specs.Prelude.{◌≡◌, ◌<◌, ℕ, All, List, MatchResult, Some, slice_get};
+ghost use Rattle.cx_core.specs.Base.{LawfulBase};
+ghost use Rattle.cx_rule.specs.Running.{IsRunning, Running, instance_at};
 ghost use Rattle.cx_rule.specs.Seats.{Seated};
 ghost use Rattle.cx_table.specs.Remains.{Leaves};
-ghost use Rattle.recovery.specs.Crashes.{IsWhole};
+ghost use Rattle.recovery.specs.Crashes.{AreRemainsWhole};
 ghost use Rattle.recovery.specs.Kept.{IsKeptBy, IsOpened};
 ghost use Rattle.recovery.specs.Outcomes.{TellsOutcome};
 ghost use Rattle.recovery.specs.declared.recovering.ImageFault.TheVariants.{Memory};
 ghost use Rattle.c_images.specs.Replies.{IsDocumentReply, IsQueueReply, RepliesGoOn};
-ghost use Rattle.c_images.specs.Words.{IsHeaded, IsKind, IsTakenUp, IsWordsFault, IsWritten, kind_in};
+ghost use Rattle.c_images.specs.Taken.{IsWrittenOf, base_at};
+ghost use Rattle.c_images.specs.Words.{IsHeaded, IsKind, IsTakenUp, IsWordsFault, AreRemainsWritten, object_kind_in};
 ghost use Rattle.c_images.specs.declared.reading.WordsFault.TheVariants.{Image};
 
 use cx_base::Object;
 use recovery::{
-    closed_tables_are_whole, closed_tables_recover, kept_bases_have_results,
-    kept_bases_tell_outcomes,
+    base_of_checkpoint, closed_tables_are_whole, closed_tables_recover, kept_bases_have_results,
+    kept_bases_tell_outcomes, lawful_bases_are_accepted,
 };
 
-/// Words that `write_image` wrote of a closed service have a head of that kind, and `base_of` refuses them only for want of memory. What it takes up
+/// Words that `write_image` wrote of a closed service have a head of that kind, and `base_of` refuses them only where memory runs out. What it takes up
 /// holds each answer that the service's callers were given: it is the full image of the history after the root's place.
 pub fn written_images_are_taken_up<O: Object>()
-    ensures headed { (r : _) (kind choice : ℕ) (words : List ℕ) → IsKind kind → IsWhole r → IsWritten kind r choice words → IsHeaded words × (kind_in words ≡ kind) }
+    ensures headed { (r : _) (kind choice : ℕ) (words : List ℕ) → IsKind kind → AreRemainsWhole r → AreRemainsWritten kind r choice words → IsHeaded words × (object_kind_in words ≡ kind) }
     ensures taken_up { (table : Running O) (seats : List Seated) (r : _) (kind choice : ℕ) (words : List ℕ) (answer : _) →
-        IsOpened O.line_count O.lawful table → Leaves table (instance_at table O.step O.only_reads) seats r → IsWritten kind r choice words →
+        IsOpened O.line_count O.lawful table → Leaves table (instance_at table O.step O.only_reads) seats r → AreRemainsWritten kind r choice words →
         MatchResult answer
         (IsTakenUp (O.version_number table.object) (O.lawful table.object) (O.old_format table.object) words)
         (IsWordsFault (O.version_number table.object) (O.lawful table.object) (O.old_format table.object) words) →
@@ -37,7 +39,7 @@ pub fn written_images_are_taken_up<O: Object>()
 /// history's reply to it, and of a caller that has none there what the service was opened with.
 pub fn written_images_tell_outcomes<O: Object>()
     ensures { (table : Running O) (seats : List Seated) (r : _) (kind choice caller : ℕ) (words : List ℕ) (base : _) →
-        IsOpened O.line_count O.lawful table → Leaves table (instance_at table O.step O.only_reads) seats r → IsWritten kind r choice words →
+        IsOpened O.line_count O.lawful table → Leaves table (instance_at table O.step O.only_reads) seats r → AreRemainsWritten kind r choice words →
         IsTakenUp (O.version_number table.object) (O.lawful table.object) (O.old_format table.object) words base → caller < 8 →
         TellsOutcome (O.step table.object) table.base r.trail.history base caller }
 {
@@ -49,14 +51,42 @@ pub fn written_images_tell_outcomes<O: Object>()
 /// object's step answers by none but those; and so it is with replies of a queue.
 pub fn written_images_keep_replies<O: Object>()
     ensures documents { (table : Running O) (seats : List Seated) (r : _) (kind choice : ℕ) (words : List ℕ) (base : _) →
-        IsOpened O.line_count O.lawful table → Leaves table (instance_at table O.step O.only_reads) seats r → IsWritten kind r choice words →
+        IsOpened O.line_count O.lawful table → Leaves table (instance_at table O.step O.only_reads) seats r → AreRemainsWritten kind r choice words →
         IsTakenUp (O.version_number table.object) (O.lawful table.object) (O.old_format table.object) words base →
         RepliesGoOn IsDocumentReply (O.lawful table.object) (O.step table.object) table.base.words base.words }
     ensures queues { (table : Running O) (seats : List Seated) (r : _) (kind choice : ℕ) (words : List ℕ) (base : _) →
-        IsOpened O.line_count O.lawful table → Leaves table (instance_at table O.step O.only_reads) seats r → IsWritten kind r choice words →
+        IsOpened O.line_count O.lawful table → Leaves table (instance_at table O.step O.only_reads) seats r → AreRemainsWritten kind r choice words →
         IsTakenUp (O.version_number table.object) (O.lawful table.object) (O.old_format table.object) words base →
         RepliesGoOn IsQueueReply (O.lawful table.object) (O.step table.object) table.base.words base.words }
 {
     written_images_are_taken_up::<O>();
     kept_bases_have_results::<O>();
+}
+
+/// Words that `write_base` wrote of a running service, of a lawful base at its place, have a head of that kind, and `base_of` refuses them only where
+/// memory runs out. What it takes up is that base.
+pub fn taken_images_are_taken_up<O: Object>()
+    ensures headed { (table : Running O) (kind place : ℕ) (region words : List ℕ) → IsKind kind → IsRunning O.line_count O.lawful table →
+        IsWrittenOf kind table.callers table.lines place region words → IsHeaded words × (object_kind_in words ≡ kind) }
+    ensures taken_up { (table : Running O) (kind place : ℕ) (region words : List ℕ) (answer : _) → IsRunning O.line_count O.lawful table →
+        LawfulBase table.lines (O.lawful table.object) (base_at place region) → IsWrittenOf kind table.callers table.lines place region words →
+        MatchResult answer
+        (IsTakenUp (O.version_number table.object) (O.lawful table.object) (O.old_format table.object) words)
+        (IsWordsFault (O.version_number table.object) (O.lawful table.object) (O.old_format table.object) words) →
+        MatchResult answer (λ base. base ≡ base_at place region) (λ fault. fault ≡ Image Memory) }
+{
+    lawful_bases_are_accepted::<O>();
+}
+
+/// The images that callers took of a service keep replies of documents where the service was opened with such replies and its object's step answers by none
+/// but those, and so it is with replies of a queue. It is known once the service is closed.
+pub fn taken_images_keep_replies<O: Object>()
+    ensures documents { (table : Running O) (seats : List Seated) (r : _) → IsOpened O.line_count O.lawful table → Leaves table (instance_at table O.step O.only_reads) seats r →
+        All (λ (s : Seated). (i : ℕ) (region : List ℕ) → slice_get s.known.images i ≡ Some region →
+        RepliesGoOn IsDocumentReply (O.lawful table.object) (O.step table.object) table.base.words region) seats }
+    ensures queues { (table : Running O) (seats : List Seated) (r : _) → IsOpened O.line_count O.lawful table → Leaves table (instance_at table O.step O.only_reads) seats r →
+        All (λ (s : Seated). (i : ℕ) (region : List ℕ) → slice_get s.known.images i ≡ Some region →
+        RepliesGoOn IsQueueReply (O.lawful table.object) (O.step table.object) table.base.words region) seats }
+{
+    base_of_checkpoint::<O>();
 }

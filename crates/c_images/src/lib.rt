@@ -1,15 +1,20 @@
-//! Images in words of a caller's, for a caller that is no part of these proofs, as a C program.
+//! The problem: what a crash leaves of a service, or a checkpoint of it, is to be kept as plain words by a caller that is no part of these proofs, as
+//! a C program, in memory or in a file; and a service is to be opened from words of which nothing is known.
+//!
+//! The idea: an image says in a head what it is of. Writing one takes no memory; reading one checks whatever the later calls rely on, so any words
+//! are either refused, with the reason, or taken up as a lawful base. There is no checksum here: a changed byte of a value is not seen.
 //!
 //! The words are eight of head and then those of all replicas, one after another. The head is "githoppu" in its bytes, the format 1, the kind of
 //! object, the callers, the lines of the object and the root; the last two words are 0.
 //!
-//! - `write_image` writes what a loss of power leaves of a closed service, by choice, as recovery's `crash_image` has it, and takes no memory.
-//! - `write_base` writes an image of which each replica is one base.
+//! - `write_image` writes what a crash leaves of a closed service, by choice, as recovery's `crash_image` has it, and takes no memory.
+//! - `write_base` writes an image of which each replica is one base. `taken_images_are_taken_up`: where that is a lawful base at its place, the image is
+//!   refused only where memory runs out, and else the base is taken up.
 //! - `head_of`, `base_of`: the base from which a service may start again, or why there is none: recovery's refusals, and what it does not look at.
-//! - `written_images_are_taken_up`: what `write_image` wrote is never refused, but for want of memory, and what is taken up of it holds each
+//! - `written_images_are_taken_up`: what `write_image` wrote is refused only where memory runs out, and what is taken up of it holds each
 //!   answer (`IsKeptBy`).
-//! - `holds_document_replies`, `holds_queue_replies`: whether its results keep replies. Those of a closed service do where those of the base did that it
-//!   was opened from: `written_images_keep_replies`.
+//! - `holds_replies`: whether its results keep replies of a document store, or of a queue. Those of a closed service do where those of the base did that it
+//!   was opened from: `written_images_keep_replies`; and those of an image that was taken before the closing: `taken_images_keep_replies`.
 #![tactic(auto)]
 
 mod head;
@@ -21,9 +26,10 @@ mod writing;
 
 pub use head::{Head, head_of};
 pub use laws::{
-    written_images_are_taken_up, written_images_keep_replies, written_images_tell_outcomes,
+    taken_images_are_taken_up, taken_images_keep_replies, written_images_are_taken_up,
+    written_images_keep_replies, written_images_tell_outcomes,
 };
 pub use reading::{WordsFault, base_of};
-pub use replies::{holds_document_replies, holds_queue_replies};
+pub use replies::{ReplyKind, holds_replies};
 pub use taken::{base_words, image_words_of, write_base};
 pub use writing::{image_words, write_image};

@@ -5,7 +5,7 @@ ghost use Rattle.cx_core.specs.Base.{LawfulBase};
 ghost use Rattle.cx_core.specs.Region.{slot_number};
 ghost use Rattle.recovery.specs.Images.{IsReadable};
 ghost use Rattle.recovery.specs.Recovery.{NumbersWithin};
-ghost use Rattle.c_images.specs.Words.{IsSaid, IsTakenUp, IsWordsFault, Says};
+ghost use Rattle.c_images.specs.Words.{IsSaid, IsTakenUp, IsWordsFault, SaysImage};
 ghost use Rattle.c_images.specs.declared.reading.WordsFault.TheVariants.{Numbers};
 
 use crate::head::{HEAD, Head};
@@ -21,7 +21,7 @@ pub enum WordsFault {
     Head,
     /// They are of another kind of object, which is told.
     Kind { found: u64 },
-    /// Recovery refuses the image, or there is no memory.
+    /// Recovery refuses the image, or memory ran out.
     Image(ImageFault),
     /// A result has a number above the image's place.
     Numbers,
@@ -54,7 +54,7 @@ pub fn base_of<O: Object>(
 /// The image that words say.
 fn image_of(alloc: Global, words: &[u64], head: Head) -> Result<Image, AllocError>
     requires { IsSaid words.now head }
-    ensures said { IfOk result (Says words.now) }
+    ensures said { IfOk result (SaysImage words.now) }
     ensures readable { IfOk result (IsReadable head.lines) }
 {
     let mut pairs = Vec::new(alloc);

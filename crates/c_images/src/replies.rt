@@ -1,68 +1,70 @@
 //! Whether the results that a base holds are replies.
 
 ghost use Rattle.std.specs.Prelude.{◌≡◌, ◌<◌, ◌≤◌, ◌↔◌, IfOk, IsTrue, length};
-ghost use Rattle.c_images.specs.Replies.{HoldsReplies, IsDocumentReply, IsKeptReply, IsQueueReply, IsSlot};
+ghost use Rattle.c_images.specs.Replies.{HoldsReplies, IsDocumentReply, IsKeptReply, IsQueueReply, IsReplyOfKind, IsSlot};
 
-use cx_core::Base;
+use cx_base::{OP_WORDS, OpWords};
+use cx_core::{Base, OBJECT_START};
 use doc_model::{OpFault, reply_of};
-use fifo_model::{FifoFault, fifo_reply_of};
+use fifo_object::{FifoFault, fifo_reply_of};
 use recovery::{Outcome, outcome};
 use std::alloc::{AllocError, Global};
 
-/// Whether each result of a base that has a number holds a reply of a document store, or 144 zeros, which answer words that are no operation. `Err` is
-/// out of memory.
-pub fn holds_document_replies(alloc: Global, base: &Base) -> Result<bool, AllocError>
-    requires { 1168 ≤ length base.now.words }
-    ensures { IfOk result (λ holds. IsTrue holds ↔ HoldsReplies IsDocumentReply base.now.words) }
+/// Whose replies results are to be: a document store's, or a queue's.
+#[derive(Clone, Copy, Debug, PartialEq, Eq, Drop)]
+pub enum ReplyKind {
+    Document,
+    Queue,
+}
+
+/// The words of a reply.
+type ReplyWords = OpWords;
+
+/// Whether each result of a base that has a number holds a reply of this kind, or 144 zeros, which answer words that are no operation. `Err` is out of
+/// memory.
+pub fn holds_replies(alloc: Global, base: &Base, kind: ReplyKind) -> Result<bool, AllocError>
+    requires { OBJECT_START ≤ length base.now.words }
+    ensures { IfOk result (λ holds. IsTrue holds ↔ HoldsReplies (IsReplyOfKind kind) base.now.words) }
 {
     for caller in 0..8 {
-        if !is_document_slot(alloc, base, caller)? {
+        if !is_reply_slot(alloc, base, caller, kind)? {
             return Ok(false);
         }
     }
     Ok(true)
 }
 
-/// Whether each result of a base that has a number holds a reply of a queue, or 144 zeros. `Err` is out of memory.
-pub fn holds_queue_replies(alloc: Global, base: &Base) -> Result<bool, AllocError>
-    requires { 1168 ≤ length base.now.words }
-    ensures { IfOk result (λ holds. IsTrue holds ↔ HoldsReplies IsQueueReply base.now.words) }
-{
-    for caller in 0..8 {
-        if !is_queue_slot(alloc, base, caller)? {
-            return Ok(false);
-        }
-    }
-    Ok(true)
-}
-
-fn is_document_slot(alloc: Global, base: &Base, caller: u32) -> Result<bool, AllocError>
+fn is_reply_slot(
+    alloc: Global,
+    base: &Base,
+    caller: u32,
+    kind: ReplyKind,
+) -> Result<bool, AllocError>
     requires caller { caller < 8 }
-    requires words { 1168 ≤ length base.now.words }
-    ensures { IfOk result (λ is. IsTrue is ↔ IsSlot IsDocumentReply caller base.now.words) }
+    requires words { OBJECT_START ≤ length base.now.words }
+    ensures { IfOk result (λ is. IsTrue is ↔ IsSlot (IsReplyOfKind kind) caller base.now.words) }
 {
     match outcome(base, caller) {
         Outcome::Never => Ok(true),
-        Outcome::Applied { reply, .. } => is_document_reply(alloc, &reply),
+        Outcome::Applied { reply, .. } => is_kept_reply(alloc, &reply, kind),
     }
 }
 
-fn is_queue_slot(alloc: Global, base: &Base, caller: u32) -> Result<bool, AllocError>
-    requires caller { caller < 8 }
-    requires words { 1168 ≤ length base.now.words }
-    ensures { IfOk result (λ is. IsTrue is ↔ IsSlot IsQueueReply caller base.now.words) }
+/// Whether words are a reply of this kind, or 0.
+fn is_kept_reply(alloc: Global, words: &ReplyWords, kind: ReplyKind) -> Result<bool, AllocError>
+    ensures { IfOk result (λ is. IsTrue is ↔ IsKeptReply (IsReplyOfKind kind) words.now) }
 {
-    match outcome(base, caller) {
-        Outcome::Never => Ok(true),
-        Outcome::Applied { reply, .. } => is_queue_reply(alloc, &reply),
+    match kind {
+        ReplyKind::Document => is_document_reply(alloc, words),
+        ReplyKind::Queue => is_queue_reply(alloc, words),
     }
 }
 
 /// Whether words are a reply of a document store, or 0.
-fn is_document_reply(alloc: Global, words: &[u64; 144]) -> Result<bool, AllocError>
+fn is_document_reply(alloc: Global, words: &ReplyWords) -> Result<bool, AllocError>
     ensures { IfOk result (λ is. IsTrue is ↔ IsKeptReply IsDocumentReply words.now) }
 {
-    if *words == [0; 144] {
+    if *words == [0; OP_WORDS] {
         return Ok(true);
     }
     match reply_of(alloc, words) {
@@ -73,10 +75,10 @@ fn is_document_reply(alloc: Global, words: &[u64; 144]) -> Result<bool, AllocErr
 }
 
 /// Whether words are a reply of a queue, or 0.
-fn is_queue_reply(alloc: Global, words: &[u64; 144]) -> Result<bool, AllocError>
+fn is_queue_reply(alloc: Global, words: &ReplyWords) -> Result<bool, AllocError>
     ensures { IfOk result (λ is. IsTrue is ↔ IsKeptReply IsQueueReply words.now) }
 {
-    if *words == [0; 144] {
+    if *words == [0; OP_WORDS] {
         return Ok(true);
     }
     match fifo_reply_of(alloc, words) {

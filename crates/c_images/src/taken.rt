@@ -9,7 +9,7 @@ use crate::head::{FORMAT, HEAD, NAME};
 use cx_base::root_code;
 use cx_core::{HEAD_LINES, LINE_WORDS};
 
-/// How many words the region of an object of so many lines has.
+/// How many words the region of an object of this many lines has.
 pub fn base_words(lines: u64) -> u64
     requires { lines ≤ 16384 }
     ensures { result ≡ region_words lines }
@@ -17,7 +17,7 @@ pub fn base_words(lines: u64) -> u64
     LINE_WORDS * (HEAD_LINES + lines)
 }
 
-/// How many words an image has of a service of so many callers.
+/// How many words the image of a service of this many callers has.
 pub fn image_words_of(callers: u32, lines: u64) -> u64
     requires callers { callers ≤ 8 }
     requires lines { lines ≤ 16384 }
@@ -26,7 +26,7 @@ pub fn image_words_of(callers: u32, lines: u64) -> u64
     base_words(lines) * (2 * u64::from(callers)) + HEAD as u64
 }
 
-/// Makes an image of the region that stands behind the head: each replica is that region, and the root names the first one at this place.
+/// Makes an image of the region that stands after the head: each replica is that region, and the root names the first one at this place.
 pub fn write_base(kind: u64, callers: u32, lines: u64, place: u64, words: &mut [u64])
     requires some { 1 ≤ callers }
     requires few { callers ≤ 8 }
@@ -46,7 +46,7 @@ pub fn write_base(kind: u64, callers: u32, lines: u64, place: u64, words: &mut [
     words[7] = 0;
 }
 
-/// Copies the first region behind the head over each one behind it.
+/// Copies the first region after the head over each one after it.
 fn repeat(region: usize, words: &mut [u64])
     requires some { 1 ≤ region }
     requires long { region + 8 ≤ length words.old }

@@ -1,11 +1,11 @@
-//! What a loss of power leaves is written into words.
+//! What a crash leaves is written into words.
 
 ghost use Rattle.std.specs.Prelude.{◌≡◌, ◌+◌, ◌<◌, ◌≤◌, ◌^◌, ℕ, length, slice_index};
 ghost use Rattle.pmem_model.specs.Medium.{any_value};
 ghost use Rattle.pmem_model.specs.declared.medium.Mark.TheVariants.{Dirty};
-ghost use Rattle.recovery.specs.Crashes.{IsWhole, left_root, left_word};
+ghost use Rattle.recovery.specs.Crashes.{AreRemainsWhole, left_root, left_word};
 ghost use Rattle.recovery.specs.Images.{image_size};
-ghost use Rattle.c_images.specs.Words.{AreLeftWords, IsWritten};
+ghost use Rattle.c_images.specs.Words.{AreLeftWords, AreRemainsWritten};
 
 use crate::head::{FORMAT, HEAD, NAME};
 use cx_core::{HEAD_LINES, LINE_WORDS};
@@ -13,18 +13,18 @@ use cx_table::Remains;
 
 /// How many words an image of a closed service has.
 pub fn image_words(remains: &Remains) -> u64
-    requires { IsWhole remains.now }
+    requires { AreRemainsWhole remains.now }
     ensures { result ≡ image_size remains.now.callers remains.now.lines + 8 }
 {
     LINE_WORDS * (HEAD_LINES + remains.lines) * (2 * u64::from(remains.callers)) + HEAD as u64
 }
 
-/// Writes what a loss of power leaves of a closed service whose object is of this kind, by choice. Choice 0 leaves of each word what was
+/// Writes what a crash leaves of a closed service whose object is of this kind, by choice. Choice 0 leaves of each word what was
 /// durable, choice 1 what was stored last, and others a mixture; the root is one of the codes published from the durable one on.
 pub fn write_image(remains: &Remains, kind: u64, choice: u64, words: &mut [u64])
-    requires whole { IsWhole remains.now }
+    requires whole { AreRemainsWhole remains.now }
     requires long { length words.old ≡ image_size remains.now.callers remains.now.lines + 8 }
-    ensures { IsWritten kind remains.now choice words.new }
+    ensures { AreRemainsWritten kind remains.now choice words.new }
 {
     write_words(remains, choice, words);
     words[0] = NAME;
@@ -39,7 +39,7 @@ pub fn write_image(remains: &Remains, kind: u64, choice: u64, words: &mut [u64])
 
 /// Writes the words of all replicas.
 fn write_words(remains: &Remains, choice: u64, words: &mut [u64])
-    requires whole { IsWhole remains.now }
+    requires whole { AreRemainsWhole remains.now }
     requires long { length words.old ≡ image_size remains.now.callers remains.now.lines + 8 }
     ensures { AreLeftWords remains.now choice (image_size remains.now.callers remains.now.lines) (image_size remains.now.callers remains.now.lines) words.new }
 {
@@ -59,7 +59,7 @@ fn root_left(remains: &Remains, choice: u64) -> u64
 
 /// What is left of a word. Recovery gives these words as pairs, for which it takes memory.
 fn word_left(remains: &Remains, choice: u64, at: usize) -> u64
-    requires whole { IsWhole remains.now }
+    requires whole { AreRemainsWhole remains.now }
     requires at { at < image_size remains.now.callers remains.now.lines }
     ensures { result ≡ left_word remains.now choice at }
 {

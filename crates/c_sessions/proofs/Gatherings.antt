@@ -9,14 +9,14 @@ use lib.ListN.{get_elem?}
 use Rattle.crossbeam_queue.specs.Fifo.{Forks, Learns, Pops, Pushes}
 use Rattle.crossbeam_queue.proofs.Lists.{at_set, at_snoc}
 use Rattle.cx_rule.specs.Running.{Running}
-use Rattle.seat_pool.specs.Pooling.{total}
+use Rattle.seat_pool.specs.Pooling.{total_weight}
 use Rattle.seat_pool.proofs.Poolings.{total_both, total_set}
-use Rattle.c_sessions.specs.Rule.{Gathers, IsHandedInAt, IsNew, Keeps, Tells, callers_at, cut_left, cut_right, fresh, items_weigh, numbers_in, offering, opened, pass_weighs, with_given, with_taken}
+use Rattle.c_sessions.specs.Rule.{KeepsOrIsNew, IsHandedInAt, IsNewQueue, KeepsSessions, TellsCallers, callers_known, without_first_due, first_due, new_pass, items_weigh, numbers_in, offering, pass_of_all, pass_weighs, pass_with_given, pass_with_taken}
 use Rattle.c_sessions.specs.declared.rule.HandedIn.{HandedIn}
 use Rattle.c_sessions.specs.declared.rule.Knows.{Knows}
 
 -- the first of a list and the rest are all of it
-cut_weighs : (h : ℕ → ℕ) (xs : List ℕ) → total h (take 1 xs) + total h (drop 1 xs) ≡ total h xs
+cut_weighs : (h : ℕ → ℕ) (xs : List ℕ) → total_weight h (take 1 xs) + total_weight h (drop 1 xs) ≡ total_weight h xs
 cut_weighs h [] = refl
 cut_weighs h (x ∷ xs) = omega arith
 
@@ -33,8 +33,8 @@ module _ {O : Type 0} where
   is_only one v views zero only at = sym (some-injective one v (sym (ap (λ l. get_elem? l 0) only) ∙ at))
   is_only one v views (suc pass) only at = absurd (some-ne-none v (sym at ∙ ap (λ l. get_elem? l (suc pass)) only))
 
-  not_new : (r : Running O) (v : Knows O) (items : List (HandedIn O)) (views : List (Knows O)) (pass : ℕ) → v.home ≡ Some r → IsNew items views → get_elem? views pass ≡ some v → ⊥
-  not_new r v items views pass home (inl new) at = none_known r (sym (ap (λ (u : Knows O). u.home) (is_only fresh v views pass new.1 at)) ∙ home)
+  not_new : (r : Running O) (v : Knows O) (items : List (HandedIn O)) (views : List (Knows O)) (pass : ℕ) → v.home ≡ Some r → IsNewQueue items views → get_elem? views pass ≡ some v → ⊥
+  not_new r v items views pass home (inl new) at = none_known r (sym (ap (λ (u : Knows O). u.home) (is_only new_pass v views pass new.1 at)) ∙ home)
   not_new r v items views pass home (inr o) at = none_known r (sym (ap (λ (u : Knows O). u.home) (is_only (offering (arc_value o.share.service)) v views pass o.views_are at)) ∙ home)
 
   known_set : (r : Running O) (views : List (Knows O)) (pass : ℕ) (w : Knows O) → w.home ≡ Some r → Known r views → Known r (set views pass w)
@@ -48,13 +48,13 @@ module _ {O : Type 0} where
   all_of [] = []
   all_of (u ∷ us) = u.due ++ (u.taken ++ all_of us)
 
-  all_weigh : (h : ℕ → ℕ) (us : List (Knows O)) → total h (all_of us) ≡ total (pass_weighs h) us
+  all_weigh : (h : ℕ → ℕ) (us : List (Knows O)) → total_weight h (all_of us) ≡ total_weight (pass_weighs h) us
   unfolding all_of
   all_weigh h [] = refl
   all_weigh h (u ∷ us) = omega (arith, total_both h u.due (u.taken ++ all_of us), total_both h u.taken (all_of us), all_weigh h us)
 
   -- the numbers that are with the other passes
-  others_weigh : (views : List (Knows O)) (pass : ℕ) (v : Knows O) → get_elem? views pass ≡ some v → (others : List ℕ) × ((h : ℕ → ℕ) → total (pass_weighs h) views ≡ pass_weighs h v + total h others)
+  others_weigh : (views : List (Knows O)) (pass : ℕ) (v : Knows O) → get_elem? views pass ≡ some v → (others : List ℕ) × ((h : ℕ → ℕ) → total_weight (pass_weighs h) views ≡ pass_weighs h v + total_weight h others)
   others_weigh [] pass v at = absurd (some-ne-none v (sym at))
   others_weigh (u ∷ us) zero v at = (all_of us, λ h. (let same : pass_weighs h u ≡ pass_weighs h v = ap (pass_weighs h) (some-injective u v at) in omega (arith, same, all_weigh h us)))
   others_weigh (u ∷ us) (suc pass) v at =
@@ -62,7 +62,7 @@ module _ {O : Type 0} where
       (u.due ++ (u.taken ++ rest.0), λ h. omega (arith, rest.1 h, total_both h u.due (u.taken ++ rest.0), total_both h u.taken rest.0))
 
   -- a new queue keeps the rule
-  pub begins : Gathers {O = O} [] (fresh ∷ [])
+  pub begins : KeepsOrIsNew {O = O} [] (new_pass ∷ [])
   begins = inl (inl (refl, refl))
 
   only_set : (one w : Knows O) (v : Knows O) (views : List (Knows O)) (pass : ℕ) → views ≡ one ∷ [] → get_elem? views pass ≡ some v → set views pass w ≡ w ∷ []
@@ -70,7 +70,7 @@ module _ {O : Type 0} where
   only_set one w v views (suc pass) only at = absurd (some-ne-none v (sym at ∙ ap (λ l. get_elem? l (suc pass)) only))
 
   -- a share is put into the new queue
-  pub opens : (n pass : ℕ) (v : Knows O) (x : HandedIn O) → v ≡ fresh → Pushes Gathers n pass v x (λ w. w ≡ offering (arc_value x.service))
+  pub opens : (n pass : ℕ) (v : Knows O) (x : HandedIn O) → v ≡ new_pass → Pushes KeepsOrIsNew n pass v x (λ w. w ≡ offering (arc_value x.service))
   opens n pass v x new items views short (inr k) at = absurd (none_known k.service (sym (ap (λ (u : Knows O). u.home) new) ∙ k.known pass v at))
   opens n pass v x new items views short (inl (inr o)) at =
       absurd (none_known (arc_value o.share.service) (ap (λ (u : Knows O). u.offered) (sym new ∙ is_only (offering (arc_value o.share.service)) v views pass o.views_are at)))
@@ -80,22 +80,22 @@ module _ {O : Type 0} where
         inl (inr (record {
           share = x;
           items_are = ap (λ (l : List (HandedIn O)). l ++ x ∷ []) empty.0;
-          views_are = only_set fresh w v views pass empty.1 at;
+          views_are = only_set new_pass w v views pass empty.1 at;
         })),
         refl,
       )
 
   -- and is taken out again
-  pub starts : (pass : ℕ) (v : Knows O) (r : Running O) → v ≡ offering r → Pops Gathers pass v (λ x w. w ≡ opened v.offered)
+  pub starts : (pass : ℕ) (v : Knows O) (r : Running O) → v ≡ offering r → Pops KeepsOrIsNew pass v (λ x w. w ≡ pass_of_all v.offered)
   starts pass v r is x items views (inr k) at = absurd (none_known k.service (sym (ap (λ (u : Knows O). u.home) is) ∙ k.known pass v at))
   starts pass v r is x items views (inl (inl new)) at = absurd cc
   starts pass v r is x items views (inl (inr o)) at =
-      let w = opened v.offered in
+      let w = pass_of_all v.offered in
       let home : v.offered ≡ Some r = ap (λ (u : Knows O). u.offered) is in
       let none : items ≡ [] = cons_injective_tail x o.share items [] o.items_are in (
         w,
-        inr (subst (λ (l : List (HandedIn O)). Keeps l (set views pass w)) (sym none) (subst (λ (l : List (Knows O)). Keeps [] l) (sym (only_set (offering (arc_value o.share.service)) w v views pass o.views_are at)) (
-            subst (λ (h : Option (Running O)). Keeps [] (opened h ∷ [])) (sym home) (record {
+        inr (subst (λ (l : List (HandedIn O)). KeepsSessions l (set views pass w)) (sym none) (subst (λ (l : List (Knows O)). KeepsSessions [] l) (sym (only_set (offering (arc_value o.share.service)) w v views pass o.views_are at)) (
+            subst (λ (h : Option (Running O)). KeepsSessions [] (pass_of_all h ∷ [])) (sym home) (record {
               service = r;
               each = All-nil (IsHandedInAt (Some r));
               known = only;
@@ -104,18 +104,18 @@ module _ {O : Type 0} where
         refl,
       )
     where
-      only : Known r (opened (Some r) ∷ [])
-      only zero u e = sym (ap (λ (y : Knows O). y.home) (some-injective (opened (Some r)) u e))
+      only : Known r (pass_of_all (Some r) ∷ [])
+      only zero u e = sym (ap (λ (y : Knows O). y.home) (some-injective (pass_of_all (Some r)) u e))
       only (suc j) u e = absurd (some-ne-none u (sym e))
 
       cons_injective_tail : (y z : HandedIn O) (ys zs : List (HandedIn O)) → y ∷ ys ≡ z ∷ zs → ys ≡ zs
       cons_injective_tail y z ys zs e = cc
 
   -- a pass for one caller is made of one that knows the service
-  pub parts : (pass : ℕ) (r : Running O) (v : Knows O) → v.home ≡ Some r → Forks Gathers pass v (cut_left v) (cut_right v)
+  pub parts : (pass : ℕ) (r : Running O) (v : Knows O) → v.home ≡ Some r → Forks KeepsOrIsNew pass v (without_first_due v) (first_due v)
   parts pass r v home items views (inl new) at = absurd (not_new r v items views pass home new at)
   parts pass r v home items views (inr k) at =
-      let l = cut_left v in let w = cut_right v in
+      let l = without_first_due v in let w = first_due v in
       let here = k.known pass v at in
       inr (record {
         service = k.service;
@@ -125,10 +125,10 @@ module _ {O : Type 0} where
       })
 
   -- the caller of a pass is put into the queue
-  pub gives : (n pass : ℕ) (v : Knows O) (x : HandedIn O) → IsHandedInAt v.home x → v.due ≡ numbers_in x.handed → Pushes Gathers n pass v x (λ w. w ≡ with_given v)
+  pub gives : (n pass : ℕ) (v : Knows O) (x : HandedIn O) → IsHandedInAt v.home x → v.due ≡ numbers_in x.handed → Pushes KeepsOrIsNew n pass v x (λ w. w ≡ pass_with_given v)
   gives n pass v x is due items views short (inl new) at = absurd (not_new (arc_value x.service) v items views pass is.share new at)
   gives n pass v x is due items views short (inr k) at =
-      let w = with_given v in
+      let w = pass_with_given v in
       let here = k.known pass v at in (
         w,
         inr (record {
@@ -137,17 +137,17 @@ module _ {O : Type 0} where
           known = known_set k.service views pass w here k.known;
           callers = λ h. (
               let s = total_set (pass_weighs h) views pass v w at in
-              let was : total h v.due ≡ total h (numbers_in x.handed) = ap (total h) due in
-              omega (arith, s, was, total_both (λ (y : HandedIn O). total h (numbers_in y.handed)) items (x ∷ []), k.callers h));
+              let was : total_weight h v.due ≡ total_weight h (numbers_in x.handed) = ap (total_weight h) due in
+              omega (arith, s, was, total_both (λ (y : HandedIn O). total_weight h (numbers_in y.handed)) items (x ∷ []), k.callers h));
         }),
         refl,
       )
 
   -- and is taken out
-  pub takes : (pass : ℕ) (r : Running O) (v : Knows O) → v.home ≡ Some r → Pops Gathers pass v (λ x w. IsHandedInAt v.home x × (w ≡ with_taken v x))
+  pub takes : (pass : ℕ) (r : Running O) (v : Knows O) → v.home ≡ Some r → Pops KeepsOrIsNew pass v (λ x w. IsHandedInAt v.home x × (w ≡ pass_with_taken v x))
   takes pass r v home x items views (inl new) at = absurd (not_new r v (x ∷ items) views pass home new at)
   takes pass r v home x items views (inr k) at =
-      let w = with_taken v x in
+      let w = pass_with_taken v x in
       let here = k.known pass v at in (
         w,
         inr (record {
@@ -160,13 +160,13 @@ module _ {O : Type 0} where
       )
 
   -- a pass that knows the service learns where its callers are
-  pub learns : (pass : ℕ) (r : Running O) (v : Knows O) → v.home ≡ Some r → Learns Gathers pass v (Tells v)
+  pub learns : (pass : ℕ) (r : Running O) (v : Knows O) → v.home ≡ Some r → Learns KeepsOrIsNew pass v (TellsCallers v)
   learns pass r v home items views (inl new) at = absurd (not_new r v items views pass home new at)
   learns pass r v home items views (inr k) at =
       let others = others_weigh views pass v at in record {
         elsewhere = others.0;
         callers = λ h. (
-            let many : total h (range_with_len 0 (callers_at v.home)) ≡ total h (range_with_len 0 k.service.callers) = ap (λ (x : Option (Running O)). total h (range_with_len 0 (callers_at x))) (k.known pass v at) in
+            let many : total_weight h (range_with_len 0 (callers_known v.home)) ≡ total_weight h (range_with_len 0 k.service.callers) = ap (λ (x : Option (Running O)). total_weight h (range_with_len 0 (callers_known x))) (k.known pass v at) in
             omega (arith, others.1 h, many, k.callers h));
       }
 
@@ -175,11 +175,11 @@ module _ {O : Type 0} where
   numbers_of [] = []
   numbers_of (x ∷ xs) = numbers_in x.handed ++ numbers_of xs
 
-  numbers_weigh : (h : ℕ → ℕ) (xs : List (HandedIn O)) → total h (numbers_of xs) ≡ items_weigh h xs
+  numbers_weigh : (h : ℕ → ℕ) (xs : List (HandedIn O)) → total_weight h (numbers_of xs) ≡ items_weigh h xs
   unfolding numbers_of
   numbers_weigh h [] = refl
   numbers_weigh h (x ∷ xs) = omega (arith, total_both h (numbers_in x.handed) (numbers_of xs), numbers_weigh h xs)
 
   -- the callers that are with a pass, and the others
-  pub with_others : (v : Knows O) (items : List (HandedIn O)) → Tells v items → (elsewhere : List ℕ) × ((h : ℕ → ℕ) → pass_weighs h v + total h elsewhere ≡ total h (range_with_len 0 (callers_at v.home)))
+  pub with_others : (v : Knows O) (items : List (HandedIn O)) → TellsCallers v items → (elsewhere : List ℕ) × ((h : ℕ → ℕ) → pass_weighs h v + total_weight h elsewhere ≡ total_weight h (range_with_len 0 (callers_known v.home)))
   with_others v items tells = (numbers_of items ++ tells.elsewhere, λ h. omega (arith, total_both h (numbers_of items) tells.elsewhere, numbers_weigh h items, tells.callers h))

@@ -15,7 +15,7 @@ use Rattle.cx_service.specs.CatchUps.{HasSeen}
 use Rattle.cx_service.specs.declared.close.Handed.{Handed}
 use Rattle.cx_service.specs.declared.close.Handed.TheVariants.{Idle, Linked, Stopped}
 use Rattle.cx_service.proofs.Seeing.{answered_read_seen, catch_up_seen, driven_seen, image_behind, image_seen, read_behind, read_seen, submit_linked_behind, submit_seen}
-use Rattle.seat_pool.specs.Gathering.{IsHandedOf, number_of}
+use Rattle.seat_pool.specs.Gathering.{IsHandedOf, handed_number}
 use Rattle.c_sessions.specs.declared.seeing.Sight.{Sight}
 use Rattle.c_sessions.specs.declared.seeing.Sight.TheVariants.{Caught, Behind, Stopped as SightStopped, OutOfTurn as SightOutOfTurn}
 use Rattle.c_sessions.specs.declared.steps.Called.{Called}
@@ -23,14 +23,14 @@ use Rattle.c_sessions.specs.declared.steps.Called.TheVariants.{Done, Pending, Ag
 use Rattle.c_sessions.specs.Calls.{AsksBy, CallsFrom, DrivesTo, EntersNot, EntersTo, FinishesFrom, LooksTo, place_after}
 use Rattle.c_sessions.specs.Handing.{IsExitOf}
 use Rattle.c_sessions.specs.Images.{TakesFrom, TakesTo, place_taken}
-use Rattle.c_sessions.specs.Places.{HasPlace, SeesFrom, SeesTo, place_seen}
-use Rattle.c_sessions.specs.Sessions.{IsReady, Stands}
+use Rattle.c_sessions.specs.Places.{HasSeenPlace, SeesFrom, SeesTo, place_seen}
+use Rattle.c_sessions.specs.Sessions.{IsSessionReady, SessionStands}
 use Rattle.c_sessions.specs.declared.session.Session.{Session}
 use Rattle.c_sessions.specs.declared.taking.Taken.{Taken}
 use Rattle.c_sessions.specs.declared.taking.Taken.TheVariants.{At, Again as TakenAgain, Stopped as TakenStopped, OutOfTurn as TakenOutOfTurn}
 
 -- nothing is below 0
-pub none_seen : {O : Type 0} (r : Running O) (handed : Handed) → HasPlace r 0 handed
+pub none_seen : {O : Type 0} (r : Running O) (handed : Handed) → HasSeenPlace r 0 handed
 none_seen r (Idle caller) = record { front = omega arith; read = inl (omega arith) }
 none_seen r (Linked linked) = λ ticket at. omega arith
 none_seen r (Stopped stopped) = tt
@@ -38,24 +38,24 @@ none_seen r (Stopped stopped) = tt
 -- a place does not fall from one moment to the next, what stands of the caller then has seen it, and it is the same caller
 pub record Goes {O : Type 0} (r : Running O) (number before after : ℕ) (handed : Handed) : Type 0 where
   pub rises : before ≤ after
-  pub seen : HasPlace r after handed
-  pub same : number_of handed ≡ number
+  pub seen : HasSeenPlace r after handed
+  pub same : handed_number handed ≡ number
 
 abbrev number_at : Seated → ℕ
 number_at u = u.known.local.number
 
 module _ {O : Type 0} (r : Running O) (place : ℕ) where
-  stays : (n : ℕ) (handed : Handed) → HasPlace r place handed → number_of handed ≡ n → Goes r n place place handed
+  stays : (n : ℕ) (handed : Handed) → HasSeenPlace r place handed → handed_number handed ≡ n → Goes r n place place handed
   stays n handed seen same = record { rises = omega arith; seen = seen; same = same }
 
-  out_of_turn : (called : Called) (before after : Handed) → HasPlace r place before → called ≡ OutOfTurn → after ≡ before → Goes r (number_of before) place (place_after called place) after
+  out_of_turn : (called : Called) (before after : Handed) → HasSeenPlace r place before → called ≡ OutOfTurn → after ≡ before → Goes r (handed_number before) place (place_after called place) after
   out_of_turn called before after seen is same =
-      subst (λ (c : Called). Goes r (number_of before) place (place_after c place) after) (sym is) (subst (λ (h : Handed). Goes r (number_of before) place place h) (sym same) (stays (number_of before) before seen refl))
+      subst (λ (c : Called). Goes r (handed_number before) place (place_after c place) after) (sym is) (subst (λ (h : Handed). Goes r (handed_number before) place place h) (sym same) (stays (handed_number before) before seen refl))
 
   same_ticket : (u v : Seated) → v.known.local.own ≡ u.known.local.own → v.known.local.answered ≡ u.known.local.answered → unanswered_ticket v.known.local ≡ unanswered_ticket u.known.local
   same_ticket u v own answered = ap₂ (λ (xs : List OwnEntry) (given : List Answer). option_map (λ (x : OwnEntry). x.ticket) (slice_get xs (length given))) own answered
 
-  drives_goes : (tries : ℕ) (u : Seated) (called : Called) (after : Handed) (reply : List ℕ) → HasPlace r place (Linked u) → DrivesTo r tries u called after reply → Goes r (number_at u) place (place_after called place) after
+  drives_goes : (tries : ℕ) (u : Seated) (called : Called) (after : Handed) (reply : List ℕ) → HasSeenPlace r place (Linked u) → DrivesTo r tries u called after reply → Goes r (number_at u) place (place_after called place) after
   drives_goes tries u (Done p) (Idle v) reply low told =
       let done = told.2.0 in
       let answer : Answer = record { ticket = told.0; reply = reply } in
@@ -93,13 +93,13 @@ module _ {O : Type 0} (r : Running O) (place : ℕ) where
   asks_goes true op tries u called after reply caller was told = looks_goes op tries u called after reply caller was told
   asks_goes false op tries u called after reply caller was told = enters_goes op tries u called after reply caller was told
 
-  pub calls_go : (reads : O → List ℕ → Bool) (op : List ℕ) (tries : ℕ) (before : Handed) (called : Called) (after : Handed) (reply : List ℕ) → IsHandedOf r before → HasPlace r place before → CallsFrom reads r op tries before called after reply →
-      Goes r (number_of before) place (place_after called place) after
+  pub calls_go : (reads : O → List ℕ → Bool) (op : List ℕ) (tries : ℕ) (before : Handed) (called : Called) (after : Handed) (reply : List ℕ) → IsHandedOf r before → HasSeenPlace r place before → CallsFrom reads r op tries before called after reply →
+      Goes r (handed_number before) place (place_after called place) after
   calls_go reads op tries (Idle u) called after reply caller was told = asks_goes (reads r.object op) op tries u called after reply caller was told
   calls_go reads op tries (Linked u) called after reply caller was told = out_of_turn called (Linked u) after was told.0 told.1
   calls_go reads op tries (Stopped u) called after reply caller was told = out_of_turn called (Stopped u) after was told.0 told.1
 
-  pub finishes_go : (tries : ℕ) (before : Handed) (called : Called) (after : Handed) (reply : List ℕ) → HasPlace r place before → FinishesFrom r tries before called after reply → Goes r (number_of before) place (place_after called place) after
+  pub finishes_go : (tries : ℕ) (before : Handed) (called : Called) (after : Handed) (reply : List ℕ) → HasSeenPlace r place before → FinishesFrom r tries before called after reply → Goes r (handed_number before) place (place_after called place) after
   finishes_go tries (Linked u) called after reply was told = drives_goes tries u called after reply was told
   finishes_go tries (Idle u) called after reply was told = out_of_turn called (Idle u) after was told.0 told.1
   finishes_go tries (Stopped u) called after reply was told = out_of_turn called (Stopped u) after was told.0 told.1
@@ -117,11 +117,11 @@ module _ {O : Type 0} (r : Running O) (place : ℕ) where
   sees_goes wanted u SightStopped (Stopped v) caller was told = stays (number_at u) (Stopped v) tt told.keeps.number
   sees_goes wanted u sight after caller was told = absurd told
 
-  no_sight : (wanted : ℕ) (sight : Sight) (before after : Handed) → HasPlace r place before → sight ≡ SightOutOfTurn → after ≡ before → Goes r (number_of before) place (place_seen sight wanted place) after
+  no_sight : (wanted : ℕ) (sight : Sight) (before after : Handed) → HasSeenPlace r place before → sight ≡ SightOutOfTurn → after ≡ before → Goes r (handed_number before) place (place_seen sight wanted place) after
   no_sight wanted sight before after seen is same =
-      subst (λ (c : Sight). Goes r (number_of before) place (place_seen c wanted place) after) (sym is) (subst (λ (h : Handed). Goes r (number_of before) place place h) (sym same) (stays (number_of before) before seen refl))
+      subst (λ (c : Sight). Goes r (handed_number before) place (place_seen c wanted place) after) (sym is) (subst (λ (h : Handed). Goes r (handed_number before) place place h) (sym same) (stays (handed_number before) before seen refl))
 
-  pub sees_go : (wanted : ℕ) (before : Handed) (sight : Sight) (after : Handed) → IsHandedOf r before → HasPlace r place before → SeesFrom r wanted before sight after → Goes r (number_of before) place (place_seen sight wanted place) after
+  pub sees_go : (wanted : ℕ) (before : Handed) (sight : Sight) (after : Handed) → IsHandedOf r before → HasSeenPlace r place before → SeesFrom r wanted before sight after → Goes r (handed_number before) place (place_seen sight wanted place) after
   sees_go wanted (Idle u) sight after caller was told = sees_goes wanted u sight after caller was told
   sees_go wanted (Linked u) sight after caller was told = no_sight wanted sight (Linked u) after was told.0 told.1
   sees_go wanted (Stopped u) sight after caller was told = no_sight wanted sight (Stopped u) after was told.0 told.1
@@ -134,42 +134,46 @@ module _ {O : Type 0} (r : Running O) (place : ℕ) where
   takes_goes o words tries u TakenStopped (Stopped v) caller was told = stays (number_at u) (Stopped v) tt told.0.keeps.lists.number
   takes_goes o words tries u taken after caller was told = absurd told
 
-  no_image : (taken : Taken) (before after : Handed) → HasPlace r place before → taken ≡ TakenOutOfTurn → after ≡ before → Goes r (number_of before) place (place_taken taken place) after
+  no_image : (taken : Taken) (before after : Handed) → HasSeenPlace r place before → taken ≡ TakenOutOfTurn → after ≡ before → Goes r (handed_number before) place (place_taken taken place) after
   no_image taken before after seen is same =
-      subst (λ (t : Taken). Goes r (number_of before) place (place_taken t place) after) (sym is) (subst (λ (h : Handed). Goes r (number_of before) place place h) (sym same) (stays (number_of before) before seen refl))
+      subst (λ (t : Taken). Goes r (handed_number before) place (place_taken t place) after) (sym is) (subst (λ (h : Handed). Goes r (handed_number before) place place h) (sym same) (stays (handed_number before) before seen refl))
 
-  pub takes_go : (o : Ghosts O) (words : List ℕ) (tries : ℕ) (before : Handed) (taken : Taken) (after : Handed) → IsHandedOf r before → HasPlace r place before → TakesFrom o r words tries before taken after →
-      Goes r (number_of before) place (place_taken taken place) after
+  pub takes_go : (o : Ghosts O) (words : List ℕ) (tries : ℕ) (before : Handed) (taken : Taken) (after : Handed) → IsHandedOf r before → HasSeenPlace r place before → TakesFrom o r words tries before taken after →
+      Goes r (handed_number before) place (place_taken taken place) after
   takes_go o words tries (Idle u) taken after caller was told = takes_goes o words tries u taken after caller was told
   takes_go o words tries (Linked u) taken after caller was told = no_image taken (Linked u) after was told.0 told.1
   takes_go o words tries (Stopped u) taken after caller was told = no_image taken (Stopped u) after was told.0 told.1
 
--- a session of which this stands after a call, and which tells this place
-module _ {O : Type 0} (s : Session O) (b h : Handed) (service : Running O) (same : service ≡ arc_value s.service) (ready : IsReady s) (at : s.handed ≡ Some b) (place : ℕ) where
-  abbrev next : Session O
-  next = record { service = s.service; exit = s.exit; handed = Some h; place = place }
+-- the session after a call that leaves its share, has this stand of its caller, and tells this place
+abbrev after : {O : Type 0} → Session O → Handed → ℕ → Session O
+after s h place = record { service = s.service; exit = s.exit; handed = Some h; place = place }
 
-  was : ready.handed ≡ b
-  was = same_Some ready.handed b (sym ready.is ∙ at)
+-- it is ready, and the call came to this
+pub record Left {O : Type 0} (s : Session O) (h : Handed) (place told : ℕ) (come_to : Running O → Handed → Handed → Type 0) : Type 0 where
+  pub ready : IsSessionReady (after s h place)
+  pub stands : SessionStands s (after s h place) told (come_to (arc_value s.service))
 
-  -- what stood before the call, and what it had seen
-  pub stood : IsHandedOf service b × HasPlace service s.place b
-  stood =
-      subst (λ (r : Running O). IsHandedOf r b × HasPlace r s.place b) (sym same) (subst (λ (x : Handed). IsHandedOf (arc_value s.service) x × HasPlace (arc_value s.service) s.place x) was (ready.of, ready.seen))
-
-  pub ready_next : IsHandedOf service h → Goes service (number_of b) s.place place h → IsReady next
-  ready_next of goes = record {
-    handed = h;
-    is = refl;
-    of = subst (λ (r : Running O). IsHandedOf r h) same of;
-    seen = subst (λ (r : Running O). HasPlace r place h) same goes.seen;
-    exit = subst (λ n. IsExitOf (arc_value s.service) (n ∷ []) s.exit) (ap number_of was ∙ sym goes.same) ready.exit;
-  }
-
-  pub stands_next : (come_to : Running O → Handed → Handed → Type 0) → come_to service b h → Goes service (number_of b) s.place place h → (told : ℕ) → place ≡ told → Stands s next told (come_to (arc_value s.service))
-  stands_next come_to came goes told is = record {
-    same = refl;
-    told = subst (λ (o : Option Handed). IfSome o (λ x. come_to (arc_value s.service) x h)) (sym at) (subst (λ (r : Running O). come_to r b h) same came);
-    is = is;
-    rises = goes.rises;
-  }
+-- so it is where what stands of the caller goes on to this, of what stood before the call and had seen the session's place
+pub left_by : {O : Type 0} (come_to : Running O → Handed → Handed → Type 0) (s : Session O) (b h : Handed) (service : Running O) (place told : ℕ) → service ≡ arc_value s.service → IsSessionReady s → s.handed ≡ Some b → place ≡ told
+    → IsHandedOf service h → come_to service b h → (IsHandedOf service b → HasSeenPlace service s.place b → Goes service (handed_number b) s.place told h) → Left s h place told come_to
+left_by come_to s b h service place told same ready at is of came going =
+    let r = arc_value s.service in
+    let was : ready.handed ≡ b = same_Some ready.handed b (sym ready.is ∙ at) in
+    let stood : IsHandedOf service b × HasSeenPlace service s.place b =
+    subst (λ (q : Running _). IsHandedOf q b × HasSeenPlace q s.place b) (sym same) (subst (λ (x : Handed). IsHandedOf r x × HasSeenPlace r s.place x) was (ready.of, ready.seen)) in
+    let goes : Goes r (handed_number b) s.place place h = subst (λ n. Goes r (handed_number b) s.place n h) (sym is) (subst (λ (q : Running _). Goes q (handed_number b) s.place told h) same (going stood.0 stood.1)) in
+    record {
+      ready = record {
+        handed = h;
+        is = refl;
+        of = subst (λ (q : Running _). IsHandedOf q h) same of;
+        seen = goes.seen;
+        exit = subst (λ n. IsExitOf r (n ∷ []) s.exit) (ap handed_number was ∙ sym goes.same) ready.exit;
+      };
+      stands = record {
+        same = refl;
+        told = subst (λ (o : Option Handed). IfSome o (λ x. come_to r x h)) (sym at) (subst (λ (q : Running _). come_to q b h) same came);
+        is = is;
+        rises = goes.rises;
+      };
+    }

@@ -1,4 +1,4 @@
--- What a call comes to: the service's answer, by what it was asked.
+-- The result of a call: the service's answer, by what was asked.
 use Rattle.std.specs.Prelude.{◌≡◌, ◌+◌, ◌⊎◌, ℕ, Bool, true, false, List}
 use Rattle.cx_rule.specs.Running.{Running}
 use Rattle.cx_rule.specs.Seats.{Seated}
@@ -14,19 +14,19 @@ use Rattle.cx_service.specs.Submits.{Submits}
 use Rattle.c_sessions.specs.declared.steps.Called.{Called}
 use Rattle.c_sessions.specs.declared.steps.Called.TheVariants.{Done, Pending, Again, Full, Worn, Stopped as CalledStopped, OutOfTurn}
 
--- the place that a session tells behind a call, which told this one before
+-- the place that a session tells after a call, which told this one before
 abbrev pub place_after : Called → ℕ → ℕ
 place_after (Done place) before = place
 place_after called before = before
 
--- driving a linked entry in so many turns comes to this, with this reply where it is done, and the place behind the entry
+-- driving a linked entry in this many turns has this result, with this reply where it is done, and the place after the entry
 abbrev pub DrivesTo : {O : Type 0} → Running O → ℕ → Seated → Called → Handed → List ℕ → Type 0
 DrivesTo r tries before (Done place) (Idle after) reply = (ticket : ℕ) × (place ≡ ticket + 1) × Drives r tries before (DrivenDone after (record { ticket = ticket; reply = reply }))
 DrivesTo r tries before Pending (Linked after) reply = Drives r tries before (DrivenPending after)
 DrivesTo r tries before CalledStopped (Stopped after) reply = Drives r tries before (DrivenHalted after)
 DrivesTo r tries before called after reply = ⊥
 
--- a read beside the queue comes to this, with its place where it is done
+-- a read beside the queue has this result, with its place where it is done
 abbrev pub LooksTo : {O : Type 0} → Running O → List ℕ → ℕ → Seated → Called → Handed → List ℕ → Type 0
 LooksTo r op tries before (Done place) (Idle after) reply = Looks r op tries before (Read after (record { place = place; reply = reply }))
 LooksTo r op tries before Again (Idle after) reply = Looks r op tries before (ReadPending after)

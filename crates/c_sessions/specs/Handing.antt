@@ -6,9 +6,9 @@ use Rattle.std.specs.Global.{Global}
 use Rattle.crossbeam_queue.specs.Passes.{Pass, view, IsPassOf}
 use Rattle.cx_rule.specs.Running.{Running}
 use Rattle.cx_service.specs.declared.close.Handed.{Handed}
-use Rattle.seat_pool.specs.Gathering.{IsHandedOf, number_of}
-use Rattle.seat_pool.specs.Pooling.{total}
-use Rattle.c_sessions.specs.Rule.{knows, with_given}
+use Rattle.seat_pool.specs.Gathering.{IsHandedOf, handed_number}
+use Rattle.seat_pool.specs.Pooling.{total_weight}
+use Rattle.c_sessions.specs.Rule.{knows, pass_with_given}
 use Rattle.c_sessions.specs.declared.exit.Exit.{Exit}
 use Rattle.c_sessions.specs.declared.exit.Rest.{Rest}
 use Rattle.c_sessions.specs.declared.handover.Handover.{Handover}
@@ -20,17 +20,17 @@ pub record IsPassIn {O : Type 0} (r : Running O) (due : List ℕ) (handover : Ha
   pub of : IsPassOf handover.line pass
   pub is : view pass ≡ knows (Some r) due []
 
--- a queue for so many callers of a service, and a pass of it that is to hand in these
-pub record IsOpen {O : Type 0} (r : Running O) (callers : ℕ) (due : List ℕ) (handover : Handover O) (pass : Pass (HandedIn O) (Knows O)) : Type 0 where
+-- a queue for this many callers of a service, and a pass of it that is to hand in these
+pub record IsPassOpen {O : Type 0} (r : Running O) (callers : ℕ) (due : List ℕ) (handover : Handover O) (pass : Pass (HandedIn O) (Knows O)) : Type 0 where
   pub count : handover.callers ≡ callers
   pub pass_of : IsPassIn r due handover pass
 
 -- the caller lies in the queue, or it is handed back and nothing is changed
 pub record HandsInTo {O : Type 0} (handover : Handover O) (before : Pass (HandedIn O) (Knows O)) (given : HandedIn O) (answer : Result (Unit {0}) (HandedIn O)) (after : Pass (HandedIn O) (Knows O)) : Type 0 where
   pub of : IsPassOf handover.line after
-  pub told : MatchResult answer (λ _. view after ≡ with_given (view before)) (λ back. (back ≡ given) × (view after ≡ view before))
+  pub told : MatchResult answer (λ _. view after ≡ pass_with_given (view before)) (λ back. (back ≡ given) × (view after ≡ view before))
 
--- an empty list with room for so many
+-- an empty list with room for this many
 pub record IsRoom (count : ℕ) (items : List Handed) (capacity : ℕ) : Type 0 where
   pub none : items ≡ []
   pub enough : count ≤ capacity
@@ -48,12 +48,12 @@ pub record HasTaken {O : Type 0} (r : Running O) (handover : Handover O) (pass :
   pub of : IsPassOf handover.line pass
   pub taken : List ℕ
   pub is : view pass ≡ knows (Some r) [] taken
-  pub numbers : (h : ℕ → ℕ) → total (λ (g : Handed). h (number_of g)) gathered ≡ total h taken
+  pub numbers : (h : ℕ → ℕ) → total_weight (λ (g : Handed). h (handed_number g)) gathered ≡ total_weight h taken
   pub each : All (IsHandedOf r) gathered
   pub share_is : MatchOption share (gathered ≡ []) (λ s. arc_value s ≡ r)
 
 -- what the session that is closed last has of the service's callers, with room for all
-pub record IsRestOf {O : Type 0} (r : Running O) (rest : Rest O) : Type 0 where
+pub record IsSessionRestOf {O : Type 0} (r : Running O) (rest : Rest O) : Type 0 where
   pub some : 0 < r.callers
   pub count : (arc_value rest.exit.handover).callers ≡ r.callers
   pub has : HasTaken r (arc_value rest.exit.handover) rest.exit.pass rest.service rest.exit.gathered.items
@@ -61,6 +61,6 @@ pub record IsRestOf {O : Type 0} (r : Running O) (rest : Rest O) : Type 0 where
   pub out : IsRoom r.callers rest.exit.out.items (vec_capacity rest.exit.out)
 
 -- a caller of the service is missing: fewer are there than it has
-pub record IsMissing {O : Type 0} (r : Running O) (rest : Rest O) : Type 0 where
-  pub of : IsRestOf r rest
+pub record IsCallerMissing {O : Type 0} (r : Running O) (rest : Rest O) : Type 0 where
+  pub of : IsSessionRestOf r rest
   pub fewer : length rest.exit.gathered.items < r.callers

@@ -1,4 +1,4 @@
--- What it comes to that the caller of a session takes an image of the object while others go on.
+-- The result of having the caller of a session take an image of the object while others go on.
 use Rattle.std.specs.Prelude.{◌≡◌, ℕ, List}
 use Rattle.cx_base.specs.declared.object.Object.{Ghosts}
 use Rattle.cx_rule.specs.Running.{Running}
@@ -15,7 +15,7 @@ abbrev pub place_taken : Taken → ℕ → ℕ
 place_taken (At place) before = place
 place_taken taken before = before
 
--- that a caller with no call under way is to take an image comes to this, with these words where it is taken
+-- having a caller with no call under way take an image has this result, with these words where it is taken
 abbrev pub TakesTo : {O : Type 0} → Ghosts O → Running O → List ℕ → ℕ → Seated → Taken → Handed → Type 0
 TakesTo o r words tries before (At place) (Idle after) = Checkpoints o r words tries before (ImageTaken after place)
 TakesTo o r words tries before Again (Idle after) = Checkpoints o r words tries before (ImagePending after)

@@ -1,4 +1,4 @@
--- What the caller of a session has seen of a place, and what catching up with one comes to.
+-- What the caller of a session has seen of a place, and the result of catching up with one.
 use Rattle.std.specs.Prelude.{◌≡◌, ◌≤◌, ℕ, max, Some}
 use Rattle.cx_rule.specs.Running.{Running}
 use Rattle.cx_rule.specs.Seats.{Seated, unanswered_ticket}
@@ -10,17 +10,17 @@ use Rattle.c_sessions.specs.declared.seeing.Sight.{Sight}
 use Rattle.c_sessions.specs.declared.seeing.Sight.TheVariants.{Caught, Behind, Stopped as SightStopped, OutOfTurn}
 
 -- What stands of a caller has seen a place: it is answered nothing below it. A stopped caller makes no further call.
-abbrev pub HasPlace : {O : Type 0} → Running O → ℕ → Handed → Type 0
-HasPlace r place (Idle caller) = HasSeen r.callers place caller.known.local
-HasPlace r place (Linked linked) = (ticket : ℕ) → unanswered_ticket linked.known.local ≡ Some ticket → place ≤ ticket
-HasPlace r place (Stopped stopped) = Unit {0}
+abbrev pub HasSeenPlace : {O : Type 0} → Running O → ℕ → Handed → Type 0
+HasSeenPlace r place (Idle caller) = HasSeen r.callers place caller.known.local
+HasSeenPlace r place (Linked linked) = (ticket : ℕ) → unanswered_ticket linked.known.local ≡ Some ticket → place ≤ ticket
+HasSeenPlace r place (Stopped stopped) = Unit {0}
 
 -- the place that a session tells that was to see one, and told this one before
 abbrev pub place_seen : Sight → ℕ → ℕ → ℕ
 place_seen Caught place before = max before place
 place_seen sight place before = before
 
--- that a caller with no call under way is to see a place comes to this
+-- having a caller with no call under way see a place has this result
 abbrev pub SeesTo : {O : Type 0} → Running O → ℕ → Seated → Sight → Handed → Type 0
 SeesTo r place before Caught (Idle after) = CatchesUp r place before (CallerCaught after)
 SeesTo r place before (Behind found) (Idle after) = CatchesUp r place before (CallerBehind after found)

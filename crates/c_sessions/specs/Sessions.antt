@@ -16,43 +16,43 @@ use Rattle.c_sessions.specs.declared.opening.OpenFault.{OpenFault}
 use Rattle.c_sessions.specs.declared.opening.OpenFault.TheVariants.{Start, InTheWay}
 use Rattle.c_sessions.specs.declared.session.Session.{Session}
 use Rattle.c_sessions.specs.declared.steps.Called.{Called}
-use Rattle.seat_pool.specs.Gathering.{IsHandedOf, number_of}
+use Rattle.seat_pool.specs.Gathering.{IsHandedOf, handed_number}
 use Rattle.c_sessions.specs.Calls.{CallsFrom, FinishesFrom, place_after}
-use Rattle.c_sessions.specs.Places.{HasPlace, SeesFrom, place_seen}
+use Rattle.c_sessions.specs.Places.{HasSeenPlace, SeesFrom, place_seen}
 use Rattle.c_sessions.specs.declared.seeing.Sight.{Sight}
 use Rattle.c_sessions.specs.Images.{TakesFrom, place_taken}
 use Rattle.c_sessions.specs.declared.taking.Taken.{Taken}
 use Rattle.c_sessions.specs.Handing.{IsExitOf}
 
 -- something stands of the session's caller, which has seen the session's place, and the session can be closed
-pub record IsReady {O : Type 0} (s : Session O) : Type 0 where
+pub record IsSessionReady {O : Type 0} (s : Session O) : Type 0 where
   pub handed : Handed
   pub is : s.handed ≡ Some handed
   pub of : IsHandedOf (arc_value s.service) handed
-  pub seen : HasPlace (arc_value s.service) s.place handed
-  pub exit : IsExitOf (arc_value s.service) (number_of handed ∷ []) s.exit
+  pub seen : HasSeenPlace (arc_value s.service) s.place handed
+  pub exit : IsExitOf (arc_value s.service) (handed_number handed ∷ []) s.exit
 
 -- a session of this service, ready
 pub record IsReadyOf {O : Type 0} (r : Running O) (s : Session O) : Type 0 where
   pub same : arc_value s.service ≡ r
-  pub ready : IsReady s
+  pub ready : IsSessionReady s
 
 -- the number of a session's caller
-abbrev pub number_in : {O : Type 0} → Session O → ℕ
-number_in s = option_map_or (λ h. (seat_of h).known.local.number) s.handed 0
+abbrev pub caller_number_in : {O : Type 0} → Session O → ℕ
+caller_number_in s = option_map_or (λ h. (seat_of h).known.local.number) s.handed 0
 
 -- ready sessions of this service, for each of these callers one, in order
 pub record AreReadyOf {O : Type 0} (r : Running O) (callers : List Seated) (sessions : List (Session O)) : Type 0 where
   pub each : All (IsReadyOf r) sessions
-  pub numbers : map number_in sessions ≡ map (λ (x : Seated). x.known.local.number) callers
+  pub numbers : map caller_number_in sessions ≡ map (λ (x : Seated). x.known.local.number) callers
 
--- so many ready sessions of one service of an object in so many lines, which opens from this base, of caller 0 first
+-- this many ready sessions of one service of an object in this many lines, which opens from this base, of caller 0 first
 pub record AreReady {O : Type 0} (object : O) (lines count : ℕ) (base : Base) (sessions : List (Session O)) : Type 0 where
   pub all : length sessions ≡ count
   pub service : Running O
   pub is : service ≡ record { table = service.table; callers = count; lines = lines; base = base; object = object }
   pub each : All (IsReadyOf service) sessions
-  pub numbers : map number_in sessions ≡ range_with_len 0 count
+  pub numbers : map caller_number_in sessions ≡ range_with_len 0 count
 
 -- the same of a service that opens from the object as it opens
 pub record AreFirst {O : Type 0} (object : O) (lines count : ℕ) (opening : List ℕ) (sessions : List (Session O)) : Type 0 where
@@ -60,7 +60,7 @@ pub record AreFirst {O : Type 0} (object : O) (lines count : ℕ) (opening : Lis
   pub fresh : base ≡ record { place = 0; words = fresh_region opening }
   pub ready : AreReady object lines count base sessions
 
--- Why a service of so many callers of an object of so many lines is not opened: the first number that is wrong, or want of memory, which may come
+-- Why a service of this many callers of an object of this many lines is not opened: the first number that is wrong, or out of memory, which may come
 -- before the numbers are looked at; or the numbers are right, and the sessions' new queue did not take its first entry or give it back.
 abbrev pub IsOpenFault : ℕ → ℕ → OpenFault → Type 0
 IsOpenFault callers lines (Start Memory) = Unit {0}
@@ -68,24 +68,24 @@ IsOpenFault callers lines (Start fault) = IsStartFault callers lines fault
 IsOpenFault callers lines InTheWay = AreFewCallers callers × AreFewLines lines
 
 -- The session after it has the same share, and this stands of its caller. Its place is this one, and does not fall.
-pub record Stands {O : Type 0} (before after : Session O) (place : ℕ) (come_to : Handed → Handed → Type 0) : Type 0 where
+pub record SessionStands {O : Type 0} (before after : Session O) (place : ℕ) (come_to : Handed → Handed → Type 0) : Type 0 where
   pub same : arc_value after.service ≡ arc_value before.service
   pub told : IfSome before.handed (λ b. IfSome after.handed (come_to b))
   pub is : after.place ≡ place
   pub rises : before.place ≤ after.place
 
--- A call of this operation, in so many tries, came to this. An answer's place is the session's then, so it is not below the place before.
+-- A call of this operation, in this many tries, had this result. An answer's place is the session's then, so it is not below the place before.
 abbrev pub CallsIn : {O : Type 0} → (O → List ℕ → Bool) → List ℕ → ℕ → Session O → Called → Session O → List ℕ → Type 0
-CallsIn reads op tries before called after reply = Stands before after (place_after called before.place) (λ b a. CallsFrom reads (arc_value before.service) op tries b called a reply)
+CallsIn reads op tries before called after reply = SessionStands before after (place_after called before.place) (λ b a. CallsFrom reads (arc_value before.service) op tries b called a reply)
 
--- and so did finishing, in so many turns
+-- the same of finishing, in this many turns
 abbrev pub FinishesIn : {O : Type 0} → ℕ → Session O → Called → Session O → List ℕ → Type 0
-FinishesIn tries before called after reply = Stands before after (place_after called before.place) (λ b a. FinishesFrom (arc_value before.service) tries b called a reply)
+FinishesIn tries before called after reply = SessionStands before after (place_after called before.place) (λ b a. FinishesFrom (arc_value before.service) tries b called a reply)
 
 -- and so did catching up with a place
 abbrev pub SeesIn : {O : Type 0} → ℕ → Session O → Sight → Session O → Type 0
-SeesIn place before sight after = Stands before after (place_seen sight place before.place) (λ b a. SeesFrom (arc_value before.service) place b sight a)
+SeesIn place before sight after = SessionStands before after (place_seen sight place before.place) (λ b a. SeesFrom (arc_value before.service) place b sight a)
 
--- And so did taking an image, in so many tries, with these words where it is taken. Its place is the session's then, so it is not below the place before.
+-- The same of taking an image, in this many tries, with these words where it is taken. Its place is the session's then, so it is not below the place before.
 abbrev pub TakesIn : {O : Type 0} → Ghosts O → List ℕ → ℕ → Session O → Taken → Session O → Type 0
-TakesIn o words tries before taken after = Stands before after (place_taken taken before.place) (λ b a. TakesFrom o (arc_value before.service) words tries b taken a)
+TakesIn o words tries before taken after = SessionStands before after (place_taken taken before.place) (λ b a. TakesFrom o (arc_value before.service) words tries b taken a)

@@ -5,8 +5,8 @@ ghost use Rattle.cx_rule.specs.Running.{Running};
 ghost use Rattle.cx_service.specs.Closes.{seats_of};
 ghost use Rattle.cx_table.specs.Remains.{AreSeats};
 ghost use Rattle.c_sessions.specs.Closings.{Closes, ClosesTo, IsClosedOf};
-ghost use Rattle.c_sessions.specs.Handing.{IsRestOf};
-ghost use Rattle.c_sessions.specs.Sessions.{IsReady};
+ghost use Rattle.c_sessions.specs.Handing.{IsSessionRestOf};
+ghost use Rattle.c_sessions.specs.Sessions.{IsSessionReady};
 
 use crate::exit::{Exit, Rest};
 use crate::gathering::gather;
@@ -20,7 +20,7 @@ use std::alloc::Global;
 use std::sync::Arc;
 use std::sync::atomic::Ordering;
 
-/// What closing a session comes to.
+/// The result of closing a session.
 #[derive(Drop)]
 pub enum Closing<O: Object> {
     /// Other sessions of the service are not closed. The caller lies with those that are handed in.
@@ -29,7 +29,7 @@ pub enum Closing<O: Object> {
     Again(Session<O>),
     /// It was the last: what the service leaves.
     Closed(Remains),
-    /// It was the last, and there is no memory: the service and all its callers, of caller 0 first.
+    /// It was the last, and memory ran out: the service and all its callers, of caller 0 first.
     Kept(Kept<O>),
     /// It was the last, and a caller of the service is missing: what it has is to be closed again.
     Missing(Rest<O>),
@@ -41,7 +41,7 @@ impl<O: Object> Session<O> {
     /// Closes the session. Its caller is handed in, in whatever state it is. The session that is closed last takes all callers of the
     /// service out, and closes it.
     pub fn close(self, alloc: Global) -> Closing<O>
-        requires { IsReady self }
+        requires { IsSessionReady self }
         ensures { Closes O.line_count O.lawful O.step O.only_reads self result }
     {
         let Session {
@@ -94,8 +94,8 @@ impl<O: Object> Session<O> {
 
 /// Gathers the callers that are still in the queue, and closes the service where these are all.
 pub fn close_rest<O: Object>(alloc: Global, rest: Rest<O>) -> Closing<O>
-    requires { (r : Running O) × IsRestOf r rest }
-    ensures { (r : Running O) → IsRestOf r rest → ClosesTo O.line_count O.lawful O.step O.only_reads r result }
+    requires { (r : Running O) × IsSessionRestOf r rest }
+    ensures { (r : Running O) → IsSessionRestOf r rest → ClosesTo O.line_count O.lawful O.step O.only_reads r result }
 {
     let Rest { service, exit } = rest;
     let Exit {
@@ -149,7 +149,7 @@ fn close_all<O: Object>(alloc: Global, kept: Kept<O>) -> Closing<O>
     }
 }
 
-/// Closes a service that was not closed for want of memory. `Err` is want of memory again, and hands all back as it was.
+/// Closes a service that was not closed since memory ran out. `Err` means that it ran out again, and hands all back as it was.
 pub fn close_kept<O: Object>(alloc: Global, kept: Kept<O>) -> Result<Remains, Kept<O>>
     requires { AreSeats kept.service (seats_of kept.callers.items) }
     ensures { MatchResult result (IsClosedOf O.line_count O.lawful O.step O.only_reads kept.service) (λ back. back ≡ kept) }

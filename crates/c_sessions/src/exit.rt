@@ -31,7 +31,7 @@ pub struct Rest<O: Object> {
 }
 
 impl<O: Object> Exit<O> {
-    /// One more way out of a service of so many callers, for the first caller that the pass is still to hand in.
+    /// One more way out of a service of this many callers, for the first caller that the pass is still to hand in.
     pub(crate) fn another(
         alloc: Global,
         service: &Service<O>,

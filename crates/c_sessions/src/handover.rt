@@ -5,9 +5,9 @@ ghost use Rattle.std.specs.Arc.{arc_value};
 ghost use Rattle.std.specs.List.{range_with_len};
 ghost use Rattle.crossbeam_queue.specs.Passes.{view, IsPassOf};
 ghost use Rattle.cx_rule.specs.Running.{Running};
-ghost use Rattle.seat_pool.specs.Pooling.{total};
-ghost use Rattle.c_sessions.specs.Handing.{HandsInTo, IsOpen, IsPassIn};
-ghost use Rattle.c_sessions.specs.Rule.{IsHandedInAt, callers_at, numbers_in, pass_weighs, with_taken};
+ghost use Rattle.seat_pool.specs.Pooling.{total_weight};
+ghost use Rattle.c_sessions.specs.Handing.{HandsInTo, IsPassOpen, IsPassIn};
+ghost use Rattle.c_sessions.specs.Rule.{IsHandedInAt, callers_known, numbers_in, pass_weighs, pass_with_taken};
 
 use crate::rule::{Gives, HandedIn, Knows, Line, Opens, Parts, Starts, Takes};
 use crossbeam_queue::Pass;
@@ -31,20 +31,20 @@ pub struct Handover<O: Object> {
 /// Why there is no queue.
 #[derive(Clone, Copy, Debug, PartialEq, Eq, Drop)]
 pub(crate) enum NoQueue {
-    /// There is no memory.
+    /// Out of memory.
     Memory,
     /// The new queue did not take the share, or did not give it back.
     InTheWay,
 }
 
-/// An empty queue for so many callers of a service, and a pass of it that is to hand in all of them.
+/// An empty queue for this many callers of a service, and a pass of it that is to hand in all of them.
 pub(crate) fn open_for<O: Object>(
     alloc: Global,
     service: &Arc<Service<O>, Global>,
     callers: u32,
 ) -> Result<(Handover<O>, Pass<HandedIn<O>, Knows<O>>), NoQueue>
     requires { (0 < callers) × (callers ≡ (arc_value service.now).callers) }
-    ensures { IfOk result (λ q. IsOpen (arc_value service.now) callers (range_with_len 0 callers) q.0 q.1) }
+    ensures { IfOk result (λ q. IsPassOpen (arc_value service.now) callers (range_with_len 0 callers) q.0 q.1) }
 {
     let Ok((line, mut pass)) = Line::ruled(alloc, callers as usize) else {
         return Err(NoQueue::Memory);
@@ -110,7 +110,7 @@ impl<O: Object> Handover<O> {
     pub(crate) fn take(&self, pass: &mut Pass<HandedIn<O>, Knows<O>>) -> Option<HandedIn<O>>
         requires { IsPassOf self.now.line pass.old × (r : Running O) × ((view pass.old).home ≡ Some r) }
         ensures pass { IsPassOf self.now.line pass.new }
-        ensures taken { MatchOption result (view pass.new ≡ view pass.old) (λ x. IsHandedInAt (view pass.old).home x × (view pass.new ≡ with_taken (view pass.old) x)) }
+        ensures taken { MatchOption result (view pass.new ≡ view pass.old) (λ x. IsHandedInAt (view pass.old).home x × (view pass.new ≡ pass_with_taken (view pass.old) x)) }
     {
         for _ in 0..TRIES {
             if let Some(taken) = self.line.try_pop_as::<Takes>(pass) {
@@ -124,7 +124,7 @@ impl<O: Object> Handover<O> {
     pub(crate) fn learn(&self, pass: &mut Pass<HandedIn<O>, Knows<O>>)
         requires { IsPassOf self.now.line pass.old × (r : Running O) × ((view pass.old).home ≡ Some r) }
         ensures same { IsPassOf self.now.line pass.new × (view pass.new ≡ view pass.old) }
-        ensures all { (elsewhere : List ℕ) × ((h : ℕ → ℕ) → pass_weighs h (view pass.old) + total h elsewhere ≡ total h (range_with_len 0 (callers_at (view pass.old).home))) }
+        ensures all { (elsewhere : List ℕ) × ((h : ℕ → ℕ) → pass_weighs h (view pass.old) + total_weight h elsewhere ≡ total_weight h (range_with_len 0 (callers_known (view pass.old).home))) }
     {
         self.line.learn_as::<Takes>(pass);
     }

@@ -25,8 +25,8 @@ pub enum OpenFault {
     InTheWay,
 }
 
-/// The sessions of a new service of so many callers over the object as it opens, of caller 0 first. All memory is taken here. A
-/// fault drops the object.
+/// The sessions of a new service of this many callers over the object as it opens, of caller 0 first. All memory is taken here. `Err`
+/// says why there are none, as for `open_from`, and drops the object.
 pub fn open<O: Object>(alloc: Global, object: O, callers: u32) -> Result<Vec<Session<O>>, OpenFault>
     ensures { MatchResult result (λ sessions. AreFirst object (O.line_count object) callers (O.opening object) sessions.items) (IsOpenFault callers (O.line_count object)) }
 {
@@ -36,7 +36,9 @@ pub fn open<O: Object>(alloc: Global, object: O, callers: u32) -> Result<Vec<Ses
     open_from(alloc, object, callers, &base)
 }
 
-/// The sessions of a new service of so many callers that opens from a base, of caller 0 first.
+/// The sessions of a new service of this many callers that opens from a base, of caller 0 first. `Err` says why there are none:
+/// the number of callers or of lines is wrong, memory ran out, or the new queue did not take its first entry or give it back. It drops
+/// the object.
 pub fn open_from<O: Object>(
     alloc: Global,
     object: O,

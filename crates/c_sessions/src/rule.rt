@@ -30,11 +30,11 @@ pub struct Knows<O: Object> {
 pub struct OfOneService;
 
 impl<O: Object> Protocol<HandedIn<O>, Knows<O>> for OfOneService {
-    ghost use Rattle.c_sessions.specs.Rule.{Gathers, fresh};
+    ghost use Rattle.c_sessions.specs.Rule.{KeepsOrIsNew, new_pass};
 
-    ghost holds = { Gathers };
+    ghost holds = { KeepsOrIsNew };
 
-    ghost first = { fresh };
+    ghost first = { new_pass };
 }
 
 /// The queue.
@@ -56,20 +56,20 @@ pub(crate) struct Starts;
 
 impl<O: Object> Outcome<HandedIn<O>, Knows<O>> for Starts {
     ghost use Rattle.std.specs.Prelude.{◌≡◌};
-    ghost use Rattle.c_sessions.specs.Rule.{opened};
+    ghost use Rattle.c_sessions.specs.Rule.{pass_of_all};
 
-    ghost then = { λ v x w. w ≡ opened v.offered };
+    ghost then = { λ v x w. w ≡ pass_of_all v.offered };
 }
 
 /// A pass is made of another, which is to hand in one caller less.
 pub(crate) struct Parts;
 
 impl<O: Object> Split<Knows<O>> for Parts {
-    ghost use Rattle.c_sessions.specs.Rule.{cut_left, cut_right};
+    ghost use Rattle.c_sessions.specs.Rule.{without_first_due, first_due};
 
-    ghost left = { λ v. cut_left v };
+    ghost left = { λ v. without_first_due v };
 
-    ghost right = { λ v. cut_right v };
+    ghost right = { λ v. first_due v };
 }
 
 /// A caller is put into the queue.
@@ -77,9 +77,9 @@ pub(crate) struct Gives;
 
 impl<O: Object> Outcome<HandedIn<O>, Knows<O>> for Gives {
     ghost use Rattle.std.specs.Prelude.{◌≡◌};
-    ghost use Rattle.c_sessions.specs.Rule.{with_given};
+    ghost use Rattle.c_sessions.specs.Rule.{pass_with_given};
 
-    ghost then = { λ v x w. w ≡ with_given v };
+    ghost then = { λ v x w. w ≡ pass_with_given v };
 }
 
 /// A caller is taken out.
@@ -87,13 +87,13 @@ pub(crate) struct Takes;
 
 impl<O: Object> Outcome<HandedIn<O>, Knows<O>> for Takes {
     ghost use Rattle.std.specs.Prelude.{◌≡◌};
-    ghost use Rattle.c_sessions.specs.Rule.{IsHandedInAt, with_taken};
+    ghost use Rattle.c_sessions.specs.Rule.{IsHandedInAt, pass_with_taken};
 
-    ghost then = { λ v x w. IsHandedInAt v.home x × (w ≡ with_taken v x) };
+    ghost then = { λ v x w. IsHandedInAt v.home x × (w ≡ pass_with_taken v x) };
 }
 
 impl<O: Object> Lesson<HandedIn<O>, Knows<O>> for Takes {
-    ghost use Rattle.c_sessions.specs.Rule.{Tells};
+    ghost use Rattle.c_sessions.specs.Rule.{TellsCallers};
 
-    ghost fact = { λ v items. Tells v items };
+    ghost fact = { λ v items. TellsCallers v items };
 }

@@ -14,7 +14,7 @@ pub enum Sight {
     Caught,
     /// The current place is below it: this one.
     Behind(u64),
-    /// The caller has come to its limit of steps.
+    /// The caller has reached its step limit.
     Stopped,
     /// An entry is linked that is not answered.
     OutOfTurn,

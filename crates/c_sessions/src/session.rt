@@ -3,16 +3,16 @@
 ghost use Rattle.std.specs.Prelude.{◌≡◌, ◌∷◌, [], Some, length};
 ghost use Rattle.std.specs.Arc.{arc_value};
 ghost use Rattle.cx_rule.specs.Running.{IsRunning};
-ghost use Rattle.seat_pool.specs.Gathering.{IsHandedOf, number_of};
+ghost use Rattle.seat_pool.specs.Gathering.{IsHandedOf, handed_number};
 ghost use Rattle.c_sessions.specs.Handing.{IsExitOf};
-ghost use Rattle.c_sessions.specs.Sessions.{CallsIn, FinishesIn, IsReady, SeesIn, TakesIn};
+ghost use Rattle.c_sessions.specs.Sessions.{CallsIn, FinishesIn, IsSessionReady, SeesIn, TakesIn};
 
 use crate::exit::Exit;
 use crate::seeing::{Sight, see};
 use crate::steps::{Called, end, go_on};
 use crate::taking::{Taken, take_image};
 use crate::tries::Tries;
-use cx_base::Object;
+use cx_base::{Object, OpWords};
 use cx_service::{Handed, Service};
 use std::alloc::Global;
 use std::sync::Arc;
@@ -31,8 +31,8 @@ impl<O: Object> Session<O> {
     /// A session of what stands of a caller.
     pub(crate) fn of(service: Arc<Service<O>, Global>, exit: Exit<O>, handed: Handed) -> Session<O>
         requires handed { IsHandedOf (arc_value service) handed }
-        requires exit { IsExitOf (arc_value service) (number_of handed ∷ []) exit }
-        ensures ready { IsReady result }
+        requires exit { IsExitOf (arc_value service) (handed_number handed ∷ []) exit }
+        ensures ready { IsSessionReady result }
         ensures of { (arc_value result.service ≡ arc_value service) × (result.handed ≡ Some handed) }
     {
         Session {
@@ -43,10 +43,10 @@ impl<O: Object> Session<O> {
         }
     }
 
-    /// Does an operation, in so many tries. The reply is written where the call is done, and nothing of it else.
-    pub fn call(&mut self, op: &[u64; 144], reply: &mut [u64; 144], tries: Tries) -> Called
-        requires ready { IsReady self.old }
-        ensures ready { IsReady self.new }
+    /// Does an operation, in at most the given number of tries. The reply is written where the call is done, and nothing of it else.
+    pub fn call(&mut self, op: &OpWords, reply: &mut OpWords, tries: Tries) -> Called
+        requires ready { IsSessionReady self.old }
+        ensures ready { IsSessionReady self.new }
         ensures calls { CallsIn O.only_reads op.now tries.count self.old result self.new reply.new }
     {
         let Some(handed) = self.handed.take() else {
@@ -58,10 +58,10 @@ impl<O: Object> Session<O> {
         called
     }
 
-    /// Drives the linked entry to its answer, in so many turns.
-    pub fn finish(&mut self, reply: &mut [u64; 144], tries: Tries) -> Called
-        requires ready { IsReady self.old }
-        ensures ready { IsReady self.new }
+    /// Drives the linked entry to its answer, in at most the given number of turns.
+    pub fn finish(&mut self, reply: &mut OpWords, tries: Tries) -> Called
+        requires ready { IsSessionReady self.old }
+        ensures ready { IsSessionReady self.new }
         ensures finishes { FinishesIn tries.count self.old result self.new reply.new }
     {
         let Some(handed) = self.handed.take() else {
@@ -84,8 +84,8 @@ impl<O: Object> Session<O> {
     /// Has the session see a place that another one of the service told, in whatever way. From `Caught` on what it is answered stands at or above
     /// the place. `Behind` comes only where the current place was found below it, which is where nobody was answered at it.
     pub fn catch_up(&mut self, place: u64) -> Sight
-        requires ready { IsReady self.old }
-        ensures ready { IsReady self.new }
+        requires ready { IsSessionReady self.old }
+        ensures ready { IsSessionReady self.new }
         ensures sees { SeesIn place self.old result self.new }
     {
         let Some(handed) = self.handed.take() else {
@@ -97,12 +97,12 @@ impl<O: Object> Session<O> {
         sight
     }
 
-    /// Takes an image of the object, results included, while others go on, in so many tries. From `At` on the words are a base from which a service may
-    /// start, at this place, which is the session's then. Else nothing is told of them.
+    /// Takes an image of the object, results included, while others go on, in at most the given number of tries. After `At` the words are a base from
+    /// which a service may start, at this place, which is the session's then. Else nothing is told of them.
     pub fn checkpoint(&mut self, into: &mut [u64], tries: Tries) -> Taken
-        requires ready { IsReady self.old }
+        requires ready { IsSessionReady self.old }
         requires words { length into.old ≡ length (arc_value self.old.service).base.words }
-        ensures ready { IsReady self.new }
+        ensures ready { IsSessionReady self.new }
         ensures takes { TakesIn O.Object into.new tries.count self.old result self.new }
         ensures length { length into.new ≡ length into.old }
     {
@@ -125,7 +125,7 @@ impl<O: Object> Session<O> {
 
     /// How many callers the service has.
     pub fn callers(&self) -> u32
-        requires { IsReady self.now }
+        requires { IsSessionReady self.now }
         ensures { result ≡ (arc_value self.now.service).callers }
     {
         self.exit.handover.callers

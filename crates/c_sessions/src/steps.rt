@@ -6,10 +6,10 @@ ghost use Rattle.seat_pool.specs.Gathering.{IsHandedOf};
 ghost use Rattle.c_sessions.specs.Calls.{Calls, CallsFrom, DrivesTo, EntersTo, FinishesFrom, LooksTo, place_after};
 
 use crate::tries::Tries;
-use cx_base::Object;
+use cx_base::{Object, OpWords};
 use cx_service::{Caller, Driven, Handed, Linked, ReadTried, Service, Submitted};
 
-/// What a call comes to.
+/// The result of a call.
 #[derive(Clone, Copy, Debug, PartialEq, Eq, Drop)]
 pub enum Called {
     /// It is answered, and the reply is there. The place tells others what is seen then: of an entry it is the ticket plus 1, of a read the read's.
@@ -22,14 +22,14 @@ pub enum Called {
     Full,
     /// There is no further ticket.
     Worn,
-    /// The caller has come to its limit of steps.
+    /// The caller has reached its step limit.
     Stopped,
     /// An entry is linked that is not answered, or none is where one is to be finished.
     OutOfTurn,
 }
 
 impl Called {
-    /// The place that a session tells behind the call, which told this one before.
+    /// The place that a session tells after the call, which told this one before.
     pub(crate) fn place_after(self, before: u64) -> u64
         ensures { result ≡ place_after self before }
     {
@@ -44,8 +44,8 @@ impl Called {
 pub(crate) fn go_on<O: Object>(
     service: &Service<O>,
     handed: Handed,
-    op: &[u64; 144],
-    reply: &mut [u64; 144],
+    op: &OpWords,
+    reply: &mut OpWords,
     tries: Tries,
 ) -> (Handed, Called)
     requires ready { IsHandedOf service.now handed }
@@ -62,7 +62,7 @@ pub(crate) fn go_on<O: Object>(
 pub(crate) fn end<O: Object>(
     service: &Service<O>,
     handed: Handed,
-    reply: &mut [u64; 144],
+    reply: &mut OpWords,
     tries: Tries,
 ) -> (Handed, Called)
     requires ready { IsHandedOf service.now handed }
@@ -79,8 +79,8 @@ pub(crate) fn end<O: Object>(
 fn ask<O: Object>(
     service: &Service<O>,
     caller: Caller,
-    op: &[u64; 144],
-    reply: &mut [u64; 144],
+    op: &OpWords,
+    reply: &mut OpWords,
     tries: Tries,
 ) -> (Handed, Called)
     requires caller { IsCallerOf service.now caller }
@@ -98,8 +98,8 @@ fn ask<O: Object>(
 fn look<O: Object>(
     service: &Service<O>,
     caller: Caller,
-    op: &[u64; 144],
-    reply: &mut [u64; 144],
+    op: &OpWords,
+    reply: &mut OpWords,
     tries: Tries,
 ) -> (Handed, Called)
     requires caller { IsCallerOf service.now caller }
@@ -122,8 +122,8 @@ fn look<O: Object>(
 fn enter<O: Object>(
     service: &Service<O>,
     caller: Caller,
-    op: &[u64; 144],
-    reply: &mut [u64; 144],
+    op: &OpWords,
+    reply: &mut OpWords,
     tries: Tries,
 ) -> (Handed, Called)
     requires caller { IsCallerOf service.now caller }
@@ -143,7 +143,7 @@ fn enter<O: Object>(
 fn drive<O: Object>(
     service: &Service<O>,
     linked: Linked,
-    reply: &mut [u64; 144],
+    reply: &mut OpWords,
     tries: Tries,
 ) -> (Handed, Called)
     requires linked { IsLinkedOf service.now linked }

@@ -15,7 +15,7 @@ pub enum Taken {
     At(u64),
     /// Others were in the way, in each try.
     Again,
-    /// The caller has come to its limit of steps.
+    /// The caller has reached its step limit.
     Stopped,
     /// An entry is linked that is not answered.
     OutOfTurn,
@@ -33,7 +33,7 @@ impl Taken {
     }
 }
 
-/// Has what stands of a caller take an image, in so many tries.
+/// Has what stands of a caller take an image, in at most the given number of tries.
 pub(crate) fn take_image<O: Object>(
     service: &Service<O>,
     handed: Handed,

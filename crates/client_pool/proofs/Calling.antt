@@ -1,19 +1,21 @@
 -- A client's calls, with one more.
-use Rattle.std.proofs.Common.{◌≡◌, ◌≤◌, ◌+◌, ℕ, List, [], ◌∷◌, ◌++◌, map, sym, subst, refl, ap, ◌∙◌, arith}
+use Rattle.std.proofs.Common.{◌≡◌, ◌≤◌, ◌+◌, ℕ, List, [], ◌∷◌, ◌++◌, map, sym, subst, refl, ap, ◌∙◌, arith, Option}
 use Rattle.std.proofs.lemmas.List.{map-append}
 use Rattle.atomic_table.specs.Seated.{TableId}
 use Rattle.crossbeam_queue.specs.Passes.{view}
 use Rattle.cx_core.specs.declared.local.Answer.{Answer}
+use Rattle.cx_core.specs.declared.local.FullNote.{FullNote}
 use Rattle.cx_core.specs.declared.local.SeenRead.{SeenRead}
 use Rattle.cx_rule.specs.Running.{Running}
 use Rattle.cx_rule.specs.Seats.{Seated}
+use Rattle.cx_service.specs.Callers.{StoppedSeat}
 use Rattle.cx_service.specs.Lookups.{ReadAnswered}
 use Rattle.cx_turns.specs.declared.lookup.Seen.{Seen}
-use Rattle.seat_pool.specs.Pooling.{total}
+use Rattle.seat_pool.specs.Pooling.{total_weight}
 use Rattle.seat_pool.specs.declared.hand.Told.{Told}
 use Rattle.seat_pool.proofs.Poolings.{total_both}
-use Rattle.client_pool.specs.Clients.{AreInTurn, HasItsCalls, HasNoMore, HasRead, HasUpdated, IsSameClient, IsShown, answered_by, entries_of, floor_after, next_of, place_of, reads_of}
-use Rattle.client_pool.specs.Lending.{ComesFrom, IsGivenBack, IsKept, IsLentTo, ShowsRead, TellsSame}
+use Rattle.client_pool.specs.Clients.{AreInTurn, HasItsCalls, HasNoMore, HasRead, HasUpdated, IsSameClient, IsReadShown, answered_by, entries_called, floor_after, next_place_of, answer_place_of, reads_called}
+use Rattle.client_pool.specs.Lending.{ComesFrom, IsGivenBack, IsLentTo, KeepsFull, KeepsStopped, KeepsWorn, ReturnsFirst, ShowsRead, TellsSame}
 use Rattle.client_pool.proofs.Lends.{TellsEntry, comes_on}
 use Rattle.client_pool.specs.declared.call.Answered.{Answered}
 use Rattle.client_pool.specs.declared.call.Answered.TheVariants.{Read, Updated}
@@ -21,30 +23,30 @@ use Rattle.client_pool.specs.declared.call.Call.{Call}
 use Rattle.client_pool.specs.declared.call.Call.TheVariants.{Entry, Look}
 use Rattle.client_pool.specs.declared.client.Client.{Client}
 
-pub floor_more : (floor : ℕ) (calls : List Call) (call : Call) → floor_after floor (calls ++ call ∷ []) ≡ next_of call
+pub floor_more : (floor : ℕ) (calls : List Call) (call : Call) → floor_after floor (calls ++ call ∷ []) ≡ next_place_of call
 floor_more floor [] call = refl
-floor_more floor (c ∷ calls) call = floor_more (next_of c) calls call
+floor_more floor (c ∷ calls) call = floor_more (next_place_of c) calls call
 
-pub in_turn_more : (floor : ℕ) (calls : List Call) (call : Call) → AreInTurn floor calls → floor_after floor calls ≤ place_of call → AreInTurn floor (calls ++ call ∷ [])
+pub in_turn_more : (floor : ℕ) (calls : List Call) (call : Call) → AreInTurn floor calls → floor_after floor calls ≤ answer_place_of call → AreInTurn floor (calls ++ call ∷ [])
 in_turn_more floor [] call turn from = (from, tt)
-in_turn_more floor (c ∷ calls) call turn from = (turn.0, in_turn_more (next_of c) calls call turn.1 from)
+in_turn_more floor (c ∷ calls) call turn from = (turn.0, in_turn_more (next_place_of c) calls call turn.1 from)
 
-pub entries_more : (calls : List Call) (told : Told) → entries_of (calls ++ Entry told ∷ []) ≡ entries_of calls ++ told ∷ []
+pub entries_more : (calls : List Call) (told : Told) → entries_called (calls ++ Entry told ∷ []) ≡ entries_called calls ++ told ∷ []
 entries_more [] told = refl
 entries_more (Entry t ∷ calls) told = ap (λ (l : List Told). t ∷ l) (entries_more calls told)
 entries_more (Look x ∷ calls) told = entries_more calls told
 
-pub entries_same : (calls : List Call) (read : SeenRead) → entries_of (calls ++ Look read ∷ []) ≡ entries_of calls
+pub entries_same : (calls : List Call) (read : SeenRead) → entries_called (calls ++ Look read ∷ []) ≡ entries_called calls
 entries_same [] read = refl
 entries_same (Entry t ∷ calls) read = ap (λ (l : List Told). t ∷ l) (entries_same calls read)
 entries_same (Look x ∷ calls) read = entries_same calls read
 
-pub reads_same : (calls : List Call) (told : Told) → reads_of (calls ++ Entry told ∷ []) ≡ reads_of calls
+pub reads_same : (calls : List Call) (told : Told) → reads_called (calls ++ Entry told ∷ []) ≡ reads_called calls
 reads_same [] told = refl
 reads_same (Entry t ∷ calls) told = reads_same calls told
 reads_same (Look x ∷ calls) told = ap (λ (l : List SeenRead). x ∷ l) (reads_same calls told)
 
-pub reads_more : (calls : List Call) (read : SeenRead) → reads_of (calls ++ Look read ∷ []) ≡ reads_of calls ++ read ∷ []
+pub reads_more : (calls : List Call) (read : SeenRead) → reads_called (calls ++ Look read ∷ []) ≡ reads_called calls ++ read ∷ []
 reads_more [] read = refl
 reads_more (Entry t ∷ calls) read = reads_more calls read
 reads_more (Look x ∷ calls) read = ap (λ (l : List SeenRead). x ∷ l) (reads_more calls read)
@@ -71,21 +73,22 @@ module _ {O : Type 0} (r : Running O) (table : TableId) (before after : Client) 
             floor = floor ∙ ap (λ n. n + 1) (sym at) ∙ sym (floor_more r.base.place calls (Entry t));
             in_turn = in_turn_more r.base.place calls (Entry t) has.in_turn (omega (arith, has.floor, above, tells.from, at));
             told = tells.tells ∙ ap (λ (l : List Told). l ++ t ∷ []) has.told ∙ sym (entries_more calls t);
-            shown = λ h. (let same_ : total h (reads_of (calls ++ Entry t ∷ [])) ≡ total h (reads_of calls) = ap (total h) (reads_same calls t) in omega (arith, same_, has.shown h, tells.shows h));
+            shown = λ h. (let same_ : total_weight h (reads_called (calls ++ Entry t ∷ [])) ≡ total_weight h (reads_called calls) = ap (total_weight h) (reads_same calls t) in omega (arith, same_, has.shown h, tells.shows h));
           };
         };
       }
 
   -- it is of the caller that was asked
-  pub read_is : (op : List ℕ) (floor : ℕ) (first caller : Seated) (seen : Seen) → IsKept before.lent.kept first → ComesFrom r first caller → (s : ShowsRead r table op floor caller before.lent after.lent seen) → IsShown r op before.lent.kept s.read
-  read_is op floor first caller seen kept came s = record {
+  pub read_is : (op : List ℕ) (floor : ℕ) (first caller : Seated) (seen : Seen) → ComesFrom r first caller → (s : ShowsRead r table op floor caller before.lent after.lent seen) → ReturnsFirst before.lent after.lent first s.now
+      → IsReadShown r op before.lent after.lent s.read
+  read_is op floor first caller seen came s back = record {
     first = first;
-    is = kept;
     asked = s.asked;
     since = comes_on r first caller s.asked came s.since;
     now = s.now;
+    returns = back;
     shown = (subst (ReadAnswered r op s.asked s.now) (sym (ap (λ (y : SeenRead). (let z : Seen = record { place = y.place; reply = y.reply } in z)) s.is)) s.shown.0, s.shown.1);
-    before = ap (λ (y : SeenRead). y.before) s.is;
+    answers = ap (λ (y : SeenRead). y.before) s.is;
   }
 
   -- nothing was told
@@ -101,16 +104,32 @@ module _ {O : Type 0} (r : Running O) (table : TableId) (before after : Client) 
       floor = floor ∙ has.floor;
       in_turn = has.in_turn;
       told = tells.told ∙ has.told;
-      shown = λ h. (let same_ : total h (view after.lent.pass).shown ≡ total h (view before.lent.pass).shown = ap (total h) tells.shown in omega (arith, same_, has.shown h));
+      shown = λ h. (let same_ : total_weight h (view after.lent.pass).shown ≡ total_weight h (view before.lent.pass).shown = ap (total_weight h) tells.shown in omega (arith, same_, has.shown h));
     };
   }
 
+  -- nothing was told to a client of which what was lent changed, and the room of its answers
+  module _ (beside : after ≡ record before { answers = after.answers; lent = after.lent }) (items : after.answers.items ≡ before.answers.items) where
+    none_more : IsLentTo r table after.lent → TellsSame before.lent after.lent → HasNoMore r table before after
+    none_more lent tells =
+        no_more lent tells (record { number = ap (λ (c : Client). c.number) beside; limits = tells.limits; closing = ap (λ (c : Client). c.closing) beside }) items (ap (λ (c : Client). c.floor) beside) (ap (λ (c : Client). c.caught_up) beside)
+
+    -- since no cell is idle, since there is no further ticket, and since its caller is stopped
+    pub full_more : (way : Seated → Seated → Type 0) (note : FullNote) → KeepsFull r table way before.lent after.lent note → HasNoMore r table before after × KeepsFull r table way before.lent after.lent note
+    full_more way note full = (none_more full.lent full.tells, full)
+
+    pub worn_more : (way : Seated → Seated → Type 0) → KeepsWorn r table way before.lent after.lent → HasNoMore r table before after × KeepsWorn r table way before.lent after.lent
+    worn_more way worn = (none_more worn.lent worn.tells, worn)
+
+    pub stopped_more : (halts : Seated → StoppedSeat → Type 0) (linked : Option ℕ) → KeepsStopped r table halts before.lent after.lent linked → HasNoMore r table before after × KeepsStopped r table halts before.lent after.lent linked
+    stopped_more halts linked stopped = (none_more stopped.lent stopped.tells, stopped)
+
   -- a caller was given back
-  pub given_more : IsGivenBack r table before.lent after.lent → IsSameClient before after → after.answers.items ≡ before.answers.items → after.floor ≡ before.floor → HasItsCalls r table before after
-  given_more given same answers floor = record {
+  pub given_more : after ≡ record before { caught_up = after.caught_up; lent = after.lent } → IsGivenBack r table before.lent after.lent → HasItsCalls r table before after
+  given_more beside given = (let answers = ap (λ (c : Client). c.answers.items) beside in let floor = ap (λ (c : Client). c.floor) beside in record {
     client = given.lent;
     back = given.back;
-    same = same;
+    same = record { number = ap (λ (c : Client). c.number) beside; limits = given.limits; closing = ap (λ (c : Client). c.closing) beside };
     answers = answers;
     floor = floor;
     calls = λ calls has. record {
@@ -120,7 +139,7 @@ module _ {O : Type 0} (r : Running O) (table : TableId) (before after : Client) 
       told = given.tells ∙ has.told;
       shown = λ h. omega (arith, has.shown h, given.shows h);
     };
-  }
+  })
 
   -- a read was shown
   abbrev pub read_more : (op : List ℕ) (floor : ℕ) (caller : Seated) (seen : Seen) → before.floor ≤ floor → before.caught_up ≤ floor → ShowsRead r table op floor caller before.lent after.lent seen → IsSameClient before after
@@ -143,7 +162,7 @@ module _ {O : Type 0} (r : Running O) (table : TableId) (before after : Client) 
             floor = floor ∙ sym at ∙ sym (floor_more r.base.place calls (Look x));
             in_turn = in_turn_more r.base.place calls (Look x) has.in_turn (omega (arith, has.floor, above, shows.from, at));
             told = shows.tells ∙ has.told ∙ sym (entries_same calls x);
-            shown = λ h. (let same_ : total h (reads_of (calls ++ Look x ∷ [])) ≡ total h (reads_of calls ++ x ∷ []) = ap (total h) (reads_more calls x) in omega (arith, same_, total_both h (reads_of calls) (x ∷ []), has.shown h, shows.shows h));
+            shown = λ h. (let same_ : total_weight h (reads_called (calls ++ Look x ∷ [])) ≡ total_weight h (reads_called calls ++ x ∷ []) = ap (total_weight h) (reads_more calls x) in omega (arith, same_, total_both h (reads_called calls) (x ∷ []), has.shown h, shows.shows h));
           };
         };
       }

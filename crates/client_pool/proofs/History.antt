@@ -6,8 +6,8 @@ use Rattle.std.specs.Option.{option_map}
 use Rattle.std.proofs.lemmas.Bool.{cases_eq}
 use Rattle.std.proofs.lemmas.List.Elements.{All-cons, All-nil, All-weaker, Contains-get_or}
 use Rattle.std.proofs.lemmas.Option.{get_or_from_slice_get, none-some, same_Some, slice_get-map, slice_get_within}
-use Rattle.core_answers.proofs.Places.{durable_within}
-use Rattle.core_answers.proofs.ReplyLaws.{reply_own}
+use Rattle.core_replica.proofs.Places.{durable_within}
+use Rattle.core_replica.proofs.ReplyLaws.{reply_own}
 use Rattle.core_runs.proofs.Keeps.{bounds_of}
 use Rattle.cx_core.proofs.MergeLemmas.{own_mine, own_other}
 use Rattle.cx_core.specs.Merge.{IsLinked, own_of}
@@ -26,11 +26,11 @@ use Rattle.cx_service.specs.Closes.{seat_of, seats_of}
 use Rattle.cx_service.specs.declared.close.Handed.{Handed}
 use Rattle.cx_table.specs.Remains.{Leaves, locals_of}
 use Rattle.cx_table.specs.declared.remains.Remains.{Remains}
-use Rattle.seat_pool.specs.Gathering.{AreTold, handed_calls, handed_reads, lent_shown, lent_told, one_at}
-use Rattle.seat_pool.specs.Pooling.{calls_from, calls_of, total}
+use Rattle.seat_pool.specs.Gathering.{AreCallsTold, handed_calls, handed_reads, lent_shown, lent_told, one_at}
+use Rattle.seat_pool.specs.Pooling.{calls_from, calls_of, total_weight}
 use Rattle.seat_pool.specs.declared.hand.Told.{Told}
 use Rattle.client_pool.specs.Answers.{AreAnswered, IsCallOf, IsCallersCall, IsCallersEntry, IsCallersRead, IsEntryOf, IsReadOf}
-use Rattle.client_pool.specs.Clients.{AreInTurn, HasCalls, entries_of, reads_of}
+use Rattle.client_pool.specs.Clients.{AreInTurn, HasCalls, entries_called, reads_called}
 use Rattle.client_pool.specs.Pools.{lents_of}
 use Rattle.client_pool.specs.declared.call.Call.{Call}
 use Rattle.client_pool.specs.declared.call.Call.TheVariants.{Entry, Look}
@@ -129,27 +129,27 @@ module _ {O : Type 0} (r : Running O) (instance : Instance) (handed : List Hande
   abbrev Stands : Call → Type 0
   Stands call = IsCallOf instance history call × IsCallersCall remains.trail.locals call
 
-  entry_is : (t : Told) → same_told t t ≤ total (handed_calls (same_told t)) handed → Stands (Entry t)
+  entry_is : (t : Told) → same_told t t ≤ total_weight (handed_calls (same_told t)) handed → Stands (Entry t)
   entry_is t most =
       let g = found (handed_calls (same_told t)) handed (let self = told_self t in omega (arith, self, most)) in
       let u = found (same_told t) (calls_of (seat_of g.1)) g.3 in
       subst (λ (x : Told). Stands (Entry x)) (sym (told_is t u.1 u.3)) (entry_here g.0 g.1 u.0 u.1 g.2 u.2)
 
-  read_is_one : (x : SeenRead) → same_read x x ≤ total (handed_reads (same_read x)) handed → Stands (Look x)
+  read_is_one : (x : SeenRead) → same_read x x ≤ total_weight (handed_reads (same_read x)) handed → Stands (Look x)
   read_is_one x most =
       let g = found (handed_reads (same_read x)) handed (let self = read_self x in omega (arith, self, most)) in
       let u = found (same_read x) (seat_of g.1).known.local.seen_reads g.3 in
       subst (λ (y : SeenRead). Stands (Look y)) (sym (read_is x u.1 u.3)) (read_here g.0 g.1 u.0 u.1 g.2 u.2)
 
-  one_client : (cs : List Call) → ((h : Told → ℕ) → total h (entries_of cs) ≤ total (handed_calls h) handed) → ((h : SeenRead → ℕ) → total h (reads_of cs) ≤ total (handed_reads h) handed) → All Stands cs
+  one_client : (cs : List Call) → ((h : Told → ℕ) → total_weight h (entries_called cs) ≤ total_weight (handed_calls h) handed) → ((h : SeenRead → ℕ) → total_weight h (reads_called cs) ≤ total_weight (handed_reads h) handed) → All Stands cs
   one_client [] entries reads = All-nil Stands
   one_client (Entry t ∷ cs) entries reads =
       All-cons Stands (Entry t) cs (entry_is t (let most = entries (same_told t) in omega (arith, most))) (one_client cs (λ h. (let most = entries h in omega (arith, most))) reads)
   one_client (Look x ∷ cs) entries reads =
       All-cons Stands (Look x) cs (read_is_one x (let most = reads (same_read x) in omega (arith, most))) (one_client cs entries (λ h. (let most = reads h in omega (arith, most))))
 
-  all_clients : (calls : List (List Call)) → ((h : Told → ℕ) → total (λ (cs : List Call). total h (entries_of cs)) calls ≤ total (handed_calls h) handed)
-      → ((h : SeenRead → ℕ) → total (λ (cs : List Call). total h (reads_of cs)) calls ≤ total (handed_reads h) handed) → All (All Stands) calls
+  all_clients : (calls : List (List Call)) → ((h : Told → ℕ) → total_weight (λ (cs : List Call). total_weight h (entries_called cs)) calls ≤ total_weight (handed_calls h) handed)
+      → ((h : SeenRead → ℕ) → total_weight (λ (cs : List Call). total_weight h (reads_called cs)) calls ≤ total_weight (handed_reads h) handed) → All (All Stands) calls
   all_clients [] entries reads = All-nil (All Stands)
   all_clients (cs ∷ calls) entries reads =
       All-cons (All Stands) cs calls
@@ -158,13 +158,13 @@ module _ {O : Type 0} (r : Running O) (instance : Instance) (handed : List Hande
 
 -- what clients were told are the entries of their calls, and what they were shown has their reads
 module _ {O : Type 0} (r : Running O) where
-  pub weighs : (h : Told → ℕ) (clients : List Client) (calls : List (List Call)) → AllZip (HasCalls r) clients calls → total (λ (cs : List Call). total h (entries_of cs)) calls ≡ total (lent_told h) (lents_of clients)
+  pub weighs : (h : Told → ℕ) (clients : List Client) (calls : List (List Call)) → AllZip (HasCalls r) clients calls → total_weight (λ (cs : List Call). total_weight h (entries_called cs)) calls ≡ total_weight (lent_told h) (lents_of clients)
   weighs h [] [] are = refl
   weighs h [] (cs ∷ calls) are = absurd are
   weighs h (c ∷ clients) [] are = absurd are
-  weighs h (c ∷ clients) (cs ∷ calls) are = (let here = ap (total h) are.0.told in let rest = weighs h clients calls are.1 in omega (arith, here, rest))
+  weighs h (c ∷ clients) (cs ∷ calls) are = (let here = ap (total_weight h) are.0.told in let rest = weighs h clients calls are.1 in omega (arith, here, rest))
 
-  reads_weigh_ : (h : SeenRead → ℕ) (clients : List Client) (calls : List (List Call)) → AllZip (HasCalls r) clients calls → total (λ (cs : List Call). total h (reads_of cs)) calls ≤ total (lent_shown h) (lents_of clients)
+  reads_weigh_ : (h : SeenRead → ℕ) (clients : List Client) (calls : List (List Call)) → AllZip (HasCalls r) clients calls → total_weight (λ (cs : List Call). total_weight h (reads_called cs)) calls ≤ total_weight (lent_shown h) (lents_of clients)
   reads_weigh_ h [] [] are = omega arith
   reads_weigh_ h [] (cs ∷ calls) are = absurd are
   reads_weigh_ h (c ∷ clients) [] are = absurd are
@@ -177,11 +177,11 @@ module _ {O : Type 0} (r : Running O) where
   in_turn (c ∷ clients) (cs ∷ calls) are = All-cons (AreInTurn r.base.place) cs calls are.0.in_turn (in_turn clients calls are.1)
 
   -- all that closing tells of the calls of clients
-  pub are_answered : (instance : Instance) (handed : List Handed) (remains : Remains) (clients : List Client) → instance.base.place ≡ r.base.place → Leaves r instance (seats_of handed) remains → AreTold r (lents_of clients) handed
+  pub are_answered : (instance : Instance) (handed : List Handed) (remains : Remains) (clients : List Client) → instance.base.place ≡ r.base.place → Leaves r instance (seats_of handed) remains → AreCallsTold r (lents_of clients) handed
       → (calls : List (List Call)) → AllZip (HasCalls r) clients calls → AreAnswered instance remains.trail.history remains.trail.locals calls
   are_answered instance handed remains clients place leaves told calls are =
-      let entries = λ (h : Told → ℕ). (let all = told.calls h in let here = weighs h clients calls are in let most : total (λ (cs : List Call). total h (entries_of cs)) calls ≤ total (handed_calls h) handed = omega (arith, all, here) in most) in
-      let reads = λ (h : SeenRead → ℕ). (let all = told.reads h in let here = reads_weigh_ h clients calls are in let most : total (λ (cs : List Call). total h (reads_of cs)) calls ≤ total (handed_reads h) handed = omega (arith, all, here) in most) in
+      let entries = λ (h : Told → ℕ). (let all = told.calls h in let here = weighs h clients calls are in let most : total_weight (λ (cs : List Call). total_weight h (entries_called cs)) calls ≤ total_weight (handed_calls h) handed = omega (arith, all, here) in most) in
+      let reads = λ (h : SeenRead → ℕ). (let all = told.reads h in let here = reads_weigh_ h clients calls are in let most : total_weight (λ (cs : List Call). total_weight h (reads_called cs)) calls ≤ total_weight (handed_reads h) handed = omega (arith, all, here) in most) in
       let stands : Call → Type 0 = λ call. IsCallOf instance leaves.state.history call × IsCallersCall remains.trail.locals call in
       let all = all_clients r instance handed remains leaves calls entries reads in
       record {

@@ -1,7 +1,7 @@
 -- A caller that is out with a client.
 use Rattle.std.proofs.Common.{◌≡◌, ◌<◌, ◌≤◌, ◌^◌, ◌⊎◌, inl, inr, ⊎_elim, ℕ, List, [], ◌∷◌, ◌++◌, append_assoc, drop, length, sym, refl, ap, ◌∙◌, subst, arith, Option, Some, None, slice_get}
 use Rattle.std.proofs.lemmas.List.{append-nil}
-use Rattle.std.proofs.lemmas.Option.{none-some}
+use Rattle.std.proofs.lemmas.Option.{none-some, same_Some}
 use Rattle.atomic_table.specs.Seated.{TableId}
 use Rattle.crossbeam_queue.specs.Passes.{view}
 use Rattle.cx_core.proofs.Locals.{slice_get-last}
@@ -15,21 +15,22 @@ use Rattle.cx_service.specs.Callers.{IsCallerOf, StoppedSeat}
 use Rattle.cx_service.specs.CatchUps.{CatchUpHalted, CatchUpKeeps}
 use Rattle.cx_service.specs.Drives.{MeetsFewer}
 use Rattle.cx_service.specs.Lookups.{ReadAnswered, ReadHalted, ReadKeeps, ReadPending}
-use Rattle.cx_service.specs.Submits.{entry_at}
+use Rattle.cx_service.specs.Submits.{next_entry}
 use Rattle.cx_service.specs.Updates.{KeepsLists, ReadQueues, ReadStops, UpdateDone, UpdateFull, UpdateHalted, UpdateWorn, Updates}
 use Rattle.cx_service.specs.declared.close.Handed.TheVariants.{Idle, Stopped}
 use Rattle.cx_service.specs.declared.update.Updated.{Updated}
 use Rattle.cx_service.specs.declared.update.Updated.TheVariants.{Done as UpdatedDone, Full as UpdatedFull, Worn as UpdatedWorn, Halted as UpdatedHalted}
 use Rattle.cx_turns.specs.declared.lookup.Seen.{Seen}
 use Rattle.seat_pool.specs.Gathering.{Gathers, StaysIdle}
-use Rattle.seat_pool.specs.Pooling.{HasLimit, IsFirstOf, IsHomeOf, given_from, limits_at, told_with, total, with_given, with_taken}
+use Rattle.seat_pool.specs.Pooling.{HasLimit, IsFirstOf, IsHomeOf, given_from, limits_at, told_with, total_weight, with_given, with_taken}
 use Rattle.seat_pool.specs.declared.hand.Hand.{Hand}
+use Rattle.seat_pool.specs.declared.hand.Returned.{Returned}
 use Rattle.seat_pool.specs.declared.hand.Told.{Told}
 use Rattle.seat_pool.specs.declared.lent.Lent.{Lent}
 use Rattle.seat_pool.proofs.Poolings.{total_both}
 use Rattle.seat_pool.proofs.Telling.{are_kept, are_shown, are_told, same_calls}
-use Rattle.client_pool.specs.Clients.{HaltsEntering, HaltsReading, IsAnswered}
-use Rattle.client_pool.specs.Lending.{ComesFrom, Enters, GivesBack, HaltsLater, HaltsLooking, HoldsIdle, HoldsKept, IsBegun, IsFirst, IsGivenBack, IsKept, IsLentTo, IsOut, IsPart, IsRefused, KeepsFull, KeepsStopped, KeepsWorn, LooksOn, MayGive, MaySettle, Settles, ShowsRead, TellsSame, limits_of}
+use Rattle.client_pool.specs.Clients.{HaltsClientUpdate, HaltsClientRead, IsClientAnswered}
+use Rattle.client_pool.specs.Lending.{ComesFrom, EntersRead, GivesBack, HaltsLater, HaltsBesideQueue, HoldsIdle, HoldsKept, IsBegun, IsFirstCaller, IsGivenBack, IsKeptCaller, IsLentTo, IsOut, IsPart, IsReadRefused, KeepsFull, KeepsStopped, KeepsWorn, LooksOn, MayGive, MaySettle, Returns, ReturnsFirst, Settles, ShowsRead, TellsSame, limits_of}
 use Rattle.client_pool.specs.declared.lend.Served.TheVariants.{Done, Full, Worn, Halted}
 
 -- The call is answered as an entry of this caller, which was so when it entered the queue: it was told with its answer, whose ticket is not below the floor. The
@@ -39,14 +40,14 @@ pub record TellsEntry {O : Type 0} (r : Running O) (table : TableId) (op : List 
   pub back : after.kept ≡ None
   pub limits : limits_of after ≡ limits_of before
   pub told : Told
-  pub entry : told ≡ told_with asked.known.local.number (entry_at r asked.known.local op answer.ticket) answer
+  pub entry : told ≡ told_with asked.known.local.number (next_entry r asked.known.local op answer.ticket) answer
   pub is : (told.caller ≡ caller) × (told.answer ≡ answer)
   pub op_is : told.entry.entry.op ≡ op
   pub ticket : told.entry.ticket ≡ answer.ticket
   pub from : floor ≤ answer.ticket
   pub small : answer.ticket < 2 ^ 40
   pub tells : (view after.pass).told ≡ (view before.pass).told ++ told ∷ []
-  pub shows : (h : SeenRead → ℕ) → total h (view before.pass).shown ≤ total h (view after.pass).shown
+  pub shows : (h : SeenRead → ℕ) → total_weight h (view before.pass).shown ≤ total_weight h (view after.pass).shown
 
 module _ {O : Type 0} (r : Running O) where
   pub stays : (x : Seated) → IsCallerOf r x → StaysIdle r x x
@@ -157,6 +158,7 @@ module _ {O : Type 0} (r : Running O) where
           sets = keeps.sets;
           front = keeps.front;
           cur = keeps.cur;
+          since = halted.due.since;
           linked = keeps.times.linked;
           ended = keeps.times.answered;
         };
@@ -168,7 +170,7 @@ module _ {O : Type 0} (r : Running O) where
   -- its new entry is below its front
   own_below : (op : List ℕ) (x y : Seated) (answer : Answer) → UpdateDone r op x y answer → answer.ticket < y.known.local.front
   own_below op x y answer done =
-      let e = entry_at r x.known.local op answer.ticket in
+      let e = next_entry r x.known.local op answer.ticket in
       done.caller.cells.to (length x.known.local.own) e (ap (λ (l : List OwnEntry). slice_get l (length x.known.local.own)) done.links.own ∙ slice_get-last x.known.local.own e)
 
   pub holds_on : (v : Hand) (x y : Seated) → HoldsIdle r v x → StaysIdle r x y → HoldsIdle r v y
@@ -209,7 +211,7 @@ module _ {O : Type 0} (r : Running O) where
               idle = stays x caller;
             };
           },
-          record { limits = ap (λ (u : Hand). limits_at u.home) is; told = ap (λ (u : Hand). u.told) is; shown = ap (λ (u : Hand). u.shown) is },
+          record { limits = ap (λ (u : Hand). limits_at u.home) is; told = ap (λ (u : Hand). u.told) is; shown = ap (λ (u : Hand). u.shown) is; returned = ap (λ (u : Hand). u.returned) is },
         )
 
     pub kept_out : (before after : Lent) (x : Seated) → IsLentTo r table before → before.kept ≡ Some (Idle x) → after.kept ≡ None → after.pass ≡ before.pass → IsOut r table after x × TellsSame before after
@@ -220,23 +222,44 @@ module _ {O : Type 0} (r : Running O) where
             none = none;
             holds = subst (λ (u : Hand). HoldsIdle r u x) (sym w) (subst (HoldsKept r (view before.pass)) keeps lent.kept);
           },
-          record { limits = ap (λ (u : Hand). limits_at u.home) w; told = ap (λ (u : Hand). u.told) w; shown = ap (λ (u : Hand). u.shown) w },
+          record { limits = ap (λ (u : Hand). limits_at u.home) w; told = ap (λ (u : Hand). u.told) w; shown = ap (λ (u : Hand). u.shown) w; returned = ap (λ (u : Hand). u.returned) w },
         )
 
     -- the caller that a call begins with
-    pub taken_first : (before after : Lent) (x : Seated) → IsLentTo r table before → before.kept ≡ None → view after.pass ≡ with_taken (view before.pass) x → IsFirst before.kept (view after.pass) x
+    pub taken_first : (before after : Lent) (x : Seated) → IsLentTo r table before → before.kept ≡ None → view after.pass ≡ with_taken (view before.pass) x → IsFirstCaller before.kept (view after.pass) x
     taken_first before after x lent none is =
         let held : (view before.pass).held ≡ [] = subst (HoldsKept r (view before.pass)) none lent.kept in
-        record { kept = subst (λ k. IsKept k x) (sym none) tt; taken = λ _. ap (λ (u : Hand). u.held) is ∙ ap (λ (l : List Seated). x ∷ l) held }
+        record { kept = subst (λ k. IsKeptCaller k x) (sym none) tt; taken = λ _. ap (λ (u : Hand). u.held) is ∙ ap (λ (l : List Seated). x ∷ l) held }
 
-    pub kept_first : (before after : Lent) (x : Seated) → before.kept ≡ Some (Idle x) → IsFirst before.kept (view after.pass) x
-    kept_first before after x keeps = record { kept = subst (λ k. IsKept k x) (sym keeps) refl; taken = λ none. absurd (none-some (Idle x) (sym none ∙ keeps)) }
+    pub kept_first : (before after : Lent) (x : Seated) → before.kept ≡ Some (Idle x) → IsFirstCaller before.kept (view after.pass) x
+    kept_first before after x keeps = record { kept = subst (λ k. IsKeptCaller k x) (sym keeps) refl; taken = λ none. absurd (none-some (Idle x) (sym none ∙ keeps)) }
 
     pub out_on : (lent : Lent) (x y : Seated) → IsOut r table lent x → StaysIdle r x y → IsOut r table lent y
     out_on lent x y out idle = record { part = out.part; none = out.none; holds = holds_on (view lent.pass) x y out.holds idle }
 
+    -- the caller that was out was given back
+    pub returns : (mid after : Lent) (x y : Seated) → IsOut r table mid x → view after.pass ≡ with_given (view mid.pass) y → Returns mid after y
+    returns mid after x y out is = record {
+      taken = out.holds.taken;
+      held = out.holds.held;
+      returned = ap (λ (u : Hand). u.returned) is ∙ ap (λ l. (given_from (view mid.pass) l y).returned) out.holds.held;
+    }
+
+    -- and it is the one that the call began with
+    pub returns_first : (before mid after : Lent) (first y : Seated) → TellsSame before mid → IsFirstCaller before.kept (view mid.pass) first → Returns mid after y → ReturnsFirst before after first y
+    returns_first before mid after first y same is back = record {
+      kept = is.kept;
+      taken = back.taken;
+      returned = back.returned ∙ ap (λ (l : List Returned). l ++ record { taken = back.taken; back = y } ∷ []) same.returned;
+      first_is = λ none. same_Some first back.taken (ap (λ (l : List Seated). slice_get l 0) (sym (is.taken none) ∙ back.held));
+    }
+
+    -- so it is where no other call was made by it
+    pub returned : (before mid after : Lent) (first y : Seated) → TellsSame before mid → IsFirstCaller before.kept (view mid.pass) first → IsOut r table mid first → view after.pass ≡ with_given (view mid.pass) y → ReturnsFirst before after first y
+    returned before mid after first y same is out given = returns_first before mid after first y same is (returns mid after first y out given)
+
     -- a read was shown
-    pub read_shown : (op : List ℕ) (floor : ℕ) (before after : Lent) (caller x y : Seated) (seen : Seen) → IsOut r table before x → ComesFrom r caller x → floor ≤ seen.place → ReadAnswered r op x y seen × MeetsFewer 8 x y → after.kept ≡ None
+    unfoldable pub read_shown : (op : List ℕ) (floor : ℕ) (before after : Lent) (caller x y : Seated) (seen : Seen) → IsOut r table before x → ComesFrom r caller x → floor ≤ seen.place → ReadAnswered r op x y seen × MeetsFewer 8 x y → after.kept ≡ None
         → (after.pass.table_id ≡ table) × (after.pass.me.1 ≡ []) → view after.pass ≡ with_given (view before.pass) y → ShowsRead r table op floor caller before after seen
     read_shown op floor before after caller x y seen out since from shown none pass is =
         let v = view before.pass in
@@ -260,7 +283,7 @@ module _ {O : Type 0} (r : Running O) where
           is = refl;
           from = from;
           tells = ap (λ (u : Hand). u.told) is ∙ are.1;
-          shows = λ h. (let same : total h (view after.pass).shown ≡ total h (v.shown ++ (holds.idle.more ++ x_ ∷ [])) = ap (λ (u : Hand). total h u.shown) is ∙ ap (total h) are.2 in omega (arith, same, total_both h v.shown (holds.idle.more ++ x_ ∷ []), total_both h holds.idle.more (x_ ∷ [])));
+          shows = λ h. (let same : total_weight h (view after.pass).shown ≡ total_weight h (v.shown ++ (holds.idle.more ++ x_ ∷ [])) = ap (λ (u : Hand). total_weight h u.shown) is ∙ ap (total_weight h) are.2 in omega (arith, same, total_both h v.shown (holds.idle.more ++ x_ ∷ []), total_both h holds.idle.more (x_ ∷ [])));
         }
 
     -- a caller was given back that was in no call
@@ -279,14 +302,14 @@ module _ {O : Type 0} (r : Running O) where
           back = none;
           limits = ap (λ (u : Hand). limits_at u.home) given;
           tells = ap (λ (u : Hand). u.told) is ∙ shown.1;
-          shows = λ h. (let same : total h (view after.pass).shown ≡ total h (v.shown ++ idle.more) = ap (λ (u : Hand). total h u.shown) is ∙ ap (total h) shown.2 in omega (arith, same, total_both h v.shown idle.more));
+          shows = λ h. (let same : total_weight h (view after.pass).shown ≡ total_weight h (v.shown ++ idle.more) = ap (λ (u : Hand). total_weight h u.shown) is ∙ ap (total_weight h) shown.2 in omega (arith, same, total_both h v.shown idle.more));
         }
 
     pub tells_on : (a b c : Lent) → TellsSame a b → TellsSame b c → TellsSame a c
-    tells_on a b c s t = record { limits = t.limits ∙ s.limits; told = t.told ∙ s.told; shown = t.shown ∙ s.shown }
+    tells_on a b c s t = record { limits = t.limits ∙ s.limits; told = t.told ∙ s.told; shown = t.shown ∙ s.shown; returned = t.returned ∙ s.returned }
 
     -- a caller is kept with whatever it holds
-    module _ (before mid after : Lent) (tells : TellsSame before mid) (first : Seated) (begins : IsFirst before.kept (view mid.pass) first) (same : after.pass ≡ mid.pass) where
+    module _ (before mid after : Lent) (tells : TellsSame before mid) (first : Seated) (begins : IsFirstCaller before.kept (view mid.pass) first) (same : after.pass ≡ mid.pass) where
       w : view after.pass ≡ view mid.pass
       w = ap (λ p. view p) same
 
@@ -294,10 +317,10 @@ module _ {O : Type 0} (r : Running O) where
       part_kept part = part_like mid after (view mid.pass) part (ap (λ p. p.table_id) same ∙ part.pass.0, ap (λ p. p.me.1) same ∙ part.pass.1) w refl refl refl
 
       tells_kept : TellsSame before after
-      tells_kept = tells_on before mid after tells (record { limits = ap (λ (u : Hand). limits_at u.home) w; told = ap (λ (u : Hand). u.told) w; shown = ap (λ (u : Hand). u.shown) w })
+      tells_kept = tells_on before mid after tells (record { limits = ap (λ (u : Hand). limits_at u.home) w; told = ap (λ (u : Hand). u.told) w; shown = ap (λ (u : Hand). u.shown) w; returned = ap (λ (u : Hand). u.returned) w })
 
-      first_kept : IsFirst before.kept (view after.pass) first
-      first_kept = subst (λ (u : Hand). IsFirst before.kept u first) (sym w) begins
+      first_kept : IsFirstCaller before.kept (view after.pass) first
+      first_kept = subst (λ (u : Hand). IsFirstCaller before.kept u first) (sym w) begins
 
       idle_again : (x y : Seated) → IsOut r table mid x → StaysIdle r x y → after.kept ≡ Some (Idle y) → IsLentTo r table after
       idle_again x y out idle keeps = record {
@@ -357,9 +380,9 @@ module _ {O : Type 0} (r : Running O) where
           }
 
       -- by a read beside the queue
-      pub looking_stopped : (x : Seated) (s : StoppedSeat) → ComesFrom r first x → IsOut r table mid x → HaltsLater r x s → after.kept ≡ Some (Stopped s) → KeepsStopped r table (HaltsLooking r) before after s.linked
+      pub looking_stopped : (x : Seated) (s : StoppedSeat) → ComesFrom r first x → IsOut r table mid x → HaltsLater r x s → after.kept ≡ Some (Stopped s) → KeepsStopped r table (HaltsBesideQueue r) before after s.linked
       looking_stopped x s since out halts keeps =
-          stopped_kept (HaltsLooking r) halts.halts.op halts.asked halts.asked s (comes_on first x halts.asked since halts.since) halts.halts (out_on mid x halts.asked out halts.since.idle) (inr halts.halts.halted) keeps
+          stopped_kept (HaltsBesideQueue r) halts.halts.op halts.asked halts.asked s (comes_on first x halts.asked since halts.since) halts.halts (out_on mid x halts.asked out halts.since.idle) (inr halts.halts.halted) keeps
 
       pub caught_stopped : (s : StoppedSeat) → IsOut r table mid first → CatchUpHalted r first s → after.kept ≡ Some (Stopped s) → KeepsStopped r table (CatchUpHalted r) before after s.linked
       caught_stopped s out halted keeps = stopped_kept (CatchUpHalted r) [] first first s (comes_first first out.holds.idle.caller) halted out (inr (caught_halted [] first s halted)) keeps
@@ -401,7 +424,7 @@ module _ {O : Type 0} (r : Running O) where
     update_settles op lent x out (UpdatedWorn y) is = tt
     update_settles op lent x out (UpdatedHalted s) is = tt
 
-    pub read_settles : (op : List ℕ) (lent : Lent) (x : Seated) → IsOut r table lent x → (u : Updated) → Enters r op x u → MaySettle r lent u
+    pub read_settles : (op : List ℕ) (lent : Lent) (x : Seated) → IsOut r table lent x → (u : Updated) → EntersRead r op x u → MaySettle r lent u
     read_settles op lent x out (UpdatedDone y answer) q = done_back op lent q.refused y answer (queued_out op lent x (UpdatedDone y answer) out q) q.entered
     read_settles op lent x out (UpdatedFull y note) is = tt
     read_settles op lent x out (UpdatedWorn y) is = tt
@@ -414,7 +437,7 @@ module _ {O : Type 0} (r : Running O) where
       entry_told x y caller answer same out floor_ done number front back =
           let v = view mid.pass in
           let holds = out.holds in
-          let t = told_with x.known.local.number (entry_at r x.known.local op answer.ticket) answer in
+          let t = told_with x.known.local.number (next_entry r x.known.local op answer.ticket) answer in
           let is = back.view_is in
           let given : view after.pass ≡ given_from v (holds.taken ∷ []) y = is ∙ ap (λ l. given_from v l y) holds.held in
           let told = are_told r op holds.taken x y [] answer v holds.held holds.idle done in
@@ -435,39 +458,41 @@ module _ {O : Type 0} (r : Running O) where
             from = omega (arith, floor_, done.from);
             small = (let below = own_below op x y answer done in omega (arith, below, front));
             tells = ap (λ (u : Hand). u.told) is ∙ told.1 ∙ ap (λ (l : List Told). l ++ t ∷ []) same.told;
-            shows = λ h. (let first : total h v.shown ≡ total h (view before.pass).shown = ap (total h) same.shown in let more : total h (view after.pass).shown ≡ total h (v.shown ++ new) = ap (λ (u : Hand). total h u.shown) given in omega (arith, first, more, total_both h v.shown new));
+            shows = λ h. (let first : total_weight h v.shown ≡ total_weight h (view before.pass).shown = ap (total_weight h) same.shown in let more : total_weight h (view after.pass).shown ≡ total_weight h (v.shown ++ new) = ap (λ (u : Hand). total_weight h u.shown) given in omega (arith, first, more, total_both h v.shown new));
           }
 
       -- which is what its caller answered
-      answered : (way : Seated → Seated → Type 0) (first x y : Seated) (caller : ℕ) (answer : Answer) → IsKept before.kept first → way first x → UpdateDone r op x y answer → (t : TellsEntry r table op floor x before after caller answer) → IsAnswered r way op before.kept t.told
-      answered way first x y caller answer is came done t = record {
+      answered : (way : Seated → Seated → Type 0) (first x y : Seated) (caller : ℕ) (answer : Answer) → ReturnsFirst before after first y → way first x → UpdateDone r op x y answer → (t : TellsEntry r table op floor x before after caller answer) → IsClientAnswered r way op before after t.told
+      answered way first x y caller answer back came done t = record {
         first = first;
-        is = is;
         asked = x;
         came = came;
         now = y;
+        returns = back;
         done = subst (UpdateDone r op x y) (sym t.is.1) done;
-        entry = subst (λ (a : Answer). t.told ≡ told_with x.known.local.number (entry_at r x.known.local op a.ticket) a) (sym t.is.1) t.entry;
+        entry = subst (λ (a : Answer). t.told ≡ told_with x.known.local.number (next_entry r x.known.local op a.ticket) a) (sym t.is.1) t.entry;
       }
 
       -- by an update
-      pub update_told : (x : Seated) (caller : ℕ) (answer : Answer) → IsBegun r table floor before mid x → (u : Updated) → Updates r op x u → Settles table mid after u (Done caller answer) → (t : TellsEntry r table op floor x before after caller answer) × IsAnswered r (ComesFrom r) op before.kept t.told
+      pub update_told : (x : Seated) (caller : ℕ) (answer : Answer) → IsBegun r table floor before mid x → (u : Updated) → Updates r op x u → Settles table mid after u (Done caller answer) → (t : TellsEntry r table op floor x before after caller answer) × IsClientAnswered r (ComesFrom r) op before after t.told
       update_told x caller answer begun u is s =
           let done : UpdateDone r op x s.0 answer = subst (Updates r op x) s.1 is in
           let t = entry_told x s.0 caller answer begun.tells begun.out begun.from done s.2 s.3 s.4 in
-          (t, answered (ComesFrom r) begun.first x s.0 caller answer begun.is.kept begun.since done t)
+          let back = returns_first before mid after begun.first s.0 begun.tells begun.is (returns mid after x s.0 begun.out s.4.view_is) in
+          (t, answered (ComesFrom r) begun.first x s.0 caller answer back begun.since done t)
 
       -- by a read that entered the queue
-      pub read_told : (x : Seated) (caller : ℕ) (answer : Answer) → IsBegun r table floor before mid x → LooksOn r table op x mid after (Done caller answer) → (a : Seated) × (t : TellsEntry r table op floor a before after caller answer) × IsAnswered r (IsRefused r) op before.kept t.told
+      pub read_told : (x : Seated) (caller : ℕ) (answer : Answer) → IsBegun r table floor before mid x → LooksOn r table op x mid after (Done caller answer) → (a : Seated) × (t : TellsEntry r table op floor a before after caller answer) × IsClientAnswered r (IsReadRefused r) op before after t.told
       read_told x caller answer begun l =
           let s = l.settles in
-          let q : ReadQueues r op l.asked (UpdatedDone s.0 answer) = subst (Enters r op l.asked) s.1 l.enters in
+          let q : ReadQueues r op l.asked (UpdatedDone s.0 answer) = subst (EntersRead r op l.asked) s.1 l.enters in
           let out = queued_out op mid l.asked (UpdatedDone s.0 answer) (out_on mid x l.asked begun.out l.since.idle) q in
           let front = l.since.front in
           let kept = q.pending.keeps.front in
           let t = entry_told q.refused s.0 caller answer begun.tells out (omega (arith, begun.from, front, kept)) q.entered s.2 s.3 s.4 in
-          let came : IsRefused r begun.first q.refused = record { looked = l.asked; since = comes_on begun.first x l.asked begun.since l.since; refused = q.pending } in
-          (q.refused, t, answered (IsRefused r) begun.first q.refused s.0 caller answer begun.is.kept came q.entered t)
+          let came : IsReadRefused r begun.first q.refused = record { looked = l.asked; since = comes_on begun.first x l.asked begun.since l.since; refused = q.pending } in
+          let back = returns_first before mid after begun.first s.0 begun.tells begun.is (returns mid after q.refused s.0 out s.4.view_is) in
+          (q.refused, t, answered (IsReadRefused r) begun.first q.refused s.0 caller answer back came q.entered t)
 
       -- what an update comes to that is not answered
       module _ (x : Seated) (begun : IsBegun r table floor before mid x) where
@@ -477,44 +502,44 @@ module _ {O : Type 0} (r : Running O) where
         pub update_worn : (u : Updated) → Updates r op x u → Settles table mid after u Worn → KeepsWorn r table (ComesFrom r) before after
         update_worn u is s = worn_kept before mid after begun.tells begun.first begun.is s.2.0 (ComesFrom r) x s.0 begun.since begun.out (subst (Updates r op x) s.1 is) s.2.1
 
-        pub update_stopped : (linked : Option ℕ) (u : Updated) → Updates r op x u → Settles table mid after u (Halted linked) → KeepsStopped r table (HaltsEntering r op) before after linked
+        pub update_stopped : (linked : Option ℕ) (u : Updated) → Updates r op x u → Settles table mid after u (Halted linked) → KeepsStopped r table (HaltsClientUpdate r op) before after linked
         update_stopped linked u is s =
             let halted : UpdateHalted r op x s.0 = subst (Updates r op x) s.1 is in
-            subst (KeepsStopped r table (HaltsEntering r op) before after) s.2
-            (stopped_kept before mid after begun.tells begun.first begun.is s.3.0 (HaltsEntering r op) op x x s.0 begun.since (inr halted) begun.out (inl halted) s.3.1)
+            subst (KeepsStopped r table (HaltsClientUpdate r op) before after) s.2
+            (stopped_kept before mid after begun.tells begun.first begun.is s.3.0 (HaltsClientUpdate r op) op x x s.0 begun.since (inr halted) begun.out (inl halted) s.3.1)
 
         -- and a read
-        came_to : (u : Updated) (a : Seated) → ComesFrom r x a → (q : ReadQueues r op a u) → IsRefused r begun.first q.refused
+        came_to : (u : Updated) (a : Seated) → ComesFrom r x a → (q : ReadQueues r op a u) → IsReadRefused r begun.first q.refused
         came_to u a since q = record { looked = a; since = comes_on begun.first x a begun.since since; refused = q.pending }
 
-        pub read_full : (note : FullNote) → LooksOn r table op x mid after (Full note) → KeepsFull r table (IsRefused r) before after note
+        pub read_full : (note : FullNote) → LooksOn r table op x mid after (Full note) → KeepsFull r table (IsReadRefused r) before after note
         read_full note l =
             let s = l.settles in
             let u = UpdatedFull s.0 note in
-            let q : ReadQueues r op l.asked u = subst (Enters r op l.asked) s.1 l.enters in
-            full_kept before mid after begun.tells begun.first begun.is s.2.0 (IsRefused r) q.refused s.0 note (came_to u l.asked l.since q) (queued_out op mid l.asked u (out_on mid x l.asked begun.out l.since.idle) q) q.entered s.2.1
+            let q : ReadQueues r op l.asked u = subst (EntersRead r op l.asked) s.1 l.enters in
+            full_kept before mid after begun.tells begun.first begun.is s.2.0 (IsReadRefused r) q.refused s.0 note (came_to u l.asked l.since q) (queued_out op mid l.asked u (out_on mid x l.asked begun.out l.since.idle) q) q.entered s.2.1
 
-        pub read_worn : LooksOn r table op x mid after Worn → KeepsWorn r table (IsRefused r) before after
+        pub read_worn : LooksOn r table op x mid after Worn → KeepsWorn r table (IsReadRefused r) before after
         read_worn l =
             let s = l.settles in
             let u = UpdatedWorn s.0 in
-            let q : ReadQueues r op l.asked u = subst (Enters r op l.asked) s.1 l.enters in
-            worn_kept before mid after begun.tells begun.first begun.is s.2.0 (IsRefused r) q.refused s.0 (came_to u l.asked l.since q) (queued_out op mid l.asked u (out_on mid x l.asked begun.out l.since.idle) q) q.entered s.2.1
+            let q : ReadQueues r op l.asked u = subst (EntersRead r op l.asked) s.1 l.enters in
+            worn_kept before mid after begun.tells begun.first begun.is s.2.0 (IsReadRefused r) q.refused s.0 (came_to u l.asked l.since q) (queued_out op mid l.asked u (out_on mid x l.asked begun.out l.since.idle) q) q.entered s.2.1
 
-        pub read_stopped : (linked : Option ℕ) → LooksOn r table op x mid after (Halted linked) → KeepsStopped r table (HaltsReading r op) before after linked
+        pub read_stopped : (linked : Option ℕ) → LooksOn r table op x mid after (Halted linked) → KeepsStopped r table (HaltsClientRead r op) before after linked
         read_stopped linked l =
             let s = l.settles in
             let h = UpdatedHalted s.0 in
-            let stops : ReadStops r op l.asked s.0 = subst (Enters r op l.asked) s.1 l.enters in
+            let stops : ReadStops r op l.asked s.0 = subst (EntersRead r op l.asked) s.1 l.enters in
             let out = out_on mid x l.asked begun.out l.since.idle in
-            let kept = stopped_kept before mid after begun.tells begun.first begun.is s.3.0 (HaltsReading r op) op l.asked in
+            let kept = stopped_kept before mid after begun.tells begun.first begun.is s.3.0 (HaltsClientRead r op) op l.asked in
             let since = comes_on begun.first x l.asked begun.since l.since in
-            subst (KeepsStopped r table (HaltsReading r op) before after) s.2
+            subst (KeepsStopped r table (HaltsClientRead r op) before after) s.2
             (⊎_elim (λ b. kept l.asked s.0 since (inr stops) out (inr b.0) s.3.1) (λ q. kept q.refused s.0 since (inr stops) (queued_out op mid l.asked h out q) (inl q.entered) s.3.1) stops.lists)
 
     -- what was shown and given back since a caller was taken out, was so since the call began
     module _ (before mid after : Lent) (same : TellsSame before mid) where
-      pub read_since : (op : List ℕ) (floor : ℕ) (caller : Seated) (seen : Seen) → ShowsRead r table op floor caller mid after seen → ShowsRead r table op floor caller before after seen
+      unfoldable pub read_since : (op : List ℕ) (floor : ℕ) (caller : Seated) (seen : Seen) → ShowsRead r table op floor caller mid after seen → ShowsRead r table op floor caller before after seen
       read_since op floor caller seen t = record {
         lent = t.lent;
         back = t.back;
@@ -527,14 +552,18 @@ module _ {O : Type 0} (r : Running O) where
         is = t.is;
         from = t.from;
         tells = t.tells ∙ same.told;
-        shows = λ h. (let same_ : total h (view mid.pass).shown ≡ total h (view before.pass).shown = ap (total h) same.shown in omega (arith, same_, t.shows h));
+        shows = λ h. (let same_ : total_weight h (view mid.pass).shown ≡ total_weight h (view before.pass).shown = ap (total_weight h) same.shown in omega (arith, same_, t.shows h));
       }
 
-      pub given_since : IsGivenBack r table mid after → IsGivenBack r table before after
+      given_since : IsGivenBack r table mid after → IsGivenBack r table before after
       given_since t = record {
         lent = t.lent;
         back = t.back;
         limits = t.limits ∙ same.limits;
         tells = t.tells ∙ same.told;
-        shows = λ h. (let same_ : total h (view mid.pass).shown ≡ total h (view before.pass).shown = ap (total h) same.shown in omega (arith, same_, t.shows h));
+        shows = λ h. (let same_ : total_weight h (view mid.pass).shown ≡ total_weight h (view before.pass).shown = ap (total_weight h) same.shown in omega (arith, same_, t.shows h));
       }
+
+      -- so it was where it caught up with a place, or found a lower one
+      pub caught_given : (x y : Seated) → IsOut r table mid x → IsCallerOf r y → CatchUpKeeps x y → after.kept ≡ mid.kept → (after.pass.table_id ≡ table) × (after.pass.me.1 ≡ []) → view after.pass ≡ with_given (view mid.pass) y → IsGivenBack r table before after
+      caught_given x y out is keeps kept pass view_is = given_since (given_back mid after x y out (caught_on x y is keeps) (kept ∙ out.none) pass view_is)

@@ -11,14 +11,14 @@ use Rattle.cx_rule.specs.Running.{Running}
 use Rattle.cx_rule.specs.Seats.{Seated}
 use Rattle.cx_service.specs.Callers.{IsCallerOf}
 use Rattle.seat_pool.specs.Gathering.{IsRestOf}
-use Rattle.seat_pool.specs.Pooling.{HasLimit, calls_from, calls_of, cut_left, limits_at, total}
+use Rattle.seat_pool.specs.Pooling.{HasLimit, calls_from, calls_of, cut_left, limits_at, total_weight}
 use Rattle.seat_pool.specs.declared.hand.Hand.{Hand}
 use Rattle.seat_pool.specs.declared.hand.Home.{Home}
 use Rattle.seat_pool.specs.declared.lent.Lent.{Lent}
 use Rattle.seat_pool.proofs.Orderings.{range_push}
 use Rattle.client_pool.specs.Clients.{HasCalls, IsClientOf}
 use Rattle.client_pool.specs.Lending.{IsLentTo, limits_of}
-use Rattle.client_pool.specs.Pools.{AreNewCallers, AreNewClients, IsClosing, IsNewCaller, IsNewClient, IsPlaced}
+use Rattle.client_pool.specs.Pools.{AreNewCallers, AreNewClients, IsClosing, IsNewCaller, IsNewClient, AreCallersPlaced}
 use Rattle.client_pool.specs.declared.client.Client.{Client}
 use Rattle.client_pool.specs.declared.client.Closing.{Closing}
 
@@ -85,8 +85,8 @@ module _ {O : Type 0} (r : Running O) where
         )
 
   module _ (table : TableId) where
-    pub placed_more : (n : ℕ) (v w : Hand) → IsPlaced r n v → n < 1024 → w ≡ cut_left v → IsPlaced r (n + 1) w
-    placed_more n v w placed few cut = subst (λ (u : Hand). IsPlaced r (n + 1) u) (sym cut) (record {
+    pub placed_more : (n : ℕ) (v w : Hand) → AreCallersPlaced r n v → n < 1024 → w ≡ cut_left v → AreCallersPlaced r (n + 1) w
+    placed_more n v w placed few cut = subst (λ (u : Hand). AreCallersPlaced r (n + 1) u) (sym cut) (record {
       home = placed.home;
       parts = (let parts = placed.parts in omega (arith, parts, few));
       placed = placed.placed;
@@ -95,7 +95,7 @@ module _ {O : Type 0} (r : Running O) where
       shown = placed.shown;
     })
 
-    pub rest_of : (n : ℕ) (v : Hand) → IsPlaced r n v → n < 1024 → IsRestOf r v n
+    pub rest_of : (n : ℕ) (v : Hand) → AreCallersPlaced r n v → n < 1024 → IsRestOf r v n
     rest_of n v placed few = record {
       home = placed.home;
       some = (let parts = placed.parts in omega (arith, parts, few));
@@ -127,7 +127,7 @@ module _ {O : Type 0} (r : Running O) where
         floor = floor ∙ new.calls.floor;
         in_turn = new.calls.in_turn;
         told = ap (λ (l : Lent). (view l.pass).told) lent ∙ new.calls.told;
-        shown = λ h. (let same : total h (view x.lent.pass).shown ≡ total h (view m.lent.pass).shown = ap (λ (l : Lent). total h (view l.pass).shown) lent in omega (arith, same, new.calls.shown h));
+        shown = λ h. (let same : total_weight h (view x.lent.pass).shown ≡ total_weight h (view m.lent.pass).shown = ap (λ (l : Lent). total_weight h (view l.pass).shown) lent in omega (arith, same, new.calls.shown h));
       }));
     }
 

@@ -12,26 +12,26 @@ use Rattle.cx_service.specs.Closes.{seat_of, seats_of}
 use Rattle.cx_service.specs.declared.close.Handed.{Handed}
 use Rattle.cx_table.specs.Remains.{locals_of}
 use Rattle.seat_pool.specs.Gathering.{handed_calls, one_at}
-use Rattle.seat_pool.specs.Pooling.{calls_from, total}
+use Rattle.seat_pool.specs.Pooling.{calls_from, total_weight}
 use Rattle.seat_pool.specs.declared.hand.Told.{Told}
 use Rattle.seat_pool.proofs.Orderings.{one_else}
 use Rattle.client_pool.proofs.Weights.{both_of, one_self, single}
 
 -- how many of a caller's entries have a ticket
 abbrev owns : ℕ → List Linked → ℕ
-owns k own = total (λ (x : Linked). one_at k x.ticket) own
+owns k own = total_weight (λ (x : Linked). one_at k x.ticket) own
 
-calls_within : (k n : ℕ) (own : List Linked) (answers : List Answer) → total (λ (t : Told). one_at k t.entry.ticket) (calls_from n own answers) ≤ owns k own
+calls_within : (k n : ℕ) (own : List Linked) (answers : List Answer) → total_weight (λ (t : Told). one_at k t.entry.ticket) (calls_from n own answers) ≤ owns k own
 calls_within k n [] answers = omega arith
 calls_within k n (x ∷ own) [] = omega arith
 calls_within k n (x ∷ own) (a ∷ answers) = (let rest = calls_within k n own answers in omega (arith, rest))
 
-handed_within : (k : ℕ) (handed : List Handed) → total (handed_calls (λ (t : Told). one_at k t.entry.ticket)) handed ≤ total (λ (l : Local). owns k l.own) (locals_of (seats_of handed))
+handed_within : (k : ℕ) (handed : List Handed) → total_weight (handed_calls (λ (t : Told). one_at k t.entry.ticket)) handed ≤ total_weight (λ (l : Local). owns k l.own) (locals_of (seats_of handed))
 handed_within k [] = omega arith
 handed_within k (g ∷ handed) =
     (let here = calls_within k (seat_of g).known.local.number (seat_of g).known.local.own (seat_of g).known.local.answered in let rest = handed_within k handed in omega (arith, here, rest))
 
-none_more : (xs : List ℕ) → total (λ (c : ℕ). 0) xs ≡ 0
+none_more : (xs : List ℕ) → total_weight (λ (c : ℕ). 0) xs ≡ 0
 none_more [] = refl
 none_more (x ∷ xs) = (let rest = none_more xs in omega (arith, rest))
 
@@ -52,23 +52,23 @@ module _ (k ticket : ℕ) (e : HistoryEntry) (rest : List HistoryEntry) where
       omega (arith, all, none)))
       (cases_eq e.caller c)
 
-  firsts : (cs : List ℕ) → total (λ c. owns k (own_of c ticket (e ∷ rest))) cs ≡ total mine cs + total (λ c. owns k (own_of c (ticket + 1) rest)) cs
+  firsts : (cs : List ℕ) → total_weight (λ c. owns k (own_of c ticket (e ∷ rest))) cs ≡ total_weight mine cs + total_weight (λ c. owns k (own_of c (ticket + 1) rest)) cs
   firsts [] = refl
   firsts (c ∷ cs) = (let here = first c in let more = firsts cs in omega (arith, here, more))
 
-  few : (a n : ℕ) → total mine (range_with_len a n) ≤ one_at k ticket
+  few : (a n : ℕ) → total_weight mine (range_with_len a n) ≤ one_at k ticket
   few a n =
       single mine e.caller (one_at k ticket) a n
       (λ c ne. ap (λ m. both_of m (one_at k ticket)) (one_else e.caller c ne))
       (let one : mine e.caller ≡ one_at k ticket = ap (λ m. both_of m (one_at k ticket)) (one_self e.caller) in omega (arith, one))
 
-by_history : (k a n ticket : ℕ) (history : List HistoryEntry) → total (λ c. owns k (own_of c ticket history)) (range_with_len a n) ≤ total (one_at k) (range_with_len ticket (length history))
+by_history : (k a n ticket : ℕ) (history : List HistoryEntry) → total_weight (λ c. owns k (own_of c ticket history)) (range_with_len a n) ≤ total_weight (one_at k) (range_with_len ticket (length history))
 by_history k a n ticket [] = (let none = none_more (range_with_len a n) in omega (arith, none))
 by_history k a n ticket (e ∷ rest) =
     (let all = firsts k ticket e rest (range_with_len a n) in let here = few k ticket e rest a n in let more = by_history k a n (ticket + 1) rest in omega (arith, all, here, more))
 
 by_locals : (k a place : ℕ) (history : List HistoryEntry) (locals : List Local) → ((i : ℕ) (l : Local) → slice_get locals i ≡ Some l → l.own ≡ own_of (a + i) place history)
-    → total (λ (l : Local). owns k l.own) locals ≡ total (λ c. owns k (own_of c place history)) (range_with_len a (length locals))
+    → total_weight (λ (l : Local). owns k l.own) locals ≡ total_weight (λ c. owns k (own_of c place history)) (range_with_len a (length locals))
 by_locals k a place history [] own = refl
 by_locals k a place history (l ∷ locals) own =
     let zero_ : a + 0 ≡ a = omega arith in
@@ -76,7 +76,7 @@ by_locals k a place history (l ∷ locals) own =
     let rest = by_locals k (a + 1) place history locals (λ i m at. (let next : a + suc i ≡ a + 1 + i = omega arith in own (suc i) m at ∙ ap (λ c. own_of c place history) next)) in
     omega (arith, here, rest)
 
-pub once : (k place : ℕ) (history : List HistoryEntry) (handed : List Handed) → IsHistory place history (locals_of (seats_of handed)) → total (handed_calls (λ (t : Told). one_at k t.entry.ticket)) handed ≤ 1
+pub once : (k place : ℕ) (history : List HistoryEntry) (handed : List Handed) → IsHistory place history (locals_of (seats_of handed)) → total_weight (handed_calls (λ (t : Told). one_at k t.entry.ticket)) handed ≤ 1
 once k place history handed merged =
     let locals = locals_of (seats_of handed) in
     let within = handed_within k handed in

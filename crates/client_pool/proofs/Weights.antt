@@ -4,7 +4,7 @@ use Rattle.std.specs.List.{range_with_len}
 use Rattle.std.proofs.lemmas.Bool.{cases_eq}
 use Rattle.cx_core.specs.declared.local.SeenRead.{SeenRead}
 use Rattle.seat_pool.specs.Gathering.{one_at}
-use Rattle.seat_pool.specs.Pooling.{total}
+use Rattle.seat_pool.specs.Pooling.{total_weight}
 use Rattle.seat_pool.specs.declared.hand.Told.{Told}
 
 -- the second, where the first is something
@@ -114,20 +114,20 @@ some_or_none zero = inr refl
 some_or_none (suc n) = inl (omega arith)
 
 -- where a sum is something, so is one of its items
-pub found : {A : Type 0} (f : A → ℕ) (xs : List A) → 0 < total f xs → (i : ℕ) × (x : A) × (slice_get xs i ≡ Some x) × (0 < f x)
+pub found : {A : Type 0} (f : A → ℕ) (xs : List A) → 0 < total_weight f xs → (i : ℕ) × (x : A) × (slice_get xs i ≡ Some x) × (0 < f x)
 found f [] lt = absurd (omega (arith, lt))
 found f (x ∷ xs) lt =
     ⊎_elim (λ some. (0, x, refl, some)) (λ none. (let rest = found f xs (omega (arith, lt, none)) in (suc rest.0, rest.1, rest.2, rest.3))) (some_or_none (f x))
 
 -- what weighs nothing but at one number, weighs at most that among numbers one after another
-past : (f : ℕ → ℕ) (m a n : ℕ) → ((c : ℕ) → c ≢ m → f c ≡ 0) → m < a → total f (range_with_len a n) ≡ 0
+past : (f : ℕ → ℕ) (m a n : ℕ) → ((c : ℕ) → c ≢ m → f c ≡ 0) → m < a → total_weight f (range_with_len a n) ≡ 0
 past f m a zero off lt = refl
 past f m a (suc n) off lt =
     let here = off a (λ e. absurd (omega (arith, e, lt))) in
     let rest = past f m (a + 1) n off (omega (arith, lt)) in
     omega (arith, here, rest)
 
-pub single : (f : ℕ → ℕ) (m v a n : ℕ) → ((c : ℕ) → c ≢ m → f c ≡ 0) → f m ≤ v → total f (range_with_len a n) ≤ v
+pub single : (f : ℕ → ℕ) (m v a n : ℕ) → ((c : ℕ) → c ≢ m → f c ≡ 0) → f m ≤ v → total_weight f (range_with_len a n) ≤ v
 single f m v a zero off most = omega arith
 single f m v a (suc n) off most =
     ⊎_elim (λ e. (let here : f a ≡ f m = ap f e in let rest = past f m (a + 1) n off (omega (arith, e)) in omega (arith, here, rest, most)))

@@ -19,12 +19,12 @@ use Rattle.cx_service.specs.declared.close.Handed.{Handed}
 use Rattle.cx_service.specs.declared.close.Handed.TheVariants.{Idle, Linked, Stopped}
 use Rattle.cx_table.specs.Remains.{Leaves, locals_of}
 use Rattle.cx_table.specs.declared.remains.Remains.{Remains}
-use Rattle.seat_pool.specs.Gathering.{AreTold, IsHandedOf, handed_calls, if_stopped, kept_list, lent_kept, one_at}
-use Rattle.seat_pool.specs.Pooling.{calls_from, calls_of, total}
+use Rattle.seat_pool.specs.Gathering.{AreCallsTold, IsHandedOf, handed_calls, if_stopped, kept_list, lent_kept, one_at}
+use Rattle.seat_pool.specs.Pooling.{calls_from, calls_of, total_weight}
 use Rattle.seat_pool.specs.declared.hand.Told.{Told}
 use Rattle.seat_pool.proofs.Poolings.{units}
 use Rattle.client_pool.specs.Answers.{AreWhole, answers_at}
-use Rattle.client_pool.specs.Clients.{HasCalls, entries_of}
+use Rattle.client_pool.specs.Clients.{HasCalls, entries_called}
 use Rattle.client_pool.specs.Lending.{is_live}
 use Rattle.client_pool.specs.Pools.{lents_of}
 use Rattle.client_pool.specs.declared.call.Call.{Call}
@@ -38,28 +38,28 @@ busy (Idle seat) = 0
 busy (Linked seat) = 1
 busy (Stopped stopped) = 1
 
-kept_idle : (kept : Option Handed) → is_live kept ≡ true → total busy (kept_list kept) ≡ 0
+kept_idle : (kept : Option Handed) → is_live kept ≡ true → total_weight busy (kept_list kept) ≡ 0
 unfolding busy
 kept_idle None live = refl
 kept_idle (Some (Idle now)) live = refl
 kept_idle (Some (Linked seat)) live = absurd (true≢false (sym live))
 kept_idle (Some (Stopped stopped)) live = absurd (true≢false (sym live))
 
-none_busy : (clients : List Client) → All (λ (c : Client). is_live c.lent.kept ≡ true) clients → total (lent_kept busy) (lents_of clients) ≡ 0
+none_busy : (clients : List Client) → All (λ (c : Client). is_live c.lent.kept ≡ true) clients → total_weight (lent_kept busy) (lents_of clients) ≡ 0
 none_busy [] live = refl
 none_busy (c ∷ clients) live =
     let here = kept_idle c.lent.kept (All-head (λ (x : Client). is_live x.lent.kept ≡ true) c clients live) in
     let rest = none_busy clients (All-tail (λ (x : Client). is_live x.lent.kept ≡ true) c clients live) in
     omega (arith, here, rest)
 
-stops_busy : (handed : List Handed) → total (if_stopped (λ (n : ℕ). 1)) handed ≤ total busy handed
+stops_busy : (handed : List Handed) → total_weight (if_stopped (λ (n : ℕ). 1)) handed ≤ total_weight busy handed
 unfolding busy
 stops_busy [] = omega arith
 stops_busy (Idle seat ∷ handed) = (let rest = stops_busy handed in omega (arith, rest))
 stops_busy (Linked seat ∷ handed) = (let rest = stops_busy handed in omega (arith, rest))
 stops_busy (Stopped stopped ∷ handed) = (let rest = stops_busy handed in omega (arith, rest))
 
-no_weight : (h : Told → ℕ) (xs : List Told) → total (λ (t : Told). 1) xs ≤ 0 → total h xs ≡ 0
+no_weight : (h : Told → ℕ) (xs : List Told) → total_weight (λ (t : Told). 1) xs ≤ 0 → total_weight h xs ≡ 0
 no_weight h [] none = refl
 no_weight h (x ∷ xs) none = absurd (omega (arith, none))
 
@@ -70,7 +70,7 @@ even r (Idle seat) of idle = (let count = of.count in omega (arith, count))
 even r (Linked seat) of idle = absurd (omega (arith, idle))
 even r (Stopped stopped) of idle = absurd (omega (arith, idle))
 
-all_answered : (n : ℕ) (own : List OwnEntry) (answers : List Answer) → length own ≡ length answers → total (λ (t : Told). 1) (calls_from n own answers) ≡ length own
+all_answered : (n : ℕ) (own : List OwnEntry) (answers : List Answer) → length own ≡ length answers → total_weight (λ (t : Told). 1) (calls_from n own answers) ≡ length own
 all_answered n [] answers same = refl
 all_answered n (x ∷ own) [] same = absurd (omega (arith, same))
 all_answered n (x ∷ own) (a ∷ answers) same = (let rest = all_answered n own answers (omega (arith, same)) in omega (arith, rest))
@@ -82,7 +82,7 @@ call_there n (y ∷ own) (a ∷ answers) zero x same at = (record { caller = n; 
 call_there n (y ∷ own) (a ∷ answers) (suc k) x same at = call_there n own answers k x (omega (arith, same)) at
 
 -- an item weighs at most as much as all
-weighs_in : {A : Type 0} (f : A → ℕ) (xs : List A) (i : ℕ) (x : A) → slice_get xs i ≡ Some x → f x ≤ total f xs
+weighs_in : {A : Type 0} (f : A → ℕ) (xs : List A) (i : ℕ) (x : A) → slice_get xs i ≡ Some x → f x ≤ total_weight f xs
 weighs_in f [] i x at = absurd (none-some x at)
 weighs_in f (y ∷ xs) zero x at = (let same : f y ≡ f x = ap f (same_Some y x at) in omega (arith, same))
 weighs_in f (y ∷ xs) (suc i) x at = (let rest = weighs_in f xs i x at in omega (arith, rest))
@@ -97,7 +97,7 @@ locals_long [] = refl
 locals_long (h ∷ handed) = ap suc (locals_long handed)
 
 module _ {O : Type 0} (r : Running O) where
-  counted : (handed : List Handed) → All (IsHandedOf r) handed → total busy handed ≡ 0 → total (handed_calls (λ (t : Told). 1)) handed ≡ length (all_own (locals_of (seats_of handed)))
+  counted : (handed : List Handed) → All (IsHandedOf r) handed → total_weight busy handed ≡ 0 → total_weight (handed_calls (λ (t : Told). 1)) handed ≡ length (all_own (locals_of (seats_of handed)))
   counted [] of idle = refl
   counted (g ∷ handed) of idle =
       let l = (seat_of g).known.local in
@@ -106,14 +106,14 @@ module _ {O : Type 0} (r : Running O) where
       let rest = counted handed (All-tail (IsHandedOf r) g handed of) (omega (arith, idle)) in
       omega (arith, here, rest, length-append l.own (all_own (locals_of (seats_of handed))))
 
-  idle_at : (handed : List Handed) (i : ℕ) (g : Handed) → All (IsHandedOf r) handed → total busy handed ≡ 0 → slice_get handed i ≡ Some g → IsHandedOf r g × (busy g ≡ 0)
+  idle_at : (handed : List Handed) (i : ℕ) (g : Handed) → All (IsHandedOf r) handed → total_weight busy handed ≡ 0 → slice_get handed i ≡ Some g → IsHandedOf r g × (busy g ≡ 0)
   idle_at [] i g of idle at = absurd (none-some g at)
   idle_at (h ∷ handed) zero g of idle at = subst (λ (x : Handed). IsHandedOf r x × (busy x ≡ 0)) (same_Some h g at) (All-head (IsHandedOf r) h handed of, omega (arith, idle))
   idle_at (h ∷ handed) (suc i) g of idle at = idle_at handed i g (All-tail (IsHandedOf r) h handed of) (omega (arith, idle)) at
 
   -- each entry of the history is a call of a caller
-  has_call : (place : ℕ) (history : List HistoryEntry) (handed : List Handed) → IsHistory place history (locals_of (seats_of handed)) → All (IsHandedOf r) handed → total busy handed ≡ 0
-      → (ticket : ℕ) → place ≤ ticket → ticket < place + length history → 1 ≤ total (handed_calls (λ (t : Told). one_at ticket t.entry.ticket)) handed
+  has_call : (place : ℕ) (history : List HistoryEntry) (handed : List Handed) → IsHistory place history (locals_of (seats_of handed)) → All (IsHandedOf r) handed → total_weight busy handed ≡ 0
+      → (ticket : ℕ) → place ≤ ticket → ticket < place + length history → 1 ≤ total_weight (handed_calls (λ (t : Told). one_at ticket t.entry.ticket)) handed
   has_call place history handed merged of idle ticket from below =
       let i = ticket - place in
       let e = item_below history i (omega (arith, from, below)) in
@@ -132,18 +132,18 @@ module _ {O : Type 0} (r : Running O) where
       let outer = weighs_in (handed_calls (λ (u : Told). one_at ticket u.entry.ticket)) handed caller g.0 g.1 in
       omega (arith, one, inner, outer)
 
-  lengths : (calls : List (List Call)) → total (λ (cs : List Call). length (entries_of cs)) calls ≡ total (λ (cs : List Call). total (λ (t : Told). 1) (entries_of cs)) calls
+  lengths : (calls : List (List Call)) → total_weight (λ (cs : List Call). length (entries_called cs)) calls ≡ total_weight (λ (cs : List Call). total_weight (λ (t : Told). 1) (entries_called cs)) calls
   lengths [] = refl
-  lengths (cs ∷ calls) = (let here = units Told (entries_of cs) in let rest = lengths calls in omega (arith, here, rest))
+  lengths (cs ∷ calls) = (let here = units Told (entries_called cs) in let rest = lengths calls in omega (arith, here, rest))
 
-  pub are_whole : (history : List HistoryEntry) (handed : List Handed) (clients : List Client) → IsHistory r.base.place history (locals_of (seats_of handed)) → AreTold r (lents_of clients) handed
-      → All (λ (c : Client). is_live c.lent.kept ≡ true) clients → (calls : List (List Call)) → AllZip (HasCalls r) clients calls → ((ticket : ℕ) → total (answers_at ticket) calls ≤ 1) → AreWhole r.base.place history calls
+  pub are_whole : (history : List HistoryEntry) (handed : List Handed) (clients : List Client) → IsHistory r.base.place history (locals_of (seats_of handed)) → AreCallsTold r (lents_of clients) handed
+      → All (λ (c : Client). is_live c.lent.kept ≡ true) clients → (calls : List (List Call)) → AllZip (HasCalls r) clients calls → ((ticket : ℕ) → total_weight (answers_at ticket) calls ≤ 1) → AreWhole r.base.place history calls
   unfolding busy
   are_whole history handed clients merged told live calls are once =
-      let idle : total busy handed ≡ 0 = told.others busy (λ s. refl) ∙ none_busy clients live in
+      let idle : total_weight busy handed ≡ 0 = told.others busy (λ s. refl) ∙ none_busy clients live in
       let few = told.few (λ (n : ℕ). 1) in
       let stops = stops_busy handed in
-      let all : (h : Told → ℕ) → total (λ (cs : List Call). total h (entries_of cs)) calls ≡ total (handed_calls h) handed = λ h. (
+      let all : (h : Told → ℕ) → total_weight (λ (cs : List Call). total_weight h (entries_called cs)) calls ≡ total_weight (handed_calls h) handed = λ h. (
       let none = no_weight h told.untold (omega (arith, few, stops, idle)) in
       let same = weighs r h clients calls are in
       let told_ = told.calls h in
@@ -155,7 +155,7 @@ module _ {O : Type 0} (r : Running O) where
 
 -- the front of a caller that a client keeps is not past the history
 module _ {O : Type 0} (r : Running O) (instance : Instance) (handed : List Handed) (remains : Remains) (clients : List Client) (place : instance.base.place ≡ r.base.place) (leaves : Leaves r instance (seats_of handed) remains)
-    (told : AreTold r (lents_of clients) handed) where
+    (told : AreCallsTold r (lents_of clients) handed) where
   lent_at : (cs : List Client) (i : ℕ) (client : Client) → slice_get cs i ≡ Some client → slice_get (lents_of cs) i ≡ Some client.lent
   lent_at [] i client at = absurd (none-some client at)
   lent_at (c ∷ cs) zero client at = ap (λ (x : Client). Some x.lent) (same_Some c client at)
@@ -165,7 +165,7 @@ module _ {O : Type 0} (r : Running O) (instance : Instance) (handed : List Hande
   front_within i client now at keeps =
       let front = now.known.local.front in
       let f : Handed → ℕ = λ g. one_at front (seat_of g).known.local.front in
-      let here : lent_kept f client.lent ≡ f (Idle now) + 0 = ap (λ (k : Option Handed). total f (kept_list k)) keeps in
+      let here : lent_kept f client.lent ≡ f (Idle now) + 0 = ap (λ (k : Option Handed). total_weight f (kept_list k)) keeps in
       let one : f (Idle now) ≡ 1 = one_self front in
       let in_lents = weighs_in (lent_kept f) (lents_of clients) i client.lent (lent_at clients i client at) in
       let most = told.kept f in

@@ -7,9 +7,9 @@ use Rattle.cx_core.specs.declared.entry.Entry.{Entry as HistoryEntry}
 use Rattle.cx_core.specs.declared.local.Local.{Local}
 use Rattle.cx_core.specs.declared.local.SeenRead.{SeenRead}
 use Rattle.seat_pool.specs.Gathering.{one_at}
-use Rattle.seat_pool.specs.Pooling.{total}
+use Rattle.seat_pool.specs.Pooling.{total_weight}
 use Rattle.seat_pool.specs.declared.hand.Told.{Told}
-use Rattle.client_pool.specs.Clients.{AreInTurn, entries_of}
+use Rattle.client_pool.specs.Clients.{AreInTurn, entries_called}
 use Rattle.client_pool.specs.declared.call.Call.{Call}
 use Rattle.client_pool.specs.declared.call.Call.TheVariants.{Entry, Look}
 
@@ -49,17 +49,17 @@ IsCallersCall locals (Look read) = IsCallersRead locals read
 
 -- how many of a client's calls are answered as the entry at a ticket
 abbrev pub answers_at : ℕ → List Call → ℕ
-answers_at ticket calls = total (λ (t : Told). one_at ticket t.entry.ticket) (entries_of calls)
+answers_at ticket calls = total_weight (λ (t : Told). one_at ticket t.entry.ticket) (entries_called calls)
 
 -- The calls of clients are the history's, and those of the callers that ended with these local states. No ticket answers two of them, and no answer to a
 -- client holds below one before it.
 pub record AreAnswered (instance : Instance) (history : List HistoryEntry) (locals : List Local) (calls : List (List Call)) : Type 0 where
   pub each : All (All (IsCallOf instance history)) calls
   pub callers : All (All (IsCallersCall locals)) calls
-  pub once : (ticket : ℕ) → total (answers_at ticket) calls ≤ 1
+  pub once : (ticket : ℕ) → total_weight (answers_at ticket) calls ≤ 1
   pub in_turn : All (AreInTurn instance.base.place) calls
 
 -- Each ticket of the history answers one of the calls: there are as many entries among these as the history has.
 pub record AreWhole (place : ℕ) (history : List HistoryEntry) (calls : List (List Call)) : Type 0 where
-  pub all : (ticket : ℕ) → place ≤ ticket → ticket < place + length history → total (answers_at ticket) calls ≡ 1
-  pub count : total (λ (cs : List Call). length (entries_of cs)) calls ≡ length history
+  pub all : (ticket : ℕ) → place ≤ ticket → ticket < place + length history → total_weight (answers_at ticket) calls ≡ 1
+  pub count : total_weight (λ (cs : List Call). length (entries_called cs)) calls ≡ length history

@@ -1,5 +1,5 @@
--- What a client of a pool is, and what a call of its comes to.
-use Rattle.std.specs.Prelude.{◌≡◌, ◌+◌, ◌<◌, ◌≤◌, ◌⊎◌, ℕ, max, List, [], ◌∷◌, ◌++◌, Option, None, length, map, vec_capacity, vec_len}
+-- A client of a pool, and the results of its calls.
+use Rattle.std.specs.Prelude.{◌≡◌, ◌+◌, ◌<◌, ◌≤◌, ◌⊎◌, ℕ, max, List, [], ◌∷◌, ◌++◌, None, length, map, vec_capacity, vec_len}
 use Rattle.atomic_table.specs.Seated.{TableId}
 use Rattle.crossbeam_queue.specs.Passes.{view}
 use Rattle.cx_core.specs.declared.local.Answer.{Answer}
@@ -10,12 +10,12 @@ use Rattle.cx_service.specs.Callers.{StoppedSeat}
 use Rattle.cx_service.specs.CatchUps.{CatchUpBehind, CatchUpCaught, CatchUpHalted}
 use Rattle.cx_service.specs.Drives.{MeetsFewer}
 use Rattle.cx_service.specs.Lookups.{ReadAnswered}
-use Rattle.cx_service.specs.Submits.{entry_at}
+use Rattle.cx_service.specs.Submits.{next_entry}
 use Rattle.cx_service.specs.Updates.{ReadStops, UpdateDone, UpdateHalted}
-use Rattle.cx_service.specs.declared.close.Handed.{Handed}
 use Rattle.cx_turns.specs.declared.lookup.Seen.{Seen}
-use Rattle.seat_pool.specs.Pooling.{told_with, total}
+use Rattle.seat_pool.specs.Pooling.{told_with, total_weight}
 use Rattle.seat_pool.specs.declared.hand.Told.{Told}
+use Rattle.seat_pool.specs.declared.lent.Lent.{Lent}
 use Rattle.client_pool.specs.declared.call.Answered.{Answered}
 use Rattle.client_pool.specs.declared.call.Answered.TheVariants.{Updated, Read}
 use Rattle.client_pool.specs.declared.call.Call.{Call}
@@ -27,7 +27,7 @@ use Rattle.client_pool.specs.declared.pool.Pooled.{Pooled}
 use Rattle.client_pool.specs.declared.pool.Pooled.TheVariants.{Done, Full, Worn, Stopped, Memory}
 use Rattle.client_pool.specs.declared.pool.PooledRead.{PooledRead}
 use Rattle.client_pool.specs.declared.pool.PooledRead.TheVariants.{Read as ReadSeen, Queued, Full as FullRead, Worn as WornRead, Stopped as StoppedRead, Memory as MemoryRead}
-use Rattle.client_pool.specs.Lending.{ComesFrom, HaltsLooking, IsKept, IsLentTo, IsRefused, KeepsFull, KeepsStopped, KeepsWorn, limits_of}
+use Rattle.client_pool.specs.Lending.{ComesFrom, HaltsBesideQueue, IsLentTo, IsReadRefused, KeepsFull, KeepsStopped, KeepsWorn, ReturnsFirst, limits_of}
 
 -- what its client sees of a call
 abbrev pub answered_by : Call → Answered
@@ -35,34 +35,34 @@ answered_by (Entry told) = Updated told.caller told.answer
 answered_by (Look read) = Read (record { place = read.place; reply = read.reply })
 
 -- where its answer holds, and below which place no later answer of the client does
-abbrev pub place_of : Call → ℕ
-place_of (Entry told) = told.answer.ticket
-place_of (Look read) = read.place
+abbrev pub answer_place_of : Call → ℕ
+answer_place_of (Entry told) = told.answer.ticket
+answer_place_of (Look read) = read.place
 
-abbrev pub next_of : Call → ℕ
-next_of (Entry told) = told.answer.ticket + 1
-next_of (Look read) = read.place
+abbrev pub next_place_of : Call → ℕ
+next_place_of (Entry told) = told.answer.ticket + 1
+next_place_of (Look read) = read.place
 
 -- the floor behind calls, from a floor on
 abbrev pub floor_after : ℕ → List Call → ℕ
 floor_after floor [] = floor
-floor_after floor (call ∷ calls) = floor_after (next_of call) calls
+floor_after floor (call ∷ calls) = floor_after (next_place_of call) calls
 
 -- each answer holds at or above the floor behind those before it
 abbrev pub AreInTurn : ℕ → List Call → Type 0
 AreInTurn floor [] = Unit {0}
-AreInTurn floor (call ∷ calls) = (floor ≤ place_of call) × AreInTurn (next_of call) calls
+AreInTurn floor (call ∷ calls) = (floor ≤ answer_place_of call) × AreInTurn (next_place_of call) calls
 
 -- the entries among calls, and the reads
-abbrev pub entries_of : List Call → List Told
-entries_of [] = []
-entries_of (Entry told ∷ calls) = told ∷ entries_of calls
-entries_of (Look read ∷ calls) = entries_of calls
+abbrev pub entries_called : List Call → List Told
+entries_called [] = []
+entries_called (Entry told ∷ calls) = told ∷ entries_called calls
+entries_called (Look read ∷ calls) = entries_called calls
 
-abbrev pub reads_of : List Call → List SeenRead
-reads_of [] = []
-reads_of (Entry told ∷ calls) = reads_of calls
-reads_of (Look read ∷ calls) = read ∷ reads_of calls
+abbrev pub reads_called : List Call → List SeenRead
+reads_called [] = []
+reads_called (Entry told ∷ calls) = reads_called calls
+reads_called (Look read ∷ calls) = read ∷ reads_called calls
 
 -- A client of a service made these calls, in this order: its answers are theirs, it was told their entries and shown their reads, and no answer holds below
 -- one before it.
@@ -70,8 +70,8 @@ pub record HasCalls {O : Type 0} (r : Running O) (client : Client) (calls : List
   pub answers : client.answers.items ≡ map answered_by calls
   pub floor : client.floor ≡ floor_after r.base.place calls
   pub in_turn : AreInTurn r.base.place calls
-  pub told : (view client.lent.pass).told ≡ entries_of calls
-  pub shown : (h : SeenRead → ℕ) → total h (reads_of calls) ≤ total h (view client.lent.pass).shown
+  pub told : (view client.lent.pass).told ≡ entries_called calls
+  pub shown : (h : SeenRead → ℕ) → total_weight h (reads_called calls) ≤ total_weight h (view client.lent.pass).shown
 
 -- a client between its calls
 abbrev pub IsClientOf : {O : Type 0} → Running O → TableId → Client → Type 0
@@ -89,7 +89,7 @@ pub record HasMade {O : Type 0} (r : Running O) (table : TableId) (before after 
   pub back : after.lent.kept ≡ None
   pub same : IsSameClient before after
   pub seen : after.caught_up ≡ before.caught_up
-  pub from : before.caught_up ≤ place_of call
+  pub from : before.caught_up ≤ answer_place_of call
   pub calls : (calls : List Call) → HasCalls r before calls → HasCalls r after (calls ++ call ∷ [])
 
 -- the call is an entry of this operation, with this answer
@@ -98,16 +98,16 @@ pub record HasUpdated {O : Type 0} (r : Running O) (table : TableId) (op : List 
   pub is : (told.answer ≡ answer) × (told.entry.ticket ≡ answer.ticket) × (told.entry.entry.op ≡ op)
   pub made : HasMade r table before after (Entry told)
 
--- The entry and its answer are of the caller that was asked, the one that the client kept or else one out of the queue, which came to the queue in this way and
--- was answered so in this call.
-pub record IsAnswered {O : Type 0} (r : Running O) (way : Seated → Seated → Type 0) (op : List ℕ) (kept : Option Handed) (told : Told) : Type 0 where
+-- The entry and its answer are of the caller that was asked, the one that the client kept or else one out of the queue, which entered the queue in this way and
+-- was answered so in this call, and was given back so.
+pub record IsClientAnswered {O : Type 0} (r : Running O) (way : Seated → Seated → Type 0) (op : List ℕ) (before after : Lent) (told : Told) : Type 0 where
   pub first : Seated
-  pub is : IsKept kept first
   pub asked : Seated
   pub came : way first asked
   pub now : Seated
+  pub returns : ReturnsFirst before after first now
   pub done : UpdateDone r op asked now told.answer
-  pub entry : told ≡ told_with asked.known.local.number (entry_at r asked.known.local op told.answer.ticket) told.answer
+  pub entry : told ≡ told_with asked.known.local.number (next_entry r asked.known.local op told.answer.ticket) told.answer
 
 -- the call is a read of this operation, answered beside the queue
 pub record HasRead {O : Type 0} (r : Running O) (table : TableId) (op : List ℕ) (before after : Client) (seen : Seen) : Type 0 where
@@ -116,15 +116,15 @@ pub record HasRead {O : Type 0} (r : Running O) (table : TableId) (op : List ℕ
   pub made : HasMade r table before after (Look read)
 
 -- The read is of the caller that was asked, the one that the client kept or else one out of the queue, which was answered so in this call, after fewer than eight
--- refusals.
-pub record IsShown {O : Type 0} (r : Running O) (op : List ℕ) (kept : Option Handed) (read : SeenRead) : Type 0 where
+-- refusals, and was given back so.
+pub record IsReadShown {O : Type 0} (r : Running O) (op : List ℕ) (before after : Lent) (read : SeenRead) : Type 0 where
   pub first : Seated
-  pub is : IsKept kept first
   pub asked : Seated
   pub since : ComesFrom r first asked
   pub now : Seated
+  pub returns : ReturnsFirst before after first now
   pub shown : ReadAnswered r op asked now (record { place = read.place; reply = read.reply }) × MeetsFewer 8 asked now
-  pub before : read.before ≡ length asked.known.local.answered
+  pub answers : read.before ≡ length asked.known.local.answered
 
 -- the client was answered nothing more: its answers, its floor and the place that it caught up with are as before
 pub record HasNoMore {O : Type 0} (r : Running O) (table : TableId) (before after : Client) : Type 0 where
@@ -144,23 +144,23 @@ pub record HasItsCalls {O : Type 0} (r : Running O) (table : TableId) (before af
   pub floor : after.floor ≡ before.floor
   pub calls : (calls : List Call) → HasCalls r before calls → HasCalls r after calls
 
--- The client caught up with a place: a caller had seen it, the one that the client kept or else one out of the queue, and no later answer of the client holds
--- below it (`HasMade.from`).
+-- The client caught up with a place: a caller had seen it, the one that the client kept or else one out of the queue, which was given back so, and no later answer
+-- of the client holds below it (`HasMade.from`).
 pub record HasCaughtUp {O : Type 0} (r : Running O) (table : TableId) (place : ℕ) (before after : Client) : Type 0 where
   pub made : HasItsCalls r table before after
   pub seen : after.caught_up ≡ max before.caught_up place
   pub asked : Seated
-  pub kept : IsKept before.lent.kept asked
   pub now : Seated
+  pub returns : ReturnsFirst before.lent after.lent asked now
   pub caught : CatchUpCaught r place asked now
 
--- The current place was found below the one asked for, by the caller that the client kept or else one out of the queue: this one.
-pub record IsBehind {O : Type 0} (r : Running O) (table : TableId) (place found : ℕ) (before after : Client) : Type 0 where
+-- The current place was found below the one asked for, by the caller that the client kept or else one out of the queue, which was given back so: this one.
+pub record IsClientBehind {O : Type 0} (r : Running O) (table : TableId) (place found : ℕ) (before after : Client) : Type 0 where
   pub made : HasItsCalls r table before after
   pub seen : after.caught_up ≡ before.caught_up
   pub asked : Seated
-  pub kept : IsKept before.lent.kept asked
   pub now : Seated
+  pub returns : ReturnsFirst before.lent after.lent asked now
   pub behind : CatchUpBehind r place found asked now
 
 -- there was no room for a further answer, and nothing was done
@@ -169,32 +169,32 @@ pub record WantsRoom (before after : Client) : Type 0 where
   pub lent : after.lent ≡ before.lent
 
 -- how an update of this operation stops its caller: in seeing what is below the floor, or in the update itself
-abbrev pub HaltsEntering : {O : Type 0} → Running O → List ℕ → Seated → StoppedSeat → Type 0
-HaltsEntering r op asked stopped = HaltsLooking r asked stopped ⊎ UpdateHalted r op asked stopped
+abbrev pub HaltsClientUpdate : {O : Type 0} → Running O → List ℕ → Seated → StoppedSeat → Type 0
+HaltsClientUpdate r op asked stopped = HaltsBesideQueue r asked stopped ⊎ UpdateHalted r op asked stopped
 
 -- how a read does
-abbrev pub HaltsReading : {O : Type 0} → Running O → List ℕ → Seated → StoppedSeat → Type 0
-HaltsReading r op asked stopped = HaltsLooking r asked stopped ⊎ ReadStops r op asked stopped
+abbrev pub HaltsClientRead : {O : Type 0} → Running O → List ℕ → Seated → StoppedSeat → Type 0
+HaltsClientRead r op asked stopped = HaltsBesideQueue r asked stopped ⊎ ReadStops r op asked stopped
 
--- What an update of this operation comes to. The caller that the client keeps makes the call, where it keeps one.
-abbrev pub Updates : {O : Type 0} → Running O → TableId → List ℕ → Client → Client → Pooled → Type 0
-Updates r table op before after (Done answer) = (made : HasUpdated r table op before after answer) × IsAnswered r (ComesFrom r) op before.lent.kept made.told
-Updates r table op before after (Full note) = HasNoMore r table before after × KeepsFull r table (ComesFrom r) before.lent after.lent note
-Updates r table op before after Worn = HasNoMore r table before after × KeepsWorn r table (ComesFrom r) before.lent after.lent
-Updates r table op before after (Stopped linked) = HasNoMore r table before after × KeepsStopped r table (HaltsEntering r op) before.lent after.lent linked
-Updates r table op before after Memory = HasNoMore r table before after × WantsRoom before after
+-- The result of an update of this operation. The caller that the client keeps makes the call, where it keeps one.
+abbrev pub UpdatesForClient : {O : Type 0} → Running O → TableId → List ℕ → Client → Client → Pooled → Type 0
+UpdatesForClient r table op before after (Done answer) = (made : HasUpdated r table op before after answer) × IsClientAnswered r (ComesFrom r) op before.lent after.lent made.told
+UpdatesForClient r table op before after (Full note) = HasNoMore r table before after × KeepsFull r table (ComesFrom r) before.lent after.lent note
+UpdatesForClient r table op before after Worn = HasNoMore r table before after × KeepsWorn r table (ComesFrom r) before.lent after.lent
+UpdatesForClient r table op before after (Stopped linked) = HasNoMore r table before after × KeepsStopped r table (HaltsClientUpdate r op) before.lent after.lent linked
+UpdatesForClient r table op before after Memory = HasNoMore r table before after × WantsRoom before after
 
--- What a read of this operation comes to. The same caller makes it. It enters the queue only where it met eight refusals beside it.
-abbrev pub ReadsInAll : {O : Type 0} → Running O → TableId → List ℕ → Client → Client → PooledRead → Type 0
-ReadsInAll r table op before after (ReadSeen seen) = (made : HasRead r table op before after seen) × IsShown r op before.lent.kept made.read
-ReadsInAll r table op before after (Queued answer) = (made : HasUpdated r table op before after answer) × IsAnswered r (IsRefused r) op before.lent.kept made.told
-ReadsInAll r table op before after (FullRead note) = HasNoMore r table before after × KeepsFull r table (IsRefused r) before.lent after.lent note
-ReadsInAll r table op before after WornRead = HasNoMore r table before after × KeepsWorn r table (IsRefused r) before.lent after.lent
-ReadsInAll r table op before after (StoppedRead linked) = HasNoMore r table before after × KeepsStopped r table (HaltsReading r op) before.lent after.lent linked
-ReadsInAll r table op before after MemoryRead = HasNoMore r table before after × WantsRoom before after
+-- The result of a read of this operation. The same caller makes it. It enters the queue only where it met eight refusals beside it.
+abbrev pub ReadsForClient : {O : Type 0} → Running O → TableId → List ℕ → Client → Client → PooledRead → Type 0
+ReadsForClient r table op before after (ReadSeen seen) = (made : HasRead r table op before after seen) × IsReadShown r op before.lent after.lent made.read
+ReadsForClient r table op before after (Queued answer) = (made : HasUpdated r table op before after answer) × IsClientAnswered r (IsReadRefused r) op before.lent after.lent made.told
+ReadsForClient r table op before after (FullRead note) = HasNoMore r table before after × KeepsFull r table (IsReadRefused r) before.lent after.lent note
+ReadsForClient r table op before after WornRead = HasNoMore r table before after × KeepsWorn r table (IsReadRefused r) before.lent after.lent
+ReadsForClient r table op before after (StoppedRead linked) = HasNoMore r table before after × KeepsStopped r table (HaltsClientRead r op) before.lent after.lent linked
+ReadsForClient r table op before after MemoryRead = HasNoMore r table before after × WantsRoom before after
 
--- what catching up with a place comes to
-abbrev pub CatchesUp : {O : Type 0} → Running O → TableId → ℕ → Client → Client → PooledCatchUp → Type 0
-CatchesUp r table place before after Caught = HasCaughtUp r table place before after
-CatchesUp r table place before after (Behind found) = IsBehind r table place found before after
-CatchesUp r table place before after StoppedCatchUp = HasNoMore r table before after × KeepsStopped r table (CatchUpHalted r) before.lent after.lent None
+-- the result of catching up with a place
+abbrev pub ClientCatchesUp : {O : Type 0} → Running O → TableId → ℕ → Client → Client → PooledCatchUp → Type 0
+ClientCatchesUp r table place before after Caught = HasCaughtUp r table place before after
+ClientCatchesUp r table place before after (Behind found) = IsClientBehind r table place found before after
+ClientCatchesUp r table place before after StoppedCatchUp = HasNoMore r table before after × KeepsStopped r table (CatchUpHalted r) before.lent after.lent None

@@ -1,5 +1,5 @@
 -- What is lent to a client of a pool, and what a call of its leaves of that.
-use Rattle.std.specs.Prelude.{◌≡◌, ◌+◌, ◌^◌, ◌≤◌, Bool, true, false, ℕ, List, [], ◌∷◌, length, Option, Some, None, Result, Ok, Err, IsTrue}
+use Rattle.std.specs.Prelude.{◌≡◌, ◌+◌, ◌^◌, ◌≤◌, Bool, true, false, ℕ, List, [], ◌∷◌, ◌++◌, length, Option, Some, None, Result, Ok, Err, IsTrue}
 use Rattle.atomic_table.specs.Seated.{TableId}
 use Rattle.crossbeam_queue.specs.Passes.{view, ruled_capacity}
 use Rattle.cx_core.specs.declared.local.FullNote.{FullNote}
@@ -19,7 +19,7 @@ use Rattle.cx_service.specs.declared.update.Updated.TheVariants.{Done as Updated
 use Rattle.cx_turns.specs.Turns.{StepsOn}
 use Rattle.cx_turns.specs.declared.lookup.Seen.{Seen}
 use Rattle.seat_pool.specs.Gathering.{Gathers, StaysIdle}
-use Rattle.seat_pool.specs.Pooling.{HasLimit, IsFirstOf, IsHomeOf, limits_at, total, with_given}
+use Rattle.seat_pool.specs.Pooling.{HasLimit, IsFirstOf, IsHomeOf, limits_at, total_weight, with_given}
 use Rattle.seat_pool.specs.declared.hand.Hand.{Hand}
 use Rattle.seat_pool.specs.declared.lent.Lent.{Lent}
 use Rattle.client_pool.specs.declared.pool.Pool.{Pool}
@@ -75,21 +75,36 @@ pub record IsOut {O : Type 0} (r : Running O) (table : TableId) (lent : Lent) (n
 abbrev pub limits_of : Lent → List ℕ
 limits_of lent = limits_at (view lent.pass).home
 
--- the client was told nothing more, and shown nothing more
+-- the client was told nothing more, and shown nothing more, and no caller was given back
 pub record TellsSame (before after : Lent) : Type 0 where
   pub limits : limits_of after ≡ limits_of before
   pub told : (view after.pass).told ≡ (view before.pass).told
   pub shown : (view after.pass).shown ≡ (view before.pass).shown
+  pub returned : (view after.pass).returned ≡ (view before.pass).returned
 
 -- it is the caller that a client keeps, where it keeps one
-abbrev pub IsKept : Option Handed → Seated → Type 0
-IsKept None x = Unit {0}
-IsKept (Some handed) x = seat_of handed ≡ x
+abbrev pub IsKeptCaller : Option Handed → Seated → Type 0
+IsKeptCaller None x = Unit {0}
+IsKeptCaller (Some handed) x = seat_of handed ≡ x
 
 -- The caller that a call begins with: the one that its client keeps, or else one that it took out of the queue, which the pass holds as it was then.
-pub record IsFirst (keeps : Option Handed) (v : Hand) (x : Seated) : Type 0 where
-  pub kept : IsKept keeps x
+pub record IsFirstCaller (keeps : Option Handed) (v : Hand) (x : Seated) : Type 0 where
+  pub kept : IsKeptCaller keeps x
   pub taken : keeps ≡ None → v.held ≡ x ∷ []
+
+-- The caller that was out was given back, and no other, and was so then.
+pub record Returns (before after : Lent) (back : Seated) : Type 0 where
+  pub taken : Seated
+  pub held : (view before.pass).held ≡ taken ∷ []
+  pub returned : (view after.pass).returned ≡ (view before.pass).returned ++ record { taken = taken; back = back } ∷ []
+
+-- A call gave one caller back, and no other, which was so then. It is the one that the call began with, and was that then: the one that its client kept, or
+-- else one that the call took out of the queue.
+pub record ReturnsFirst (before after : Lent) (first back : Seated) : Type 0 where
+  pub kept : IsKeptCaller before.kept first
+  pub taken : Seated
+  pub returned : (view after.pass).returned ≡ (view before.pass).returned ++ record { taken = taken; back = back } ∷ []
+  pub first_is : before.kept ≡ None → first ≡ taken
 
 -- The caller that a call began with, later in it: it answered nothing since but reads beside the queue. Its scans and refusals are no fewer and its front did
 -- not fall, and where it answered no read no step was taken back.
@@ -101,13 +116,13 @@ pub record ComesFrom {O : Type 0} (r : Running O) (first now : Seated) : Type 0 
   pub steps : idle.more ≡ [] → StepsOn first now
 
 -- A read of such a caller met just eight refusals beside the queue, before it enters it.
-pub record IsRefused {O : Type 0} (r : Running O) (first now : Seated) : Type 0 where
+pub record IsReadRefused {O : Type 0} (r : Running O) (first now : Seated) : Type 0 where
   pub looked : Seated
   pub since : ComesFrom r first looked
   pub refused : ReadPending r 8 looked now
 
--- The limit was come to in a read beside the queue, in 8 turns of it.
-pub record HaltsLooking {O : Type 0} (r : Running O) (before : Seated) (stopped : StoppedSeat) : Type 0 where
+-- The step limit was reached in a read beside the queue, in 8 turns of it.
+pub record HaltsBesideQueue {O : Type 0} (r : Running O) (before : Seated) (stopped : StoppedSeat) : Type 0 where
   pub op : List ℕ
   pub halted : ReadHalted r op before stopped
   pub due : ReadDue 8 before stopped.seat
@@ -116,9 +131,9 @@ pub record HaltsLooking {O : Type 0} (r : Running O) (before : Seated) (stopped 
 pub record HaltsLater {O : Type 0} (r : Running O) (before : Seated) (stopped : StoppedSeat) : Type 0 where
   pub asked : Seated
   pub since : ComesFrom r before asked
-  pub halts : HaltsLooking r asked stopped
+  pub halts : HaltsBesideQueue r asked stopped
 
--- what it comes to that a caller sees all that is below a floor
+-- the result of having a caller see all that is below a floor
 abbrev pub Catches : {O : Type 0} → Running O → ℕ → Seated → Caught → Type 0
 Catches r floor before (Up after) = ComesFrom r before after × (floor ≤ after.known.local.front)
 Catches r floor before (Ended stopped) = HaltsLater r before stopped
@@ -136,7 +151,7 @@ pub record ShowsRead {O : Type 0} (r : Running O) (table : TableId) (op : List �
   pub is : read ≡ record { place = seen.place; op = op; reply = seen.reply; before = length asked.known.local.answered }
   pub from : floor ≤ seen.place
   pub tells : (view after.pass).told ≡ (view before.pass).told
-  pub shows : (h : SeenRead → ℕ) → total h (view before.pass).shown + h read ≤ total h (view after.pass).shown
+  pub shows : (h : SeenRead → ℕ) → total_weight h (view before.pass).shown + h read ≤ total_weight h (view after.pass).shown
 
 -- No cell of the caller is idle that was asked, as it was when it entered the queue, and the client keeps it. The caller is the one that the call began
 -- with, and came there in this way.
@@ -144,7 +159,7 @@ pub record KeepsFull {O : Type 0} (r : Running O) (table : TableId) (way : Seate
   pub lent : IsLentTo r table after
   pub tells : TellsSame before after
   pub first : Seated
-  pub is : IsFirst before.kept (view after.pass) first
+  pub is : IsFirstCaller before.kept (view after.pass) first
   pub asked : Seated
   pub came : way first asked
   pub held : HoldsIdle r (view after.pass) asked
@@ -157,7 +172,7 @@ pub record KeepsWorn {O : Type 0} (r : Running O) (table : TableId) (way : Seate
   pub lent : IsLentTo r table after
   pub tells : TellsSame before after
   pub first : Seated
-  pub is : IsFirst before.kept (view after.pass) first
+  pub is : IsFirstCaller before.kept (view after.pass) first
   pub asked : Seated
   pub came : way first asked
   pub held : HoldsIdle r (view after.pass) asked
@@ -170,7 +185,7 @@ pub record KeepsStopped {O : Type 0} (r : Running O) (table : TableId) (halts : 
   pub lent : IsLentTo r table after
   pub tells : TellsSame before after
   pub first : Seated
-  pub begins : IsFirst before.kept (view after.pass) first
+  pub begins : IsFirstCaller before.kept (view after.pass) first
   pub asked : Seated
   pub since : ComesFrom r first asked
   pub stopped : StoppedSeat
@@ -188,14 +203,14 @@ pub record IsBegun {O : Type 0} (r : Running O) (table : TableId) (floor : ℕ) 
   pub out : IsOut r table after caller
   pub tells : TellsSame before after
   pub first : Seated
-  pub is : IsFirst before.kept (view after.pass) first
+  pub is : IsFirstCaller before.kept (view after.pass) first
   pub since : ComesFrom r first caller
   pub from : floor ≤ caller.known.local.front
 
--- what it comes to that a caller is taken for a call, which has seen all below a floor
+-- the result of taking a caller for a call, one that has seen all below a floor
 abbrev pub Begins : {O : Type 0} → Running O → TableId → ℕ → Lent → Lent → Result Seated (Option ℕ) → Type 0
 Begins r table floor before after (Ok caller) = IsBegun r table floor before after caller
-Begins r table floor before after (Err linked) = KeepsStopped r table (HaltsLooking r) before after linked
+Begins r table floor before after (Err linked) = KeepsStopped r table (HaltsBesideQueue r) before after linked
 
 -- a caller may be given back to the queue
 pub record MayGive {O : Type 0} (r : Running O) (lent : Lent) (back : Seated) : Type 0 where
@@ -227,25 +242,25 @@ Settles table before after updated (Full note) = (back : Seated) × (updated ≡
 Settles table before after updated Worn = (back : Seated) × (updated ≡ UpdatedWorn back) × KeepsNow before after (Idle back)
 Settles table before after updated (Halted linked) = (stopped : StoppedSeat) × (updated ≡ UpdatedHalted stopped) × (stopped.linked ≡ linked) × KeepsNow before after (Stopped stopped)
 
--- what a read comes to that is not answered beside the queue
-abbrev pub Enters : {O : Type 0} → Running O → List ℕ → Seated → Updated → Type 0
-Enters r op asked (UpdatedDone after answer) = ReadQueues r op asked (UpdatedDone after answer)
-Enters r op asked (UpdatedFull after note) = ReadQueues r op asked (UpdatedFull after note)
-Enters r op asked (UpdatedWorn after) = ReadQueues r op asked (UpdatedWorn after)
-Enters r op asked (UpdatedHalted stopped) = ReadStops r op asked stopped
+-- the result of a read that is not answered beside the queue
+abbrev pub EntersRead : {O : Type 0} → Running O → List ℕ → Seated → Updated → Type 0
+EntersRead r op asked (UpdatedDone after answer) = ReadQueues r op asked (UpdatedDone after answer)
+EntersRead r op asked (UpdatedFull after note) = ReadQueues r op asked (UpdatedFull after note)
+EntersRead r op asked (UpdatedWorn after) = ReadQueues r op asked (UpdatedWorn after)
+EntersRead r op asked (UpdatedHalted stopped) = ReadStops r op asked stopped
 
 -- The caller that was out was asked for a read that was not answered beside the queue, and this is left of it.
 pub record LooksOn {O : Type 0} (r : Running O) (table : TableId) (op : List ℕ) (caller : Seated) (before after : Lent) (served : Served) : Type 0 where
   pub asked : Seated
   pub since : ComesFrom r caller asked
   pub updated : Updated
-  pub enters : Enters r op asked updated
+  pub enters : EntersRead r op asked updated
   pub settles : Settles table before after updated served
 
--- what an operation comes to that only reads
-abbrev pub Looks : {O : Type 0} → Running O → TableId → List ℕ → ℕ → Seated → Lent → Lent → Looked → Type 0
-Looks r table op floor caller before after (Found seen) = ShowsRead r table op floor caller before after seen
-Looks r table op floor caller before after (Entered served) = LooksOn r table op caller before after served
+-- the result of an operation that only reads
+abbrev pub ReadsBesideQueue : {O : Type 0} → Running O → TableId → List ℕ → ℕ → Seated → Lent → Lent → Looked → Type 0
+ReadsBesideQueue r table op floor caller before after (Found seen) = (shows : ShowsRead r table op floor caller before after seen) × Returns before after shows.now
+ReadsBesideQueue r table op floor caller before after (Entered served) = LooksOn r table op caller before after served
 
 -- the caller that was taken is given back, with no call more
 pub record IsGivenBack {O : Type 0} (r : Running O) (table : TableId) (before after : Lent) : Type 0 where
@@ -253,26 +268,26 @@ pub record IsGivenBack {O : Type 0} (r : Running O) (table : TableId) (before af
   pub back : after.kept ≡ None
   pub limits : limits_of after ≡ limits_of before
   pub tells : (view after.pass).told ≡ (view before.pass).told
-  pub shows : (h : SeenRead → ℕ) → total h (view before.pass).shown ≤ total h (view after.pass).shown
+  pub shows : (h : SeenRead → ℕ) → total_weight h (view before.pass).shown ≤ total_weight h (view after.pass).shown
 
 -- a caller was asked that had seen the place, the one that the client kept or else one out of the queue, and was given back
 pub record SeesPlace {O : Type 0} (r : Running O) (table : TableId) (place : ℕ) (before after : Lent) : Type 0 where
   pub given : IsGivenBack r table before after
   pub asked : Seated
-  pub kept : IsKept before.kept asked
   pub now : Seated
+  pub returns : ReturnsFirst before after asked now
   pub caught : CatchUpCaught r place asked now
 
 -- such a caller found the place in CUR below the one asked for, and was given back
 pub record SeesLess {O : Type 0} (r : Running O) (table : TableId) (place found : ℕ) (before after : Lent) : Type 0 where
   pub given : IsGivenBack r table before after
   pub asked : Seated
-  pub kept : IsKept before.kept asked
   pub now : Seated
+  pub returns : ReturnsFirst before after asked now
   pub behind : CatchUpBehind r place found asked now
 
--- what it comes to that a caller of the client's sees a place
-abbrev pub Sees : {O : Type 0} → Running O → TableId → ℕ → Lent → Lent → PooledCatchUp → Type 0
-Sees r table place before after PlaceSeen = SeesPlace r table place before after
-Sees r table place before after (PlaceBehind found) = SeesLess r table place found before after
-Sees r table place before after PlaceStopped = KeepsStopped r table (CatchUpHalted r) before after None
+-- the result of having a caller of the client's see a place
+abbrev pub ClientSees : {O : Type 0} → Running O → TableId → ℕ → Lent → Lent → PooledCatchUp → Type 0
+ClientSees r table place before after PlaceSeen = SeesPlace r table place before after
+ClientSees r table place before after (PlaceBehind found) = SeesLess r table place found before after
+ClientSees r table place before after PlaceStopped = KeepsStopped r table (CatchUpHalted r) before after None

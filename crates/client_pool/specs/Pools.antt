@@ -1,4 +1,4 @@
--- What opening a pool comes to, and closing it.
+-- The results of opening a pool and of closing it.
 use Rattle.std.specs.Prelude.{◌≡◌, ◌+◌, ◌≤◌, ℕ, true, List, [], ◌∷◌, ◌++◌, All, Some, None, length, map, slice_get, vec_capacity}
 use Rattle.std.specs.List.{AllZip, range_with_len}
 use Rattle.atomic_table.specs.Seated.{TableId}
@@ -12,11 +12,11 @@ use Rattle.cx_service.specs.declared.close.Handed.{Handed}
 use Rattle.cx_service.specs.declared.close.Handed.TheVariants.{Idle}
 use Rattle.cx_table.specs.Remains.{AreSeats, Leaves}
 use Rattle.cx_table.specs.declared.remains.Remains.{Remains}
-use Rattle.seat_pool.specs.Gathering.{AreTold, IsRestOf}
+use Rattle.seat_pool.specs.Gathering.{AreCallsTold, IsRestOf}
 use Rattle.seat_pool.specs.Pooling.{IsHomeOf, all_parts}
 use Rattle.seat_pool.specs.declared.hand.Hand.{Hand}
 use Rattle.seat_pool.specs.declared.lent.Lent.{Lent}
-use Rattle.table_order.specs.Closings.{IsClosedLinearizable}
+use Rattle.cx_service.specs.ClosedOrder.{IsClosedLinearizable}
 use Rattle.client_pool.specs.Answers.{AreAnswered, AreWhole}
 use Rattle.client_pool.specs.Clients.{HasCalls, IsClientOf}
 use Rattle.client_pool.specs.Lending.{is_live, limits_of}
@@ -37,8 +37,8 @@ pub record AreNewCallers {O : Type 0} (r : Running O) (callers : List Seated) : 
   pub each : All (IsNewCaller r) callers
   pub numbers : map (λ (x : Seated). x.known.local.number) callers ≡ range_with_len 0 r.callers
 
--- all callers were placed in the queue, and so many parts of the right to know the whole were given to clients
-pub record IsPlaced {O : Type 0} (r : Running O) (clients : ℕ) (v : Hand) : Type 0 where
+-- all callers were placed in the queue, and this many parts of the right to know the whole were given to clients
+pub record AreCallersPlaced {O : Type 0} (r : Running O) (clients : ℕ) (v : Hand) : Type 0 where
   pub home : IsHomeOf r v.home
   pub parts : v.parts + clients ≡ all_parts
   pub placed : v.placed ≡ range_with_len 0 r.callers
@@ -46,7 +46,7 @@ pub record IsPlaced {O : Type 0} (r : Running O) (clients : ℕ) (v : Hand) : Ty
   pub told : v.told ≡ []
   pub shown : v.shown ≡ []
 
--- there is room for so many callers and clients
+-- there is room for this many callers and clients
 pub record HaveRoom (callers clients : ℕ) (rooms : Rooms) : Type 0 where
   pub made : (rooms.clients.items ≡ []) × (clients ≤ vec_capacity rooms.clients)
   pub lents : (rooms.lents.items ≡ []) × (clients ≤ vec_capacity rooms.lents)
@@ -62,7 +62,7 @@ pub record IsNewClient {O : Type 0} (r : Running O) (table : TableId) (limits : 
   pub keeps : client.lent.kept ≡ None
   pub calls : HasCalls r client []
 
--- what closing a pool of so many clients takes
+-- what closing a pool of this many clients takes
 pub record IsClosing {O : Type 0} (r : Running O) (table : TableId) (clients : ℕ) (closing : Closing) : Type 0 where
   pub pass : (closing.rest.table_id ≡ table) × (closing.rest.me.1 ≡ [])
   pub rest : IsRestOf r (view closing.rest) clients
@@ -86,7 +86,7 @@ pub record AreClients {O : Type 0} (r : Running O) (table : TableId) (clients : 
   pub numbers : map (λ (c : Client). c.number) clients ≡ range_with_len 0 (length clients)
   pub ends : HasLast r table clients
 
--- so many clients, none of which has made a call, of a service whose callers have these limits
+-- this many clients, none of which has made a call, of a service whose callers have these limits
 pub record AreNewClients {O : Type 0} (r : Running O) (table : TableId) (limits : List ℕ) (count : ℕ) (clients : List Client) : Type 0 where
   pub clients_are : AreClients r table clients
   pub count_is : length clients ≡ count
@@ -108,7 +108,7 @@ pub record IsClosed {O : Type 0} (r : Running O) (instance : Instance) (clients 
   pub handed : List Handed
   pub leaves : Leaves r instance (seats_of handed) remains
   pub order : IsClosedLinearizable instance (seats_of handed) remains
-  pub told : AreTold r (lents_of clients) handed
+  pub told : AreCallsTold r (lents_of clients) handed
   pub answered : (calls : List (List Call)) → AllZip (HasCalls r) clients calls → AreAnswered instance remains.trail.history remains.trail.locals calls
   pub whole : All (λ (c : Client). is_live c.lent.kept ≡ true) clients → (calls : List (List Call)) → AllZip (HasCalls r) clients calls → AreWhole r.base.place remains.trail.history calls
   pub fronts : (i : ℕ) (client : Client) (now : Seated) → slice_get clients i ≡ Some client → client.lent.kept ≡ Some (Idle now) → now.known.local.front ≤ r.base.place + length remains.trail.history
@@ -117,5 +117,5 @@ pub record IsClosed {O : Type 0} (r : Running O) (instance : Instance) (clients 
 pub record IsLeftOpen {O : Type 0} (r : Running O) (clients : List Client) (kept : PoolKept O) : Type 0 where
   pub service : kept.service ≡ r
   pub seats : AreSeats r (seats_of kept.callers.items)
-  pub told : AreTold r (lents_of clients) kept.callers.items
+  pub told : AreCallsTold r (lents_of clients) kept.callers.items
   pub former : kept.clients.items ≡ map former_of clients

@@ -1,8 +1,8 @@
 //! A client catches up with what another one was answered.
 
 ghost use Rattle.std.specs.Prelude.{◌≡◌, true};
-ghost use Rattle.client_pool.specs.Clients.{CatchesUp, IsClientOf};
-ghost use Rattle.client_pool.specs.Lending.{IsLentTo, IsPool, Sees, is_live};
+ghost use Rattle.client_pool.specs.Clients.{ClientCatchesUp, IsClientOf};
+ghost use Rattle.client_pool.specs.Lending.{IsLentTo, IsPool, ClientSees, is_live};
 
 use crate::client::Client;
 use crate::lend::{keep_stopped, take_for};
@@ -16,7 +16,7 @@ use std::sync::Wait;
 fn see<O: Object, R: Wait>(rt: &R, pool: &Pool<O>, lent: &mut Lent, place: u64) -> PooledCatchUp
     requires pool { IsPool O.only_reads pool.now }
     requires lent { IsLentTo pool.now.service pool.now.line.table.shared.table_id lent.old × (is_live lent.old.kept ≡ true) }
-    ensures { Sees pool.now.service pool.now.line.table.shared.table_id place lent.old lent.new result }
+    ensures { ClientSees pool.now.service pool.now.line.table.shared.table_id place lent.old lent.new result }
 {
     let caller = take_for(rt, &pool.service, &pool.line, lent);
     match pool.service.catch_up(caller, place) {
@@ -44,7 +44,7 @@ impl<O: Object> Pool<O> {
     pub fn catch_up<R: Wait>(&self, rt: &R, client: &mut Client, place: u64) -> PooledCatchUp
         requires pool { IsPool O.only_reads self.now }
         requires client { IsClientOf self.now.service self.now.line.table.shared.table_id client.old × (is_live client.old.lent.kept ≡ true) }
-        ensures { CatchesUp self.now.service self.now.line.table.shared.table_id place client.old client.new result }
+        ensures { ClientCatchesUp self.now.service self.now.line.table.shared.table_id place client.old client.new result }
     {
         match see(rt, self, &mut client.lent, place) {
             PooledCatchUp::Caught => {

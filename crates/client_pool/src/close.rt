@@ -8,11 +8,11 @@ use crate::client::{Client, Closing};
 use crate::pool::{FormerClient, Pool, PoolKept};
 use cx_base::Object;
 use cx_service::Kept;
+use cx_service::closed_order::closed_tables_are_linearizable;
 use cx_table::Remains;
 use seat_pool::Lent;
 use std::alloc::Global;
 use std::sync::Wait;
-use table_order::closing::closed_tables_are_linearizable;
 
 /// What was lent to clients, and what else they are.
 fn part_clients(
@@ -46,9 +46,10 @@ fn part_clients(
 
 impl<O: Object> Pool<O> {
     /// Closes the pool and its service, given all its clients, of client 0 first. The history that is left is a linearization of the calls, by the
-    /// order of all callers' steps. All callers are gathered, those in the queue and those that clients keep,
-    /// each once and in whatever state it is. The calls that the clients were told are those that the callers show as answered, each once, but for at most
-    /// one of each stopped caller, which was told to nobody. `Err` is want of memory alone, and hands back the service, all its callers, of caller 0 first, and what the clients were answered.
+    /// order of all callers' steps. All callers are gathered, those in the queue and those that clients keep, each once
+    /// and in whatever state it is. The calls that the clients were told are those that the callers show as answered, each once, but for at most one of
+    /// each stopped caller, which was told to nobody. `Err` comes only where memory runs out, and hands back the service, all its callers, of caller 0
+    /// first, and what the clients were answered.
     pub fn close<R: Wait>(
         self,
         rt: &R,

@@ -5,11 +5,11 @@ ghost use Rattle.crossbeam_queue.specs.Passes.{view, IsPassOf};
 ghost use Rattle.cx_service.specs.Callers.{IsCallerOf};
 ghost use Rattle.cx_service.specs.declared.close.Handed.TheVariants as handed_cases;
 ghost use Rattle.seat_pool.specs.Pooling.{HasLimit, IsHomeOf, limits_at, with_taken};
-ghost use Rattle.client_pool.specs.Lending.{Begins, Catches, IsFirst, IsLentTo, IsOut, IsPart, IsPool, MaySettle, Settles, TellsSame, is_live};
+ghost use Rattle.client_pool.specs.Lending.{Begins, Catches, IsFirstCaller, IsLentTo, IsOut, IsPart, IsPool, MaySettle, Settles, TellsSame, is_live};
 
 use crate::pool::Pool;
 use crossbeam_queue::Pass;
-use cx_base::Object;
+use cx_base::{Object, OpWords};
 use cx_core::FullNote;
 use cx_service::{Answer, Caller, Handed, ReadTried, Service, Stopped, Updated};
 use seat_pool::{Hand, Lent, Line, give, take};
@@ -19,7 +19,7 @@ use std::thread;
 /// The turns of a read of the probe before it is begun again.
 const TURNS: u64 = 8;
 
-/// What it comes to that a caller sees all below a floor.
+/// The result of having a caller see all below a floor.
 #[derive(Drop)]
 pub(crate) enum Caught {
     /// Its front is not below the floor.
@@ -28,7 +28,7 @@ pub(crate) enum Caught {
     Ended(Stopped),
 }
 
-/// What an operation that enters the queue comes to.
+/// The result of an operation that enters the queue.
 #[derive(Drop)]
 pub(crate) enum Served {
     /// It is answered, as an entry of this caller.
@@ -72,7 +72,7 @@ pub(crate) fn take_for<O: Object, R: Wait>(
     requires live { is_live lent.old.kept ≡ true }
     ensures out { IsOut service.now line.now.table.shared.table_id lent.new result }
     ensures same { TellsSame lent.old lent.new }
-    ensures first { IsFirst lent.old.kept (view lent.new.pass) result }
+    ensures first { IsFirstCaller lent.old.kept (view lent.new.pass) result }
 {
     match lent.kept.take() {
         None => take_waiting(rt, service, line, &mut lent.pass),
@@ -85,7 +85,7 @@ pub(crate) fn take_for<O: Object, R: Wait>(
 fn catch_up<O: Object, R: Wait>(
     rt: &R,
     service: &Service<O>,
-    probe: &[u64; 144],
+    probe: &OpWords,
     caller: Caller,
     floor: u64,
 ) -> Caught
@@ -139,7 +139,7 @@ pub(crate) fn begin<O: Object, R: Wait>(
     }
 }
 
-/// What an operation that entered the queue comes to: the caller that was out is given back once it is answered, and else the client keeps it.
+/// The result of an operation that entered the queue: the caller that was out is given back once it is answered, and else the client keeps it.
 pub(crate) fn settle<O: Object, R: Wait>(
     rt: &R,
     pool: &Pool<O>,

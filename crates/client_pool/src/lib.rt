@@ -1,10 +1,15 @@
-//! More clients than callers: a pool lends the callers of one service to up to 64 clients, each of which sees its own answers in order and reads what
-//! it wrote.
+//! The problem: the construction is for a small, fixed number of callers, and a program has more clients than that. Each client is to see its own
+//! answers in order and to read what it wrote, though each of its calls may be made by another caller.
+//!
+//! The idea: clients borrow callers. A client carries the place of the history up to which it was answered, a consistency token; the caller that it
+//! borrows catches up with that place before it makes the call.
+//!
+//! A pool lends the callers of one service to up to 64 clients.
 //!
 //! - `Pool::open` puts the callers of a service into a queue, and makes the clients. A pool is shared by threads, and each client goes to one.
-//! - `update` and `read` take a caller out of the queue, see to it that it has seen what the client was answered before or caught up with (`Client::place`), make the call,
-//!   and give the caller back. A client that was answered Full or Worn keeps its caller for its next call, and one whose caller is stopped makes no
-//!   further call: so no caller is lost.
+//! - `update` and `read` take a caller out of the queue, see to it that it has seen what the client was answered before or caught up with
+//!   (`Client::place`), make the call, and give the caller back. A client that was answered Full or Worn keeps its caller for its next call, and one
+//!   whose caller is stopped makes no further call: so no caller is lost.
 //! - `catch_up` has a client see what another one was answered, by a place that the other tells: no later answer of the client holds below it.
 //! - `close` gathers all callers and closes the service.
 //!

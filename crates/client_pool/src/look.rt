@@ -1,20 +1,20 @@
 //! A read of a client.
 
 ghost use Rattle.std.specs.Prelude.{◌≡◌, ◌≤◌, IsTrue, true};
-ghost use Rattle.client_pool.specs.Clients.{IsClientOf, ReadsInAll};
-ghost use Rattle.client_pool.specs.Lending.{IsOut, IsPool, Looks, is_live};
+ghost use Rattle.client_pool.specs.Clients.{IsClientOf, ReadsForClient};
+ghost use Rattle.client_pool.specs.Lending.{IsOut, IsPool, ReadsBesideQueue, is_live};
 
 use crate::call::Answered;
 use crate::client::Client;
 use crate::lend::{Served, begin, settle};
 use crate::pool::{Pool, PooledRead};
-use cx_base::Object;
+use cx_base::{Object, OpWords};
 use cx_service::{Caller, ReadDone, Seen, Updated};
 use seat_pool::{Lent, give};
 use std::sync::Wait;
 use std::thread;
 
-/// What an operation comes to that only reads.
+/// The result of an operation that only reads.
 #[derive(Drop)]
 pub(crate) enum Looked {
     /// It is answered beside the queue.
@@ -30,12 +30,12 @@ fn look<O: Object, R: Wait>(
     lent: &mut Lent,
     caller: Caller,
     floor: u64,
-    op: &[u64; 144],
+    op: &OpWords,
 ) -> Looked
     requires pool { IsPool O.only_reads pool.now }
     requires out { IsOut pool.now.service pool.now.line.table.shared.table_id lent.old caller × (floor ≤ caller.known.local.front) }
     requires reads { IsTrue (O.only_reads pool.now.service.object op.now) }
-    ensures { Looks pool.now.service pool.now.line.table.shared.table_id op.now floor caller lent.old lent.new result }
+    ensures { ReadsBesideQueue pool.now.service pool.now.line.table.shared.table_id op.now floor caller lent.old lent.new result }
 {
     let mut caller = caller;
     for _ in rt.forever() {
@@ -63,11 +63,11 @@ impl<O: Object> Pool<O> {
     /// Answers an operation that only reads for a client that was not told `Stopped`, by a caller that has seen all that the client was answered before or
     /// caught up with: beside the queue, or as an entry of it. A read whose place is below that is made again. It waits as `update` does, and `Full`, `Worn`, `Stopped` and `Memory` are as
     /// there.
-    pub fn read<R: Wait>(&self, rt: &R, client: &mut Client, op: &[u64; 144]) -> PooledRead
+    pub fn read<R: Wait>(&self, rt: &R, client: &mut Client, op: &OpWords) -> PooledRead
         requires pool { IsPool O.only_reads self.now }
         requires client { IsClientOf self.now.service self.now.line.table.shared.table_id client.old × (is_live client.old.lent.kept ≡ true) }
         requires reads { IsTrue (O.only_reads self.now.service.object op.now) }
-        ensures { ReadsInAll self.now.service self.now.line.table.shared.table_id op.now client.old client.new result }
+        ensures { ReadsForClient self.now.service self.now.line.table.shared.table_id op.now client.old client.new result }
     {
         if client.answers.reserve(1).is_err() {
             return PooledRead::Memory;

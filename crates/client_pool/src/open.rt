@@ -2,20 +2,20 @@
 
 ghost use Rattle.std.specs.Prelude.{◌≡◌, ◌<◌, ◌≤◌, [], IfErr, IfOk, IsTrue, map};
 ghost use Rattle.crossbeam_queue.specs.Passes.{view, IsPassOf, ruled_capacity};
-ghost use Rattle.seat_pool.specs.Pooling.{IsHomeOf, IsOpened, cut_left, limits_at};
+ghost use Rattle.seat_pool.specs.Pooling.{IsHomeOf, IsPassOpened, cut_left, limits_at};
 ghost use Rattle.client_pool.specs.Lending.{IsPool};
-ghost use Rattle.client_pool.specs.Pools.{AreNewCallers, AreNewClients, HaveRoom, IsNewClient, IsPlaced};
+ghost use Rattle.client_pool.specs.Pools.{AreNewCallers, AreNewClients, HaveRoom, IsNewClient, AreCallersPlaced};
 
 use crate::client::{Client, Closing};
 use crate::pool::{FormerClient, Pool};
 use crossbeam_queue::Pass;
-use cx_base::Object;
+use cx_base::{Object, OpWords};
 use cx_service::{Caller, Handed, Service};
 use seat_pool::{Hand, Lent, Line, place, share};
 use std::alloc::{AllocError, Global};
 use std::sync::Wait;
 
-/// A pool that was not opened for want of memory: the service and its callers, as they were.
+/// A pool that was not opened since memory ran out: the service and its callers, as they were.
 #[derive(Drop)]
 pub struct Unopened<O: Object> {
     pub service: Service<O>,
@@ -32,7 +32,7 @@ pub(crate) struct Rooms {
     pub(crate) out: Vec<Handed>,
 }
 
-/// Room for so many callers and clients.
+/// Room for this many callers and clients.
 fn rooms_for(alloc: Global, callers: usize, clients: usize) -> Result<Rooms, AllocError>
     ensures { IfOk result (HaveRoom callers clients) }
 {
@@ -53,10 +53,10 @@ fn place_all<O: Object, R: Wait>(
     pass: Pass<Caller, Hand>,
     callers: Vec<Caller>,
 ) -> Pass<Caller, Hand>
-    requires pass { IsPassOf line.now pass × IsOpened service.now (map (λ c. c.known.local.limit) callers.items) (view pass) }
+    requires pass { IsPassOf line.now pass × IsPassOpened service.now (map (λ c. c.known.local.limit) callers.items) (view pass) }
     requires room { ruled_capacity line.now ≡ service.now.callers }
     requires callers { AreNewCallers service.now callers.items }
-    ensures placed { IsPassOf line.now result × IsPlaced service.now 0 (view result) }
+    ensures placed { IsPassOf line.now result × AreCallersPlaced service.now 0 (view result) }
     ensures limits { limits_at (view result).home ≡ map (λ c. c.known.local.limit) callers.items }
 {
     let mut pass = pass;
@@ -100,7 +100,7 @@ fn new_clients<O: Object>(
     rooms: Rooms,
     count: u32,
 ) -> Vec<Client>
-    requires pass { IsPassOf line.now pass × IsPlaced service.now 0 (view pass) }
+    requires pass { IsPassOf line.now pass × AreCallersPlaced service.now 0 (view pass) }
     requires rooms { HaveRoom service.now.callers count rooms }
     requires count { (1 ≤ count) × (count ≤ 64) }
     ensures { AreNewClients service.now line.now.table.shared.table_id (limits_at (view pass).home) count result.items }
@@ -130,15 +130,15 @@ fn new_clients<O: Object>(
 }
 
 impl<O: Object> Pool<O> {
-    /// Opens a pool: all callers of a service, of caller 0 first, none of which has linked an entry, and so many clients of theirs, 1 to 64. The probe is
-    /// an operation that only reads. `Err` is want of memory alone, and hands back what was given.
+    /// Opens a pool: all callers of a service, of caller 0 first, none of which has linked an entry, and the given number of clients of theirs, 1 to 64.
+    /// The probe is an operation that only reads. `Err` comes only where memory runs out, and hands back what was given.
     pub fn open<R: Wait>(
         rt: &R,
         alloc: Global,
         service: Service<O>,
         callers: Vec<Caller>,
         clients: u32,
-        probe: [u64; 144],
+        probe: OpWords,
     ) -> Result<(Pool<O>, Vec<Client>), Unopened<O>>
         requires callers { AreNewCallers service callers.items }
         requires clients { (1 ≤ clients) × (clients ≤ 64) }

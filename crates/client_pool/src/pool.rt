@@ -1,7 +1,7 @@
-//! A pool, and what its calls come to.
+//! A pool, and the results of its calls.
 
 use crate::call::Answered;
-use cx_base::Object;
+use cx_base::{Object, OpWords};
 use cx_core::FullNote;
 use cx_service::{Answer, Handed, Seen, Service};
 use seat_pool::Line;
@@ -11,7 +11,7 @@ use seat_pool::Line;
 pub struct Pool<O: Object> {
     pub(crate) service: Service<O>,
     pub(crate) line: Line,
-    pub(crate) probe: [u64; 144],
+    pub(crate) probe: OpWords,
 }
 
 /// What a client was, whose pool was to be closed: no caller is lent to it any more.
@@ -22,7 +22,7 @@ pub struct FormerClient {
     pub answers: Vec<Answered>,
 }
 
-/// A pool that was not closed for want of memory: its service and all callers, of caller 0 first, and what its clients were answered.
+/// A pool that was not closed since memory ran out: its service and all callers, of caller 0 first, and what its clients were answered.
 #[derive(Drop)]
 pub struct PoolKept<O: Object> {
     pub service: Service<O>,
@@ -30,7 +30,7 @@ pub struct PoolKept<O: Object> {
     pub clients: Vec<FormerClient>,
 }
 
-/// What an update comes to.
+/// The result of an update.
 #[derive(Clone, Copy, Debug, PartialEq, Eq, Drop)]
 pub enum Pooled {
     /// The entry is applied and durable: its ticket, and the reply.
@@ -56,7 +56,7 @@ pub enum PooledCatchUp {
     Stopped,
 }
 
-/// What a read comes to.
+/// The result of a read.
 #[derive(Clone, Copy, Debug, PartialEq, Eq, Drop)]
 pub enum PooledRead {
     /// It is answered beside the queue: its place, and the reply there.

@@ -1,24 +1,24 @@
 //! An update of a client.
 
 ghost use Rattle.std.specs.Prelude.{◌≡◌, true};
-ghost use Rattle.client_pool.specs.Clients.{IsClientOf, Updates};
+ghost use Rattle.client_pool.specs.Clients.{IsClientOf, UpdatesForClient};
 ghost use Rattle.client_pool.specs.Lending.{IsPool, is_live};
 
 use crate::call::Answered;
 use crate::client::Client;
 use crate::lend::{Served, begin, settle};
 use crate::pool::{Pool, Pooled};
-use cx_base::Object;
+use cx_base::{Object, OpWords};
 use std::sync::Wait;
 
 impl<O: Object> Pool<O> {
     /// Enters an operation into the queue for a client that was not told `Stopped`, by a caller that has seen all that the client was answered before or caught up with. It
     /// waits for a caller, and for those who link and publish. `Full`, `Worn` and `Stopped` come only where the service answered the caller so in this call: the client keeps
     /// it, and its answers and its floor are as before. `Memory` is want of room for the answer, and leaves all as it was.
-    pub fn update<R: Wait>(&self, rt: &R, client: &mut Client, op: &[u64; 144]) -> Pooled
+    pub fn update<R: Wait>(&self, rt: &R, client: &mut Client, op: &OpWords) -> Pooled
         requires pool { IsPool O.only_reads self.now }
         requires client { IsClientOf self.now.service self.now.line.table.shared.table_id client.old × (is_live client.old.lent.kept ≡ true) }
-        ensures { Updates self.now.service self.now.line.table.shared.table_id op.now client.old client.new result }
+        ensures { UpdatesForClient self.now.service self.now.line.table.shared.table_id op.now client.old client.new result }
     {
         if client.answers.reserve(1).is_err() {
             return Pooled::Memory;

@@ -5,7 +5,7 @@ use Rattle.std.proofs.lemmas.Bool.{cases_eq}
 use Rattle.std.proofs.lemmas.List.{length-set}
 use Rattle.std.proofs.lemmas.Option.{none-some, same_Some, slice_get_within}
 use Rattle.std.specs.List.{slice_get}
-use Rattle.core_events.specs.Codes.{HasCode, IsKept}
+use Rattle.core_events.specs.Codes.{HasCode, IsSoundCore}
 use Rattle.core_events.specs.Told.{Tells}
 use Rattle.core_events.specs.declared.events.Told.{Told}
 use Rattle.cx_core.specs.declared.entry.Base.{Base}
@@ -15,7 +15,7 @@ use Rattle.cx_core.specs.declared.kinds.Kind.TheVariants.{Link, TryExclusive, Tr
 use Rattle.cx_core.specs.declared.local.HeldDowngraded.{HeldDowngraded}
 use Rattle.cx_core.specs.declared.local.Linked.{Linked}
 use Rattle.cx_core.specs.declared.local.Local.{Local}
-use Rattle.cx_core.specs.Events.{Allowed, Applied, Did, Guard, next}
+use Rattle.cx_core.specs.Events.{Allowed, IsMadeOrRefused, Did, Guard, next}
 use Rattle.cx_core.specs.LockEvents.{CanGiveUp, downgraded_to, exclusive_mark, passing, refused_by, shared_by, taken}
 use Rattle.cx_core.specs.Merge.{scene_of}
 use Rattle.cx_core.specs.QueueEvents.{entry_in, linked, lost, seen_word}
@@ -165,9 +165,9 @@ still_whole core words caller l l' whole long at follows = record {
 }
 
 -- and so do the codes of what is downgraded in it
-pub still_kept : (core : Core) (words : List ℕ) (caller : ℕ) (l l' : Local) → IsKept core →
+pub still_kept : (core : Core) (words : List ℕ) (caller : ℕ) (l l' : Local) → IsSoundCore core →
     length words ≡ length core.state.words → slice_get core.state.locals caller ≡ Some l → Follows core.callers l l' →
-    IsKept (record core { state = record { words = words; locals = set core.state.locals caller l' } })
+    IsSoundCore (record core { state = record { words = words; locals = set core.state.locals caller l' } })
 still_kept core words caller l l' kept long at follows = record {
   whole = still_whole core words caller l l' kept.whole long at follows;
   codes = put_kept (λ _ y. HasCode core.callers y.downgraded) core.state.locals caller l l' at kept.codes (follows.code (kept.codes caller l at));
@@ -175,7 +175,7 @@ still_kept core words caller l l' kept long at follows = record {
 
 -- what a core opens with is whole, and nothing is downgraded in it
 pub opening_kept : (callers lines : ℕ) (base : Base) → 1 ≤ callers → callers ≤ 8 → 1168 ≤ length base.words →
-    IsKept (record { callers = callers; lines = lines; base = base; state = opening_state callers base })
+    IsSoundCore (record { callers = callers; lines = lines; base = base; state = opening_state callers base })
 opening_kept callers lines base some few slots = record {
   whole = opening_whole callers lines base some few slots;
   codes = λ caller l at. subst (λ (x : Local). HasCode callers x.downgraded) (sym (opening_at callers base.place caller l at).1) (code_none callers);
@@ -185,7 +185,7 @@ opening_kept callers lines base some few slots = record {
 pub applied : (made : Bool) (instance : Instance) (event : Event) (s : State) (words' : List ℕ) (l l' : Local) →
     slice_get s.locals event.caller ≡ Some l →
     Did made instance (scene_of instance s) event.kind l l' words' →
-    Applied made instance event s (record { words = words'; locals = set s.locals event.caller l' })
+    IsMadeOrRefused made instance event s (record { words = words'; locals = set s.locals event.caller l' })
 applied true instance event s words' l l' at did = record {
   local = l;
   of_caller = at;

@@ -8,6 +8,6 @@ abbrev pub HasCode : ℕ → Option HeldDowngraded → Type 0
 HasCode callers downgraded = (h : HeldDowngraded) → downgraded ≡ Some h → (h.replica < 2 * callers) × (h.place ≤ 2 ^ 40)
 
 -- a core is whole, and what its callers have downgraded has a root code
-pub record IsKept (core : Core) : Type 0 where
+pub record IsSoundCore (core : Core) : Type 0 where
   pub whole : IsWhole core
   pub codes : EachLocal core.state.locals (λ _ l. HasCode core.callers l.downgraded)

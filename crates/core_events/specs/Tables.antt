@@ -4,13 +4,13 @@ use Rattle.cx_core.specs.declared.entry.Base.{Base}
 use Rattle.cx_core.specs.declared.local.Local.{Local}
 use Rattle.cx_core.specs.Layout.{replicas_at, word_count}
 
--- these are the words of a table of so many callers, up to the replicas at least
-pub record HasWords (callers : ℕ) (words : List ℕ) : Type 0 where
+-- these are the words of a table of this number of callers, up to the replicas at least
+pub record HasTableWords (callers : ℕ) (words : List ℕ) : Type 0 where
   pub long : replicas_at callers ≤ length words
 
 -- and this is the local state of one of its callers
 pub record HasCaller (callers : ℕ) (words : List ℕ) (l : Local) : Type 0 where
-  pub table : HasWords callers words
+  pub table : HasTableWords callers words
   pub caller : l.number < callers
 
 -- these are all words of a table, whose replicas are as long as the base

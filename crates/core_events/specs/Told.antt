@@ -15,9 +15,9 @@ use Rattle.cx_core.specs.SetEvents.{CanOffer, offer_of}
 use Rattle.cx_core.specs.State.{Instance, Scene}
 
 -- of a raise, whether it is allowed, and what it then answers
-abbrev pub TellsAnswers : Option Acknowledged → Instance → Scene → ℕ → Option (List ℕ) → Local → Type 0
-TellsAnswers None instance scene code read l = ¬ CanRaise instance code read l
-TellsAnswers (Some answers) instance scene code read l =
+abbrev pub TellsRaise : Option Acknowledged → Instance → Scene → ℕ → Option (List ℕ) → Local → Type 0
+TellsRaise None instance scene code read l = ¬ CanRaise instance code read l
+TellsRaise (Some answers) instance scene code read l =
     let below = answers_below instance scene.history (root_place_of instance.callers code) (unanswered l) in
     CanRaise instance code read l
     × (option_to_list answers.entry ≡ below)
@@ -29,14 +29,14 @@ TellsOfferWord None instance scene j l = ¬ CanOffer instance scene.history l j
 TellsOfferWord (Some word) instance scene j l = CanOffer instance scene.history l j × (word ≡ offer_of (cell_of l j).ticket (cell_of l j).offer)
 
 -- of a note of a gap, whether it is allowed
-abbrev pub TellsGap : Bool → Instance → Scene → ℕ → ℕ → ℕ → Type 0
-TellsGap gap instance scene s i v = IsTrue gap ↔ CanNoteGap instance scene.history s i v
+abbrev pub AllowsGapNote : Bool → Instance → Scene → ℕ → ℕ → ℕ → Type 0
+AllowsGapNote gap instance scene s i v = IsTrue gap ↔ CanNoteGap instance scene.history s i v
 
--- of a kind that gives an exclusive right up, whether the words held are the full image after their place
+-- of a kind that ends an exclusive right, whether the words held are the full image after their place
 abbrev pub Tells : Told → Instance → Scene → Kind → Local → Type 0
 Tells told instance scene (Downgrade r) l = TellsFull told.full instance scene (Downgrade r) l
 Tells told instance scene (ReleaseExclusive r) l = TellsFull told.full instance scene (ReleaseExclusive r) l
-Tells told instance scene (Raise code read) l = TellsAnswers told.answers instance scene code read l
+Tells told instance scene (Raise code read) l = TellsRaise told.answers instance scene code read l
 Tells told instance scene (Offer j) l = TellsOfferWord told.offer instance scene j l
-Tells told instance scene (NoteGap s i v) l = TellsGap told.gap instance scene s i v
+Tells told instance scene (NoteGap s i v) l = AllowsGapNote told.gap instance scene s i v
 Tells told instance scene _ l = Unit {0}

@@ -2,6 +2,6 @@
 use Rattle.std.specs.Prelude.{IfOk, OnErr, Result}
 
 -- this where it did not, and else that
-pub record Tries {A E : Type 0} (r : Result A E) (done : A → Type 0) (same : Type 0) : Type 0 where
+pub record TriesEvent {A E : Type 0} (r : Result A E) (done : A → Type 0) (same : Type 0) : Type 0 where
   pub ok : IfOk r done
   pub err : OnErr r same

@@ -4,10 +4,10 @@
 ghost use Rattle.std.specs.Prelude.{◌≡◌, ◌<◌, ◌↔◌, length, slice_get, false, IsTrue, IfOk, OnErr, None, Some};
 ghost use Rattle.core_events.specs.Tables.{HasRegions};
 ghost use Rattle.core_events.specs.Codes.{HasCode};
-ghost use Rattle.core_events.specs.Told.{Tells, TellsAnswers, TellsGap, TellsOfferWord};
+ghost use Rattle.core_events.specs.Told.{Tells, TellsRaise, AllowsGapNote, TellsOfferWord};
 ghost use Rattle.cx_core.specs.Base.{LawfulBase};
-ghost use Rattle.core_events.specs.Tries.{Tries};
-ghost use Rattle.cx_core.specs.Events.{Applied, Did};
+ghost use Rattle.core_events.specs.Tries.{TriesEvent};
+ghost use Rattle.cx_core.specs.Events.{IsMadeOrRefused, Did};
 ghost use Rattle.cx_core.specs.History.{IsFull};
 ghost use Rattle.cx_core.specs.Merge.{scene_of};
 ghost use Rattle.cx_core.specs.Rights.{held_words};
@@ -22,13 +22,13 @@ use crate::{
     gap_events, lock_events, queue_events, region_events, ring_events, root_events, set_events,
 };
 use core_guards::callers::Callers;
-use cx_base::Object;
+use cx_base::{Object, OpWords};
 use cx_core::{Base, Event, Kind, Local, OBJECT_START};
 use std::alloc::{AllocError, Global};
 
 /// Makes an event of the core: one step of its caller. Ok(false) comes exactly where the event's guard fails, and the
-/// state is as it was. `Err` is want of memory, and leaves the state as it was. The time grows with the history only where
-/// an exclusive right is given up, a raise answers, a set is offered or a gap is noted, since the object's steps are then made
+/// state is as it was. `Err` says that memory ran out, and leaves the state as it was. The time grows with the history only where
+/// an exclusive right is released, a raise answers, a set is offered or a gap is noted, since the object's steps are then made
 /// from the base on, and with the lists that a step appends to or looks through.
 pub fn apply<O: Object>(
     alloc: Global,
@@ -37,7 +37,7 @@ pub fn apply<O: Object>(
     event: &Event,
 ) -> Result<bool, AllocError>
     requires base { LawfulBase (O.line_count object.now) (O.lawful object.now) state.old.base }
-    ensures ok { let instance = instance_of state.old (O.step object.now) (O.only_reads object.now) in IfOk result (λ made. Applied made instance event.now state.old.state state.new.state) }
+    ensures ok { let instance = instance_of state.old (O.step object.now) (O.only_reads object.now) in IfOk result (λ made. IsMadeOrRefused made instance event.now state.old.state state.new.state) }
     ensures err { OnErr result (state.new.state ≡ state.old.state) }
     ensures fixed { state.new ≡ record state.old { state = state.new.state } }
 {
@@ -58,7 +58,7 @@ pub fn apply<O: Object>(
     )
 }
 
-/// What a step is told of the history: of a kind that gives an exclusive right up, whether the words held are the full image
+/// What a step is told of the history: of a kind that ends an exclusive right, whether the words held are the full image
 /// after their place; of a raise what it answers, and of an offer the offer word, where these are allowed; of a note of a gap
 /// whether it is allowed.
 #[derive(Drop)]
@@ -70,7 +70,7 @@ pub(crate) struct Told {
 }
 
 /// A step of a caller with this local state, which is told what it has to know of the history. `Ok(false)` comes exactly
-/// where the guard fails. Then, and where `Err` says that memory is wanting, nothing changed.
+/// where the guard fails. Then, and where `Err` says that memory ran out, nothing changed.
 fn step(
     alloc: Global,
     callers: Callers,
@@ -83,7 +83,7 @@ fn step(
     requires regions { HasRegions callers.number base.now words.old }
     requires caller { local.old.number < callers.number }
     requires code { HasCode callers.number local.old.downgraded }
-    ensures { Tries result (λ made. EachScene callers.number base.now words.old (λ instance scene. Tells told.now instance scene kind.now local.old → Did made instance scene kind.now local.old local.new words.new)) ((local.new ≡ local.old) × (words.new ≡ words.old)) }
+    ensures { TriesEvent result (λ made. EachScene callers.number base.now words.old (λ instance scene. Tells told.now instance scene kind.now local.old → Did made instance scene kind.now local.old local.new words.new)) ((local.new ≡ local.old) × (words.new ≡ words.old)) }
 {
     match *kind {
         Kind::WriteCell { j, i, v } => {
@@ -134,7 +134,7 @@ fn step(
     }
 }
 
-/// What a step of a caller is told of the history. `Err` is want of memory.
+/// What a step of a caller is told of the history. `Err` says that memory ran out.
 fn tells<O: Object>(
     alloc: Global,
     object: &O,
@@ -185,18 +185,18 @@ fn only_full(full: bool) -> Told
     }
 }
 
-/// What a raise of a caller answers, where it is allowed. `Err` is want of memory.
+/// What a raise of a caller answers, where it is allowed. `Err` says that memory ran out.
 fn answers_of<O: Object>(
     alloc: Global,
     object: &O,
     state: &CoreState,
     caller: usize,
     code: u64,
-    read: &Option<[u64; 144]>,
+    read: &Option<OpWords>,
 ) -> Result<Option<Acknowledged>, AllocError>
     requires base { LawfulBase (O.line_count object.now) (O.lawful object.now) state.now.base }
     requires caller { caller < length state.now.state.locals }
-    ensures { let instance = instance_of state.now (O.step object.now) (O.only_reads object.now) in IfOk result (λ told. (l : Local) → slice_get state.now.state.locals caller ≡ Some l → TellsAnswers told instance (scene_of instance state.now.state) code read.now l) }
+    ensures { let instance = instance_of state.now (O.step object.now) (O.only_reads object.now) in IfOk result (λ told. (l : Local) → slice_get state.now.state.locals caller ≡ Some l → TellsRaise told instance (scene_of instance state.now.state) code read.now l) }
 {
     let local = &state.locals[caller];
     replies_of(
@@ -211,7 +211,7 @@ fn answers_of<O: Object>(
     )
 }
 
-/// The word with which a caller offers the set in its cell, where it may. `Err` is want of memory.
+/// The word with which a caller offers the set in its cell, where it may. `Err` says that memory ran out.
 fn offer_of<O: Object>(
     alloc: Global,
     object: &O,
@@ -227,7 +227,7 @@ fn offer_of<O: Object>(
     offered_word(alloc, object, &state.base, &state.locals, local, j)
 }
 
-/// Whether a word may be noted as word `i` of slot `s` of the ring of gaps. `Err` is want of memory.
+/// Whether a word may be noted as word `i` of slot `s` of the ring of gaps. `Err` says that memory ran out.
 fn names_gap<O: Object>(
     alloc: Global,
     object: &O,
@@ -237,7 +237,7 @@ fn names_gap<O: Object>(
     v: u64,
 ) -> Result<bool, AllocError>
     requires base { LawfulBase (O.line_count object.now) (O.lawful object.now) state.now.base }
-    ensures { let instance = instance_of state.now (O.step object.now) (O.only_reads object.now) in IfOk result (λ gap. TellsGap gap instance (scene_of instance state.now.state) s i v) }
+    ensures { let instance = instance_of state.now (O.step object.now) (O.only_reads object.now) in IfOk result (λ gap. AllowsGapNote gap instance (scene_of instance state.now.state) s i v) }
 {
     is_gap_of(
         alloc,
@@ -251,7 +251,7 @@ fn names_gap<O: Object>(
     )
 }
 
-/// Whether the words that a caller holds exclusively are the full image after their place. `Err` is want of memory.
+/// Whether the words that a caller holds exclusively are the full image after their place. `Err` says that memory ran out.
 fn holds_full<O: Object>(
     alloc: Global,
     object: &O,

@@ -1,7 +1,7 @@
 //! The steps on the ring of gaps: a word is noted, and loaded.
 
-ghost use Rattle.core_events.specs.Tables.{HasWords};
-ghost use Rattle.core_events.specs.Told.{TellsGap};
+ghost use Rattle.core_events.specs.Tables.{HasTableWords};
+ghost use Rattle.core_events.specs.Told.{AllowsGapNote};
 ghost use Rattle.cx_core.specs.declared.kinds.Kind.TheVariants.{NoteGap, LoadGap};
 ghost use Rattle.cx_core.specs.Events.{Did};
 ghost use Rattle.cx_core.specs.State.{EachScene};
@@ -20,8 +20,8 @@ pub(crate) fn note_gap(
     v: u64,
     told: bool,
 ) -> bool
-    requires table { HasWords callers.number words.old }
-    ensures { (base : _) → EachScene callers.number base words.old (λ instance scene. TellsGap told instance scene s i v → Did result instance scene (NoteGap s i v) local.old local.new words.new) }
+    requires table { HasTableWords callers.number words.old }
+    ensures { (base : _) → EachScene callers.number base words.old (λ instance scene. AllowsGapNote told instance scene s i v → Did result instance scene (NoteGap s i v) local.old local.new words.new) }
 {
     if !told || !can_load_gap(callers, s, i) {
         return false;

@@ -11,11 +11,11 @@ ghost use Rattle.cx_core.specs.Region.{place_of};
 ghost use Rattle.cx_core.specs.State.{HasEntries};
 ghost use Rattle.cx_core.specs.Step.{full_step_of};
 
-use cx_base::{Object, VecMemory};
+use cx_base::{OP_WORDS, Object, VecMemory};
 use cx_core::{Base, Entry, Linked, Local, full_step};
 use std::alloc::{AllocError, Global};
 
-/// Whether a region is the full image after its place. `Err` is want of memory.
+/// Whether a region is the full image after its place. `Err` says that memory ran out.
 pub(crate) fn is_full<O: Object>(
     alloc: Global,
     object: &O,
@@ -37,8 +37,8 @@ pub(crate) fn is_full<O: Object>(
     Ok(image.as_slice() == region)
 }
 
-/// The history of a state: the merge of the own lists by ticket. `Err` is want of memory; more entries than a 64-bit
-/// number counts are that, too.
+/// The history of a state: the merge of the own lists by ticket. `Err` says that memory ran out; it
+/// also comes where there are more entries than a 64-bit number counts.
 pub(crate) fn merged(alloc: Global, place: u64, locals: &[Local]) -> Result<Vec<Entry>, AllocError>
     ensures { IfOk result (λ history. history.items ≡ history_of place locals.now) }
 {
@@ -99,7 +99,7 @@ pub(crate) fn copied(entry: &Entry) -> Entry
     }
 }
 
-/// The region after the full steps of some entries from a base on. `Err` is want of memory.
+/// The region after the full steps of some entries from a base on. `Err` says that memory ran out.
 fn image_after<O: Object>(
     alloc: Global,
     object: &O,
@@ -119,7 +119,7 @@ fn image_after<O: Object>(
     Ok(memory.into_words())
 }
 
-/// The full image after a place. `Err` is want of memory.
+/// The full image after a place. `Err` says that memory ran out.
 #[tactic(auto, unfolding(cx_core::specs::History::full_image))]
 pub(crate) fn full_image<O: Object>(
     alloc: Global,
@@ -155,6 +155,6 @@ fn step_on<O: Object>(object: &O, memory: &mut VecMemory, entry: &Entry)
 
 /// The law that an operation is 144 words of 64 bits.
 pub(crate) fn op_fits(op: &[u64])
-    requires { length op.now ≡ 144 }
-    ensures { Words 144 op.now }
+    requires { length op.now ≡ OP_WORDS }
+    ensures { Words OP_WORDS op.now }
 {}

@@ -1,4 +1,9 @@
-//! The core as a state machine, executable: its state, and one step of a caller on one word.
+//! Of definitions alone nobody knows whether they can be run: an invariant holds of a machine that never steps. And a recorded run of the threads
+//! should be checked against the machine that the theorems are about.
+//!
+//! Here the state machine is executable: a state of plain lists, and `apply`, which makes one event or says that its guard fails. The contract is
+//! equality with the definition, both ways, so what the tests play by hand, crash by crash, is the machine of the theorems, and `trace_check`
+//! replays recorded steps by it.
 //!
 //! - `CoreState::opening` is the opening state, and `opening_words` its words alone.
 //! - `apply` answers Ok(true) exactly with the event of its definition made, and Ok(false) exactly where the guard fails, with the state as it
@@ -13,7 +18,7 @@
 //! its states, by three choices, is recovered as the full image of its root's place; on the ring each guard failing for one reason, FREE opened
 //! to what another caller needs and no further, a need stated too late, and two callers that scan at once; on write sets each guard failing for
 //! one reason, sets that are none refused, no word of a set written once it is offered, a cell kept from its owner while a reader holds its
-//! protection, and a cell given again, whose old offer word offers nothing; on the ring of gaps each guard failing for one reason, and gaps
+//! protection, and a cell written again, whose old offer word offers nothing; on the ring of gaps each guard failing for one reason, and gaps
 //! refused that have a changed line first or last, or a line and no ticket of the history.
 #![tactic(auto)]
 

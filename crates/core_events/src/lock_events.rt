@@ -1,9 +1,9 @@
-//! The steps on lock words: a replica is tried, exclusively or shared, given up, downgraded or backed off from.
+//! The steps on lock words: a replica is tried, exclusively or shared, released, downgraded or backed off from.
 
 ghost use Rattle.std.specs.Prelude.{◌≡◌, ◌+◌, ◌-◌, ◌*◌, ◌<◌, ◌≤◌, ◌↔◌, length, take, IsTrue, IfOk};
-ghost use Rattle.core_events.specs.Tables.{HasRegions, HasWords};
+ghost use Rattle.core_events.specs.Tables.{HasRegions, HasTableWords};
 ghost use Rattle.cx_core.specs.declared.kinds.Kind.TheVariants.{TryExclusive, TryShared, BackOff, Downgrade, ReleaseExclusive};
-ghost use Rattle.core_events.specs.Tries.{Tries};
+ghost use Rattle.core_events.specs.Tries.{TriesEvent};
 ghost use Rattle.cx_core.specs.Events.{Did};
 ghost use Rattle.cx_core.specs.History.{IsFull};
 ghost use Rattle.cx_core.specs.Layout.{lock_at, replica_words, word_count};
@@ -21,9 +21,9 @@ use cx_core::layout::{EXCLUSIVE_MARK, lock_at, vol_at};
 use cx_core::{Base, HeldDowngraded, HeldExclusive, HeldShared, Local, OBJECT_START, SeenLock};
 use std::alloc::{AllocError, Global};
 
-/// Adds a number to a list, unless it is in it. `Err` is want of memory, and leaves the list as it was.
+/// Adds a number to a list, unless it is in it. `Err` says that memory ran out, and leaves the list as it was.
 pub(crate) fn push_once(numbers: &mut Items<u64>, n: u64) -> Result<(), AllocError>
-    ensures { Tries result (λ _. numbers.new ≡ with_number numbers.old n) (numbers.new ≡ numbers.old) }
+    ensures { TriesEvent result (λ _. numbers.new ≡ with_number numbers.old n) (numbers.new ≡ numbers.old) }
 {
     if numbers.as_slice().contains(&n) {
         return Ok(());
@@ -31,8 +31,8 @@ pub(crate) fn push_once(numbers: &mut Items<u64>, n: u64) -> Result<(), AllocErr
     numbers.push(n)
 }
 
-/// Tries to take a replica exclusively: a compare-exchange of its lock word from 0. `Err` is want of memory, and
-/// nothing changed.
+/// Tries to take a replica exclusively: a compare-exchange of its lock word from 0. `Err` says that memory ran out,
+/// and nothing changed.
 pub(crate) fn try_exclusive(
     alloc: Global,
     callers: Callers,
@@ -42,7 +42,7 @@ pub(crate) fn try_exclusive(
     r: u64,
 ) -> Result<bool, AllocError>
     requires regions { HasRegions callers.number base.now words.old }
-    ensures { Tries result (λ made. EachScene callers.number base.now words.old (λ instance scene. Did made instance scene (TryExclusive r) local.old local.new words.new)) ((local.new ≡ local.old) × (words.new ≡ words.old)) }
+    ensures { TriesEvent result (λ made. EachScene callers.number base.now words.old (λ instance scene. Did made instance scene (TryExclusive r) local.old local.new words.new)) ((local.new ≡ local.old) × (words.new ≡ words.old)) }
 {
     if !can_try_exclusive(callers, local, r) {
         return Ok(false);
@@ -58,8 +58,8 @@ pub(crate) fn try_exclusive(
     Ok(true)
 }
 
-/// What a caller learns by an exclusive try that found 0: the replica's words are its own from here on. `Err` is want of
-/// memory, and nothing changed.
+/// What a caller learns by an exclusive try that found 0: the replica's words are its own from here on. `Err` says that
+/// memory ran out, and nothing changed.
 fn take(
     alloc: Global,
     callers: Callers,
@@ -70,7 +70,7 @@ fn take(
 ) -> Result<(), AllocError>
     requires regions { HasRegions callers.number base.now words.now }
     requires r { r < 2 * callers.number }
-    ensures { Tries result (λ _. EachScene callers.number base.now words.now (λ instance scene. local.new ≡ taken instance scene r local.old)) (local.new ≡ local.old) }
+    ensures { TriesEvent result (λ _. EachScene callers.number base.now words.now (λ instance scene. local.new ≡ taken instance scene r local.old)) (local.new ≡ local.old) }
 {
     let copy = words_of(alloc, callers, base, words, r)?;
     local.exclusive = Some(HeldExclusive {
@@ -87,7 +87,7 @@ fn take(
     Ok(())
 }
 
-/// What a caller learns by an exclusive try that was refused. `Err` is want of memory, and nothing changed.
+/// What a caller learns by an exclusive try that was refused. `Err` says that memory ran out, and nothing changed.
 fn refuse(
     alloc: Global,
     callers: Callers,
@@ -95,7 +95,7 @@ fn refuse(
     r: u64,
     found: u64,
 ) -> Result<(), AllocError>
-    ensures { Tries result (λ _. local.new ≡ refused_by callers.number r local.old found) (local.new ≡ local.old) }
+    ensures { TriesEvent result (λ _. local.new ≡ refused_by callers.number r local.old found) (local.new ≡ local.old) }
 {
     push_once(&mut local.refused, r)?;
     if has_all(callers, local.refused.as_slice()) {
@@ -118,7 +118,7 @@ pub(crate) fn try_shared(
     local: &mut Local,
     r: u64,
 ) -> bool
-    requires table { HasWords callers.number words.old }
+    requires table { HasTableWords callers.number words.old }
     ensures { (base : _) → EachScene callers.number base words.old (λ instance scene. Did result instance scene (TryShared r) local.old local.new words.new) }
 {
     if !can_try_shared(callers, local, r) {
@@ -168,7 +168,7 @@ fn pass(callers: Callers, local: &mut Local, r: u64, found: u64)
 
 /// Takes back what the caller added to a lock word by a shared try or a downgrade.
 pub(crate) fn back_off(callers: Callers, words: &mut [u64], local: &mut Local, r: u64) -> bool
-    requires table { HasWords callers.number words.old }
+    requires table { HasTableWords callers.number words.old }
     ensures { (base : _) → EachScene callers.number base words.old (λ instance scene. Did result instance scene (BackOff r) local.old local.new words.new) }
 {
     if !can_back_off(callers, local, r) {
@@ -202,7 +202,7 @@ pub(crate) fn downgrade(
     r: u64,
     full: bool,
 ) -> bool
-    requires table { HasWords callers.number words.old }
+    requires table { HasTableWords callers.number words.old }
     ensures { (base : _) → EachScene callers.number base words.old (λ instance scene. (IsTrue full ↔ IsFull instance scene.history (held_words local.old.exclusive)) → Did result instance scene (Downgrade r) local.old local.new words.new) }
 {
     if !full || !is_clean(callers, local, r) {
@@ -226,7 +226,7 @@ fn keep_place(local: &mut Local, r: u64)
     local.steps = local.steps.saturating_add(1);
 }
 
-/// Gives an exclusive right up. `full` is whether the words held are the full image after their place.
+/// Releases an exclusive right. `full` is whether the words held are the full image after their place.
 pub(crate) fn release_exclusive(
     callers: Callers,
     words: &mut [u64],
@@ -234,7 +234,7 @@ pub(crate) fn release_exclusive(
     r: u64,
     full: bool,
 ) -> bool
-    requires table { HasWords callers.number words.old }
+    requires table { HasTableWords callers.number words.old }
     ensures { (base : _) → EachScene callers.number base words.old (λ instance scene. (IsTrue full ↔ IsFull instance scene.history (held_words local.old.exclusive)) → Did result instance scene (ReleaseExclusive r) local.old local.new words.new) }
 {
     if !is_clean(callers, local, r) || !full {
@@ -247,7 +247,7 @@ pub(crate) fn release_exclusive(
     true
 }
 
-/// The words of a replica as loads give them. `Err` is want of memory.
+/// The words of a replica as loads give them. `Err` says that memory ran out.
 fn words_of(
     alloc: Global,
     callers: Callers,

@@ -1,9 +1,9 @@
 //! The steps of the queue: words of a caller's cells, link slots, and FREE.
 
 ghost use Rattle.std.specs.Prelude.{◌≡◌, ◌+◌, ◌*◌, ◌%◌, ◌^◌, ◌<◌, ◌≤◌, ℕ, max, length, slice_index, slice_set, if◌then◌else◌, ◌==◌};
-ghost use Rattle.core_events.specs.Tables.{HasCaller, HasWords};
+ghost use Rattle.core_events.specs.Tables.{HasCaller, HasTableWords};
 ghost use Rattle.cx_core.specs.declared.kinds.Kind.TheVariants.{WriteCell, Link, Look, ReadCell, LoadFree};
-ghost use Rattle.core_events.specs.Tries.{Tries};
+ghost use Rattle.core_events.specs.Tries.{TriesEvent};
 ghost use Rattle.cx_core.specs.Events.{Did};
 ghost use Rattle.cx_core.specs.Layout.{cell_count, link_at};
 ghost use Rattle.cx_core.specs.QueueEvents.{exchanged, lost, linked, seen_word};
@@ -43,7 +43,7 @@ pub(crate) fn write_cell(
     true
 }
 
-/// Tries to link the entry in a caller's cell at the caller's front. `Err` is want of memory, and nothing changed.
+/// Tries to link the entry in a caller's cell at the caller's front. `Err` says that memory ran out, and nothing changed.
 pub(crate) fn link(
     callers: Callers,
     base: &Base,
@@ -53,7 +53,7 @@ pub(crate) fn link(
 ) -> Result<bool, AllocError>
     requires table { HasCaller callers.number words.old local.old }
     requires slots { OBJECT_START ≤ length base.now.words }
-    ensures { Tries result (λ b. EachScene callers.number base.now words.old (λ instance scene. Did b instance scene (Link j) local.old local.new words.new)) ((local.new ≡ local.old) × (words.new ≡ words.old)) }
+    ensures { TriesEvent result (λ b. EachScene callers.number base.now words.old (λ instance scene. Did b instance scene (Link j) local.old local.new words.new)) ((local.new ≡ local.old) × (words.new ≡ words.old)) }
 {
     if !can_link(callers, base, local, j) {
         return Ok(false);
@@ -62,7 +62,7 @@ pub(crate) fn link(
     Ok(true)
 }
 
-/// The compare-exchange of a link, and what its caller learns. `Err` is want of memory, and nothing changed.
+/// The compare-exchange of a link, and what its caller learns. `Err` says that memory ran out, and nothing changed.
 fn exchange(
     callers: Callers,
     words: &mut [u64],
@@ -72,7 +72,7 @@ fn exchange(
     requires table { HasCaller callers.number words.old local.old }
     requires j { j < 16 }
     requires front { local.old.front < 2 ^ 40 }
-    ensures { let at = link_at callers.number (local.old.front % cell_count callers.number) in let found = slice_index words.old at in Tries result (λ _. (words.new ≡ slice_set words.old at (exchanged callers.number local.old j found)) × (local.new ≡ (if found == seen_word local.old.seen_slot then linked local.old j else lost callers.number local.old found))) ((local.new ≡ local.old) × (words.new ≡ words.old)) }
+    ensures { let at = link_at callers.number (local.old.front % cell_count callers.number) in let found = slice_index words.old at in TriesEvent result (λ _. (words.new ≡ slice_set words.old at (exchanged callers.number local.old j found)) × (local.new ≡ (if found == seen_word local.old.seen_slot then linked local.old j else lost callers.number local.old found))) ((local.new ≡ local.old) × (words.new ≡ words.old)) }
 {
     let at = link_at(callers.number, local.front % cell_count(callers.number));
     let found = words[at];
@@ -90,11 +90,11 @@ fn exchange(
     Ok(())
 }
 
-/// What a caller learns by a link that won. `Err` is want of memory, and nothing changed.
+/// What a caller learns by a link that won. `Err` says that memory ran out, and nothing changed.
 fn win(local: &mut Local, j: u64) -> Result<(), AllocError>
     requires j { j < 16 }
     requires front { local.old.front < 2 ^ 40 }
-    ensures { Tries result (λ _. local.new ≡ linked local.old j) (local.new ≡ local.old) }
+    ensures { TriesEvent result (λ _. local.new ≡ linked local.old j) (local.new ≡ local.old) }
 {
     let linked = Linked {
         ticket: local.front,
@@ -117,7 +117,7 @@ fn lose(callers: Callers, local: &mut Local, found: u64)
 
 /// Loads the word of a link slot.
 pub(crate) fn look(callers: Callers, words: &[u64], local: &mut Local, s: u64) -> bool
-    requires table { HasWords callers.number words.now }
+    requires table { HasTableWords callers.number words.now }
     ensures { (base : _) → EachScene callers.number base words.now (λ instance scene. Did result instance scene (Look s) local.old local.new words.now) }
 {
     if s >= cell_count(callers.number) {

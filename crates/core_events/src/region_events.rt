@@ -2,7 +2,7 @@
 
 ghost use Rattle.std.specs.Prelude.{◌≡◌, ◌*◌, ◌<◌, length, ◌==◌, true, false};
 ghost use Rattle.cx_core.specs.declared.kinds.Kind.TheVariants.{LoadWord, StoreWord, Persist};
-ghost use Rattle.core_events.specs.Tries.{Tries};
+ghost use Rattle.core_events.specs.Tries.{TriesEvent};
 ghost use Rattle.cx_core.specs.Events.{Did};
 ghost use Rattle.cx_core.specs.Layout.{word_count};
 ghost use Rattle.cx_core.specs.RegionEvents.{loaded_by, loaded_into, persisted, stored_into};
@@ -17,8 +17,8 @@ use cx_core::{Base, HeldExclusive, HeldShared, Local};
 use std::alloc::{AllocError, Global};
 use std::mem;
 
-/// Loads a word of a replica. Of one held shared it is part of the local state. `Err` is want of memory, and nothing
-/// changed.
+/// Loads a word of a replica. Of one held shared it is part of the local state. `Err` says that memory ran out, and
+/// nothing changed.
 pub(crate) fn load_word(
     callers: Callers,
     base: &Base,
@@ -29,7 +29,7 @@ pub(crate) fn load_word(
     refused: bool,
 ) -> Result<bool, AllocError>
     requires long { length words.now ≡ word_count callers.number (length base.now.words) }
-    ensures { Tries result (λ made. EachScene callers.number base.now words.now (λ instance scene. Did made instance scene (LoadWord r i refused) local.old local.new words.now)) (local.new ≡ local.old) }
+    ensures { TriesEvent result (λ made. EachScene callers.number base.now words.now (λ instance scene. Did made instance scene (LoadWord r i refused) local.old local.new words.now)) (local.new ≡ local.old) }
 {
     if !can_load_as(callers, base, words, local, r, i, refused) {
         return Ok(false);
@@ -39,9 +39,9 @@ pub(crate) fn load_word(
     Ok(true)
 }
 
-/// What a caller learns by a load. `Err` is want of memory, and nothing changed.
+/// What a caller learns by a load. `Err` says that memory ran out, and nothing changed.
 fn learn(local: &mut Local, r: u64, i: u64, refused: bool, found: u64) -> Result<(), AllocError>
-    ensures { Tries result (λ _. local.new ≡ loaded_by r i refused local.old found) (local.new ≡ local.old) }
+    ensures { TriesEvent result (λ _. local.new ≡ loaded_by r i refused local.old found) (local.new ≡ local.old) }
 {
     if let Some(held) = &mut local.shared {
         note(held, r, i, found)?;
@@ -54,9 +54,9 @@ fn learn(local: &mut Local, r: u64, i: u64, refused: bool, found: u64) -> Result
     Ok(())
 }
 
-/// Adds a word to what was loaded of a replica, where it is of this one. `Err` is want of memory, and nothing changed.
+/// Adds a word to what was loaded of a replica, where it is of this one. `Err` says that memory ran out, and nothing changed.
 fn note(held: &mut HeldShared, r: u64, i: u64, found: u64) -> Result<(), AllocError>
-    ensures { Tries result (λ _. held.new ≡ loaded_into r i found held.old) (held.new ≡ held.old) }
+    ensures { TriesEvent result (λ _. held.new ≡ loaded_into r i found held.old) (held.new ≡ held.old) }
 {
     if held.replica == r {
         held.loaded.push((i, found))?;
@@ -64,7 +64,7 @@ fn note(held: &mut HeldShared, r: u64, i: u64, found: u64) -> Result<(), AllocEr
     Ok(())
 }
 
-/// Stores a word of a replica, which is dirty from here on. `Err` is want of memory, and nothing changed.
+/// Stores a word of a replica, which is dirty from here on. `Err` says that memory ran out, and nothing changed.
 pub(crate) fn store_word(
     alloc: Global,
     callers: Callers,
@@ -76,7 +76,7 @@ pub(crate) fn store_word(
     v: u64,
 ) -> Result<bool, AllocError>
     requires long { length words.old ≡ word_count callers.number (length base.now.words) }
-    ensures { Tries result (λ made. EachScene callers.number base.now words.old (λ instance scene. Did made instance scene (StoreWord r i v) local.old local.new words.new)) ((local.new ≡ local.old) × (words.new ≡ words.old)) }
+    ensures { TriesEvent result (λ made. EachScene callers.number base.now words.old (λ instance scene. Did made instance scene (StoreWord r i v) local.old local.new words.new)) ((local.new ≡ local.old) × (words.new ≡ words.old)) }
 {
     if !can_store(callers, base, local, r, i) {
         return Ok(false);
@@ -90,9 +90,9 @@ pub(crate) fn store_word(
     Ok(true)
 }
 
-/// Stores a word into what is held. `Err` is want of memory, and nothing changed.
+/// Stores a word into what is held. `Err` says that memory ran out, and nothing changed.
 fn put(alloc: Global, held: &mut HeldExclusive, i: u64, v: u64) -> Result<(), AllocError>
-    ensures { Tries result (λ _. held.new ≡ stored_into i v held.old) (held.new ≡ held.old) }
+    ensures { TriesEvent result (λ _. held.new ≡ stored_into i v held.old) (held.new ≡ held.old) }
 {
     push_once(&mut held.dirty, i)?;
     let mut words = mem::replace(&mut held.words, Items::new(alloc)).into_vec();

@@ -2,7 +2,7 @@
 
 ghost use Rattle.std.specs.Prelude.{◌≡◌, ◌+◌, ◌<◌, ◌↔◌, ℕ, Bool, List, None, length, IsTrue, IfOk};
 ghost use Rattle.std.specs.Option.{option_to_list};
-ghost use Rattle.core_events.specs.Told.{TellsAnswers};
+ghost use Rattle.core_events.specs.Told.{TellsRaise};
 ghost use Rattle.cx_base.specs.VecMemory.{words_of};
 ghost use Rattle.cx_core.specs.Base.{LawfulBase};
 ghost use Rattle.cx_core.specs.History.{image_after};
@@ -13,7 +13,7 @@ ghost use Rattle.cx_core.specs.RootEvents.{CanRaise, answers_below, reads_at, re
 use crate::images::{copied, merged, op_fits};
 use core_guards::answers::{is_below, is_won_code, shows_current};
 use core_guards::callers::Callers;
-use cx_base::{Object, VecMemory, root_place};
+use cx_base::{Object, OpWords, VecMemory, root_place};
 use cx_core::{Answer, Base, Entry, Linked, Local, OBJECT_START, SeenRead};
 use std::alloc::{AllocError, Global};
 
@@ -30,7 +30,7 @@ fn can_raise<O: Object>(
     callers: Callers,
     local: &Local,
     code: u64,
-    read: &Option<[u64; 144]>,
+    read: &Option<OpWords>,
 ) -> bool
     ensures { (base : _) (step : List ℕ → List ℕ → List ℕ × List ℕ) → IsTrue result ↔ CanRaise (record { callers = callers.number; base = base; step = step; reads = O.only_reads object.now }) code read.now local.now }
 {
@@ -41,8 +41,8 @@ fn can_raise<O: Object>(
         }
 }
 
-/// Whether a caller may raise DUR by a code, and what the raise then answers; none where it may not. `Err` is want of
-/// memory, and comes only where the guard holds.
+/// Whether a caller may raise DUR by a code, and what the raise then answers; none where it may not. `Err` says that
+/// memory ran out, and comes only where the guard holds.
 pub(crate) fn replies_of<O: Object>(
     alloc: Global,
     object: &O,
@@ -51,10 +51,10 @@ pub(crate) fn replies_of<O: Object>(
     locals: &[Local],
     local: &Local,
     code: u64,
-    read: &Option<[u64; 144]>,
+    read: &Option<OpWords>,
 ) -> Result<Option<Acknowledged>, AllocError>
     requires base { LawfulBase (O.line_count object.now) (O.lawful object.now) base.now }
-    ensures { (words : List ℕ) → IfOk result (λ told. TellsAnswers told (record { callers = callers.number; base = base.now; step = O.step object.now; reads = O.only_reads object.now }) (record { history = history_of base.now.place locals.now; words = words }) code read.now local.now) }
+    ensures { (words : List ℕ) → IfOk result (λ told. TellsRaise told (record { callers = callers.number; base = base.now; step = O.step object.now; reads = O.only_reads object.now }) (record { history = history_of base.now.place locals.now; words = words }) code read.now local.now) }
 {
     if !can_raise(object, callers, local, code, read) {
         return Ok(None);
@@ -77,7 +77,7 @@ fn count(answer: &Option<Answer>) -> u64
 }
 
 /// What a raise to a place answers of a caller's own entries: the reply to the first that is not answered, where its
-/// ticket is below the place. `Err` is want of memory.
+/// ticket is below the place. `Err` says that memory ran out.
 fn answer_below<O: Object>(
     alloc: Global,
     object: &O,
@@ -111,7 +111,7 @@ fn unanswered(local: &Local) -> Option<Linked>
     })
 }
 
-/// What a raise to a place answers of a read, where so many of its caller's entries are answered. `Err` is want of memory.
+/// What a raise to a place answers of a read, where `before` of its caller's entries are answered. `Err` says that memory ran out.
 fn read_at<O: Object>(
     alloc: Global,
     object: &O,
@@ -119,7 +119,7 @@ fn read_at<O: Object>(
     locals: &[Local],
     place: u64,
     before: u64,
-    read: &Option<[u64; 144]>,
+    read: &Option<OpWords>,
 ) -> Result<Option<SeenRead>, AllocError>
     requires base { LawfulBase (O.line_count object.now) (O.lawful object.now) base.now }
     ensures { (callers : ℕ) (reads : List ℕ → Bool) → IfOk result (λ seen. option_to_list seen ≡ reads_at (record { callers = callers; base = base.now; step = O.step object.now; reads = reads }) (history_of base.now.place locals.now) place before read.now) }
@@ -136,15 +136,15 @@ fn read_at<O: Object>(
     }))
 }
 
-/// The object's reply to an operation after the entries of a state with tickets below a place. `Err` is want of memory.
+/// The object's reply to an operation after the entries of a state with tickets below a place. `Err` says that memory ran out.
 fn reply_after<O: Object>(
     alloc: Global,
     object: &O,
     base: &Base,
     locals: &[Local],
     place: u64,
-    op: &[u64; 144],
-) -> Result<[u64; 144], AllocError>
+    op: &OpWords,
+) -> Result<OpWords, AllocError>
     requires base { LawfulBase (O.line_count object.now) (O.lawful object.now) base.now }
     ensures { (callers : ℕ) (reads : List ℕ → Bool) → IfOk result (λ reply. reply ≡ reply_after (record { callers = callers; base = base.now; step = O.step object.now; reads = reads }) (history_of base.now.place locals.now) place op.now) }
 {
@@ -154,7 +154,7 @@ fn reply_after<O: Object>(
     Ok(run_on(object, &mut memory, op))
 }
 
-/// The object's image after some entries from a base on, in a memory without a limit. `Err` is want of memory.
+/// The object's image after some entries from a base on, in a memory without a limit. `Err` says that memory ran out.
 fn part_after<O: Object>(
     alloc: Global,
     object: &O,
@@ -174,7 +174,7 @@ fn part_after<O: Object>(
 }
 
 /// Does the object's step on its image in a memory without a limit, and gives the reply.
-fn run_on<O: Object>(object: &O, memory: &mut VecMemory, op: &[u64; 144]) -> [u64; 144]
+fn run_on<O: Object>(object: &O, memory: &mut VecMemory, op: &OpWords) -> OpWords
     requires { O.lawful object.now (words_of memory.old) × (memory.old.left ≡ None) }
     ensures step { O.step object.now (words_of memory.old) op.now ≡ (words_of memory.new, result) }
     ensures lawful { O.lawful object.now (words_of memory.new) × (memory.new.left ≡ None) }

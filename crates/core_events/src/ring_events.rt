@@ -1,7 +1,7 @@
-//! The steps on the ring: what a caller needs is stated, confirmed and given up, and tickets are closed, scanned and opened.
+//! The steps on the ring: what a caller needs is stated, confirmed and released, and tickets are closed, scanned and opened.
 
 ghost use Rattle.std.specs.Prelude.{◌≡◌, ◌<◌, ◌≤◌, length};
-ghost use Rattle.core_events.specs.Tables.{HasCaller, HasWords};
+ghost use Rattle.core_events.specs.Tables.{HasCaller, HasTableWords};
 ghost use Rattle.cx_core.specs.declared.kinds.Kind.TheVariants.{Protect, Confirm, Unprotect, CloseLow, Scan, OpenFree};
 ghost use Rattle.cx_core.specs.Events.{Did};
 ghost use Rattle.cx_core.specs.RingEvents.{bound_in, confirmed, confirmed_by, least_in, opened, scan_after, shows_outdated};
@@ -44,7 +44,7 @@ fn learn(callers: Callers, local: &mut Local, found: u64)
 
 /// Loads LOW, which confirms the protection stated where it is at most its place.
 pub(crate) fn confirm(callers: Callers, words: &[u64], local: &mut Local) -> bool
-    requires table { HasWords callers.number words.now }
+    requires table { HasTableWords callers.number words.now }
     ensures { (base : _) → EachScene callers.number base words.now (λ instance scene. Did result instance scene Confirm local.old local.new words.now) }
 {
     if !is_stated(local.protection) {
@@ -54,7 +54,7 @@ pub(crate) fn confirm(callers: Callers, words: &[u64], local: &mut Local) -> boo
     true
 }
 
-/// Gives the caller's protection up.
+/// Releases the caller's protection.
 pub(crate) fn unprotect(callers: Callers, words: &mut [u64], local: &mut Local) -> bool
     requires table { HasCaller callers.number words.old local.old }
     ensures { (base : _) → EachScene callers.number base words.old (λ instance scene. Did result instance scene Unprotect local.old local.new words.new) }
@@ -70,7 +70,7 @@ pub(crate) fn unprotect(callers: Callers, words: &mut [u64], local: &mut Local) 
 
 /// Raises LOW to a target, and begins a scan of what the callers need.
 pub(crate) fn close_low(callers: Callers, words: &mut [u64], local: &mut Local, target: u64) -> bool
-    requires table { HasWords callers.number words.old }
+    requires table { HasTableWords callers.number words.old }
     ensures { (base : _) → EachScene callers.number base words.old (λ instance scene. Did result instance scene (CloseLow target) local.old local.new words.new) }
 {
     if !can_close(callers, local, target) {
@@ -89,7 +89,7 @@ pub(crate) fn close_low(callers: Callers, words: &mut [u64], local: &mut Local, 
 
 /// Loads the need of the next caller of the scan.
 pub(crate) fn scan(callers: Callers, words: &[u64], local: &mut Local, d: u64) -> bool
-    requires table { HasWords callers.number words.now }
+    requires table { HasTableWords callers.number words.now }
     ensures { (base : _) → EachScene callers.number base words.now (λ instance scene. Did result instance scene (Scan d) local.old local.new words.now) }
 {
     if d >= u64::from(callers.number) || !is_next(d, local.scan) {

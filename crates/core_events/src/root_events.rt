@@ -2,12 +2,12 @@
 
 ghost use Rattle.std.specs.Prelude.{◌≡◌, ◌+◌, ◌*◌, ◌<◌, ◌∷◌, ◌++◌, [], ℕ, List, Option, Some, max};
 ghost use Rattle.std.specs.Option.{option_to_list};
-ghost use Rattle.core_events.specs.Tables.{HasWords};
+ghost use Rattle.core_events.specs.Tables.{HasTableWords};
 ghost use Rattle.core_events.specs.Codes.{HasCode};
-ghost use Rattle.core_events.specs.Told.{TellsAnswers};
+ghost use Rattle.core_events.specs.Told.{TellsRaise};
 ghost use Rattle.cx_base.specs.Codes.{root_place_of};
 ghost use Rattle.cx_core.specs.declared.kinds.Kind.TheVariants.{LoadCur, Publish, Raise, Retire};
-ghost use Rattle.core_events.specs.Tries.{Tries};
+ghost use Rattle.core_events.specs.Tries.{TriesEvent};
 ghost use Rattle.cx_core.specs.Events.{Did};
 ghost use Rattle.cx_core.specs.RootEvents.{before_in, code_in, outrun, published, raised_floor};
 ghost use Rattle.cx_core.specs.State.{EachScene, one_more};
@@ -23,7 +23,7 @@ use std::mem;
 
 /// Loads CUR, which is always allowed.
 pub(crate) fn load_cur(callers: Callers, words: &[u64], local: &mut Local) -> bool
-    requires table { HasWords callers.number words.now }
+    requires table { HasTableWords callers.number words.now }
     ensures { (base : _) → EachScene callers.number base words.now (λ instance scene. Did result instance scene LoadCur local.old local.new words.now) }
 {
     see(callers, local, words[CUR_AT]);
@@ -53,7 +53,7 @@ fn code_in(callers: Callers, held: Option<HeldDowngraded>) -> u64
 
 /// Tries to publish the replica that is downgraded: a compare-exchange of CUR from the code last found there.
 pub(crate) fn publish(callers: Callers, words: &mut [u64], local: &mut Local) -> bool
-    requires table { HasWords callers.number words.old }
+    requires table { HasTableWords callers.number words.old }
     requires code { HasCode callers.number local.old.downgraded }
     ensures { (base : _) → EachScene callers.number base words.old (λ instance scene. Did result instance scene Publish local.old local.new words.new) }
 {
@@ -98,8 +98,8 @@ fn lose(callers: Callers, local: &mut Local, found: u64)
     local.fresh = false;
 }
 
-/// Raises DUR by a code, and gives what the raise answers. `told` is that, and none where the guard fails. `Err` is want of
-/// memory, and nothing changed.
+/// Raises DUR by a code, and gives what the raise answers. `told` is that, and none where the guard fails. `Err` says that
+/// memory ran out, and nothing changed.
 pub(crate) fn raise(
     alloc: Global,
     callers: Callers,
@@ -108,8 +108,8 @@ pub(crate) fn raise(
     code: u64,
     told: Option<Acknowledged>,
 ) -> Result<bool, AllocError>
-    requires table { HasWords callers.number words.old }
-    ensures { Tries result (λ made. (base : _) → EachScene callers.number base words.old (λ instance scene. (read : Option (List ℕ)) → TellsAnswers told instance scene code read local.old → Did made instance scene (Raise code read) local.old local.new words.new)) ((local.new ≡ local.old) × (words.new ≡ words.old)) }
+    requires table { HasTableWords callers.number words.old }
+    ensures { TriesEvent result (λ made. (base : _) → EachScene callers.number base words.old (λ instance scene. (read : Option (List ℕ)) → TellsRaise told instance scene code read local.old → Did made instance scene (Raise code read) local.old local.new words.new)) ((local.new ≡ local.old) × (words.new ≡ words.old)) }
 {
     let Some(answers) = told else {
         return Ok(false);
@@ -122,14 +122,14 @@ pub(crate) fn raise(
     Ok(true)
 }
 
-/// Gives what a raise to a place answers. `Err` is want of memory, and nothing changed.
+/// Gives what a raise to a place answers. `Err` says that memory ran out, and nothing changed.
 fn acknowledge(
     alloc: Global,
     local: &mut Local,
     place: u64,
     told: Acknowledged,
 ) -> Result<(), AllocError>
-    ensures { let answers = option_to_list told.entry in let reads = option_to_list told.read in Tries result (λ _. local.new ≡ record local.old { answered = local.old.answered ++ answers; seen_reads = local.old.seen_reads ++ reads; floor = raised_floor local.old.floor place answers reads }) (local.new ≡ local.old) }
+    ensures { let answers = option_to_list told.entry in let reads = option_to_list told.read in TriesEvent result (λ _. local.new ≡ record local.old { answered = local.old.answered ++ answers; seen_reads = local.old.seen_reads ++ reads; floor = raised_floor local.old.floor place answers reads }) (local.new ≡ local.old) }
 {
     push_both(
         alloc,
@@ -144,7 +144,7 @@ fn acknowledge(
     Ok(())
 }
 
-/// Adds to two lists what there is. `Err` is want of memory, and leaves both as they were.
+/// Adds to two lists what there is. `Err` says that memory ran out, and leaves both as they were.
 fn push_both(
     alloc: Global,
     answered: &mut Items<Answer>,
@@ -152,7 +152,7 @@ fn push_both(
     reads: &mut Items<SeenRead>,
     read: Option<SeenRead>,
 ) -> Result<(), AllocError>
-    ensures { Tries result (λ _. (answered.new ≡ answered.old ++ option_to_list answer) × (reads.new ≡ reads.old ++ option_to_list read)) ((answered.new ≡ answered.old) × (reads.new ≡ reads.old)) }
+    ensures { TriesEvent result (λ _. (answered.new ≡ answered.old ++ option_to_list answer) × (reads.new ≡ reads.old ++ option_to_list read)) ((answered.new ≡ answered.old) × (reads.new ≡ reads.old)) }
 {
     if let Some(answer) = answer {
         answered.push(answer)?;
@@ -177,9 +177,9 @@ fn take_last(alloc: Global, answered: &mut Items<Answer>)
     *answered = Items::of(items);
 }
 
-/// Takes the pin back from the replica of the code before the caller's win.
+/// Releases the pin on the replica of the code before the caller's win.
 pub(crate) fn retire(callers: Callers, words: &mut [u64], local: &mut Local) -> bool
-    requires table { HasWords callers.number words.old }
+    requires table { HasTableWords callers.number words.old }
     ensures { (base : _) → EachScene callers.number base words.old (λ instance scene. Did result instance scene Retire local.old local.new words.new) }
 {
     if !can_retire(local.raised, local.won) {

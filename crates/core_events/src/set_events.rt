@@ -1,7 +1,7 @@
 //! The steps on write sets: a set is written and offered, and its offer word and its words are loaded.
 
 ghost use Rattle.std.specs.Prelude.{◌<◌};
-ghost use Rattle.core_events.specs.Tables.{HasCaller, HasWords};
+ghost use Rattle.core_events.specs.Tables.{HasCaller, HasTableWords};
 ghost use Rattle.core_events.specs.Told.{TellsOfferWord};
 ghost use Rattle.cx_core.specs.declared.kinds.Kind.TheVariants.{WriteSet, Offer, LoadOffer, ReadSet};
 ghost use Rattle.cx_core.specs.Events.{Did};
@@ -60,7 +60,7 @@ pub(crate) fn offer(
 
 /// Loads the offer word of the cell that the slot last looked at shows with a ticket, which a confirmed protection has to keep.
 pub(crate) fn load_offer(callers: Callers, words: &[u64], local: &mut Local, k: u64, t: u64) -> bool
-    requires table { HasWords callers.number words.now }
+    requires table { HasTableWords callers.number words.now }
     ensures { (base : _) → EachScene callers.number base words.now (λ instance scene. Did result instance scene (LoadOffer k t) local.old local.new words.now) }
 {
     if !can_load_offer(callers, local, k, t) {

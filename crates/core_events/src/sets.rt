@@ -11,11 +11,11 @@ ghost use Rattle.cx_core.specs.WriteSet.{IsWriteSetOf};
 
 use crate::images::{full_image, merged};
 use core_guards::sets::{can_write_set, leads};
-use cx_base::Object;
+use cx_base::{Object, SET_WORDS};
 use cx_core::{Base, Local};
 use std::alloc::{AllocError, Global};
 
-/// The word with which a caller offers the set in its cell; none where it may not. `Err` is want of memory.
+/// The word with which a caller offers the set in its cell; none where it may not. `Err` says that memory ran out.
 pub(crate) fn offered_word<O: Object>(
     alloc: Global,
     object: &O,
@@ -42,14 +42,14 @@ pub(crate) fn offered_word<O: Object>(
     Ok(Some(ticket + 1))
 }
 
-/// Whether words are a write set of a ticket. `Err` is want of memory.
+/// Whether words are a write set of a ticket. `Err` says that memory ran out.
 fn is_set_of<O: Object>(
     alloc: Global,
     object: &O,
     base: &Base,
     locals: &[Local],
     ticket: u64,
-    set: &[u64; 513],
+    set: &[u64; SET_WORDS],
 ) -> Result<bool, AllocError>
     requires base { LawfulBase (O.line_count object.now) (O.lawful object.now) base.now }
     requires entries { HasEntries locals.now }

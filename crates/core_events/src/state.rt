@@ -29,19 +29,19 @@ pub struct CoreState {
 }
 
 impl Model for CoreState {
-    ghost use Rattle.core_events.specs.Codes.{IsKept};
+    ghost use Rattle.core_events.specs.Codes.{IsSoundCore};
     ghost use Rattle.cx_core.specs.State.{Core};
 
     ghost Value = { Core };
 
     ghost view = { λ s. record { callers = s.callers.number; lines = s.lines; base = s.base; state = record { words = s.words.items; locals = s.locals.items } } };
 
-    ghost invariant = { λ s. IsKept (record { callers = s.callers.number; lines = s.lines; base = s.base; state = record { words = s.words.items; locals = s.locals.items } }) };
+    ghost invariant = { λ s. IsSoundCore (record { callers = s.callers.number; lines = s.lines; base = s.base; state = record { words = s.words.items; locals = s.locals.items } }) };
 }
 
 impl CoreState {
-    /// The state with which a service of so many callers opens from a base: nothing was linked or written, and every
-    /// replica has the base's words. `Err` is want of memory.
+    /// The state with which a service of this number of callers opens from a base: nothing was linked or written, and every
+    /// replica has the base's words. `Err` says that memory ran out.
     pub fn opening<O: Object>(
         alloc: Global,
         object: &O,
@@ -211,7 +211,7 @@ impl CoreState {
     }
 }
 
-/// The words with which a table of so many callers opens from a base. `Err` is want of memory.
+/// The words with which a table of this number of callers opens from a base. `Err` says that memory ran out.
 pub fn opening_words(alloc: Global, callers: Callers, base: &Base) -> Result<Vec<u64>, AllocError>
     requires place { base.now.place ≤ 2 ^ 40 }
     ensures { IfOk result (λ words. words.items ≡ opening_words callers.number base.now) }
@@ -234,7 +234,7 @@ pub fn opening_words(alloc: Global, callers: Callers, base: &Base) -> Result<Vec
     Ok(words)
 }
 
-// The number of words of a table whose regions have so many: as many as are pushed below, so that none is moved to make room.
+// The number of words of a table whose regions have `region` words: as many as are pushed below, so that none is moved to make room.
 fn room_for(callers: u32, region: usize) -> usize {
     let n = callers as usize;
     region
@@ -244,7 +244,7 @@ fn room_for(callers: u32, region: usize) -> usize {
         .saturating_add(4)
 }
 
-/// Adds a word so many times.
+/// Adds a word `n` times. `Err` says that memory ran out.
 fn push_many(words: &mut Vec<u64>, n: u64, word: u64) -> Result<(), AllocError>
     ensures { OnOk result (words.new.items ≡ words.old.items ++ replicate n word) }
 {
@@ -254,7 +254,7 @@ fn push_many(words: &mut Vec<u64>, n: u64, word: u64) -> Result<(), AllocError>
     Ok(())
 }
 
-/// Adds a list of words so many times.
+/// Adds a list of words `n` times. `Err` says that memory ran out.
 fn push_copies(words: &mut Vec<u64>, n: u64, from: &[u64]) -> Result<(), AllocError>
     ensures { OnOk result (words.new.items ≡ words.old.items ++ copies n from.now) }
 {

@@ -88,7 +88,7 @@ fn is_same_line(n: u64, before: &[u64], after: &[u64]) -> bool
     true
 }
 
-/// Word `i` of a region, 0 behind its end.
+/// Word `i` of a region, 0 after its end.
 fn word_at(region: &[u64], i: usize) -> u64
     ensures { result ≡ slice_index region.now i }
 {

@@ -1,7 +1,11 @@
-//! What the guards of the core's events ask of a caller's local state, each question a function.
+//! A step of the state machine is allowed only where its guard holds: a downgrade only of a flushed replica, a read of a cell only under a
+//! confirmed protection. The executable machine (`core_events`) and the table that threads share ask the same questions of a caller.
+//!
+//! So each question that a guard asks of what a caller knows is a small function whose contract is the definition. They stand in a low crate of
+//! their own, so that a wrong edit of one is tried without proving the machine again.
 //!
 //! - Each question that a guard asks of a caller's local state is its definition, in a file by the word that is stepped on. The must-fail edits show it
-//!   of a downgrade with a dirty word, a win retired before its own raise, a replica loaded after its right was given up, a set offered without
+//!   of a downgrade with a dirty word, a win retired before its own raise, a replica loaded after its right was released, a set offered without
 //!   its test, a set read under an unconfirmed protection, one read that is offered with another ticket, and a gap noted over a changed word; the
 //!   rows of `event_tests` show it of each guard failing for one reason.
 #![tactic(auto)]

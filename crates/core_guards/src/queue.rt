@@ -6,7 +6,7 @@ ghost use Rattle.cx_core.specs.QueueEvents.{CanLink, IsIdle, next_number, ShowsO
 ghost use Rattle.cx_core.specs.RingEvents.{Protects};
 
 use crate::callers::Callers;
-use cx_base::{link_cell, link_ticket};
+use cx_base::{OP_WORDS, link_cell, link_ticket};
 use cx_core::layout::{CELLS, cell_count};
 use cx_core::{Base, Entry, Local, OBJECT_START, Protection, SeenSlot, slot_start};
 
@@ -91,7 +91,7 @@ pub fn entry_of(local: &Local, j: u64) -> Entry
     ensures { result ≡ entry_in local.now j }
 {
     let cell = &local.cells[j as usize];
-    let mut op = [0; 144];
+    let mut op = [0; OP_WORDS];
     op.copy_from_slice(&cell.words[1..]);
     Entry {
         caller: local.number,

@@ -71,7 +71,7 @@ pub fn can_close(callers: Callers, local: &Local, target: u64) -> bool
     target <= root_place(callers.number, local.seen_cur) && local.scan.is_none()
 }
 
-/// Whether this is the next caller that the scan comes to.
+/// Whether this is the next caller of the scan.
 pub fn is_next(d: u64, scan: Option<cx_core::Scan>) -> bool
     ensures { IsTrue result ↔ IsNext d scan }
 {

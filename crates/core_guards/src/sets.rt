@@ -9,7 +9,8 @@ ghost use Rattle.cx_core.specs.WriteSet.{IsWriteSet};
 
 use crate::callers::Callers;
 use crate::queue::{protects, shows_ticket};
-use cx_core::layout::{CELLS, SET_WORDS};
+use cx_base::SET_WORDS;
+use cx_core::layout::CELLS;
 use cx_core::{Linked, Local, SeenOffer};
 
 /// How many pairs a set has room for.
@@ -49,7 +50,7 @@ pub fn can_write_set(local: &Local, j: u64) -> bool
 }
 
 /// Whether the pairs of a set lead from a region to another. They are stored into the region, up to the first that is outside.
-pub fn leads(set: &[u64; 513], region: &mut [u64], after: &[u64]) -> bool
+pub fn leads(set: &[u64; SET_WORDS], region: &mut [u64], after: &[u64]) -> bool
     ensures { IsTrue result ↔ IsWriteSet set.now region.old after.now }
 {
     let pairs = set[0];
@@ -86,10 +87,10 @@ pub fn can_load_offer(callers: Callers, local: &Local, k: u64, t: u64) -> bool
 
 /// Whether a caller may read a word of the set of the entry with a ticket, in a cell.
 pub fn can_read_set(callers: Callers, local: &Local, k: u64, t: u64, i: u64) -> bool
-    ensures { IsTrue result ↔ ((t < local.now.front) × (i < 513) × ShowsTicket callers.number local.now.seen_slot t k × Protects t local.now.protection × ShowsOffer local.now.seen_offer k t) }
+    ensures { IsTrue result ↔ ((t < local.now.front) × (i < SET_WORDS) × ShowsTicket callers.number local.now.seen_slot t k × Protects t local.now.protection × ShowsOffer local.now.seen_offer k t) }
 {
     t < local.front
-        && i < SET_WORDS
+        && i < SET_WORDS as u64
         && shows_ticket(callers, local.seen_slot, t, k)
         && protects(local.protection, t)
         && shows_offer(local.seen_offer, k, t)

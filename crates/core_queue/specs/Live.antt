@@ -19,7 +19,7 @@ pub record IsLiveIn (instance : Instance) (s : State) (history : List Entry) (ti
 abbrev pub named_cell : Instance → State → ℕ → ℕ
 named_cell instance s ticket = link_cell_of instance.callers (slice_index s.words (link_at instance.callers (ticket % cell_count instance.callers)))
 
--- so many live tickets of one caller, each another
+-- this number of live tickets of one caller, no two the same
 pub record HasLive (instance : Instance) (s : State) (history : List Entry) (caller count : ℕ) : Type 0 where
   pub ticket : ℕ → ℕ
   pub entry : ℕ → Entry
@@ -28,7 +28,7 @@ pub record HasLive (instance : Instance) (s : State) (history : List Entry) (cal
   pub apart : (i k : ℕ) → i < count → k < count → ticket i ≡ ticket k → i ≡ k
 
 -- a caller may load word i of cell k for the ticket
-pub record MayRead (instance : Instance) (s : State) (caller ticket k i : ℕ) : Type 0 where
+pub record MayReadWord (instance : Instance) (s : State) (caller ticket k i : ℕ) : Type 0 where
   pub local : Local
   pub of_caller : slice_get s.locals caller ≡ Some local
   pub guard : Guard instance (scene_of instance s) (ReadCell ticket k i) local

@@ -1,8 +1,12 @@
-//! The laws of linking and of the queue's cells: the opening state has the parts of the lawful state on tickets, links,
-//! cells, fronts and the ring, each kind of step keeps them, and so does each step that touches nothing that a part names. Where a
-//! state has them, its history's entries are lawful, and what is offered of write sets stays. Each law is the contract of a function that does nothing.
+//! The operation log gives all updates one order. Its memory is bounded, so cells are written again while a slow reader may still be at one. Such a
+//! reader would get half of an old entry and half of a new one, or a write set of neither.
 //!
-//! Each part of the lawful state is owned by this crate or a neighbour (`core_queue`, `core_replica`, `core_root`, `core_answers`). For each there
+//! An entry is linked by one compare-and-swap at the tail, as in the queue of Michael and Scott ("Simple, Fast, and Practical Non-Blocking and
+//! Blocking Concurrent Queue Algorithms", PODC 1996), but the link is a word of a ring and names the ticket, which also tells an old link from a
+//! new one. A reader announces from which ticket on it reads and confirms that by a load after it, as with hazard pointers (Michael, TPDS 2004),
+//! but by one word for all tickets from there on. That this suffices is proved here as laws: the contracts of functions that do nothing.
+//!
+//! Each part of the lawful state is owned by this crate or its neighbour (`core_queue`, `core_replica`). For each there
 //! is a law that the opening state has it, one that each of the 29 kinds of step keeps it, whichever caller makes the step, and one that a step
 //! elsewhere keeps it.
 //!
@@ -20,7 +24,7 @@
 //! - Where no number in the base is above its place, each entry of the history is one that a lawful base may take at its place:
 //!   `entries_are_lawful`.
 //!
-//! The functions of these four and of `core_runs` have empty bodies, so no must-fail edit of code can stand here; those of the guards stand
+//! The functions of these two and of `core_runs` have empty bodies, so no must-fail edit of code can stand here; those of the guards stand
 //! in `core_guards`.
 #![tactic(auto)]
 

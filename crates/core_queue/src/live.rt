@@ -1,7 +1,7 @@
 //! What the lawful state says of live tickets, which are the linked ones at or above FREE, and of those that a protection keeps.
 
 ghost use Rattle.std.specs.Prelude.{◌≡◌, ◌≤◌, ◌∷◌, ℕ, slice_index};
-ghost use Rattle.core_queue.specs.Live.{CellStays, HasLive, IsLiveIn, KeepsTicket, MayRead, named_cell};
+ghost use Rattle.core_queue.specs.Live.{CellStays, HasLive, IsLiveIn, KeepsTicket, MayReadWord, named_cell};
 ghost use Rattle.core_queue.specs.Queue.{QueueLawful};
 ghost use Rattle.cx_core.specs.Events.{Makes};
 ghost use Rattle.cx_core.specs.Layout.{cell_at};
@@ -25,7 +25,7 @@ pub fn callers_have_few_live_tickets()
 /// Where a caller may load a word of a cell for a live ticket, the word there is that of the history's entry.
 pub fn reads_give_the_entry()
     ensures { (instance : Instance) (s : State) (law : Lawful instance s) (caller t k i : ℕ) (e : _) →
-        MayRead instance s caller t k i → IsLiveIn instance s law.history t e →
+        MayReadWord instance s caller t k i → IsLiveIn instance s law.history t e →
         slice_index s.words (cell_at instance.callers k i) ≡ slice_index (e.number ∷ e.op) i }
 {}
 

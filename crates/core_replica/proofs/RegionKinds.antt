@@ -16,7 +16,7 @@ use Rattle.cx_core.specs.Events.{Guard, found_by, local_after, new_word, words_a
 use Rattle.cx_core.specs.Lawful.{Shape}
 use Rattle.cx_core.specs.History.{IsFull}
 use Rattle.cx_core.specs.LawfulLocks.{Locks, total}
-use Rattle.cx_core.specs.LawfulRegions.{HasLoaded, HasWords, IsImage, Regions, vol_word}
+use Rattle.cx_core.specs.LawfulRegions.{HasLoaded, HasWords, IsReplicaImage, Regions, vol_word}
 use Rattle.cx_core.specs.Layout.{lock_at, per_at, replica_words, vol_at}
 use Rattle.cx_core.specs.LockEvents.{CanGiveUp, exclusive_mark, passing, refused_by, shared_by, taken, with_number}
 use Rattle.cx_core.specs.QueueEvents.{linked, lost, seen_word}
@@ -132,10 +132,10 @@ module _ (instance : Instance) (history : List Entry) (scene : Scene) (locals : 
       let has : l.exclusive ≡ Some h = m.1 in
       let image = image_given instance history scene.words h shape.long (regions.held caller l at h has)
       (sym (ap held_dirty has) ∙ clean) (subst (λ o. IsFull instance history (held_words o)) has full) in
-      let here : IsImage instance history words' r = image_same instance history scene.words words' r (same_off instance scene.words (lock_at callers r) v r (omega arith)) (subst (IsImage instance history scene.words) m.2 image) in
+      let here : IsReplicaImage instance history words' r = image_same instance history scene.words words' r (same_off instance scene.words (lock_at callers r) v r (omega arith)) (subst (IsReplicaImage instance history scene.words) m.2 image) in
       regions_local instance history words' locals caller l l' kept at
       (λ q q_small free. elim (cases_eq q r) [
-        | inl e ↦ subst (IsImage instance history words') (sym e) here
+        | inl e ↦ subst (IsReplicaImage instance history words') (sym e) here
         | inr ne ↦ kept.unheld q q_small (unheld_before locals caller l l' q at (λ on. absurd (ne (same_Some q r (sym on ∙ held)))) free)
       ])
       (λ x some. absurd (none-some x (sym none ∙ some)))

@@ -11,7 +11,7 @@ use Rattle.cx_core.specs.declared.local.HeldExclusive.{HeldExclusive}
 use Rattle.cx_core.specs.declared.local.HeldShared.{HeldShared}
 use Rattle.cx_core.specs.declared.local.Local.{Local}
 use Rattle.cx_core.specs.History.{IsFull, full_image}
-use Rattle.cx_core.specs.LawfulRegions.{HasLoaded, HasWords, IsImage, IsUnheld, Regions, per_word, vol_word}
+use Rattle.cx_core.specs.LawfulRegions.{HasLoaded, HasWords, IsReplicaImage, IsUnheld, Regions, per_word, vol_word}
 use Rattle.cx_core.specs.Layout.{per_at, vol_at, word_count}
 use Rattle.cx_core.specs.Rights.{exclusive_on}
 use Rattle.cx_core.specs.State.{Instance}
@@ -28,7 +28,7 @@ pub record SameReplica (instance : Instance) (words words' : List ℕ) (r : ℕ)
   pub vol : (i : ℕ) → i < length instance.base.words → vol_word instance words' r i ≡ vol_word instance words r i
   pub per : (i : ℕ) → i < length instance.base.words → per_word instance words' r i ≡ per_word instance words r i
 
-pub image_same : (instance : Instance) (history : List Entry) (words words' : List ℕ) (r : ℕ) → SameReplica instance words words' r → IsImage instance history words r → IsImage instance history words' r
+pub image_same : (instance : Instance) (history : List Entry) (words words' : List ℕ) (r : ℕ) → SameReplica instance words words' r → IsReplicaImage instance history words r → IsReplicaImage instance history words' r
 image_same instance history words words' r same old =
     let image = full_image instance.step instance.base history in
     record {
@@ -38,7 +38,7 @@ image_same instance history words words' r same old =
       per = λ i below. same.per i below ∙ old.per i below ∙ ap (λ p. slice_index (image p) i) (sym same.place);
     }
 
-pub image_longer : (instance : Instance) (history history' : List Entry) (words : List ℕ) (r : ℕ) → Continues history history' → IsImage instance history words r → IsImage instance history' words r
+pub image_longer : (instance : Instance) (history history' : List Entry) (words : List ℕ) (r : ℕ) → Continues history history' → IsReplicaImage instance history words r → IsReplicaImage instance history' words r
 image_longer instance history history' words r continues old =
     let place = vol_word instance words r 0 in
     let same : full_image instance.step instance.base history' place ≡ full_image instance.step instance.base history place =
@@ -106,7 +106,7 @@ unheld_before locals caller l l' r at stays nobody d x there holds =
 
 -- a caller's local state put, with the same words: what it then holds is told
 pub regions_local : (instance : Instance) (history : List Entry) (words : List ℕ) (locals : List Local) (caller : ℕ) (l l' : Local) → Regions instance history words locals → slice_get locals caller ≡ Some l →
-    ((r : ℕ) → r < 2 * instance.callers → IsUnheld (set locals caller l') r → IsImage instance history words r) →
+    ((r : ℕ) → r < 2 * instance.callers → IsUnheld (set locals caller l') r → IsReplicaImage instance history words r) →
     ((h : HeldExclusive) → l'.exclusive ≡ Some h → HasWords instance words h) →
     ((h : HeldShared) → l'.shared ≡ Some h → HasLoaded instance words h) → Regions instance history words (set locals caller l')
 regions_local instance history words locals caller l l' old at unheld held loaded = record {
@@ -130,9 +130,9 @@ regions_framed instance history words locals at v caller l l' old there off same
     let kept = regions_words instance history words (set words at v) locals (λ r. same_off instance words at v r off) old in
     regions_shared instance history (set words at v) locals caller l l' kept there same.exclusive (λ h has. kept.loaded caller l there h (sym same.shared ∙ has))
 
--- what is held, clean and the full image after its place, may be given up
+-- what is held, clean and the full image after its place, may be released
 pub image_given : (instance : Instance) (history : List Entry) (words : List ℕ) (h : HeldExclusive) → length words ≡ word_count instance.callers (length instance.base.words) → HasWords instance words h →
-    h.dirty ≡ [] → IsFull instance history h.words → IsImage instance history words h.replica
+    h.dirty ≡ [] → IsFull instance history h.words → IsReplicaImage instance history words h.replica
 image_given instance history words h long has clean full =
     let place = held_place instance words h long has in
     let image = full_image instance.step instance.base history in

@@ -1,2 +1,9 @@
+pub mod AnswerFrames
+pub mod Chain
+pub mod Crashing
 pub mod Frames
+pub mod Keeping
 pub mod Replicas
+pub mod Replies
+pub mod Root
+pub mod RootFrames

@@ -14,10 +14,10 @@ use Rattle.cx_core.specs.Merge.{scene_of}
 use Rattle.cx_core.specs.Region.{place_of}
 use Rattle.cx_core.specs.State.{Instance, State, opening_state}
 use Rattle.cx_core.proofs.Putting.{no_word}
-use Rattle.core_answers.proofs.AnswerKinds.{answers_kept}
-use Rattle.core_answers.proofs.AnswerLaws.{answers_framed, answers_longer}
-use Rattle.core_answers.proofs.Opening.{opening_answers}
-use Rattle.core_answers.proofs.Places.{durable_within}
+use Rattle.core_replica.proofs.AnswerKinds.{answers_kept}
+use Rattle.core_replica.proofs.AnswerLaws.{answers_framed, answers_longer}
+use Rattle.core_replica.proofs.AnswerOpening.{opening_answers}
+use Rattle.core_replica.proofs.Places.{durable_within}
 use Rattle.core_queue.proofs.Keeps.{queue_kept}
 use Rattle.core_queue.proofs.Opening as queue
 use Rattle.core_queue.proofs.QueueFrames.{queue_local, queue_of}
@@ -26,10 +26,10 @@ use Rattle.core_replica.proofs.LockLaws.{locks_local}
 use Rattle.core_replica.proofs.Opening.{opening_locks, opening_regions}
 use Rattle.core_replica.proofs.RegionLaws.{regions_longer, regions_shared}
 use Rattle.core_replica.proofs.Replicas.{replicas_kept}
-use Rattle.core_root.proofs.Opening.{opening_root}
-use Rattle.core_root.proofs.Keeps.{root_kept}
-use Rattle.core_root.proofs.RootLaws.{low_off, root_framed}
-use Rattle.core_root.proofs.RootLimits.{root_bounds}
+use Rattle.core_replica.proofs.RootOpening.{opening_root}
+use Rattle.core_replica.proofs.RootKeeps.{root_kept}
+use Rattle.core_replica.proofs.RootLaws.{low_off, root_framed}
+use Rattle.core_replica.proofs.RootLimits.{root_bounds}
 use Rattle.core_runs.specs.Frames.{SameLawful}
 
 -- a local state put that has the same fields as far as any part names them

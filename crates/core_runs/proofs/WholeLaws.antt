@@ -5,11 +5,11 @@ use Rattle.cx_core.specs.History.{AreLawful}
 use Rattle.cx_core.specs.Lawful.{Lawful}
 use Rattle.cx_core.specs.Region.{slot_number}
 use Rattle.cx_core.specs.State.{Instance, State}
-use Rattle.core_answers.specs.Crashing.{ChainStands}
-use Rattle.core_answers.proofs.CrashLaws.{recovered_kept}
+use Rattle.core_replica.specs.Crashing.{ChainStands}
+use Rattle.core_replica.proofs.CrashLaws.{recovered_kept}
 use Rattle.core_queue.proofs.EntryLaws.{entries_lawful}
 use Rattle.core_queue.proofs.QueueFrames.{queue_of}
-use Rattle.core_root.proofs.ChainLaws.{chain_from_dur, chain_pinned}
+use Rattle.core_replica.proofs.ChainLaws.{chain_from_dur, chain_pinned}
 
 module _ (instance : Instance) (s : State) (law : Lawful instance s) where
   -- each code of a chain names a replica at its place, which nobody writes

@@ -1,8 +1,8 @@
 -- What a change of a caller's local state has to leave so that a lawful state stays lawful.
-use Rattle.core_answers.specs.Frames.{SameAnswers}
+use Rattle.core_replica.specs.AnswerFrames.{SameAnswers}
 use Rattle.core_queue.specs.Frames.{SameQueue}
 use Rattle.core_replica.specs.Frames.{SameHeld, SameRights}
-use Rattle.core_root.specs.Frames.{SameRoot}
+use Rattle.core_replica.specs.RootFrames.{SameRoot}
 use Rattle.cx_core.specs.declared.local.Local.{Local}
 
 -- the fields that any part of the lawful state names

@@ -1,1 +1,4 @@
+pub mod Counting
 pub mod Frames
+pub mod Linearizable
+pub mod RealTime

@@ -3,24 +3,24 @@
 ghost use Rattle.std.specs.Prelude.{◌≡◌, ℕ, Some, slice_get};
 ghost use Rattle.std.specs.List.{Contains};
 ghost use Rattle.cx_base.specs.Codes.{root_replica_of};
-ghost use Rattle.core_root.specs.Chain.{Leaves, SameWords};
+ghost use Rattle.core_replica.specs.Chain.{LeavesReplicas, SameWords};
 ghost use Rattle.cx_core.specs.Chain.{IsCodeChain};
 ghost use Rattle.cx_core.specs.Events.{Makes};
 ghost use Rattle.cx_core.specs.Free.{HoldsNone, SomeFree};
 ghost use Rattle.cx_core.specs.Lawful.{Lawful};
-ghost use Rattle.cx_core.specs.LawfulRegions.{IsImage};
+ghost use Rattle.cx_core.specs.LawfulRegions.{IsReplicaImage};
 ghost use Rattle.cx_core.specs.State.{Instance, State};
 
 /// Each of its codes names a replica that is the full image after its place, in both memories.
 pub fn chains_name_images()
     ensures { (instance : Instance) (s : State) (codes : _) (code : ℕ) (law : Lawful instance s) → IsCodeChain s.words s.locals codes → Contains codes code →
-        IsImage instance law.history s.words (root_replica_of instance.callers code) }
+        IsReplicaImage instance law.history s.words (root_replica_of instance.callers code) }
 {}
 
 /// No event stores to a replica that a code of the chain names, nor persists a word of it.
 pub fn no_event_stores_to_the_chain()
     ensures { (instance : Instance) (before after : State) (event : _) (codes : _) (code : ℕ) → Lawful instance before →
-        IsCodeChain before.words before.locals codes → Contains codes code → Makes instance event before after → Leaves event.kind (root_replica_of instance.callers code) }
+        IsCodeChain before.words before.locals codes → Contains codes code → Makes instance event before after → LeavesReplicas event.kind (root_replica_of instance.callers code) }
 {}
 
 /// So each leaves the words of those replicas, in both memories.

@@ -1,4 +1,4 @@
-//! What a loss of power may leave of a lawful state, and what is recovered from it.
+//! What a crash may leave of a lawful state, and what is recovered from it.
 
 ghost use Rattle.std.specs.Prelude.{◌≡◌, ℕ, List};
 ghost use Rattle.std.specs.List.{Contains};
@@ -13,7 +13,7 @@ ghost use Rattle.pmem_model.specs.Medium.{image_of};
 use cx_base::Object;
 use cx_core::Base;
 
-/// Whatever a loss of power leaves, what is recovered from it is the full image after a place at or above DUR's: it holds each
+/// Whatever a crash leaves, what is recovered from it is the full image after a place at or above DUR's: it holds each
 /// entry that was answered, and the place of each read that was.
 pub fn crash_images_recover()
     ensures { (instance : Instance) (s : State) (image : _) (law : Lawful instance s) → IsCrashImage instance s image → IsKept instance law.history s (recovered instance image) }

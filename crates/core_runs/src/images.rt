@@ -5,7 +5,7 @@ ghost use Rattle.cx_base.specs.Codes.{root_replica_of};
 ghost use Rattle.cx_core.specs.Base.{LawfulBase};
 ghost use Rattle.cx_core.specs.History.{full_image, image_from};
 ghost use Rattle.cx_core.specs.Lawful.{Lawful};
-ghost use Rattle.cx_core.specs.LawfulRegions.{IsImage};
+ghost use Rattle.cx_core.specs.LawfulRegions.{IsReplicaImage};
 ghost use Rattle.cx_core.specs.Layout.{cur_at};
 ghost use Rattle.cx_core.specs.Region.{place_of};
 ghost use Rattle.cx_core.specs.Rights.{claims, shared_on};
@@ -17,19 +17,19 @@ use cx_core::Base;
 /// A replica that a caller holds shared. Its place is between the base's and the end of the history.
 pub fn shared_replicas_are_images()
     ensures { (instance : Instance) (s : State) (law : Lawful instance s) (caller r : ℕ) (l : _) →
-        slice_get s.locals caller ≡ Some l → shared_on l ≡ Some r → IsImage instance law.history s.words r }
+        slice_get s.locals caller ≡ Some l → shared_on l ≡ Some r → IsReplicaImage instance law.history s.words r }
 {}
 
 /// A replica on which a caller has any right but an exclusive one or a passer's mark.
 pub fn claimed_replicas_are_images()
     ensures { (instance : Instance) (s : State) (law : Lawful instance s) (caller r : ℕ) (l : _) →
-        slice_get s.locals caller ≡ Some l → 0 < claims instance.callers r l → IsImage instance law.history s.words r }
+        slice_get s.locals caller ≡ Some l → 0 < claims instance.callers r l → IsReplicaImage instance law.history s.words r }
 {}
 
 /// The replica that the code in CUR names.
 pub fn current_replica_is_an_image()
     ensures { (instance : Instance) (s : State) (law : Lawful instance s) →
-        IsImage instance law.history s.words (root_replica_of instance.callers (slice_index s.words cur_at)) }
+        IsReplicaImage instance law.history s.words (root_replica_of instance.callers (slice_index s.words cur_at)) }
 {}
 
 /// The full image after each place up to the history's end has the words of a lawful base, where the object's base was lawful.

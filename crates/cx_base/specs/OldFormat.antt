@@ -17,7 +17,7 @@ no_old_format = record { version = None; lawful = λ _. ⊥; upgraded = λ image
 abbrev pub CanUpgrade : OldFormat → List ℕ → Type 0
 CanUpgrade old words = IfSome old.version (λ _. old.lawful words)
 
--- An object of so many lines takes over its images of another version than its own. A lawful one has 8 words for each line, the first of
+-- An object of this number of lines takes over its images of another version than its own. A lawful one has 8 words for each line, the first of
 -- which is that version, so there is none where there is no such version. It becomes an image that is lawful for the object, as long as it was.
 -- Where there is no old version, no words are changed.
 pub record TakesOver (lines version : ℕ) (lawful : List ℕ → Type 0) (old : OldFormat) : Type 0 where

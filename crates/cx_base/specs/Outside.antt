@@ -6,7 +6,7 @@ abbrev pub Rose : ℕ → ℕ → Type 0
 Rose old new = (old < new) ⊎ (new ≡ 2 ^ 64 - 1)
 
 -- n bytes came from the front of what was left, to the front of a buffer; 0 is the end of the input
-pub record Gives (n : ℕ) (bytes buffer : List ℕ) (rest : Option (List ℕ)) : Type 0 where
+pub record GivesBytes (n : ℕ) (bytes buffer : List ℕ) (rest : Option (List ℕ)) : Type 0 where
   pub enough : n ≤ length bytes
   pub read : take n buffer ≡ take n bytes
   pub left : rest ≡ Some (drop n bytes)
@@ -14,15 +14,15 @@ pub record Gives (n : ℕ) (bytes buffer : List ℕ) (rest : Option (List ℕ)) 
 
 -- the same, where the bytes left are told
 abbrev pub Gave : ℕ → Option (List ℕ) → List ℕ → Option (List ℕ) → Type 0
-Gave n before buffer after = IfSome before (λ bytes. Gives n bytes buffer after)
+Gave n before buffer after = IfSome before (λ bytes. GivesBytes n bytes buffer after)
 
 -- the first n bytes of a piece were appended, where the bytes written are told
 abbrev pub Took : ℕ → List ℕ → Option (List ℕ) → Option (List ℕ) → Type 0
 Took n piece before after = IfSome before (λ written. after ≡ Some (written ++ take n piece))
 
--- A source was asked for at most so many bytes: those read came from the front of what was left, or it failed, and none was taken. It
+-- A source was asked for at most this number of bytes: those read are a prefix of what was left, or it failed, and none was taken. It
 -- counts this as one read at the most.
-pub record IsRead {E : Type 0} (most : ℕ) (result : Result ℕ E) (buffer : List ℕ) (before after : Option (List ℕ)) (faults faults' reads reads' : ℕ) : Type 0 where
+pub record IsSourceRead {E : Type 0} (most : ℕ) (result : Result ℕ E) (buffer : List ℕ) (before after : Option (List ℕ)) (faults faults' reads reads' : ℕ) : Type 0 where
   pub ok : IfOk result (λ n. Gave n before buffer after)
   pub within : IfOk result (λ n. n ≤ most)
   pub failed : OnErr result (Rose faults faults')
@@ -64,7 +64,7 @@ abbrev pub next_call : ℕ → ℕ
 next_call made = min (made + 1) (2 ^ 64 - 1)
 
 -- a call leaves what was chosen, and is counted
-pub record Tells (old new : Telling) : Type 0 where
+pub record TellsCall (old new : Telling) : Type 0 where
   pub chunk : new.chunk ≡ old.chunk
   pub fails : new.fails ≡ old.fails
   pub calls : new.calls ≡ next_call old.calls

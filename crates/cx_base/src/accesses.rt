@@ -25,7 +25,7 @@ pub fn store_words<M: Memory>(mem: &mut M, at: u64, words: &[u64]) -> Result<(),
     Ok(())
 }
 
-/// The same for a few words, which are loaded at once.
+/// Does as `store_words` for a few words, which are loaded at once.
 fn store_few<M: Memory>(mem: &mut M, at: u64, words: &[u64]) -> Result<(), Halt>
     requires few { length words.now ≤ 48 }
     requires within { at + length words.now ≤ M.size mem.old }

@@ -62,7 +62,7 @@ impl<T> Items<T> {
         self.items.is_empty()
     }
 
-    /// Adds an item at the end. An `Err` is want of memory, and leaves the list as it was.
+    /// Adds an item at the end. `Err` says that memory ran out, and leaves the list as it was.
     pub fn push(&mut self, item: T) -> Result<(), AllocError>
     where
         T: Drop,
@@ -89,7 +89,7 @@ impl Model for Bytes {
 }
 
 impl Bytes {
-    /// Copies the bytes. `Err` is want of memory.
+    /// Copies the bytes. `Err` says that memory ran out.
     pub fn of(alloc: Global, from: &[u8]) -> Result<Self, AllocError>
         ensures { IfOk result (λ bytes. bytes ≡ from.now) }
     {

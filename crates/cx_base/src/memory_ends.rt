@@ -1,7 +1,7 @@
 //! A source and a sink in memory.
 
 ghost use Rattle.std.specs.Prelude.{◌≡◌, ◌↔◌, ◌<◌, ◌≤◌, length, vec_capacity, IsOk, IsErr, Some};
-ghost use Rattle.cx_base.specs.Outside.{IsRead, IsWritten};
+ghost use Rattle.cx_base.specs.Outside.{IsSourceRead, IsWritten};
 
 use crate::outside::{Failed, Sink, Source};
 use std::marker::Model;
@@ -42,7 +42,7 @@ impl Source for SureSource {
 
     fn read(&mut self, into: &mut [u8]) -> Result<usize, Failed>
         requires { 0 < length into.old }
-        ensures read { IsRead (length into.old) result into.new (Some self.old) (Some self.new) 0 0 0 0 }
+        ensures read { IsSourceRead (length into.old) result into.new (Some self.old) (Some self.new) 0 0 0 0 }
         // It never fails.
         ensures sure { IsOk result }
     {

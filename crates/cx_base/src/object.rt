@@ -8,6 +8,18 @@ ghost use Rattle.cx_base.specs.OldFormat.{CanUpgrade, OldFormat, TakesOver};
 use crate::memory::{Halt, Memory};
 use std::alloc::{AllocError, Global};
 
+/// The words of an operation, and of its reply.
+pub const OP_WORDS: usize = 144;
+
+/// The words of an entry of the log: the number that its caller gave it, and the operation.
+pub const ENTRY_WORDS: usize = 1 + OP_WORDS;
+
+/// The words of a write set: how many stores it has, and the address and the word of each of at most 256.
+pub const SET_WORDS: usize = 1 + 2 * 256;
+
+/// An operation, or a reply.
+pub type OpWords = [u64; OP_WORDS];
+
 /// A sequential object. Its state is an image, which is a list of words in lines of 8, and its meaning is a step
 /// from an image and an operation to the image after it and a reply. Operations and replies have 144 words.
 pub trait Object: Drop {
@@ -47,57 +59,58 @@ pub trait Object: Drop {
         ensures { Changes M.Memory mem.old mem.new result (λ _ _ now. now ≡ opening self.now) };
 
     /// Whether an operation only reads.
-    fn reads(&self, op: &[u64; 144]) -> bool
+    fn reads(&self, op: &OpWords) -> bool
         ensures { result ≡ only_reads self.now op.now };
 
-    /// Does one step, and gives the reply. `Halt` comes only where no access is left.
-    fn run<M: Memory>(&self, mem: &mut M, op: &[u64; 144]) -> Result<[u64; 144], Halt>
-        requires size { M.size mem.old ≡ 8 * line_count self.now }
-        requires writable { IsTrue (M.writable mem.old) }
-        requires lawful { Always (M.stands mem.old) (lawful self.now) }
-        ensures { Changes M.Memory mem.old mem.new result (λ reply before now. step self.now before op.now ≡ (now, reply)) };
-
-    /// Does one step as `run` does, and puts the reply where the caller has it: 144 words are not moved where the object makes them there.
+    /// Does one step, and writes the reply into the caller's buffer, whatever was there. `Halt` comes only where no access is left.
     fn run_into<M: Memory>(
         &self,
         mem: &mut M,
-        op: &[u64; 144],
-        reply: &mut [u64; 144],
+        op: &OpWords,
+        reply: &mut OpWords,
     ) -> Result<(), Halt>
         requires size { M.size mem.old ≡ 8 * line_count self.now }
         requires writable { IsTrue (M.writable mem.old) }
         requires lawful { Always (M.stands mem.old) (lawful self.now) }
-        ensures { Changes M.Memory mem.old mem.new result (λ _ before now. step self.now before op.now ≡ (now, reply.new)) }
-    {
-        *reply = self.run(mem, op)?;
-        Ok(())
-    }
+        ensures { Changes M.Memory mem.old mem.new result (λ _ before now. step self.now before op.now ≡ (now, reply.new)) };
 
-    /// Gives the reply to an operation that only reads, and stores nothing. `Halt` comes only where no access is
-    /// left.
-    fn query<M: Memory>(&self, mem: &mut M, op: &[u64; 144]) -> Result<[u64; 144], Halt>
-        requires size { M.size mem.old ≡ 8 * line_count self.now }
-        requires lawful { Always (M.stands mem.old) (lawful self.now) }
-        requires reads { IsTrue (only_reads self.now op.now) }
-        ensures { Finds M.Memory mem.old mem.new result (λ reply now. step self.now now op.now ≡ (now, reply)) };
-
-    /// Gives the reply as `query` does, and puts it where the caller has it: 144 words are not moved where the object makes them there.
+    /// Writes the reply to an operation that only reads into the caller's buffer, and stores nothing. `Halt` comes only where no access is left.
     fn query_into<M: Memory>(
         &self,
         mem: &mut M,
-        op: &[u64; 144],
-        reply: &mut [u64; 144],
+        op: &OpWords,
+        reply: &mut OpWords,
     ) -> Result<(), Halt>
         requires size { M.size mem.old ≡ 8 * line_count self.now }
         requires lawful { Always (M.stands mem.old) (lawful self.now) }
         requires reads { IsTrue (only_reads self.now op.now) }
-        ensures { Finds M.Memory mem.old mem.new result (λ _ now. step self.now now op.now ≡ (now, reply.new)) }
+        ensures { Finds M.Memory mem.old mem.new result (λ _ now. step self.now now op.now ≡ (now, reply.new)) };
+
+    /// Does one step as `run_into` does, and gives the reply, which moves 144 words. `Halt` comes only where no access is left.
+    fn run<M: Memory>(&self, mem: &mut M, op: &OpWords) -> Result<OpWords, Halt>
+        requires size { M.size mem.old ≡ 8 * line_count self.now }
+        requires writable { IsTrue (M.writable mem.old) }
+        requires lawful { Always (M.stands mem.old) (lawful self.now) }
+        ensures { Changes M.Memory mem.old mem.new result (λ reply before now. step self.now before op.now ≡ (now, reply)) }
     {
-        *reply = self.query(mem, op)?;
-        Ok(())
+        let mut reply = [0; OP_WORDS];
+        self.run_into(mem, op, &mut reply)?;
+        Ok(reply)
     }
 
-    /// Whether words are a lawful image. `Err` is want of memory.
+    /// Gives the reply to an operation that only reads, as `query_into` does. `Halt` comes only where no access is left.
+    fn query<M: Memory>(&self, mem: &mut M, op: &OpWords) -> Result<OpWords, Halt>
+        requires size { M.size mem.old ≡ 8 * line_count self.now }
+        requires lawful { Always (M.stands mem.old) (lawful self.now) }
+        requires reads { IsTrue (only_reads self.now op.now) }
+        ensures { Finds M.Memory mem.old mem.new result (λ reply now. step self.now now op.now ≡ (now, reply)) }
+    {
+        let mut reply = [0; OP_WORDS];
+        self.query_into(mem, op, &mut reply)?;
+        Ok(reply)
+    }
+
+    /// Whether words are a lawful image. `Err` says that memory ran out.
     fn check(&self, alloc: Global, words: &[u64]) -> Result<bool, AllocError>
         ensures { IfOk result (λ yes. IsTrue yes ↔ lawful self.now words.now) };
 
@@ -105,7 +118,7 @@ pub trait Object: Drop {
     fn old_version(&self) -> Option<u64>
         ensures { result ≡ (old_format self.now).version };
 
-    /// Whether words are a lawful image of the old version. `Err` is want of memory.
+    /// Whether words are a lawful image of the old version. `Err` says that memory ran out.
     fn check_old(&self, alloc: Global, words: &[u64]) -> Result<bool, AllocError>
         ensures { IfOk result (λ yes. IsTrue yes ↔ (old_format self.now).lawful words.now) };
 

@@ -1,7 +1,7 @@
 //! Where bytes come from and go to, and the gate that each command passes.
 
 ghost use Rattle.std.specs.Prelude.{◌<◌, length, List, ℕ, Option};
-ghost use Rattle.cx_base.specs.Outside.{IsRead, IsWritten};
+ghost use Rattle.cx_base.specs.Outside.{IsSourceRead, IsWritten};
 
 /// A call that a source or a sink refused.
 #[derive(Clone, Copy, Debug, PartialEq, Eq)]
@@ -22,7 +22,7 @@ pub trait Source {
     /// the input. After `Failed` no byte was taken. What `into` holds behind the bytes read is open.
     fn read(&mut self, into: &mut [u8]) -> Result<usize, Failed>
         requires { 0 < length into.old }
-        ensures { IsRead (length into.old) result into.new (left self.old) (left self.new) (faults self.old) (faults self.new) (reads self.old) (reads self.new) };
+        ensures { IsSourceRead (length into.old) result into.new (left self.old) (left self.new) (faults self.old) (faults self.new) (reads self.old) (reads self.new) };
 }
 
 /// Where bytes go to.
@@ -40,7 +40,7 @@ pub trait Sink {
         ensures { IsWritten piece.now result (written self.old) (written self.new) (faults self.old) (faults self.new) };
 }
 
-/// What each worker passes before a command (`after` false) and behind it (`after` true). It answers nothing.
+/// What each worker passes before a command (`after` false) and after it (`after` true). It answers nothing.
 pub trait Gate {
     fn pass(&self, client: u32, command: u64, after: bool);
 }

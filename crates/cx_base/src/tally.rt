@@ -7,7 +7,7 @@ ghost use Rattle.cx_base.specs.Tally.{IsTally, tally_opening, tally_reads, tally
 ghost use Rattle.cx_base.specs.TallyLaws.{tally_opens, tally_keeps, tally_shape, tally_replies, tally_leaves};
 
 use crate::memory::{Halt, Memory};
-use crate::object::Object;
+use crate::object::{OP_WORDS, Object, OpWords};
 use std::alloc::{AllocError, Global};
 
 /// An object of 64 lines and version 7. Word 0 of an operation is added to word 1 of the image, wrapping; an
@@ -61,22 +61,33 @@ impl Object for Tally {
         Ok(())
     }
 
-    fn reads(&self, op: &[u64; 144]) -> bool {
+    fn reads(&self, op: &OpWords) -> bool {
         op[1] == 1
     }
 
-    fn run<M: Memory>(&self, mem: &mut M, op: &[u64; 144]) -> Result<[u64; 144], Halt> {
+    fn run_into<M: Memory>(
+        &self,
+        mem: &mut M,
+        op: &OpWords,
+        reply: &mut OpWords,
+    ) -> Result<(), Halt> {
         if self.reads(op) {
-            return self.query(mem, op);
+            return self.query_into(mem, op, reply);
         }
         let sum = mem.load(1)?.wrapping_add(op[0]);
         mem.store(1, sum)?;
-        Ok(reply(sum))
+        *reply = reply_of(sum);
+        Ok(())
     }
 
-    fn query<M: Memory>(&self, mem: &mut M, _op: &[u64; 144]) -> Result<[u64; 144], Halt> {
-        let sum = mem.load(1)?;
-        Ok(reply(sum))
+    fn query_into<M: Memory>(
+        &self,
+        mem: &mut M,
+        _op: &OpWords,
+        reply: &mut OpWords,
+    ) -> Result<(), Halt> {
+        *reply = reply_of(mem.load(1)?);
+        Ok(())
     }
 
     fn check(&self, _alloc: Global, words: &[u64]) -> Result<bool, AllocError> {
@@ -103,10 +114,10 @@ fn opening_word(at: u64) -> u64
 }
 
 /// A reply with this sum.
-fn reply(sum: u64) -> [u64; 144]
+fn reply_of(sum: u64) -> OpWords
     ensures { result ≡ tally_reply sum }
 {
-    let mut words = [0; 144];
+    let mut words = [0; OP_WORDS];
     words[0] = sum;
     words
 }

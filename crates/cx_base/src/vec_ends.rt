@@ -1,7 +1,7 @@
-//! A source and a sink in memory that take so many bytes a call, and fail at chosen calls.
+//! A source and a sink in memory with a limit on the bytes of one call, which fail at chosen calls.
 
 ghost use Rattle.std.specs.Prelude.{◌≡◌, ◌↔◌, ◌⊎◌, ◌<◌, ◌≤◌, [], length, vec_capacity, Contains, IfOk, IsErr, IsTrue, Some};
-ghost use Rattle.cx_base.specs.Outside.{IsRead, IsWritten, Tells, next_call};
+ghost use Rattle.cx_base.specs.Outside.{IsSourceRead, IsWritten, TellsCall, next_call};
 
 use crate::outside::{Failed, Sink, Source};
 use std::marker::Model;
@@ -50,7 +50,7 @@ impl Calls {
     }
 }
 
-/// A source over bytes in memory that gives at most so many bytes a call and fails at the calls chosen, counted from 1. Contracts
+/// A source over bytes in memory that gives a limited number of bytes a call and fails at the calls chosen, counted from 1. Contracts
 /// see the bytes that it has left, and its calls.
 #[derive(Drop)]
 pub struct VecSource {
@@ -97,11 +97,11 @@ impl Source for VecSource {
 
     fn read(&mut self, into: &mut [u8]) -> Result<usize, Failed>
         requires { 0 < length into.old }
-        ensures read { IsRead (length into.old) result into.new (Some self.old.bytes) (Some self.new.bytes) self.old.faults self.new.faults self.old.calls self.new.calls }
-        // It gives at most so many bytes, and fails exactly at the calls chosen.
+        ensures read { IsSourceRead (length into.old) result into.new (Some self.old.bytes) (Some self.new.bytes) self.old.faults self.new.faults self.old.calls self.new.calls }
+        // It gives at most `chunk` bytes, and fails exactly at the calls chosen.
         ensures chunk { IfOk result (λ n. n ≤ self.old.chunk) }
         ensures chosen { IsErr result ↔ Contains self.old.fails (next_call self.old.calls) }
-        ensures kept { Tells self.old self.new }
+        ensures kept { TellsCall self.old self.new }
     {
         if self.calls.begin() {
             return Err(self.calls.fail());
@@ -113,7 +113,7 @@ impl Source for VecSource {
     }
 }
 
-/// A sink that appends at most so many bytes a call to a vector, up to the room reserved in it, and takes no memory. It fails at
+/// A sink that appends a limited number of bytes a call to a vector, up to the room reserved in it, and takes no memory. It fails at
 /// the calls chosen, counted from 1, and past that room.
 #[derive(Drop)]
 pub struct VecSink {
@@ -168,10 +168,10 @@ impl Sink for VecSink {
     fn write(&mut self, piece: &[u8]) -> Result<usize, Failed>
         requires { 0 < length piece.now }
         ensures written { IsWritten piece.now result (Some self.old.told.bytes) (Some self.new.told.bytes) self.old.told.faults self.new.told.faults }
-        // It takes at most so many bytes, and fails exactly at the calls chosen and where no room is left.
+        // It takes at most `chunk` bytes, and fails exactly at the calls chosen and where no room is left.
         ensures chunk { IfOk result (λ n. n ≤ self.old.told.chunk) }
         ensures chosen { IsErr result ↔ (Contains self.old.told.fails (next_call self.old.told.calls) ⊎ (self.old.room ≤ length self.old.told.bytes)) }
-        ensures kept { Tells self.old.told self.new.told }
+        ensures kept { TellsCall self.old.told self.new.told }
         ensures room { self.new.room ≡ self.old.room }
     {
         if self.calls.begin() {

@@ -19,7 +19,7 @@ use Rattle.cx_core.specs.State.{Instance, Scene}
 use Rattle.cx_core.proofs.Putting.{either}
 use Rattle.cx_core.proofs.ListLemmas.{item_below, slice_get-append, slice_get-append_left, slice_get-append_right, slice_get-set_same, slice_get-set_other}
 
--- the numbers of entries of so many callers, from one on
+-- how many entries n callers have, from one caller on
 count_from : ℕ → ℕ → ℕ → List Entry → ℕ
 count_from from zero ticket history = 0
 count_from from (suc n) ticket history = length (own_of from ticket history) + count_from (from + 1) n ticket history

@@ -5,7 +5,7 @@ use Rattle.cx_core.specs.Region.{region_words, place_of, slot_number, slot_reply
 use Rattle.cx_core.specs.declared.entry.Base.{Base}
 use Rattle.cx_core.specs.declared.entry.Entry.{Entry}
 
--- A base is lawful for an object of so many lines where it is a region at its place, which is at most 2^40, where
+-- A base is lawful for an object of this number of lines where it is a region at its place, which is at most 2^40, where
 -- its results and its object part are lawful, and where no number of a slot is above the place.
 pub record LawfulBase (lines : ℕ) (lawful : List ℕ → Type 0) (base : Base) : Type 0 where
   pub size : Words (region_words lines) base.words

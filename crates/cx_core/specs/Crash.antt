@@ -1,4 +1,4 @@
--- What a loss of power may leave of a state, and what is recovered from it.
+-- What a crash may leave of a state, and what is recovered from it.
 use Rattle.std.specs.Prelude.{◌≡◌, ◌+◌, ◌*◌, ◌<◌, ◌≤◌, ℕ, List, Some, drop, length, slice_get, slice_index, take}
 use Rattle.std.specs.List.{Contains}
 use Rattle.cx_base.specs.Codes.{root_place_of, root_replica_of}
@@ -13,9 +13,9 @@ use Rattle.cx_core.specs.History.{full_image}
 use Rattle.cx_core.specs.LawfulAnswers.{durable_place}
 use Rattle.cx_core.specs.LawfulRegions.{per_word, vol_word}
 use Rattle.cx_core.specs.State.{EachLocal, Instance, State}
-use Rattle.pmem_model.specs.Medium.{Held, IsDirtyMark, word_of}
+use Rattle.pmem_model.specs.Medium.{MediumState, IsDirtyMark, medium_word}
 
--- what a loss of power leaves: a root code, and the words of all replicas one after another
+-- what a crash leaves: a root code, and the words of all replicas one after another
 pub record CrashImage : Type 0 where
   pub root : ℕ
   pub words : List ℕ
@@ -46,11 +46,11 @@ pub record IsCrashImage (instance : Instance) (s : State) (image : CrashImage) :
 
 -- a medium holds the words of all replicas: what a load gives of a word is its value, what the medium has of it is durable, and
 -- a word that may be lost is dirty
-pub record IsMediumOf (instance : Instance) (s : State) (medium : Held) : Type 0 where
+pub record IsMediumOf (instance : Instance) (s : State) (medium : MediumState) : Type 0 where
   pub long : length medium.words ≡ length instance.base.words * (2 * instance.callers)
-  pub value : (r i : ℕ) → r < 2 * instance.callers → i < length instance.base.words → (word_of medium (image_at instance r i)).value ≡ vol_word instance s.words r i
-  pub durable : (r i : ℕ) → r < 2 * instance.callers → i < length instance.base.words → (word_of medium (image_at instance r i)).durable ≡ per_word instance s.words r i
-  pub dirty : (r i : ℕ) → r < 2 * instance.callers → i < length instance.base.words → IsDirtyMark (word_of medium (image_at instance r i)).mark → IsDirtyIn s.locals r i
+  pub value : (r i : ℕ) → r < 2 * instance.callers → i < length instance.base.words → (medium_word medium (image_at instance r i)).value ≡ vol_word instance s.words r i
+  pub durable : (r i : ℕ) → r < 2 * instance.callers → i < length instance.base.words → (medium_word medium (image_at instance r i)).durable ≡ per_word instance s.words r i
+  pub dirty : (r i : ℕ) → r < 2 * instance.callers → i < length instance.base.words → IsDirtyMark (medium_word medium (image_at instance r i)).mark → IsDirtyIn s.locals r i
 
 -- what is recovered from an image that a service left: the region that its root names, with the root's place
 abbrev pub recovered : Instance → CrashImage → Base

@@ -184,16 +184,16 @@ pub record Makes (instance : Instance) (event : Event) (before after : State) : 
   pub locals : after.locals ≡ slice_set before.locals event.caller (local_after instance (scene_of instance before) event.kind local)
 
 -- whether an event was allowed and made, or not allowed and nothing changed
-abbrev pub Applied : Bool → Instance → Event → State → State → Type 0
-Applied true instance event before after = Makes instance event before after
-Applied false instance event before after = (¬ Allowed instance event before) × (after ≡ before)
+abbrev pub IsMadeOrRefused : Bool → Instance → Event → State → State → Type 0
+IsMadeOrRefused true instance event before after = Makes instance event before after
+IsMadeOrRefused false instance event before after = (¬ Allowed instance event before) × (after ≡ before)
 
 -- a run: a list of allowed events, one after another
 abbrev pub Run : Instance → State → List Event → State → Type 0
 Run instance from [] to = to ≡ from
 Run instance from (event ∷ events) to = (then_ : State) × Makes instance event from then_ × Run instance then_ events to
 
--- for a kind that gives an exclusive right up, whether the words held are the full image after their place
+-- for a kind that ends an exclusive right, whether the words held are the full image after their place
 abbrev pub TellsFull : Bool → Instance → Scene → Kind → Local → Type 0
 TellsFull full instance scene (Downgrade r) l = IsTrue full ↔ IsFull instance scene.history (held_words l.exclusive)
 TellsFull full instance scene (ReleaseExclusive r) l = IsTrue full ↔ IsFull instance scene.history (held_words l.exclusive)

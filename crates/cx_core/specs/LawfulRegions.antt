@@ -23,7 +23,7 @@ abbrev pub IsUnheld : List Local → ℕ → Type 0
 IsUnheld locals r = EachLocal locals (λ _ l. exclusive_on l ≢ Some r)
 
 -- a replica is in both memories the full image after its place, which is between the base's and the end of the history
-pub record IsImage (instance : Instance) (history : List Entry) (words : List ℕ) (r : ℕ) : Type 0 where
+pub record IsReplicaImage (instance : Instance) (history : List Entry) (words : List ℕ) (r : ℕ) : Type 0 where
   pub from : instance.base.place ≤ vol_word instance words r 0
   pub to : vol_word instance words r 0 ≤ instance.base.place + length history
   pub vol : (i : ℕ) → i < length instance.base.words →
@@ -44,6 +44,6 @@ HasLoaded instance words h = All (λ (x : ℕ × ℕ). (x.0 < length instance.ba
 
 -- Regions: it is so of each replica and each caller
 pub record Regions (instance : Instance) (history : List Entry) (words : List ℕ) (locals : List Local) : Type 0 where
-  pub unheld : (r : ℕ) → r < 2 * instance.callers → IsUnheld locals r → IsImage instance history words r
+  pub unheld : (r : ℕ) → r < 2 * instance.callers → IsUnheld locals r → IsReplicaImage instance history words r
   pub held : EachLocal locals (λ _ l. (h : HeldExclusive) → l.exclusive ≡ Some h → HasWords instance words h)
   pub loaded : EachLocal locals (λ _ l. (h : HeldShared) → l.shared ≡ Some h → HasLoaded instance words h)

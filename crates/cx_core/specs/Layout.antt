@@ -52,7 +52,7 @@ gap_at callers slot i = 4 + 10563 * callers + 16 * slot + i
 abbrev pub replicas_at : ℕ → ℕ
 replicas_at callers = 4 + 18755 * callers
 
--- word i of a replica as a load gives it, where a region has so many words
+-- where word i of a replica stands, as a load gives it, by the number of callers and the number of words of a region
 abbrev pub vol_at : ℕ → ℕ → ℕ → ℕ → ℕ
 vol_at callers region replica i = 4 + 18755 * callers + region * replica + i
 

@@ -1,4 +1,4 @@
--- The kinds of step on lock words: when a replica may be tried, given up or backed off from, what the word becomes, and
+-- The kinds of step on lock words: when a replica may be tried, released or backed off from, what the word becomes, and
 -- what the caller learns.
 use Rattle.std.specs.Prelude.{◌≡◌, ◌+◌, ◌-◌, ◌*◌, ◌%◌, ◌^◌, ◌<◌, ◌≤◌, ◌⊎◌, ◌==◌, ◌&&◌, ℕ, Bool, false, if◌then◌else◌, List, [], ◌∷◌, ◌++◌, length, IsNone, Some, None}
 use Rattle.std.specs.List.{list_all, list_any, range_with_len}
@@ -49,7 +49,7 @@ CanBackOff callers r l = (r < 2 * callers) × ((shared_on l ≡ Some r) ⊎ ((l.
 abbrev pub IsClean : ℕ → ℕ → Local → Type 0
 IsClean callers r l = (r < 2 * callers) × (exclusive_on l ≡ Some r) × IsNone l.downgraded × (held_dirty l.exclusive ≡ [])
 
--- it may give the right up where the words are the full image after their place
+-- it may release the right where the words are the full image after their place
 abbrev pub CanGiveUp : Instance → Scene → ℕ → Local → Type 0
 CanGiveUp instance scene r l = IsClean instance.callers r l × IsFull instance scene.history (held_words l.exclusive)
 

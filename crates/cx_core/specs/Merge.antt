@@ -34,7 +34,7 @@ abbrev pub all_own : List Local → List Linked
 all_own [] = []
 all_own (l ∷ ls) = l.own ++ all_own ls
 
--- so many entries among linked ones, in the order of their tickets from one on
+-- the given number of entries among linked ones, in the order of their tickets from one on
 abbrev pub in_order : ℕ → ℕ → List Linked → List Entry
 in_order zero ticket linked = []
 in_order (suc n) ticket linked = option_to_list (entry_at ticket linked) ++ in_order n (ticket + 1) linked

@@ -2,7 +2,7 @@
 -- each caller that there may be, and from word 1168 on the object part.
 use Rattle.std.specs.Prelude.{◌≡◌, ◌+◌, ◌*◌, ◌<◌, ◌≤◌, ℕ, List, drop, take, replicate, slice_index}
 
--- the words of a region whose object part has so many lines
+-- the number of words of a region whose object part has this number of lines
 abbrev pub region_words : ℕ → ℕ
 region_words lines = 8 * (146 + lines)
 

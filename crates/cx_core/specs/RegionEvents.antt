@@ -11,7 +11,7 @@ use Rattle.cx_core.specs.LockEvents.{is_fresh_on, with_number}
 use Rattle.cx_core.specs.Rights.{exclusive_on, held_dirty, shared_on}
 use Rattle.cx_core.specs.State.{one_more}
 
--- a caller may load the words of a replica that it holds exclusively or shared, where a region has so many words
+-- a caller may load a word of a replica that it holds exclusively or shared, within the number of words of a region
 abbrev pub CanLoad : ℕ → ℕ → ℕ → ℕ → Local → Type 0
 CanLoad callers region r i l = (r < 2 * callers) × (i < region) × ((exclusive_on l ≡ Some r) ⊎ (shared_on l ≡ Some r))
 

@@ -1,5 +1,5 @@
 -- The kinds of step of the ring, in which cells come round again: a caller states from which ticket on it needs cells, confirms
--- that they are not closed yet, and gives the protection up; and a caller closes tickets below a target, scans what the callers
+-- that they are not closed yet, and releases the protection; and a caller closes tickets below a target, scans what the callers
 -- need, and opens what none of them needs.
 use Rattle.std.specs.Prelude.{◌≡◌, ◌+◌, ◌^◌, ◌≤◌, ◌&&◌, ℕ, max, min, nat_le, nat_lt, Bool, false, if◌then◌else◌, Option, Some, None, IsNone}
 use Rattle.cx_base.specs.Codes.{root_place_of}
@@ -45,7 +45,7 @@ need_word (Confirmed p) = p
 abbrev pub CanClose : ℕ → ℕ → Local → Type 0
 CanClose callers target l = (target ≤ root_place_of callers l.seen_cur) × IsNone l.scan
 
--- this is the next caller that the scan comes to
+-- this is the next caller of the scan
 abbrev pub IsNext : ℕ → Option Scan → Type 0
 IsNext d None = ⊥
 IsNext d (Some s) = s.next ≡ d

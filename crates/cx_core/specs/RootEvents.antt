@@ -108,7 +108,7 @@ answers_below instance history place (Some x) =
     then record { ticket = x.ticket; reply = reply_after instance history x.ticket x.entry.op } ∷ []
     else []
 
--- what a raise to a place answers of a read, where so many entries of its caller are answered
+-- what a raise to a place answers of a read, where this number of its caller's entries is answered
 abbrev pub reads_at : Instance → List Entry → ℕ → ℕ → Option (List ℕ) → List SeenRead
 reads_at instance history place answered None = []
 reads_at instance history place answered (Some op) =

@@ -19,7 +19,7 @@ pub record Instance : Type 0 where
   -- whether an operation only reads
   pub reads : List ℕ → Bool
 
--- it holds of the instance with so many callers and this base, whatever the object means
+-- it holds of the instance with this number of callers and this base, whatever the object means
 abbrev pub EachInstance : ℕ → Base → (Instance → Type 0) → Type 0
 EachInstance callers base P =
     (step : List ℕ → List ℕ → List ℕ × List ℕ) (reads : List ℕ → Bool) →
@@ -119,7 +119,7 @@ opening_local callers place caller = record {
 abbrev pub opening_locals : ℕ → ℕ → List Local
 opening_locals callers place = map (opening_local callers place) (range_with_len 0 callers)
 
--- so many copies of a list, one after another
+-- the given number of copies of a list, one after another
 abbrev pub copies : ℕ → List ℕ → List ℕ
 copies zero xs = []
 copies (suc n) xs = xs ++ copies n xs

@@ -22,7 +22,7 @@ pub record OnPart (from : ℕ) (R : List ℕ → List ℕ → Type 0) (before no
   pub part : R (drop from before) (drop from now)
   pub rest : now ≡ overwritten from (drop from now) before
 
--- a writable memory of a region whose object part has so many lines, with as many words as 64-bit places tell apart
+-- a writable memory of a region whose object part has this number of lines, with as many words as 64-bit places tell apart
 pub record HasRegion {Memory : Type 0} (m : Ghosts Memory) (lines : ℕ) (mem : Memory) : Type 0 where
   pub size : m.size mem ≡ region_words lines
   pub small : region_words lines < 2 ^ 64

@@ -11,8 +11,8 @@ use cx_base::{Items, Object, VecMemory};
 use std::alloc::{AllocError, Global};
 
 impl Base {
-    /// The base with place 0, no results, and the object's opening image, made over words that are 0. `Err` is want
-    /// of memory; so many lines that a region of them has more words than a 64-bit number counts are that, too.
+    /// The base with place 0, no results, and the object's opening image, made over words that are 0. `Err` says that
+    /// memory ran out; it also comes where a region of the object's lines has more words than a 64-bit number counts.
     pub fn fresh<O: Object>(alloc: Global, object: &O) -> Result<Base, AllocError>
         ensures place { IfOk result (λ base. base.place ≡ 0) }
         ensures words { IfOk result (λ base. base.words ≡ fresh_region (O.opening object.now)) }
@@ -31,7 +31,7 @@ impl Base {
     }
 }
 
-/// The number of words of a region with so many lines, where a 64-bit number counts them.
+/// The number of words of a region whose object has this number of lines, where a 64-bit number counts them.
 fn region_len(lines: u64) -> Option<usize>
     ensures some { IfSome result (λ count. count ≡ region_words lines) }
     ensures none { IfNone result (2 ^ 64 ≤ region_words lines) }

@@ -1,13 +1,13 @@
 //! What is linked into the queue, and what a service begins with.
 
-use cx_base::Items;
+use cx_base::{Items, OpWords};
 
 /// One update: its caller, its number among the caller's updates, and the operation of the object.
 #[derive(Clone, Debug, PartialEq, Eq, Drop)]
 pub struct Entry {
     pub caller: u32,
     pub number: u64,
-    pub op: [u64; 144],
+    pub op: OpWords,
 }
 
 /// The region with which a service begins, and its place.
@@ -17,7 +17,7 @@ pub struct Base {
     pub words: Items<u64>,
 }
 
-/// What a loss of power leaves of a service, as numbers: its callers, the lines of its object, how many words its replicas have in
+/// What a crash leaves of a service, as numbers: its callers, the lines of its object, how many words its replicas have in
 /// all, the root, and address and value of each word given, by rising addresses. The word at an address is the value of its pair, and 0
 /// where it has none.
 #[derive(Drop)]

@@ -1,5 +1,7 @@
 //! The kinds of step. Each is one atomic step of one caller on one word of the table.
 
+use cx_base::OpWords;
+
 /// A kind of step with its arguments. An argument out of range makes the kind's guard fail.
 #[derive(Clone, Copy, Debug, PartialEq, Eq, Drop)]
 pub enum Kind {
@@ -17,11 +19,11 @@ pub enum Kind {
     TryExclusive { r: u64 },
     /// Tries to take replica `r` shared. Where it is held exclusively, a passer's mark stays on its lock word.
     TryShared { r: u64 },
-    /// Takes back the caller's shared right, passer's mark or downgraded right on replica `r`.
+    /// Releases the caller's shared right or downgraded right on replica `r`, or takes its passer's mark back.
     BackOff { r: u64 },
     /// Turns the caller's exclusive right on replica `r` into a shared one.
     Downgrade { r: u64 },
-    /// Gives up the caller's exclusive right on replica `r`.
+    /// Releases the caller's exclusive right on replica `r`.
     ReleaseExclusive { r: u64 },
     /// Loads word `i` of replica `r`. With `refused` it is marked that the word shows an outdated replica.
     LoadWord { r: u64, i: u64, refused: bool },
@@ -35,14 +37,14 @@ pub enum Kind {
     Publish,
     /// Raises DUR to `code`, which answers the caller's entry where its ticket is below the code's place. With `read` it also
     /// answers this operation, which only reads, at that place.
-    Raise { code: u64, read: Option<[u64; 144]> },
-    /// Takes the pin back from the replica of the code before the caller's win.
+    Raise { code: u64, read: Option<OpWords> },
+    /// Releases the pin on the replica of the code before the caller's win.
     Retire,
     /// States in the caller's need that it needs the tickets from `p` on.
     Protect { p: u64 },
     /// Loads LOW, which confirms the protection stated where it is at most its place.
     Confirm,
-    /// Gives the caller's protection up.
+    /// Releases the caller's protection.
     Unprotect,
     /// Raises LOW, below which tickets are closed, to `target`, and begins a scan of what the callers need.
     CloseLow { target: u64 },

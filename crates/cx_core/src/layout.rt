@@ -3,6 +3,8 @@
 ghost use Rattle.std.specs.Prelude.{◌≡◌, ◌+◌, ◌*◌, ◌^◌, ◌<◌, ◌≤◌};
 ghost use Rattle.cx_core.specs.Layout.{cell_at, cell_count, link_at, lock_at, need_at, offer_at, per_at, replicas_at, set_at, vol_at, word_count};
 
+use cx_base::ENTRY_WORDS;
+
 /// CUR, the current root code.
 pub const CUR_AT: usize = 0;
 /// DUR, the durable root code.
@@ -15,9 +17,9 @@ pub const FREE_AT: usize = 3;
 /// The cells of a caller.
 pub const CELLS: u64 = 16;
 /// The words of a cell: the entry's number and its operation.
-pub const CELL_WORDS: u64 = 145;
+pub const CELL_WORDS: u64 = ENTRY_WORDS as u64;
 /// The words of a write set: the number of its pairs, and 256 pairs.
-pub const SET_WORDS: u64 = 513;
+pub const SET_WORDS: u64 = cx_base::SET_WORDS as u64;
 /// The words of a caller's link slots, cells, offers and write sets.
 pub const QUEUE_WORDS: u64 = CELLS * (1 + CELL_WORDS + 1 + SET_WORDS);
 /// The protection word of a caller without one, and the limit that is none.
@@ -96,7 +98,7 @@ pub fn replicas_at(callers: u32) -> usize
     4 + 18755 * callers as usize
 }
 
-/// Word `i` of a replica as a load gives it, where a region has so many words.
+/// Where word `i` of a replica stands, as a load gives it; `region` is the number of words of a region.
 pub fn vol_at(callers: u32, region: u64, replica: u64, i: u64) -> usize
     requires small { word_count callers region < 2 ^ 64 }
     requires replica { replica < 2 * callers }

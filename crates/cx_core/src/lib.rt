@@ -1,5 +1,12 @@
-//! The core of the construction: entries, bases and regions, the full step of an entry, and the definitions of a core's state,
-//! of its events and of the lawful state.
+//! CX makes a durable object that threads share from sequential code. Its argument has to hold for each interleaving of the callers' steps and for
+//! a crash after each of them, and no test reaches all of these.
+//!
+//! So the construction is first a state machine, as definitions: one flat list of shared words, what each caller knows (`Local`), 29 kinds of step
+//! of one atomic instruction each (`Kind`), the invariant in ten parts, and what a crash leaves. The construction is that of Correia, Ramalhete,
+//! Felber ("A Wait-Free Universal Construction for Large Objects", PPoPP 2020; durable, and with redo logs: "Persistent Memory and the Rise of
+//! Universal Constructions", EuroSys 2020): an operation log, 2N replicas with try-locks, a published replica. The words, the ring of cells, the
+//! pins and the durable root beside the published one are this project's own choice, and wait-freedom is not claimed. This crate has the
+//! definitions, and of the code the step of one entry on one replica:
 //!
 //! - A full step over any object and any writable memory of a region is the full step of its definition, for every pair that stands, and halts
 //!   only where no access is left: `full_step` (`done`, `halts`); and the object's reply stands where the caller wants it: `full_step_into`.

@@ -5,18 +5,18 @@ ghost use Rattle.cx_core.specs.State.{blank_cell, opening_local};
 
 use crate::entry::Entry;
 use crate::layout::MAX_WORD;
-use cx_base::{Items, root_code};
+use cx_base::{ENTRY_WORDS, Items, OpWords, SET_WORDS, root_code};
 use std::alloc::Global;
 
 /// What a caller wrote into one of its cells.
 #[derive(Clone, Copy, Debug, Drop)]
 pub struct Cell {
     /// The entry's number and its operation.
-    pub words: [u64; 145],
+    pub words: [u64; ENTRY_WORDS],
     /// The ticket with which the cell was linked since it was last written.
     pub ticket: Option<u64>,
     /// The write set: the number of its pairs, then address and value of each.
-    pub set: [u64; 513],
+    pub set: [u64; SET_WORDS],
     /// The offer word. The cell's entry is offered where it is the ticket plus 1.
     pub offer: u64,
 }
@@ -32,15 +32,15 @@ pub struct Linked {
 #[derive(Clone, Copy, Debug, PartialEq, Eq, Drop)]
 pub struct Answer {
     pub ticket: u64,
-    pub reply: [u64; 144],
+    pub reply: OpWords,
 }
 
 /// A read that was acknowledged at a place.
 #[derive(Clone, Copy, Debug, PartialEq, Eq, Drop)]
 pub struct SeenRead {
     pub place: u64,
-    pub op: [u64; 144],
-    pub reply: [u64; 144],
+    pub op: OpWords,
+    pub reply: OpWords,
     /// The number of the caller's entries answered before it or by the same step.
     pub before: u64,
 }
@@ -103,7 +103,7 @@ pub struct WonCode {
     pub before: u64,
 }
 
-/// Why no cell of a caller is idle: another caller's need keeps its cells from being given again.
+/// Why no cell of a caller is idle: another caller's need keeps its cells from being written again.
 #[derive(Clone, Copy, Debug, PartialEq, Eq, Drop)]
 pub struct FullNote {
     /// The other caller that keeps them: of the callers with the least need the least.
@@ -114,7 +114,7 @@ pub struct FullNote {
     pub ticket: u64,
 }
 
-/// What keeps the cells from a ticket on from being given again.
+/// What keeps the cells from a ticket on from being written again.
 #[derive(Clone, Copy, Debug, PartialEq, Eq, Drop)]
 pub enum Protection {
     Unprotected,
@@ -193,9 +193,9 @@ const fn blank() -> Cell
     ensures { result ≡ blank_cell }
 {
     Cell {
-        words: [0; 145],
+        words: [0; ENTRY_WORDS],
         ticket: None,
-        set: [0; 513],
+        set: [0; SET_WORDS],
         offer: 0,
     }
 }

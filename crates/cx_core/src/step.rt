@@ -9,7 +9,7 @@ ghost use Rattle.cx_core.specs.Step.{HasRegion, IsStepped, OnPart, full_step_of}
 use crate::entry::Entry;
 use crate::part::Part;
 use crate::region::{LINE_WORDS, OBJECT_START, PLACE_AT, PLACE_END, slot_start};
-use cx_base::{Halt, Memory, Object, load_below, store_word, store_words};
+use cx_base::{Halt, Memory, OP_WORDS, Object, OpWords, load_below, store_word, store_words};
 
 /// Does the full step of an entry on a region: the object's step on the object part, the number and the reply into
 /// the slot of the entry's caller, and 1 added to the place. Of the slot it stores only the words that differ.
@@ -21,17 +21,17 @@ pub fn full_step<O: Object, M: Memory>(object: &O, mem: &mut M, entry: &Entry) -
     requires caller { entry.now.caller < 8 }
     ensures { Changes M.Memory mem.old mem.new result (λ _ before now. now ≡ full_step_of (O.step object.now) entry.now before) }
 {
-    let mut reply = [0; 144];
+    let mut reply = [0; OP_WORDS];
     full_step_into(object, mem, entry, &mut reply)
 }
 
-/// The full step of an entry, as `full_step` does it, and the object's reply to it put where the caller has it, so that it need not be loaded
-/// from the slot. `Halt` comes only where no access is left.
+/// The full step of an entry, as `full_step` does it. The object's reply to it is also written into the caller's buffer, so that it need not be
+/// loaded from the slot. `Halt` comes only where no access is left.
 pub fn full_step_into<O: Object, M: Memory>(
     object: &O,
     mem: &mut M,
     entry: &Entry,
-    reply: &mut [u64; 144],
+    reply: &mut OpWords,
 ) -> Result<(), Halt>
     requires region { HasRegion M.Memory (O.line_count object.now) mem.old }
     requires place { Always (M.stands mem.old) (λ region. place_of region < 2 ^ 40) }
@@ -52,8 +52,8 @@ pub fn full_step_into<O: Object, M: Memory>(
 fn run_part<O: Object, M: Memory>(
     object: &O,
     mem: &mut M,
-    op: &[u64; 144],
-    reply: &mut [u64; 144],
+    op: &OpWords,
+    reply: &mut OpWords,
 ) -> Result<(), Halt>
     requires region { HasRegion M.Memory (O.line_count object.now) mem.old }
     requires lawful { Always (M.stands mem.old) (λ region. O.lawful object.now (object_part region)) }
@@ -68,7 +68,7 @@ fn run_part<O: Object, M: Memory>(
     object.run_into(&mut part, op, reply)
 }
 
-/// Makes the opening image in the object part of a region.
+/// Makes the opening image in the object part of a region. `Halt` comes only where no access is left.
 pub fn format_part<O: Object, M: Memory>(object: &O, mem: &mut M) -> Result<(), Halt>
     requires region { HasRegion M.Memory (O.line_count object.now) mem.old }
     ensures { Changes M.Memory mem.old mem.new result (λ _. OnPart OBJECT_START (λ _ now. now ≡ O.opening object.now)) }

@@ -5,7 +5,7 @@ use Rattle.std.proofs.lemmas.List.Sums.{sum_by-append}
 use Rattle.cx_core.specs.declared.entry.Base.{Base}
 use Rattle.cx_core.specs.declared.entry.Image.{Image}
 use Rattle.cx_rule.specs.Ending.{Ending}
-use Rattle.life_laws.specs.Begins.{Begun, IsBaseOf, begun_after, nothing_begun}
+use Rattle.life_records.specs.Begins.{Begun, IsBaseOf, begun_after, nothing_begun}
 use Rattle.life_records.specs.Lives.{AreLivesFrom, IsLegalLife}
 use Rattle.life_records.specs.Scripts.{command_count}
 use Rattle.life_records.specs.Records.{Life, LifeRecord, Meaning}

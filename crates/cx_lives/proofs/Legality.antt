@@ -18,17 +18,17 @@ use Rattle.cx_table.specs.Remains.{Leaves}
 use Rattle.cx_table.specs.declared.remains.Remains.{Remains}
 use Rattle.life_records.specs.Ended.{IsEnded}
 use Rattle.life_records.specs.Told.{IsTold}
-use Rattle.life_laws.specs.Begins.{Begun, IsBaseOf, begun_after}
-use Rattle.life_laws.specs.Meanings.{object_instance}
-use Rattle.life_laws.specs.Recorded.{GoesOn, HasReplies, IsKeptIn, IsRecorded}
-use Rattle.life_records.specs.Lives.{IsKept, IsKeptStop, IsLegal}
+use Rattle.life_records.specs.Begins.{Begun, IsBaseOf, begun_after}
+use Rattle.life_records.specs.Meanings.{object_instance}
+use Rattle.life_records.specs.Recorded.{GoesOn, HasReplies, IsKeptIn, IsRecorded}
+use Rattle.life_records.specs.Lives.{IsPrefixKept, IsKeptStop, IsLegal}
 use Rattle.life_records.specs.Records.{JournalLine, Life, LifeRecord, Meaning}
-use Rattle.recovery.specs.Crashes.{IsLeftOf, IsWhole}
+use Rattle.recovery.specs.Crashes.{IsLeftOf, AreRemainsWhole}
 use Rattle.recovery.specs.Images.{IsReadable}
 use Rattle.recovery.specs.Kept.{IsKeptBy, IsOpened, crash_of}
 use Rattle.cx_lives.specs.Life.{HasRun}
 use Rattle.cx_lives.specs.Lives.{HasLived, HasLost, IsServiceOf, IsToldBy, LeavesImage, table_of}
-use Rattle.table_order.specs.Closings.{IsClosedLinearizable}
+use Rattle.cx_service.specs.ClosedOrder.{IsClosedLinearizable}
 use Rattle.typed_object.specs.Meaning.{HasMeaning}
 use Rattle.cx_lives.proofs.Entries.{few_entries}
 
@@ -90,7 +90,7 @@ module _ {Op Reply Store : Type 0} (m : Meaning Op Reply Store) (lines : ℕ) (i
     in_turn = has.in_turn;
   }
 
-  kept_of : (flagged.journal ≡ told.journal) → (kept : ℕ) → flagged.kept ≡ kept → All (λ line. (line.kept ≡ true) ↔ IsKeptStop told.from kept told.journal line) flagged.stops → IsKept m place store life flagged
+  kept_of : (flagged.journal ≡ told.journal) → (kept : ℕ) → flagged.kept ≡ kept → All (λ line. (line.kept ≡ true) ↔ IsKeptStop told.from kept told.journal line) flagged.stops → IsPrefixKept m place store life flagged
   kept_of journal kept kept_is flags = record {
     prefix = goes.prefix;
     answered = goes.answered;
@@ -200,7 +200,7 @@ module _ {O Op Reply Store : Type 0} (lines_in : O → ℕ) (images : O → List
       subst (λ (x : Running (Unit {0})). Leaves x (object_instance (steps o) (readings o) life.clients remains.trail.base) ran.seats remains) same
       (subst (λ (x : Instance). Leaves of_table x ran.seats remains) steps_same closed)
 
-  leaves_image : (opening : List ℕ) → HasMeaning (images o) opening (steps o) (readings o) m → IsWhole remains → IsReadable (lines_in o) image → LeavesImage m (lines_in o) (images o) life remains.trail image
+  leaves_image : (opening : List ℕ) → HasMeaning (images o) opening (steps o) (readings o) m → AreRemainsWhole remains → IsReadable (lines_in o) image → LeavesImage m (lines_in o) (images o) life remains.trail image
   leaves_image opening means whole readable = record {
     readable = readable;
     opening = opening;
@@ -215,7 +215,7 @@ module _ {O Op Reply Store : Type 0} (lines_in : O → ℕ) (images : O → List
     left = lost.left;
   }
 
-  pub lived : (opening : List ℕ) → HasMeaning (images o) opening (steps o) (readings o) m → IsWhole remains → IsReadable (lines_in o) image → IsEnded life flagged → HasReplies m base.place begun.store life flagged → GoesOn m (lines_in o) (images o) base.place begun.store life flagged next
+  pub lived : (opening : List ℕ) → HasMeaning (images o) opening (steps o) (readings o) m → AreRemainsWhole remains → IsReadable (lines_in o) image → IsEnded life flagged → HasReplies m base.place begun.store life flagged → GoesOn m (lines_in o) (images o) base.place begun.store life flagged next
       → IsBaseOf m next (begun_after m begun life flagged.journal flagged.kept) → HasLived m (lines_in o) version (images o) life begun base (record { told = flagged; trail = remains.trail; image = image; next = next })
   lived opening means whole readable ended has goes begins =
       let has' : HasReplies m begun.place begun.store life flagged = subst (λ (p : ℕ). HasReplies m p begun.store life flagged) based.at_place has in

@@ -15,10 +15,10 @@ use Rattle.cx_core.specs.Lawful.{Lawful}
 use Rattle.cx_core.specs.Region.{object_part}
 use Rattle.cx_core.specs.Shown.{shown}
 use Rattle.cx_core.specs.State.{EachLocal, Instance}
-use Rattle.life_laws.proofs.TypedSteps.{TypedSteps}
-use Rattle.life_records.specs.Records.{AreOfNoReply, IsOpOf, Life}
+use Rattle.life_records.proofs.TypedSteps.{TypedSteps}
+use Rattle.life_records.specs.Records.{AreOfNoReply, OpHasWords, Life}
 use Rattle.life_records.specs.Scripts.{own_ops}
-use Rattle.cx_lives.specs.Ends.{CannotBe, IsBadAnswer, IsBadRead, IsWorn}
+use Rattle.cx_lives.specs.Ends.{CannotBe, IsBadAnswer, IsBadRead, IsCallerWorn}
 use Rattle.cx_lives.specs.Gathering.{HasNever, IsLocalIn}
 use Rattle.cx_lives.proofs.Totals.{entries_fewer}
 
@@ -33,7 +33,7 @@ item_of {X} xs x c =
 
 module _ {Op Reply Store : Type 0} (t : TypedSteps Op Reply Store) where
   -- a reply to an operation from a lawful image is one
-  reply_is : (image op : List ℕ) (o : Op) → t.lawful image → IsOpOf t.meaning op o → AreOfNoReply t.meaning (t.step image op).1 → ⊥
+  reply_is : (image op : List ℕ) (o : Op) → t.lawful image → OpHasWords t.meaning op o → AreOfNoReply t.meaning (t.step image op).1 → ⊥
   reply_is image op o i is bad =
       let st = t.means.some image i in
       bad (t.meaning.reply_to st.0 o) (t.means.replies image st.0 o i st.1 is.limits is.value)
@@ -80,13 +80,13 @@ module _ {Op Reply Store : Type 0} (t : TypedSteps Op Reply Store) (life : Life 
       subst (λ st. t.lawful (image_after st opening (take n law.history))) (sym step_is)
       (image_lawful t opening (take n law.history) base.object (λ i e at. entry_words i e (taken_at n law.history i e at)))
 
-  reply_at_is : (n : ℕ) (op : List ℕ) (o : Op) → IsOpOf t.meaning op o → AreOfNoReply t.meaning (instance.step (image_after instance.step opening (take n law.history)) op).1 → ⊥
+  reply_at_is : (n : ℕ) (op : List ℕ) (o : Op) → OpHasWords t.meaning op o → AreOfNoReply t.meaning (instance.step (image_after instance.step opening (take n law.history)) op).1 → ⊥
   reply_at_is n op o is bad =
       let image = image_after instance.step opening (take n law.history) in
       reply_is t image op o (image_at n) is (subst (λ st. AreOfNoReply t.meaning (st image op).1) step_is bad)
 
   module _ (client : ℕ) (w : Local) (at : slice_get whole client ≡ Some w) where
-    not_worn : IsWorn life client w → EachLocal whole (λ i l. length l.own ≤ length (own_ops i life.commands)) → instance.base.place + length life.commands ≤ 2 ^ 40 → ⊥
+    not_worn : IsCallerWorn life client w → EachLocal whole (λ i l. length l.own ≤ length (own_ops i life.commands)) → instance.base.place + length life.commands ≤ 2 ^ 40 → ⊥
     not_worn worn few tickets =
         let behind = (law.fronts.each client w at).to in
         let entries = own_count instance.base.place law.history whole law.tickets.merged in

@@ -16,10 +16,10 @@ use Rattle.cx_core.specs.declared.local.SeenRead.{SeenRead}
 use Rattle.cx_rule.specs.Seats.{IsAtLimit}
 use Rattle.cx_turns.specs.declared.lookup.Seen.{Seen}
 use Rattle.cx_turns.specs.Answering.{with_answer}
-use Rattle.life_records.specs.Works.{HasWords, IsDoneEntry, IsEnd, IsEntryBefore, IsFullOf, IsLineOf, IsLineReply, IsReadLine, IsReplyAt, IsSeenBefore, IsStopOf, IsStoppedRead, IsUnderWay, IsWork, StandsBetween, lines_of, stops_in}
+use Rattle.life_records.specs.Works.{HasCommandWords, IsDoneEntry, IsEnd, IsEntryBefore, IsFullOf, IsLineOf, IsLineReply, IsReadLine, IsReplyAt, IsSeenBefore, IsStopOf, IsStoppedRead, IsUnderWay, IsWork, StandsBetween, client_lines, stops_in}
 use Rattle.life_records.specs.Scripts.{limit_in, named_op, own_ops}
 use Rattle.life_records.specs.Records.{FullLine, JournalLine, Life, Meaning, ReadLine, StopLine}
-use Rattle.cx_lives.specs.Calls.{LinksEntry, one_read}
+use Rattle.cx_lives.specs.Calls.{LinksEntryAt, one_read}
 use Rattle.cx_lives.specs.Serving.{HasServed, IsAnsweredEntry, IsAnsweredLine}
 use Rattle.cx_lives.proofs.Lines.{all_at, count_no, count_none, count_yes, zip_also, zip_with}
 
@@ -48,7 +48,7 @@ module _ {Op Reply Store : Type 0} where
 
 module _ {Op Reply Store : Type 0} (m : Meaning Op Reply Store) (life : Life Op) (client n : ℕ) (l : Local) (es : List (JournalLine Reply)) (rs : List (ReadLine Reply)) (s : HasServed m life client n l es rs) where
   -- no line is of a later command
-  none_later : (k : ℕ) → n < k → lines_of k es rs ≡ 0
+  none_later : (k : ℕ) → n < k → client_lines k es rs ≡ 0
   none_later k later =
       let a = count_none (λ (e : JournalLine Reply). e.command == k) es (All-weaker (IsAnsweredEntry n) (λ (e : JournalLine Reply). (e.command == k) ≡ false) (λ e h. ne_eqb e.command k (λ same. omega (arith, h.1))) es s.entries_done) in
       let b = count_none (λ (e : ReadLine Reply). e.command == k) rs (All-weaker (λ (e : ReadLine Reply). (1 ≤ e.command) × (e.command ≤ n)) (λ (e : ReadLine Reply). (e.command == k) ≡ false) (λ e h. ne_eqb e.command k (λ same. omega (arith, h.1))) rs s.reads_done) in
@@ -65,14 +65,14 @@ module _ {Op Reply Store : Type 0} (m : Meaning Op Reply Store) (life : Life Op)
   module _ (number : ℕ) (next : number ≡ n + 1) where
     -- one entry's line more
     module _ (line : JournalLine Reply) (is : line.command ≡ number) where
-      once_entry : (k : ℕ) → 1 ≤ k → k ≤ number → lines_of k (es ++ line ∷ []) rs ≡ 1
+      once_entry : (k : ℕ) → 1 ≤ k → k ≤ number → client_lines k (es ++ line ∷ []) rs ≡ 1
       once_entry k one up =
           elim (cases_eq line.command k) [
             | inl same ↦ omega (arith, count_yes (λ (e : JournalLine Reply). e.command == k) es line (eq-eqb line.command k same), none_later k (omega arith))
             | inr ne ↦ omega (arith, count_no (λ (e : JournalLine Reply). e.command == k) es line (ne_eqb line.command k ne), s.once k one (omega arith))
           ]
 
-      once_still : (k : ℕ) → 1 ≤ k → k ≤ n → lines_of k (es ++ line ∷ []) rs ≡ 1
+      once_still : (k : ℕ) → 1 ≤ k → k ≤ n → client_lines k (es ++ line ∷ []) rs ≡ 1
       once_still k one up = omega (arith, count_no (λ (e : JournalLine Reply). e.command == k) es line (ne_eqb line.command k (λ same. omega arith)), s.once k one up)
 
       between_entry : (x : SeenRead) (r : ReadLine Reply) → StandsBetween es x r → x.before ≤ length es → (1 ≤ r.command) × (r.command ≤ n) → StandsBetween (es ++ line ∷ []) x r
@@ -101,11 +101,11 @@ module _ {Op Reply Store : Type 0} (m : Meaning Op Reply Store) (life : Life Op)
     entries_later = All-weaker (IsAnsweredEntry n) (IsAnsweredEntry number) (λ e h. (h.0, omega (arith, h.1), h.2)) es s.entries_done
 
     module _ (op : Op) (ws : List ℕ) (are : ws ≡ m.encoding.op_words op) (named : named_op life client number ≡ Some op) where
-      has_words : (words : List ℕ) → words ≡ ws → HasWords m.encoding life client number words
+      has_words : (words : List ℕ) → words ≡ ws → HasCommandWords m.encoding life client number words
       has_words words same = record { op = op; named = named; words_are = sym (same ∙ are) }
 
       -- an entry that was answered
-      pub serves_entry : (l' : Local) (es' : List (JournalLine Reply)) (rs' : List (ReadLine Reply)) (answer : Answer) (reply : Reply) → LinksEntry ws answer.ticket l l' → l'.answered ≡ with_answer answer.ticket answer.reply l.answered
+      pub serves_entry : (l' : Local) (es' : List (JournalLine Reply)) (rs' : List (ReadLine Reply)) (answer : Answer) (reply : Reply) → LinksEntryAt ws answer.ticket l l' → l'.answered ≡ with_answer answer.ticket answer.reply l.answered
           → m.encoding.reply_words reply ≡ answer.reply → es' ≡ es ++ record { ticket = answer.ticket; client = client; command = number; reply = Some reply } ∷ [] → rs' ≡ rs → HasServed m life client number l' es' rs'
       serves_entry l' es' rs' answer reply links answered words entries reads =
           let line : JournalLine Reply = record { ticket = answer.ticket; client = client; command = number; reply = Some reply } in
@@ -144,7 +144,7 @@ module _ {Op Reply Store : Type 0} (m : Meaning Op Reply Store) (life : Life Op)
         abbrev pub seen_read : SeenRead
         seen_read = record { place = seen.place; op = ws; reply = seen.reply; before = length l.answered }
 
-        once_read : (k : ℕ) → 1 ≤ k → k ≤ number → lines_of k es (rs ++ read_line ∷ []) ≡ 1
+        once_read : (k : ℕ) → 1 ≤ k → k ≤ number → client_lines k es (rs ++ read_line ∷ []) ≡ 1
         once_read k one up =
             elim (cases_eq number k) [
               | inl same ↦ omega (arith, count_yes (λ (e : ReadLine Reply). e.command == k) rs read_line (eq-eqb number k same), none_later k (omega arith))
@@ -248,7 +248,7 @@ module _ {Op Reply Store : Type 0} (m : Meaning Op Reply Store) (life : Life Op)
             }
 
         -- behind its link
-        pub stops_linked : (ticket : ℕ) (more : List Answer) (es' : List (JournalLine Reply)) (rs' : List (ReadLine Reply)) → LinksEntry ws ticket l l' → l'.answered ≡ l.answered ++ more → (more ≡ []) ⊎ (l'.won ≢ None)
+        pub stops_linked : (ticket : ℕ) (more : List Answer) (es' : List (JournalLine Reply)) (rs' : List (ReadLine Reply)) → LinksEntryAt ws ticket l l' → l'.answered ≡ l.answered ++ more → (more ≡ []) ⊎ (l'.won ≢ None)
             → es' ≡ es ++ record { ticket = ticket; client = client; command = number; reply = None } ∷ [] → rs' ≡ rs → IsWork m.encoding life client l' es' rs' (Some stop) None
         stops_linked ticket more es' rs' links answered won entries lines =
             let line : JournalLine Reply = record { ticket = ticket; client = client; command = number; reply = None } in

@@ -12,7 +12,7 @@ use Rattle.cx_rule.specs.Seats.{Seated}
 use Rattle.cx_service.specs.Callers.{StoppedSeat}
 use Rattle.cx_turns.specs.declared.lookup.Seen.{Seen}
 use Rattle.life_records.specs.Scripts.{named_op, own_ops}
-use Rattle.life_records.specs.Records.{FullLine, IsOpOf, JournalLine, Life, Meaning, ReadLine}
+use Rattle.life_records.specs.Records.{FullLine, OpHasWords, JournalLine, Life, Meaning, ReadLine}
 use Rattle.life_records.specs.Works.{IsFullOf, IsWork}
 use Rattle.cx_lives.specs.declared.progress.Progress.{Progress}
 use Rattle.cx_lives.specs.declared.progress.End.TheVariants.{Whole, Full, Never}
@@ -20,7 +20,7 @@ use Rattle.cx_lives.specs.declared.progress.Lines.{Lines}
 use Rattle.cx_lives.specs.declared.progress.Turn.{Turn}
 use Rattle.cx_lives.specs.declared.progress.Turn.TheVariants.{Next, Over, Full as FullTurn}
 use Rattle.cx_lives.specs.declared.progress.Work.{Work}
-use Rattle.cx_lives.specs.Calls.{AsksDone, AsksFull, AsksRead, AsksWorn, Halts, LinksEntry}
+use Rattle.cx_lives.specs.Calls.{AsksDone, AsksFull, AsksRead, AsksWorn, HaltsCall, LinksEntryAt}
 use Rattle.cx_lives.specs.Ends.{CannotBe, IsCallerIn, IsKeptOut, IsNewIn, IsWorkOf, Turned, full_in}
 use Rattle.cx_lives.specs.Serving.{HasServed, IsServed}
 use Rattle.cx_lives.specs.Turns.{EntryTurn, ReadTurn, StopsIn, ended, stop_line, with_linked}
@@ -48,14 +48,14 @@ module _ {O Op Reply Store : Type 0} (m : Meaning Op Reply Store) (life : Life O
   few_before : length l.own ≤ n
   few_before = few_own m life client n l es rs s
 
-  is_op : (words : List ℕ) → words ≡ ws → IsOpOf m words op
+  is_op : (words : List ℕ) → words ≡ ws → OpHasWords m words op
   is_op words same = record { limits = limits; value = value; has = sym (same ∙ are) }
 
   -- what is known of the caller with as many entries as before, and with one more
   still_in : (after : Seated) → IsSeatOf r after → after.known.local.number ≡ l.number → after.known.local.limit ≡ l.limit → after.known.local.own ≡ l.own → IsCallerIn life r client after
   still_in after of number_is limit own = record { of = of; by = number_is ∙ s.by; limit = limit ∙ s.limit; few = omega (arith, ap length own, few_before, within) }
 
-  linked_in : (after : Seated) (ticket : ℕ) → IsSeatOf r after → LinksEntry ws ticket l after.known.local → IsCallerIn life r client after
+  linked_in : (after : Seated) (ticket : ℕ) → IsSeatOf r after → LinksEntryAt ws ticket l after.known.local → IsCallerIn life r client after
   linked_in after ticket of links = record {
     of = of;
     by = links.number ∙ s.by;
@@ -110,7 +110,7 @@ module _ {O Op Reply Store : Type 0} (m : Meaning Op Reply Store) (life : Life O
       }
 
   -- the client is stopped
-  pub stop_turned : length l.own ≡ length l.answered → (stopped : StoppedSeat) (work : Work Reply) → Halts r ws before stopped.seat stopped.linked → StopsIn client number stopped lines work → Turned m life r client number (Over work)
+  pub stop_turned : length l.own ≡ length l.answered → (stopped : StoppedSeat) (work : Work Reply) → HaltsCall r ws before stopped.seat stopped.linked → StopsIn client number stopped lines work → Turned m life r client number (Over work)
   stop_turned even stopped work a w = (
     record {
       caller = rw w.handed (caller stopped.linked a);
@@ -119,11 +119,11 @@ module _ {O Op Reply Store : Type 0} (m : Meaning Op Reply Store) (life : Life O
     ap full_in w.end_is,
   )
     where
-      caller : (linked : Option ℕ) → Halts r ws before stopped.seat linked → IsCallerIn life r client stopped.seat
+      caller : (linked : Option ℕ) → HaltsCall r ws before stopped.seat linked → IsCallerIn life r client stopped.seat
       caller None a = still_in stopped.seat a.caller.of a.number a.limit a.own
       caller (Some ticket) a = linked_in stopped.seat ticket a.caller.of a.links
 
-      ends : (linked : Option ℕ) → Halts r ws before stopped.seat linked → work.lines.entries.items ≡ with_linked client number linked es
+      ends : (linked : Option ℕ) → HaltsCall r ws before stopped.seat linked → work.lines.entries.items ≡ with_linked client number linked es
           → IsWork m.encoding life client stopped.seat.known.local work.lines.entries.items work.lines.reads.items (Some (stop_line client number stopped)) None
       ends None a linked =
           stops_beside m life client n l es rs s number next op ws are named within even stopped.seat.known.local a.limit a.caller.limit work.lines.entries.items work.lines.reads.items a.number a.own a.answered a.reads linked w.reads_are

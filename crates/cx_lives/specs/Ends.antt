@@ -12,7 +12,7 @@ use Rattle.cx_service.specs.Closes.{seat_of}
 use Rattle.cx_service.specs.Submits.{NamesHolder}
 use Rattle.life_records.specs.Works.{IsWork}
 use Rattle.life_records.specs.Scripts.{limit_in, own_ops}
-use Rattle.life_records.specs.Records.{AreOfNoReply, FullLine, IsOpOf, JournalLine, Life, Meaning, ReadLine, StopLine}
+use Rattle.life_records.specs.Records.{AreOfNoReply, FullLine, OpHasWords, JournalLine, Life, Meaning, ReadLine, StopLine}
 use Rattle.cx_lives.specs.declared.progress.End.{End}
 use Rattle.cx_lives.specs.declared.progress.End.TheVariants.{Whole, Stopped, Full, Never}
 use Rattle.cx_lives.specs.declared.progress.Progress.{Progress}
@@ -22,7 +22,7 @@ use Rattle.cx_lives.specs.declared.progress.Work.{Work}
 use Rattle.cx_lives.specs.Serving.{IsServed}
 
 -- every ticket is linked, while the caller has fewer entries than its client has commands
-pub record IsWorn {Op : Type 0} (life : Life Op) (client : ℕ) (l : Local) : Type 0 where
+pub record IsCallerWorn {Op : Type 0} (life : Life Op) (client : ℕ) (l : Local) : Type 0 where
   pub front : l.front ≡ 2 ^ 40
   pub fewer : length l.own < length (own_ops client life.commands)
 
@@ -34,7 +34,7 @@ pub record IsBadAnswer {Op Reply Store : Type 0} (m : Meaning Op Reply Store) (l
   pub linked : Contains l.own entry
   pub at : entry.ticket ≡ answer.ticket
   pub op : Op
-  pub is : IsOpOf m entry.entry.op op
+  pub is : OpHasWords m entry.entry.op op
   pub bad : AreOfNoReply m answer.reply
 
 -- a read of an operation was answered with words of no reply
@@ -42,14 +42,14 @@ pub record IsBadRead {Op Reply Store : Type 0} (m : Meaning Op Reply Store) (l :
   pub read : SeenRead
   pub there : Contains l.seen_reads read
   pub op : Op
-  pub is : IsOpOf m read.op op
+  pub is : OpHasWords m read.op op
   pub bad : AreOfNoReply m read.reply
 
 -- what no closed service leaves of a caller
 abbrev pub CannotBe : {Op Reply Store : Type 0} → (m : Meaning Op Reply Store) → Life Op → ℕ → Local → Type 0
-CannotBe m life client l = IsWorn life client l ⊎ (IsBadAnswer m l ⊎ IsBadRead m l)
+CannotBe m life client l = IsCallerWorn life client l ⊎ (IsBadAnswer m l ⊎ IsBadRead m l)
 
--- how a worker ended: its client was answered all its commands, or was stopped, or gave up; or its caller has what none can have
+-- how a worker ended: its client was answered all its commands, or was stopped, or ended Full; or its caller has what none can have
 abbrev pub IsEndOf : {Op Reply Store : Type 0} → (m : Meaning Op Reply Store) → Life Op → ℕ → Local → List (JournalLine Reply) → List (ReadLine Reply) → End → Type 0
 IsEndOf m life client l entries reads Whole = IsWork m.encoding life client l entries reads None None
 IsEndOf m life client l entries reads (Stopped line) = IsWork m.encoding life client l entries reads (Some line) None
@@ -77,12 +77,12 @@ abbrev pub full_in : End → List FullLine
 full_in (Full line) = line ∷ []
 full_in _ = []
 
--- a client that was answered its first so many commands, and another caller keeps its cells
+-- a client that was answered its first commands, this many of them, and whose cells another caller keeps
 pub record IsKeptOut {O Op Reply Store : Type 0} (m : Meaning Op Reply Store) (life : Life Op) (r : Running O) (client number : ℕ) (progress : Progress Reply) (note : FullNote) : Type 0 where
   pub served : IsServed m life r client number progress
   pub names : NamesHolder r.callers progress.caller.known.local note
 
--- what a command of this number comes to; no client gives up in it
+-- the result of a command of this number; no client ends Full in it
 abbrev pub Turned : {O Op Reply Store : Type 0} → (m : Meaning Op Reply Store) → Life Op → Running O → ℕ → ℕ → Turn Reply → Type 0
 Turned m life r client number (Next progress) = IsServed m life r client number progress
 Turned m life r client number (Over work) = IsWorkOf m life r client work × (full_in work.end ≡ [])

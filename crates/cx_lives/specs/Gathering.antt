@@ -1,4 +1,4 @@
--- The works of the first so many clients put together.
+-- The works of the first clients, up to some number, put together.
 use Rattle.std.specs.Prelude.{◌≡◌, ◌≤◌, ℕ, Bool, true, false, ◌||◌, List, ◌∷◌, [], ◌++◌, length, map, All, Some, slice_get, MatchBool}
 use Rattle.std.specs.List.{range_with_len}
 use Rattle.cx_core.specs.declared.local.Local.{Local}

@@ -1,4 +1,4 @@
--- What a life that is run comes to.
+-- The result of a life that is run.
 use Rattle.std.specs.Prelude.{◌≡◌, ◌+◌, ◌^◌, ◌≤◌, ℕ, Bool, List, length, All}
 use Rattle.cx_rule.specs.Running.{Running, instance_at}
 use Rattle.cx_rule.specs.Seats.{Seated}
@@ -8,11 +8,11 @@ use Rattle.life_records.specs.Told.{IsTold}
 use Rattle.life_records.specs.Works.{AreWorks}
 use Rattle.life_records.specs.Limits.{IsLifeInLimits}
 use Rattle.life_records.specs.Records.{Life, LifeRecord, Meaning}
-use Rattle.table_order.specs.Closings.{IsClosedLinearizable}
+use Rattle.cx_service.specs.ClosedOrder.{IsClosedLinearizable}
 use Rattle.cx_lives.specs.Ends.{IsNewIn}
 
 -- A life that may be run on a service by these callers: item i is caller i, with client i's limit and no call made, and there are
--- all; the life is within its limits, and so many tickets are left as it has commands.
+-- all; the life is within its limits, and as many tickets are left as it has commands.
 pub record CanRun {O Op Reply Store : Type 0} (m : Meaning Op Reply Store) (life : Life Op) (r : Running O) (callers : List Seated) : Type 0 where
   pub seats : AreSeats r callers
   pub new : All (IsNewIn life r) callers
@@ -20,7 +20,7 @@ pub record CanRun {O Op Reply Store : Type 0} (m : Meaning Op Reply Store) (life
   pub limits : IsLifeInLimits m.is_op 8 life
   pub tickets : r.base.place + length life.commands ≤ 2 ^ 40
 
--- What is recorded of a life that ran, before the loss of power: the table that was closed with these seats tells it, and its lines
+-- What is recorded of a life that ran, before the crash: the table that was closed with these seats tells it, and its lines
 -- are those of the callers' lists.
 pub record HasRun {O Op Reply Store : Type 0} (m : Meaning Op Reply Store) (step : O → List ℕ → List ℕ → List ℕ × List ℕ) (reads : O → List ℕ → Bool) (life : Life Op) (r : Running O) (told : LifeRecord Reply) (remains : Remains) : Type 0 where
   -- the callers as they ended, with whom the service was closed
@@ -33,4 +33,4 @@ pub record HasRun {O Op Reply Store : Type 0} (m : Meaning Op Reply Store) (step
   pub works : AreWorks m.encoding life remains.trail.locals told.journal told.reads told.stops told.fulls
   pub choice : told.choice ≡ life.choice
   pub kept : told.kept ≡ 0
-  pub items : told.documents ≡ 0
+  pub items : told.items ≡ 0

@@ -1,4 +1,4 @@
--- What one life comes to.
+-- The result of one life.
 use Rattle.std.specs.Prelude.{◌≡◌, ◌+◌, ◌-◌, ◌%◌, ◌^◌, ◌<◌, ◌≤◌, ℕ, Bool, List, [], ◌∷◌, ◌++◌, length, slice_index, All, Option, None, Some}
 use Rattle.cx_base.specs.Codes.{root_place_of}
 use Rattle.cx_base.specs.OldFormat.{no_old_format}
@@ -13,18 +13,18 @@ use Rattle.cx_table.specs.Remains.{Leaves}
 use Rattle.cx_table.specs.declared.remains.Remains.{Remains}
 use Rattle.life_records.specs.Ended.{IsFlagged, IsSameButKept}
 use Rattle.life_records.specs.Told.{IsTold}
-use Rattle.life_laws.specs.Begins.{Begun, IsBaseOf, begun_after, nothing_begun}
-use Rattle.life_laws.specs.Meanings.{object_instance}
-use Rattle.life_laws.specs.Replies.{HasOpValues, HasReplyValues}
+use Rattle.life_records.specs.Begins.{Begun, IsBaseOf, begun_after, nothing_begun}
+use Rattle.life_records.specs.Meanings.{object_instance}
+use Rattle.life_records.specs.Replies.{HasOpValues, HasReplyValues}
 use Rattle.life_records.specs.Limits.{IsLifeInLimits}
 use Rattle.life_records.specs.Lives.{AreLivesFrom, IsLegalLife}
 use Rattle.life_records.specs.Scripts.{command_count}
 use Rattle.life_records.specs.Records.{Encoding, Life, LifeRecord, Meaning}
-use Rattle.recovery.specs.Crashes.{IsLeftOf, IsWhole}
+use Rattle.recovery.specs.Crashes.{IsLeftOf, AreRemainsWhole}
 use Rattle.recovery.specs.Images.{IsReadable}
 use Rattle.recovery.specs.Recovery.{IsRecovered}
 use Rattle.typed_object.specs.Meaning.{HasMeaning}
-use Rattle.table_order.specs.Closings.{IsClosedLinearizable}
+use Rattle.cx_service.specs.ClosedOrder.{IsClosedLinearizable}
 use Rattle.cx_lives.specs.declared.lives.Lived.{Lived}
 use Rattle.cx_lives.specs.declared.lives.Ran.{Ran}
 
@@ -38,7 +38,7 @@ pub record IsLinearized (clients : ℕ) (trail : Ending) : Type 0 where
   pub trail_is : remains.trail ≡ trail
   pub order : IsClosedLinearizable (object_instance step reads clients trail.base) seats remains
 
--- A record of a life is told by the trail of its service, whose history is a linearization of the clients' commands. The life's choice takes
+-- A record of a life is witnessed by the execution log of its service, whose history is a linearization of the clients' commands. The life's choice takes
 -- the code whose place ends what was kept, from the codes with which the service ended, in rising order.
 pub record IsToldBy {Op Reply : Type 0} (encoding : Encoding Op Reply) (life : Life Op) (trail : Ending) (told : LifeRecord Reply) : Type 0 where
   pub is_told : IsTold encoding life trail.base.place trail.history trail.locals told
@@ -50,7 +50,7 @@ pub record BeginsLife {Op Reply Store : Type 0} (m : Meaning Op Reply Store) (li
   pub lawful : LawfulBase lines is_lawful base
   pub is : IsBaseOf m base begun
 
--- a life that may be run by a service that opens from a base, of an object of so many lines, with so many tickets left as it has commands
+-- a life that may be run by a service that opens from a base, of an object of this many lines, with as many tickets left as it has commands
 pub record CanBegin {Op Reply Store : Type 0} (m : Meaning Op Reply Store) (lines : ℕ) (is_lawful : List ℕ → Type 0) (life : Life Op) (base : Base) : Type 0 where
   pub enough : 64 ≤ lines
   pub few : lines ≤ 16384
@@ -72,9 +72,9 @@ pub record HasFlags {Reply : Type 0} (told : LifeRecord Reply) (kept items : ℕ
   pub stops : All (IsFlagged told.from kept told.journal) flagged.stops
   pub choice : flagged.choice ≡ told.choice
   pub kept_is : flagged.kept ≡ kept
-  pub items_are : flagged.documents ≡ items
+  pub items_are : flagged.items ≡ items
 
--- What is left of a life by its choice where it loses its power, what is recovered, and the record with what was kept.
+-- What is left of a life by its choice where it crashes, what is recovered, and the record with what was kept.
 pub record HasLost {Op Reply Store : Type 0} (m : Meaning Op Reply Store) (lines version : ℕ) (is_lawful : List ℕ → Type 0) (life : Life Op) (told : LifeRecord Reply)
     (remains : Remains) (image : Image) (next : Base) (flagged : LifeRecord Reply) : Type 0 where
   pub enough : 64 ≤ lines
@@ -92,7 +92,7 @@ pub record HasLost {Op Reply Store : Type 0} (m : Meaning Op Reply Store) (lines
 abbrev pub table_of : ℕ → ℕ → Ending → Running (Unit {0})
 table_of callers lines trail = record { table = trail.table; callers = callers; lines = lines; base = trail.base; object = tt }
 
--- An image that may be read for an object of so many lines. By the life's choice the loss of power left it of the table of this trail, which was
+-- An image that may be read for an object of this many lines. By the life's choice the crash left it of the table of this trail, which was
 -- closed: its callers were the life's clients, and its steps what the operations mean.
 pub record LeavesImage {Op Reply Store : Type 0} (m : Meaning Op Reply Store) (lines : ℕ) (is_lawful : List ℕ → Type 0) (life : Life Op) (trail : Ending) (image : Image) : Type 0 where
   pub readable : IsReadable lines image
@@ -103,11 +103,11 @@ pub record LeavesImage {Op Reply Store : Type 0} (m : Meaning Op Reply Store) (l
   pub seats : List Seated
   pub remains : Remains
   pub closed : Leaves (table_of life.clients lines trail) (object_instance step reads life.clients trail.base) seats remains
-  pub whole : IsWhole remains
+  pub whole : AreRemainsWhole remains
   pub trail_is : remains.trail ≡ trail
   pub left : IsLeftOf remains life.choice image
 
--- What one life comes to that begins so: a record of a legal life, told by the trail of its service, which began with this base; and
+-- The result of one life that begins so: a record of a legal life, witnessed by the execution log of its service, which began with this base; and
 -- an image from which the next life's base is recovered.
 pub record HasLived {Op Reply Store : Type 0} (m : Meaning Op Reply Store) (lines version : ℕ) (is_lawful : List ℕ → Type 0) (life : Life Op) (begun : Begun Store) (base : Base)
     (ran : Ran Reply) : Type 0 where
@@ -145,14 +145,14 @@ abbrev pub IsNextBase : {Op Reply Store : Type 0} → Meaning Op Reply Store →
 IsNextBase m lines is_lawful None next = BeginsLife m lines is_lawful (nothing_begun m) next × (next.place ≡ 0)
 IsNextBase m lines is_lawful (Some base) next = next ≡ base
 
--- where lives were run, what the last loss of power left, and the base that was recovered from it and goes on; else nothing
+-- where lives were run, what the last crash left, and the base that was recovered from it and goes on; else nothing
 abbrev pub HaveEnded : {Op Reply Store : Type 0} → Meaning Op Reply Store → ℕ → ℕ → (List ℕ → Type 0) → Begun Store → List (Life Op) → Option Image → Option Base → Type 0
 HaveEnded m lines version is_lawful begun lives None None = lives ≡ []
 HaveEnded m lines version is_lawful begun lives (Some image) (Some base) =
     (0 < length lives) × IsRecovered version is_lawful no_old_format image base × BeginsLife m lines is_lawful begun base × (base.place ≤ command_count lives)
 HaveEnded m lines version is_lawful begun lives _ _ = ⊥
 
--- the loss of power that ended the last of these lives left the image, by the last of these trails
+-- the crash that ended the last of these lives left the image, by the last of these trails
 pub record LastLeaves {Op Reply Store : Type 0} (m : Meaning Op Reply Store) (lines : ℕ) (is_lawful : List ℕ → Type 0) (lives : List (Life Op)) (trails : List Ending) (image : Image) : Type 0 where
   pub before : List (Life Op)
   pub life : Life Op
@@ -167,7 +167,7 @@ abbrev pub HaveLeft : {Op Reply Store : Type 0} → Meaning Op Reply Store → �
 HaveLeft m lines is_lawful lives trails None = lives ≡ []
 HaveLeft m lines is_lawful lives trails (Some image) = LastLeaves m lines is_lawful lives trails image
 
--- What lives come to: their records are of legal lives, and told by the trails of the services that ran them.
+-- The result of lives: their records are of legal lives, and witnessed by the execution logs of the services that ran them.
 pub record HaveLived {Op Reply Store : Type 0} (m : Meaning Op Reply Store) (lines version : ℕ) (is_lawful : List ℕ → Type 0) (lives : List (Life Op)) (lived : Lived Reply) : Type 0 where
   pub legal : AreLivesFrom m 0 m.opening lives lived.records
   pub told : AreTold m lives lived.records lived.trails

@@ -34,7 +34,7 @@ pub record AddsRead {Op Reply Store : Type 0} (m : Meaning Op Reply Store) (clie
 abbrev pub ended : {Reply : Type 0} → Progress Reply → End → Work Reply
 ended progress end_ = record { handed = Idle progress.caller; lines = progress.lines; end = end_ }
 
--- what an answer comes to, by whether its words are a reply's
+-- the result of an answer, by whether its words are a reply's
 abbrev pub EntryTurn : {Op Reply Store : Type 0} → (m : Meaning Op Reply Store) → ℕ → ℕ → Answer → Progress Reply → Turn Reply → Type 0
 EntryTurn m client number answer progress (Next next) = AddsEntry m client number answer progress next
 EntryTurn m client number answer progress (Over work) = (work ≡ ended progress Never) × AreOfNoReply m answer.reply

@@ -1,4 +1,4 @@
--- What workers come to: their clients are at their ends, or are left.
+-- The results of workers: their clients are at their ends, or are left.
 use Rattle.std.specs.Prelude.{◌≡◌, ◌+◌, ◌<◌, ◌≤◌, ℕ, List, [], ◌∷◌, ◌++◌, length, take, IfOk, Result, Ok, slice_index_or}
 use Rattle.std.specs.declared.alloc.AllocError.{AllocError}
 use Rattle.cx_rule.specs.Running.{Running}
@@ -12,30 +12,30 @@ use Rattle.cx_lives.specs.declared.work.Left.{Left}
 use Rattle.cx_lives.specs.declared.work.Served.{Served}
 use Rattle.cx_lives.specs.declared.work.Served.TheVariants.{Done, Full}
 
--- a client that is left: it was answered its commands among the first so many of the script
-pub record IsLeftOf {O Op Reply Store : Type 0} (m : Meaning Op Reply Store) (life : Life Op) (r : Running O) (client : ℕ) (left : Left Reply) : Type 0 where
+-- a client that is left: it was answered its own among the script's first commands, up to the one at which it was left
+pub record IsClientLeft {O Op Reply Store : Type 0} (m : Meaning Op Reply Store) (life : Life Op) (r : Running O) (client : ℕ) (left : Left Reply) : Type 0 where
   pub served : IsServed m life r client left.number left.progress
   pub count : left.number ≡ length (own_ops client (take left.at life.commands))
   pub few : left.number ≤ left.at
 
--- one that would give up in its next command with this line
+-- one that would end Full in its next command, with this line
 pub record IsFullLeft {O Op Reply Store : Type 0} (m : Meaning Op Reply Store) (life : Life Op) (r : Running O) (client : ℕ) (left : Left Reply) (line : FullLine) : Type 0 where
-  pub left_is : IsLeftOf m life r client left
+  pub left_is : IsClientLeft m life r client left
   pub full : IsFullOf life client left.number left.progress.caller.known.local line
 
--- what a worker comes to, whose client gave up in no command yet
+-- the result of a worker whose client ended Full in no command yet
 abbrev pub ServedOf : {O Op Reply Store : Type 0} → (m : Meaning Op Reply Store) → Life Op → Running O → ℕ → Served Reply → Type 0
 ServedOf m life r client (Done work) = IsWorkOf m life r client work × (full_in work.end ≡ [])
 ServedOf m life r client (Full left line) = IsFullLeft m life r client left line
 
--- item i is what the worker of caller i comes to, or it found no memory
+-- item i is the result of the worker of caller i, or the worker ran out of memory
 module _ {O Op Reply Store : Type 0} where
   abbrev pub AreWorksOf : (m : Meaning Op Reply Store) → Life Op → Running O → List Seated → List (Result (Served Reply) AllocError) → Type 0
   AreWorksOf m life r callers works =
       (i : ℕ) (d : Result (Served Reply) AllocError) (e : Seated) → i < length callers →
       IfOk (slice_index_or works i d) (ServedOf m life r (slice_index_or callers i e).known.local.number)
 
--- what the workers of the callers from one on come to, each where it found memory
+-- the results of the workers of the callers from one on, each where it found memory
 abbrev pub AreNumbered : {O Op Reply Store : Type 0} → (m : Meaning Op Reply Store) → Life Op → Running O → ℕ → List (Result (Served Reply) AllocError) → Type 0
 AreNumbered m life r client [] = Unit {0}
 AreNumbered m life r client (work ∷ works) = IfOk work (ServedOf m life r client) × AreNumbered m life r (client + 1) works

@@ -25,7 +25,7 @@ pub(crate) struct Gathered<Reply> {
     pub(crate) ends: Ends,
 }
 
-/// The lines of clients that were stopped or gave up, and whether some caller has what none can have.
+/// The lines of clients that were stopped or ended Full, and whether some caller has what none can have.
 #[derive(Drop)]
 pub(crate) struct Ends {
     pub(crate) stops: Vec<StopLine>,
@@ -80,8 +80,8 @@ fn with_end(before: Ends, end: End) -> Result<Ends, AllocError>
     Ok(ends)
 }
 
-/// Puts the works of all clients together, in the order of the clients. One that was left goes on when it is its turn, and gives up only
-/// where the client that keeps its cells was stopped. `Err` is want of memory, of a worker or of this.
+/// Puts the works of all clients together, in the order of the clients. One that was left goes on when it is its turn, and ends Full only
+/// where the client that keeps its cells was stopped. `Err` means out of memory, in a worker or here.
 pub(crate) fn gather<O: TypedObject, R: Wait, G: Gate>(
     rt: &R,
     alloc: Global,
@@ -126,7 +126,7 @@ pub(crate) fn gather<O: TypedObject, R: Wait, G: Gate>(
     Ok(all)
 }
 
-// What the first of the workers came to, which is taken out.
+// The result of the first of the workers, which is taken out.
 fn first_of<Reply: Drop>(
     works: &mut Vec<Result<Served<Reply>, AllocError>>,
 ) -> Result<Served<Reply>, AllocError>

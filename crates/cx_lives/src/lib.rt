@@ -1,6 +1,13 @@
+//! The problem: clients run on threads, are stopped anywhere, and a crash ends the run. The report of what they were answered is to be proved, not
+//! only tested: there is to be one history that explains it, and the next run has to go on from what the crash left.
+//!
+//! The idea: a run between two crashes is a life. Each client's worker notes a line for each answer; closing the service gives an execution log that
+//! nothing else can make, and by it the lines together are the history, which is linearizable and of which a crash keeps a prefix with everything
+//! answered.
+//!
 //! A life of clients over a service of an object: each client's commands are made by a worker on a thread of its own, and
-//! what the workers note is put together as the record of the life. Lives of a script, one after another, each from what the loss of
-//! power before it left.
+//! what the workers note is put together as the record of the life. Lives of a script, one after another, each from what the crash
+//! before it left.
 #![tactic(auto)]
 
 mod calls;

@@ -2,7 +2,7 @@
 
 ghost use Rattle.std.specs.Prelude.{IfOk};
 ghost use Rattle.cx_lives.specs.Life.{CanRun, HasRun};
-ghost use Rattle.life_laws.specs.Meanings.{AreLaws};
+ghost use Rattle.life_records.specs.Meanings.{AreLaws};
 ghost use Rattle.typed_object.specs.Meaning.{HasMeaning};
 
 use crate::gather::{Ends, Gathered, gather};
@@ -11,9 +11,8 @@ use crate::workers::run_workers;
 use cx_base::{Gate, Items};
 use cx_service::{Caller, Service};
 use cx_table::Remains;
-use life_laws::steps_are_meant;
 use life_records::laws::journals_are_told;
-use life_records::{BorrowedLife, LifeRecord};
+use life_records::{BorrowedLife, LifeRecord, steps_are_meant};
 use std::alloc::{AllocError, Global};
 use std::sync::Wait;
 use std::thread::Threads;
@@ -21,19 +20,19 @@ use typed_object::TypedObject;
 
 /// Runs a life on a service: one worker for each client, on a thread of its own, makes the client's commands in order, until all are
 /// answered or the client is stopped at its limit of steps. A worker whose thread cannot be started is run by the calling thread. Then
-/// the service is closed. Gives the record of the life before the loss of power, with nothing kept, and what the service leaves.
+/// the service is closed. Gives the record of the life before the crash, with nothing kept, and what the service leaves.
 ///
 /// A client's entries take its 16 cells in turn, and a worker tries again where no cell is idle, since another client keeps them. In a
 /// life with a cut line it leaves its client after 1,000 such answers to one command, one after another. Once all workers have ended,
-/// each client that was left goes on from that command, one client after another. It gives up in a command, which then has a full line,
+/// each client that was left goes on from that command, one client after another. It ends Full in a command, which then has a full line,
 /// only where the client that keeps its cells was stopped, and makes no later one.
 ///
-/// The gate is for tests that bring about an order among the clients: each worker passes it before each of its commands and behind it,
-/// also where the client was stopped or gave up in that command, with the client's number, the number of the command among the
+/// The gate is for tests that bring about an order among the clients: each worker passes it before each of its commands and after it,
+/// also where the client was stopped or ended Full in that command, with the client's number, the number of the command among the
 /// client's, from 1 on, and which of the two it is. The gate holds a worker as long as its `pass` does not return. The record says what
 /// came, whatever the gate does. `OpenGate` holds none.
 ///
-/// `Err` is want of memory, in a worker or behind them, and gives nothing back. There is no other refusal.
+/// `Err` means out of memory, in a worker or after them, and gives nothing back. There is no other refusal.
 ///
 /// The call waits: it does not return where the gate holds a worker for good. A client may have any number of commands.
 pub fn run_life<O: TypedObject + Sync, R: Threads + Wait + Sync, G: Gate + Sync>(
@@ -80,7 +79,7 @@ pub fn run_life<O: TypedObject + Sync, R: Threads + Wait + Sync, G: Gate + Sync>
         fulls: Items::of(fulls),
         choice,
         kept: 0,
-        documents: 0,
+        items: 0,
     };
     Ok((told, remains))
 }

@@ -1,19 +1,19 @@
-//! A life that was run, lost its power and was recovered is a legal life, told by its trail.
+//! A life that was run, ended by a crash and recovered is a legal life, witnessed by its execution log.
 
 ghost use Rattle.cx_core.specs.Base.{LawfulBase};
 ghost use Rattle.cx_core.specs.declared.entry.Base as entry_base;
 ghost use Rattle.cx_core.specs.declared.entry.Image as entry_image;
 ghost use Rattle.cx_rule.specs.Running.{Running};
 ghost use Rattle.cx_table.specs.declared.remains.Remains as table_remains;
-ghost use Rattle.life_laws.specs.Begins.{Begun, IsBaseOf};
+ghost use Rattle.life_records.specs.Begins.{Begun, IsBaseOf};
 ghost use Rattle.life_records.specs.Records.{Life, LifeRecord};
 ghost use Rattle.cx_lives.specs.Life.{HasRun};
 ghost use Rattle.cx_lives.specs.Lives.{HasLived, HasLost, IsServiceOf};
 
 use core_runs::crash::crash_images_recover;
 use cx_core::Base;
-use life_laws::{kept_bases_begin_the_next_life, kept_lives_go_on, replies_are_the_stores};
 use life_records::laws::{flags_may_be_set, told_lives_have_ended};
+use life_records::{kept_bases_begin_the_next_life, kept_lives_go_on, replies_are_the_stores};
 use recovery::{
     closed_tables_are_whole, closed_tables_recover, closed_tables_stay, crash_images_are_left,
 };

@@ -1,11 +1,11 @@
-//! The lives of a script, one after another: each is run, loses its power and is recovered, and the next begins with what was
+//! The lives of a script, one after another: each is run, ends in a crash and is recovered, and the next begins with what was
 //! recovered.
 
 ghost use Rattle.std.specs.Prelude.{◌≡◌, ◌+◌, ◌<◌, ◌≤◌, List, [], ◌∷◌, ◌++◌, IfOk, None, length, true};
 ghost use Rattle.cx_core.specs.Base.{LawfulBase};
 ghost use Rattle.cx_core.specs.Region.{object_part};
 ghost use Rattle.cx_rule.specs.Running.{Running};
-ghost use Rattle.life_laws.specs.Begins.{Begun, IsBaseOf, nothing_begun};
+ghost use Rattle.life_records.specs.Begins.{Begun, IsBaseOf, nothing_begun};
 ghost use Rattle.life_records.specs.Limits.{IsLifeInLimits, KeepsLimits};
 ghost use Rattle.life_records.specs.Scripts.{command_count};
 ghost use Rattle.life_records.specs.declared.script.Life.{Life};
@@ -19,8 +19,10 @@ use crate::start::start_life;
 use cx_base::{Gate, Items};
 use cx_core::{Base, OBJECT_START};
 use cx_table::{Remains, Trail};
-use life_laws::{fresh_bases_begin_with_nothing, operations_are_values, replies_are_values};
-use life_records::{BorrowedLife, LifeRecord, Script, flag_stops};
+use life_records::{
+    BorrowedLife, LifeRecord, Script, flag_stops, fresh_bases_begin_with_nothing,
+    operations_are_values, replies_are_values,
+};
 use recovery::{
     Image, ImageFault, closed_tables_are_whole, closed_tables_recover, closed_tables_stay,
     crash_image, recover, reopen_image,
@@ -30,20 +32,20 @@ use std::sync::Wait;
 use std::thread::Threads;
 use typed_object::TypedObject;
 
-/// What the lives of a script came to.
+/// The result of the lives of a script.
 #[derive(Drop)]
 pub struct Lived<Reply> {
     /// The record of each life, in order.
     pub records: Items<LifeRecord<Reply>>,
     /// The trail of the service that ran each life, in order.
     pub trails: Items<Trail>,
-    /// What the loss of power left that ended the last life; nothing where there was no life.
+    /// What the crash left that ended the last life; nothing where there was no life.
     pub image: Option<Image>,
     /// The base that was recovered from that image, from which a further life would begin.
     pub base: Option<Base>,
 }
 
-/// What one life came to.
+/// The result of one life.
 #[derive(Drop)]
 pub(crate) struct Ran<Reply> {
     pub(crate) told: LifeRecord<Reply>,
@@ -53,12 +55,12 @@ pub(crate) struct Ran<Reply> {
 }
 
 /// Runs the lives of a script one after another, the first from the empty store and each next one from what was recovered after the
-/// loss of power that ended the one before. Each life is run as `run_life` runs it, with the same gate. Its service ended with a chain
+/// crash that ended the one before. Each life is run as `run_life` runs it, with the same gate. Its service ended with a chain
 /// of codes; the life's choice, modulo their number, takes the one whose place ends what is kept. The record's stop lines say which
-/// stopped commands are among what was kept. The memory that the loss of power left is reopened (`reopen_image` of `recovery`): each
+/// stopped commands are among what was kept. The memory that the crash left is reopened (`reopen_image` of `recovery`): each
 /// replica is made the one that was recovered, and those are the words with which every replica of the next life begins.
 ///
-/// `Err` is want of memory, and gives nothing back, whichever lives were run before. The call waits for its workers, and does not return
+/// `Err` means out of memory, and gives nothing back, whichever lives were run before. The call waits for its workers, and does not return
 /// where a life does not end: see `run_life`.
 pub fn run_lives<O: TypedObject + Sync, R: Threads + Wait + Sync, G: Gate + Sync>(
     rt: &R,
@@ -80,7 +82,7 @@ pub fn run_lives<O: TypedObject + Sync, R: Threads + Wait + Sync, G: Gate + Sync
 }
 
 impl<Reply> Lived<Reply> {
-    /// What no life came to.
+    /// The result before any life was run.
     pub fn new(alloc: Global) -> Lived<Reply>
         ensures { result ≡ record { records = []; trails = []; image = None; base = None } }
     {
@@ -95,7 +97,7 @@ impl<Reply> Lived<Reply> {
 
 /// Runs one life more, as `run_lives` does, from what the last one left, and reopens the memory that this one leaves.
 ///
-/// `Err` is want of memory, and gives nothing back. The call waits for its workers, and does not return where the life does not end.
+/// `Err` means out of memory, and gives nothing back. The call waits for its workers, and does not return where the life does not end.
 pub fn run_next_life<O: TypedObject + Sync, R: Threads + Wait + Sync, G: Gate + Sync>(
     rt: &R,
     alloc: Global,
@@ -161,7 +163,7 @@ fn first_base<O: TypedObject>(alloc: Global, object: &O) -> Result<Base, AllocEr
     Ok(base)
 }
 
-// Runs one life from a base to its loss of power, and recovers.
+// Runs one life from a base to its crash, and recovers.
 fn run_one<O: TypedObject + Sync, R: Threads + Wait + Sync, G: Gate + Sync>(
     rt: &R,
     alloc: Global,
@@ -178,7 +180,7 @@ fn run_one<O: TypedObject + Sync, R: Threads + Wait + Sync, G: Gate + Sync>(
     lose_power(alloc, object, base, life, told, remains)
 }
 
-// What a life leaves where it loses its power by the life's choice, and what is recovered, with its memory reopened.
+// What a life leaves where it crashes by the life's choice, and what is recovered, with its memory reopened.
 fn lose_power<O: TypedObject>(
     alloc: Global,
     object: &O,
@@ -220,7 +222,7 @@ fn lose_power<O: TypedObject>(
     })
 }
 
-// Whether it is want of memory.
+// Whether the fault is that memory ran out.
 fn is_memory(fault: &ImageFault) -> bool
     ensures { fault.now ≡ Memory → result ≡ true }
 {
@@ -245,7 +247,7 @@ fn with_kept<Reply: Drop>(told: LifeRecord<Reply>, kept: u64, items: u64) -> Lif
     LifeRecord {
         stops: Items::of(stops),
         kept,
-        documents: items,
+        items,
         ..told
     }
 }

@@ -1,4 +1,4 @@
-//! A client between two of its commands, and what a command comes to.
+//! A client between two of its commands, and the result of a command.
 
 ghost use Rattle.std.specs.Prelude.{◌≡◌, ◌-◌, ◌≤◌, IfOk, IsTrue, Some, []};
 ghost use Rattle.life_records.specs.Scripts.{named_op};
@@ -8,6 +8,7 @@ ghost use Rattle.cx_lives.specs.Turns.{EntryTurn, ReadTurn, StopsIn, ended};
 ghost use Rattle.typed_object.specs.Meaning.{IsReadAs};
 
 use crate::calls::ask;
+use cx_base::OpWords;
 use cx_core::FullNote;
 use cx_service::{Answer, Caller, Handed, ReadDone, Seen, Service, Stopped};
 use life_records::{BorrowedLife, Command, FullLine, JournalLine, ReadLine, StopLine};
@@ -22,7 +23,7 @@ pub(crate) enum End {
     Whole,
     /// The client was stopped.
     Stopped(StopLine),
-    /// The client gave up, since another that was stopped keeps its cells.
+    /// The client ended Full: another that was stopped keeps its cells.
     Full(FullLine),
     /// What cannot be: there was no further ticket, or a reply whose words are of none.
     Never,
@@ -63,7 +64,7 @@ pub(crate) struct Progress<Reply> {
     pub(crate) lines: Lines<Reply>,
 }
 
-/// What a command comes to: the client goes on, or it is at its end, or the command is not begun, since another caller keeps the
+/// The result of a command: the client goes on, or it is at its end, or the command is not begun, since another caller keeps the
 /// client's cells, as the note says.
 #[derive(Drop)]
 pub(crate) enum Turn<Reply> {
@@ -73,7 +74,7 @@ pub(crate) enum Turn<Reply> {
 }
 
 /// Makes the client's command of this number. Where no cell is idle it tries again, and hands the progress back after `most` Full answers
-/// one after another; without such a number it tries without end. `Err` is want of memory.
+/// one after another; without such a number it tries without end. `Err` means out of memory.
 pub(crate) fn make<O: TypedObject, R: Wait>(
     rt: &R,
     alloc: Global,
@@ -122,7 +123,7 @@ fn op_is_a_value<O: TypedObject>(service: &Service<O>, op: &O::Op)
 }
 
 // The words of an operation.
-fn words_of<O: TypedObject>(service: &Service<O>, op: &O::Op) -> [u64; 144]
+fn words_of<O: TypedObject>(service: &Service<O>, op: &O::Op) -> OpWords
     requires { (O.meaning service.now.object).is_op op.now }
     ensures { result ≡ (O.meaning service.now.object).encoding.op_words op.now }
 {
@@ -130,7 +131,7 @@ fn words_of<O: TypedObject>(service: &Service<O>, op: &O::Op) -> [u64; 144]
 }
 
 // Whether an operation only reads.
-fn is_reading<O: TypedObject>(service: &Service<O>, op: &O::Op, words: &[u64; 144]) -> bool
+fn is_reading<O: TypedObject>(service: &Service<O>, op: &O::Op, words: &OpWords) -> bool
     requires words { words.now ≡ (O.meaning service.now.object).encoding.op_words op.now }
     requires op { (O.meaning service.now.object).is_op op.now }
     requires value { (O.meaning service.now.object).is_op_value op.now }
@@ -140,11 +141,11 @@ fn is_reading<O: TypedObject>(service: &Service<O>, op: &O::Op, words: &[u64; 14
     service.object().is_reading(op)
 }
 
-// The reply that has these words. `Err` is want of memory.
+// The reply that has these words. `Err` means out of memory.
 fn read_as<O: TypedObject>(
     alloc: Global,
     service: &Service<O>,
-    words: &[u64; 144],
+    words: &OpWords,
 ) -> Result<Option<O::Reply>, AllocError>
     ensures { IfOk result (IsReadAs (O.meaning service.now.object) words.now) }
 {

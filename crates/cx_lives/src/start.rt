@@ -13,7 +13,7 @@ use std::alloc::{AllocError, Global};
 use typed_object::TypedObject;
 
 /// Starts a service of an object for a life, which opens from a base: one caller for each client, with the
-/// limit of the client's cut. `Err` is want of memory.
+/// limit of the client's cut. `Err` means out of memory.
 pub(crate) fn start_life<O: TypedObject>(
     alloc: Global,
     object: &O,

@@ -6,7 +6,7 @@ ghost use Rattle.life_records.specs.Lives.{is_stopped};
 ghost use Rattle.cx_lives.specs.declared.progress.End.TheVariants.{Full};
 ghost use Rattle.cx_lives.specs.Ends.{IsNewIn, IsWorkOf, full_in};
 ghost use Rattle.cx_lives.specs.Turns.{ended};
-ghost use Rattle.cx_lives.specs.Works.{IsFullLeft, IsLeftOf, ServedOf, stop_told, stops_left};
+ghost use Rattle.cx_lives.specs.Works.{IsFullLeft, IsClientLeft, ServedOf, stop_told, stops_left};
 
 use crate::progress::{End, Lines, Progress, Turn, Work, make, over};
 use cx_base::Gate;
@@ -29,17 +29,17 @@ pub(crate) struct Left<Reply> {
     pub(crate) begun: bool,
 }
 
-/// What a worker comes to.
+/// The result of a worker.
 #[derive(Drop)]
 pub(crate) enum Served<Reply> {
     /// The client is at its end.
     Done(Work<Reply>),
-    /// The client's next command was last answered Full. The line is the one that it has where it gives up.
+    /// The client's next command was last answered Full. The line is the one that it has where it ends Full.
     Full(Left<Reply>, FullLine),
 }
 
-/// Makes a client's commands in order, from the first one on until it is stopped, and passes the gate before each and behind it. In a
-/// life with a cut line it leaves the client after 1,000 Full answers one after another. `Err` is want of memory.
+/// Makes a client's commands in order, from the first one on until it is stopped, and passes the gate before each and after it. In a
+/// life with a cut line it leaves the client after 1,000 Full answers one after another. `Err` means out of memory.
 pub(crate) fn serve<O: TypedObject, R: Wait, G: Gate>(
     rt: &R,
     alloc: Global,
@@ -83,7 +83,7 @@ fn serve_on<O: TypedObject, R: Wait, G: Gate>(
     left: Left<O::Reply>,
     most: Option<u64>,
 ) -> Result<Served<O::Reply>, AllocError>
-    requires left { IsLeftOf (O.meaning service.now.object) life.now service.now left.progress.caller.known.local.number left }
+    requires left { IsClientLeft (O.meaning service.now.object) life.now service.now left.progress.caller.known.local.number left }
     requires life { IsLifeInLimits (O.meaning service.now.object).is_op 8 life.now }
     ensures { IfOk result (ServedOf (O.meaning service.now.object) life.now service.now left.progress.caller.known.local.number) }
 {
@@ -136,7 +136,7 @@ fn pass_before<G: Gate>(gate: &G, client: u32, number: u64, begun: bool) {
     }
 }
 
-// Passes the gate behind a command, unless it is still to be made.
+// Passes the gate after a command, unless it is still to be made.
 fn pass_behind<G: Gate, Reply>(gate: &G, client: u32, number: u64, turn: &Turn<Reply>) {
     match turn {
         Turn::Next(_) | Turn::Over(_) => gate.pass(client, number, true),
@@ -144,8 +144,8 @@ fn pass_behind<G: Gate, Reply>(gate: &G, client: u32, number: u64, turn: &Turn<R
     }
 }
 
-/// Goes on with a client that was left, until it is at its end. It gives up a command only where the client that keeps its cells was
-/// stopped: where that has one of these stop lines or one in the rest of the works. `Err` is want of memory.
+/// Goes on with a client that was left, until it is at its end. It ends Full in a command only where the client that keeps its cells was
+/// stopped: where that has one of these stop lines or one in the rest of the works. `Err` means out of memory.
 pub(crate) fn go_on<O: TypedObject, R: Wait, G: Gate>(
     rt: &R,
     alloc: Global,
@@ -156,7 +156,7 @@ pub(crate) fn go_on<O: TypedObject, R: Wait, G: Gate>(
     stops: &[StopLine],
     rest: &[Result<Served<O::Reply>, AllocError>],
 ) -> Result<Work<O::Reply>, AllocError>
-    requires left { IsLeftOf (O.meaning service.now.object) life.now service.now left.progress.caller.known.local.number left }
+    requires left { IsClientLeft (O.meaning service.now.object) life.now service.now left.progress.caller.known.local.number left }
     requires life { IsLifeInLimits (O.meaning service.now.object).is_op 8 life.now }
     ensures work { IfOk result (IsWorkOf (O.meaning service.now.object) life.now service.now left.progress.caller.known.local.number) }
     ensures stopped { IfOk result (λ work. All (λ line. is_stopped line.note.holder (stops.now ++ stops_left rest.now) ≡ true) (full_in work.end)) }
@@ -176,7 +176,7 @@ pub(crate) fn go_on<O: TypedObject, R: Wait, G: Gate>(
     unreachable!()
 }
 
-// The end of a client that gives up, behind its command.
+// The end of a client that ends Full, after its command.
 fn give_up<G: Gate, Reply: Drop>(gate: &G, left: Left<Reply>, line: FullLine) -> Work<Reply>
     ensures { result ≡ ended left.progress (Full line) }
 {

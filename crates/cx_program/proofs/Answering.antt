@@ -1,6 +1,6 @@
 -- What was written with a status, from what was written of a text.
 use Rattle.std.proofs.Common.{◌≡◌, sym, subst, inl, inr, ℕ, List, Option}
-use Rattle.cx_program.specs.Answer.{Answers, HasCause, Owed, Wrote}
+use Rattle.cx_program.specs.Answer.{IsWrittenWith, HasCause, Owed, Wrote}
 use Rattle.cx_program.specs.Output.{Appends}
 use Rattle.cx_program.specs.declared.status.Ended.{Ended}
 use Rattle.cx_program.specs.declared.status.Status.{Status}
@@ -10,7 +10,7 @@ use Rattle.cx_rule.specs.Ending.{Ending}
 
 -- a text that is owed, once written whole
 whole : (words : List (List ℕ)) (told : Option (List ℕ)) (status : Status) (trails : List Ending) (text : List ℕ) (before after : Option (List ℕ))
-    → (GivesUp status → ⊥) → Owed words told status trails text → Appends text before after → Answers words told status trails before after
+    → (GivesUp status → ⊥) → Owed words told status trails text → Appends text before after → IsWrittenWith words told status trails before after
 whole words told ReadFault trails text before after plain owed appends = absurd (plain tt)
 whole words told WriteFault trails text before after plain owed appends = absurd (plain tt)
 whole words told Memory trails text before after plain owed appends = absurd (plain tt)
@@ -24,12 +24,12 @@ owed_by words told status trails text ended is owed =
 
 -- what stands written where a text was owed
 pub answers_written : (words : List (List ℕ)) (told : Option (List ℕ)) (text : List ℕ) (ended result : Ended) (before after : Option (List ℕ)) (faults faults' : ℕ)
-    → Owed words told ended.status ended.trails text → Wrote text ended result before after faults faults' → Answers words told result.status result.trails before after
+    → Owed words told ended.status ended.trails text → Wrote text ended result before after faults faults' → IsWrittenWith words told result.status result.trails before after
 answers_written words told text ended result before after faults faults' owed (inl wrote) =
-    subst (λ (e : Ended). Answers words told e.status e.trails before after) (sym wrote.0)
+    subst (λ (e : Ended). IsWrittenWith words told e.status e.trails before after) (sym wrote.0)
     (whole words told ended.status ended.trails text before after (owed_plain words told ended.status ended.trails text owed) owed wrote.1)
 answers_written words told text ended result before after faults faults' owed (inr failed) =
-    subst (λ (s : Status). Answers words told s result.trails before after) (sym failed.0) (text, record { status = ended.status; trails = ended.trails; owed = owed }, failed.1)
+    subst (λ (s : Status). IsWrittenWith words told s result.trails before after) (sym failed.0) (text, record { status = ended.status; trails = ended.trails; owed = owed }, failed.1)
 
 -- a status that an input calls for has no cause to tell
 no_cause : (status : Status) (reads reads' writes writes' : ℕ) → (GivesUp status → ⊥) → HasCause status reads reads' writes writes'

@@ -1,14 +1,14 @@
 -- What every command keeps to: an input calls for one status, and for none of a fault.
 use Rattle.std.proofs.Common.{◌≡◌, refl, ◌∙◌, sym, ap, subst, inl, inr, ℕ, ◌<◌, ◌≤◌, List, length, [], arith, Option, Some, None, false}
 use Rattle.std.proofs.lemmas.Bool.{cases_Bool}
-use Rattle.image_answers.specs.declared.answering.ImageEnd.{ImageEnd}
-use Rattle.image_answers.specs.declared.answering.ImageEnd.TheVariants as ends
-use Rattle.image_answers.proofs.Ends.{one_end}
+use Rattle.doc_commands.specs.declared.answering.ImageEnd.{ImageEnd}
+use Rattle.doc_commands.specs.declared.answering.ImageEnd.TheVariants as ends
+use Rattle.doc_commands.proofs.Ends.{one_end}
 use Rattle.doc_text.specs.Grammar.{IsPoolScript, IsScript}
-use Rattle.fifo_text.specs.Grammar.{IsFifoScript}
+use Rattle.fifo_commands.specs.Grammar.{IsFifoScript}
 use Rattle.trace_text.specs.Traces.{IsTrace}
-use Rattle.cx_program.specs.Answer.{Calls, Owed, Read}
-use Rattle.cx_program.specs.Commands.{Command, command, command_of, load_command, recover_command, script_calls, usage_command}
+use Rattle.cx_program.specs.Answer.{CallsForStatus, Owed, Read}
+use Rattle.cx_program.specs.Commands.{CommandMeaning, command, command_asked, load_command, recover_command, script_calls, usage_command}
 use Rattle.cx_program.specs.Input.{IsInput}
 use Rattle.cx_program.specs.Status.{status_of}
 use Rattle.cx_program.specs.Texts.{too_long_text}
@@ -25,7 +25,7 @@ GivesUp WriteFault = Unit {0}
 GivesUp Memory = Unit {0}
 GivesUp _ = ⊥
 
-pub record IsSound (command : Command) : Type 0 where
+pub record IsSound (command : CommandMeaning) : Type 0 where
   pub one : (input : List ℕ) (a b : Status) → command.calls input a → command.calls input b → a ≡ b
   pub plain : (input : List ℕ) (status : Status) → command.calls input status → GivesUp status → ⊥
 
@@ -56,13 +56,13 @@ recover_sound = record {
 }
 
 -- a command that always calls for one status
-always : (command : Command) (wanted : Status) → (GivesUp wanted → ⊥) → ((input : List ℕ) (status : Status) → command.calls input status → status ≡ wanted) → IsSound command
+always : (command : CommandMeaning) (wanted : Status) → (GivesUp wanted → ⊥) → ((input : List ℕ) (status : Status) → command.calls input status → status ≡ wanted) → IsSound command
 always command wanted tells is = record {
   one = λ input a b x y. is input a x ∙ sym (is input b y);
   plain = λ input status calls gives. tells (subst GivesUp (is input status calls) gives);
 }
 
-pub sound : (asked : Option Asked) → IsSound (command_of asked)
+pub sound : (asked : Option Asked) → IsSound (command_asked asked)
 sound (Some Run) = record { one = script_one IsScript; plain = script_plain IsScript }
 sound (Some Image) = record { one = script_one IsScript; plain = script_plain IsScript }
 sound (Some Recover) = recover_sound
@@ -72,41 +72,41 @@ sound (Some (Load load)) = always (load_command load.from load.clients load.ops)
 sound (Some (Pool seats)) = record { one = script_one IsPoolScript; plain = script_plain IsPoolScript }
 sound None = always usage_command Usage (λ gives. gives) (λ input status calls. calls)
 
-calls_one : (command : Command) (input : List ℕ) (a b : Status) → IsSound command → Calls command input a → Calls command input b → a ≡ b
+calls_one : (command : CommandMeaning) (input : List ℕ) (a b : Status) → IsSound command → CallsForStatus command input a → CallsForStatus command input b → a ≡ b
 calls_one command input a b is (inl x) (inl y) = x.1 ∙ sym y.1
 calls_one command input a b is (inl x) (inr y) = absurd (omega (arith, x.0, y.0))
 calls_one command input a b is (inr x) (inl y) = absurd (omega (arith, x.0, y.0))
 calls_one command input a b is (inr x) (inr y) = is.one input a b x.1 y.1
 
-calls_plain : (command : Command) (input : List ℕ) (status : Status) → IsSound command → Calls command input status → GivesUp status → ⊥
+calls_plain : (command : CommandMeaning) (input : List ℕ) (status : Status) → IsSound command → CallsForStatus command input status → GivesUp status → ⊥
 calls_plain command input status is (inl x) gives = subst GivesUp x.1 gives
 calls_plain command input status is (inr x) gives = is.plain input status x.1 gives
 
 -- nothing that is called for tells of a fault
 pub owed_plain : (words : List (List ℕ)) (told : Option (List ℕ)) (status : Status) (trails : List Ending) (text : List ℕ) → Owed words told status trails text → GivesUp status → ⊥
-owed_plain words told status trails text owed = calls_plain (command_of owed.asked) owed.input status (sound owed.asked) owed.owes.calls
+owed_plain words told status trails text owed = calls_plain (command_asked owed.asked) owed.input status (sound owed.asked) owed.owes.calls
 
 -- what is owed for an input that calls for a status
 owed_as : (asked : Option Asked) (words : List (List ℕ)) (told : Option (List ℕ)) (input : List ℕ) (status : Status) (trails : List Ending) (text : List ℕ)
-    → (command_of asked).asked words → IsInput (command_of asked).reads told input → Calls (command_of asked) input status
-    → (16777216 < length input → text ≡ too_long_text) → (length input ≤ 16777216 → (command_of asked).writes input status trails text) → Owed words told status trails text
+    → (command_asked asked).asked words → IsInput (command_asked asked).reads told input → CallsForStatus (command_asked asked) input status
+    → (16777216 < length input → text ≡ too_long_text) → (length input ≤ 16777216 → (command_asked asked).writes input status trails text) → Owed words told status trails text
 owed_as asked words told input status trails text asks is wanted long short = record {
   asked = asked;
   asks = asks;
   input = input;
   is = is;
-  owes = record { calls = wanted; only = λ other called. calls_one (command_of asked) input other status (sound asked) called wanted; long = long; short = short };
+  owes = record { calls = wanted; only = λ other called. calls_one (command_asked asked) input other status (sound asked) called wanted; long = long; short = short };
 }
 
 -- of one within the limit, and of a longer one
 pub owed_short : (asked : Option Asked) (words : List (List ℕ)) (told : Option (List ℕ)) (input : List ℕ) (status : Status) (trails : List Ending) (text : List ℕ)
-    → (command_of asked).asked words → IsInput (command_of asked).reads told input → length input ≤ 16777216
-    → (command_of asked).calls input status → (command_of asked).writes input status trails text → Owed words told status trails text
+    → (command_asked asked).asked words → IsInput (command_asked asked).reads told input → length input ≤ 16777216
+    → (command_asked asked).calls input status → (command_asked asked).writes input status trails text → Owed words told status trails text
 owed_short asked words told input status trails text asks is short calls writes =
     owed_as asked words told input status trails text asks is (inr (short, calls)) (λ past. absurd (omega (arith, past, short))) (λ within. writes)
 
 pub owed_long : (asked : Option Asked) (words : List (List ℕ)) (told : Option (List ℕ)) (input : List ℕ)
-    → (command_of asked).asked words → IsInput (command_of asked).reads told input → 16777216 < length input → Owed words told TooLong [] too_long_text
+    → (command_asked asked).asked words → IsInput (command_asked asked).reads told input → 16777216 < length input → Owed words told TooLong [] too_long_text
 owed_long asked words told input asks is past =
     owed_as asked words told input TooLong [] too_long_text asks is (inl (past, refl)) (λ more. refl) (λ within. absurd (omega (arith, past, within)))
 

@@ -4,7 +4,7 @@ use Rattle.std.proofs.lemmas.List.{length-append, length-take-le, length-drop, t
 use Rattle.std.proofs.Math.Seq.{take-add}
 use Rattle.std.proofs.lemmas.List.{drop-drop}
 use Rattle.cx_base.specs.Outside.{Gave, Took}
-use Rattle.cx_program.specs.Input.{IsInput, Moves, Moved, Takes, TookAtMost}
+use Rattle.cx_program.specs.Input.{IsInput, Moves, Moved, TakesBytes, TookAtMost}
 
 -- these bytes are the front of all, and the rest is left
 pub record IsFront (all : List ℕ) (left : Option (List ℕ)) (bytes : List ℕ) : Type 0 where
@@ -78,7 +78,7 @@ read-taken (Some all) left most bytes read few = record { count = length bytes; 
 pub read-lost : (told left after : Option (List ℕ)) (most piece : ℕ) (bytes : List ℕ) → HasRead told left bytes → TookAtMost piece left after → length bytes + piece ≤ most → TookAtMost most told after
 read-lost None left after most piece bytes read lost few = tt
 read-lost (Some all) left after most piece bytes read lost few =
-    let takes : Takes piece (drop (length bytes) all) after = subst (λ (o : Option (List ℕ)). IfSome o (λ rest. Takes piece rest after)) read.rest lost in
+    let takes : TakesBytes piece (drop (length bytes) all) after = subst (λ (o : Option (List ℕ)). IfSome o (λ rest. TakesBytes piece rest after)) read.rest lost in
     record { count = length bytes + takes.count; few = omega (arith, takes.few); left = takes.left ∙ ap Some (drop-drop takes.count (length bytes) all) }
 
 -- the first n bytes of a text were written

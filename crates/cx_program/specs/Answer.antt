@@ -2,7 +2,7 @@
 use Rattle.std.specs.Prelude.{◌≡◌, ◌⊎◌, ◌<◌, ◌≤◌, ℕ, List, length, Option, IsTrue}
 use Rattle.cx_base.specs.Outside.{Rose}
 use Rattle.cx_rule.specs.Ending.{Ending}
-use Rattle.cx_program.specs.Commands.{Command, command_of}
+use Rattle.cx_program.specs.Commands.{CommandMeaning, command_asked}
 use Rattle.cx_program.specs.Input.{IsInput}
 use Rattle.cx_program.specs.Output.{Appends, AppendsFront}
 use Rattle.cx_program.specs.Texts.{too_long_text}
@@ -12,23 +12,23 @@ use Rattle.cx_program.specs.declared.status.Status.{Status}
 use Rattle.cx_program.specs.declared.status.Status.TheVariants.{ReadFault, WriteFault, Memory, TooLong}
 
 -- which status an input calls for; one of too many bytes is refused by every command
-abbrev pub Calls : Command → List ℕ → Status → Type 0
-Calls command input status = ((16777216 < length input) × (status ≡ TooLong)) ⊎ ((length input ≤ 16777216) × command.calls input status)
+abbrev pub CallsForStatus : CommandMeaning → List ℕ → Status → Type 0
+CallsForStatus command input status = ((16777216 < length input) × (status ≡ TooLong)) ⊎ ((length input ≤ 16777216) × command.calls input status)
 
 -- What a command owes for an input: the one status that it calls for, the trails of the lives that were run, and the whole text.
-pub record Owes (command : Command) (input : List ℕ) (status : Status) (trails : List Ending) (text : List ℕ) : Type 0 where
-  pub calls : Calls command input status
-  pub only : (other : Status) → Calls command input other → other ≡ status
+pub record Owes (command : CommandMeaning) (input : List ℕ) (status : Status) (trails : List Ending) (text : List ℕ) : Type 0 where
+  pub calls : CallsForStatus command input status
+  pub only : (other : Status) → CallsForStatus command input other → other ≡ status
   pub long : 16777216 < length input → text ≡ too_long_text
   pub short : length input ≤ 16777216 → command.writes input status trails text
 
 -- What words and input call for. The input is what the source told, where it told one, and empty for a command that reads nothing.
 pub record Owed (words : List (List ℕ)) (told : Option (List ℕ)) (status : Status) (trails : List Ending) (text : List ℕ) : Type 0 where
   pub asked : Option Asked
-  pub asks : (command_of asked).asked words
+  pub asks : (command_asked asked).asked words
   pub input : List ℕ
-  pub is : IsInput (command_of asked).reads told input
-  pub owes : Owes (command_of asked) input status trails text
+  pub is : IsInput (command_asked asked).reads told input
+  pub owes : Owes (command_asked asked) input status trails text
 
 -- a text that words and input call for with some status
 pub record IsOwed (words : List (List ℕ)) (told : Option (List ℕ)) (text : List ℕ) : Type 0 where
@@ -39,16 +39,16 @@ pub record IsOwed (words : List (List ℕ)) (told : Option (List ℕ)) (text : L
 -- the words ask for what reads an input
 pub record Read (words : List (List ℕ)) : Type 0 where
   pub asked : Option Asked
-  pub asks : (command_of asked).asked words
-  pub reads : IsTrue (command_of asked).reads
+  pub asks : (command_asked asked).asked words
+  pub reads : IsTrue (command_asked asked).reads
 
--- What was written with a status: nothing where the source failed or memory was wanting; a front of some text that is called for where
+-- What was written with a status: nothing where the source failed or memory ran out; a prefix of some text that is called for where
 -- the sink failed; else the whole text that is called for.
-abbrev pub Answers : List (List ℕ) → Option (List ℕ) → Status → List Ending → Option (List ℕ) → Option (List ℕ) → Type 0
-Answers words told ReadFault trails before after = Read words × (after ≡ before)
-Answers words told Memory trails before after = after ≡ before
-Answers words told WriteFault trails before after = (text : List ℕ) × IsOwed words told text × AppendsFront text before after
-Answers words told status trails before after = (text : List ℕ) × Owed words told status trails text × Appends text before after
+abbrev pub IsWrittenWith : List (List ℕ) → Option (List ℕ) → Status → List Ending → Option (List ℕ) → Option (List ℕ) → Type 0
+IsWrittenWith words told ReadFault trails before after = Read words × (after ≡ before)
+IsWrittenWith words told Memory trails before after = after ≡ before
+IsWrittenWith words told WriteFault trails before after = (text : List ℕ) × IsOwed words told text × AppendsFront text before after
+IsWrittenWith words told status trails before after = (text : List ℕ) × Owed words told status trails text × Appends text before after
 
 -- what faults a status tells of
 abbrev pub HasCause : Status → ℕ → ℕ → ℕ → ℕ → Type 0
@@ -56,7 +56,7 @@ HasCause ReadFault reads reads' writes writes' = Rose reads reads'
 HasCause WriteFault reads reads' writes writes' = Rose writes writes'
 HasCause _ reads reads' writes writes' = Unit {0}
 
--- a whole text was written, and the run ended as it calls for; or the sink failed behind a front of it
+-- a whole text was written, and the run ended as it calls for; or the sink failed after a prefix of it
 abbrev pub Wrote : List ℕ → Ended → Ended → Option (List ℕ) → Option (List ℕ) → ℕ → ℕ → Type 0
 Wrote text owed result before after faults faults' =
     ((result ≡ owed) × Appends text before after)

@@ -14,10 +14,10 @@ IsInput true told input = IfSome told (λ all. input ≡ all)
 IsInput false told input = input ≡ []
 
 -- what reading shows of an input, if one is read, with the source's count of faults before and after
-abbrev pub Shows : Bool → Option (List ℕ) → ℕ → ℕ → Input → Type 0
-Shows reads told before after (Whole bytes) = (length bytes.items ≤ 16777216) × IsInput reads told bytes.items
-Shows reads told before after TooLong = (input : List ℕ) × (16777216 < length input) × IsInput reads told input
-Shows reads told before after Failed = IsTrue reads × Rose before after
+abbrev pub ShowsInput : Bool → Option (List ℕ) → ℕ → ℕ → Input → Type 0
+ShowsInput reads told before after (Whole bytes) = (length bytes.items ≤ 16777216) × IsInput reads told bytes.items
+ShowsInput reads told before after TooLong = (input : List ℕ) × (16777216 < length input) × IsInput reads told input
+ShowsInput reads told before after Failed = IsTrue reads × Rose before after
 
 -- a piece of n bytes moved from the front of what was left behind the bytes read so far; no byte is the end
 pub record Moves (n : ℕ) (rest bytes longer : List ℕ) (after : Option (List ℕ)) : Type 0 where
@@ -30,22 +30,22 @@ pub record Moves (n : ℕ) (rest bytes longer : List ℕ) (after : Option (List 
 abbrev pub Moved : ℕ → Option (List ℕ) → List ℕ → List ℕ → Option (List ℕ) → Type 0
 Moved n before bytes longer after = IfSome before (λ rest. Moves n rest bytes longer after)
 
--- bytes were taken from the front, at most so many
-pub record Takes (most : ℕ) (all : List ℕ) (rest : Option (List ℕ)) : Type 0 where
+-- bytes were taken from the front, at most this many
+pub record TakesBytes (most : ℕ) (all : List ℕ) (rest : Option (List ℕ)) : Type 0 where
   pub count : ℕ
   pub few : count ≤ most
   pub left : rest ≡ Some (drop count all)
 
 abbrev pub TookAtMost : ℕ → Option (List ℕ) → Option (List ℕ) → Type 0
-TookAtMost most before after = IfSome before (λ all. Takes most all after)
+TookAtMost most before after = IfSome before (λ all. TakesBytes most all after)
 
--- at most so many bytes were taken from a source, by at most as many reads
+-- at most this many bytes were taken from a source, by at most as many reads
 pub record Draws {Source : Type 0} (s : Ghosts Source) (most : ℕ) (old new : Source) : Type 0 where
   pub taken : TookAtMost most (s.left old) (s.left new)
   pub few : s.reads new ≤ s.reads old + most
 
--- What reading one piece of at most so many bytes comes to: it stands behind the bytes read so far; or the source failed, and nothing was
--- taken; or memory was wanting, and the piece is lost.
+-- The result of reading one piece of at most this many bytes: it stands after the bytes read so far; or the source failed, and nothing was
+-- taken; or memory ran out, and the piece is lost.
 pub record IsPiece (most : ℕ) (result : Result (Result ℕ Failure) AllocError) (bytes longer : Vec ℕ) (before after : Option (List ℕ)) (faults faults' : ℕ) : Type 0 where
   pub moved : IfOk result (λ read. IfOk read (λ n. Moved n before bytes.items longer.items after))
   pub added : IfOk result (λ read. IfOk read (λ n. (n ≤ most) × (vec_len longer ≡ vec_len bytes + n)))

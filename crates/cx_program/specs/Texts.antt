@@ -3,7 +3,7 @@ use Rattle.std.specs.Prelude.{◌≡◌, ℕ, List, ◌++◌, codes}
 use Rattle.std.specs.Fmt.{decimal}
 use Rattle.plain_text.specs.LineGrammar.{IsFirstFault, IsReasonAt, LineGrammar}
 use Rattle.plain_text.specs.declared.reading.TextFault.TheVariants as faults
-use Rattle.trace_text.specs.Reasons.{reason_text}
+use Rattle.trace_text.specs.Reasons.{trace_reason_text}
 use Rattle.trace_text.specs.Traces.{IsTraceFault}
 use Rattle.trace_text.specs.declared.trace.TraceReason.{TraceReason}
 
@@ -17,7 +17,7 @@ abbrev pub too_long_text : List ℕ
 too_long_text = codes "refused: input over 16777216 bytes\n"
 
 -- The text names the first line of the input with which its lines say nothing together, and the first reason that fits.
-pub record IsRefusal {Said Reason : Type 0} (grammar : LineGrammar Said Reason) (word_of : Reason → List ℕ) (input text : List ℕ) : Type 0 where
+pub record IsRefusalText {Said Reason : Type 0} (grammar : LineGrammar Said Reason) (word_of : Reason → List ℕ) (input text : List ℕ) : Type 0 where
   pub line : ℕ
   pub reason : Reason
   pub first : IsFirstFault grammar input line
@@ -29,4 +29,4 @@ pub record IsTraceRefusal (input text : List ℕ) : Type 0 where
   pub line : ℕ
   pub reason : TraceReason
   pub first : IsTraceFault input (faults.Refused line reason)
-  pub refusal : text ≡ refused_text line (reason_text reason)
+  pub refusal : text ≡ refused_text line (trace_reason_text reason)

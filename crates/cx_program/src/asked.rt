@@ -53,7 +53,7 @@ pub(crate) struct Seats {
 }
 
 impl Seats {
-    /// So many as a word writes, in decimal without sign and without leading zeros. None exactly where it writes no number of
+    /// The number that a word writes, in decimal without sign and without leading zeros. None exactly where it writes no number of
     /// 1 to 8.
     pub(crate) fn read(word: &str) -> Option<Seats>
         ensures some { IfSome result (λ seats. IsPoolOf seats.count (codes "pool" ∷ word.now ∷ [])) }
@@ -74,7 +74,7 @@ impl Seats {
 pub(crate) enum Asked {
     /// That a script is run, and reported.
     Run,
-    /// That a script is run, and what the last loss of power left is written.
+    /// That a script is run, and what the last crash left is written.
     Image,
     /// That it is told what is recovered from an image.
     Recover,
@@ -84,6 +84,6 @@ pub(crate) enum Asked {
     Trace,
     /// That a script is made and run.
     Load(Load),
-    /// That a script is run whose clients share so many callers, and reported.
+    /// That a script is run whose clients share this many callers, and reported.
     Pool(Seats),
 }

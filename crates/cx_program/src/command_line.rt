@@ -1,4 +1,4 @@
-//! What the words behind the program's name are, as the command line's parser reads them.
+//! What the words after the program's name are, as the command line's parser reads them.
 
 ghost use Rattle.std.specs.Prelude.{◌≡◌, ◌↔◌, [], ◌∷◌, map, string_bytes, All, Any, IfOk, IsTrue, true, false};
 ghost use Rattle.clap.specs.Faults.{fault_of};
@@ -7,16 +7,16 @@ ghost use Rattle.clap.specs.Simple.{new_shape, with_subcommand};
 ghost use Rattle.clap.specs.Words.{app_of, rule_of};
 ghost use Rattle.clap.specs.declared.builder.command.Command.TheViews.{out-Command as fields_of};
 ghost use Rattle.cx_program.specs.CommandLine.{HasForm, IsJudged, begins_with_hyphen, load_app, number_rule, pool_app, program};
-ghost use Rattle.cx_program.specs.Commands.{command_of};
+ghost use Rattle.cx_program.specs.Commands.{command_asked};
 
 use crate::asked::{Asked, Load, Seats};
 use clap::error::ErrorKind;
 use clap::{Arg, ArgAction, ArgMatches, Command, Error};
 use std::alloc::{AllocError, Global};
 
-/// What words ask for, if anything. `Err` is want of memory.
+/// What words ask for, if anything. `Err` means out of memory.
 pub(crate) fn read_words(alloc: Global, words: &[String]) -> Result<Option<Asked>, AllocError>
-    ensures { IfOk result (λ asked. (command_of asked).asked (map string_bytes words.now)) }
+    ensures { IfOk result (λ asked. (command_asked asked).asked (map string_bytes words.now)) }
 {
     if have_form(alloc, words)? {
         Ok(asked_by(words))
@@ -28,7 +28,7 @@ pub(crate) fn read_words(alloc: Global, words: &[String]) -> Result<Option<Asked
 // What words ask for that have the form of a command: one word alone, `pool` and one more, or `load` and three more.
 fn asked_by(words: &[String]) -> Option<Asked>
     requires { HasForm (map string_bytes words.now) }
-    ensures { (command_of result).asked (map string_bytes words.now) }
+    ensures { (command_asked result).asked (map string_bytes words.now) }
 {
     match words {
         [_load, from, clients, ops] => match Load::read(from, clients, ops) {
@@ -46,7 +46,7 @@ fn asked_by(words: &[String]) -> Option<Asked>
 
 // What a word alone asks for, if anything.
 fn asked_alone(word: &str) -> Option<Asked>
-    ensures { (command_of result).asked (word.now ∷ []) }
+    ensures { (command_asked result).asked (word.now ∷ []) }
 {
     match word {
         "run" => Some(Asked::Run),
@@ -58,8 +58,8 @@ fn asked_alone(word: &str) -> Option<Asked>
     }
 }
 
-// Whether the words have the form of a command. A word that begins with a hyphen is in none. `Err` is want of
-// memory.
+// Whether the words have the form of a command. A word that begins with a hyphen is in none. `Err` means out
+// of memory.
 fn have_form(alloc: Global, words: &[String]) -> Result<bool, AllocError>
     ensures { IfOk result (λ is. IsTrue is ↔ HasForm (map string_bytes words.now)) }
 {

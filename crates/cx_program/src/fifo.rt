@@ -6,13 +6,12 @@ ghost use Rattle.cx_program.specs.Commands.{fifo_command};
 use crate::refusal::refusal;
 use crate::status::{Ended, Status};
 use cx_base::Gate;
-use fifo_answers::report_of_queue;
-use fifo_text::{FifoTextFault, read_fifo_script};
+use fifo_commands::{FifoTextFault, read_fifo_script, report_of_queue};
 use std::alloc::{AllocError, Global};
 use std::sync::Wait;
 use std::thread::Threads;
 
-/// The text that an input calls for, and how the run ends. `Err` is want of memory. It may wait.
+/// The text that an input calls for, and how the run ends. `Err` means out of memory. It may wait.
 pub(crate) fn queue_text<R: Threads + Wait + Sync, G: Gate + Sync>(
     rt: &R,
     alloc: Global,

@@ -1,4 +1,4 @@
-//! The command `image`: a script that is read and run, and what the last loss of power left.
+//! The command `image`: a script that is read and run, and what the last crash left.
 
 ghost use Rattle.std.specs.Prelude.{◌≤◌, length, IfOk};
 ghost use Rattle.cx_program.specs.Commands.{image_command};
@@ -6,13 +6,13 @@ ghost use Rattle.cx_program.specs.Commands.{image_command};
 use crate::refusal::refusal;
 use crate::status::{Ended, Status};
 use cx_base::Gate;
+use doc_commands::image_of_script;
 use doc_text::{TextFault, read_script};
-use script_answers::image_of_script;
 use std::alloc::{AllocError, Global};
 use std::sync::Wait;
 use std::thread::Threads;
 
-/// The text that an input calls for, and how the run ends. `Err` is want of memory. It may wait.
+/// The text that an input calls for, and how the run ends. `Err` means out of memory. It may wait.
 pub(crate) fn image_text<R: Threads + Wait + Sync, G: Gate + Sync>(
     rt: &R,
     alloc: Global,

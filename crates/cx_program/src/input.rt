@@ -1,7 +1,7 @@
 //! The input, read to its end.
 
 ghost use Rattle.std.specs.Prelude.{◌≡◌, ◌+◌, ◌<◌, ◌≤◌, IfOk, length, true, vec_len};
-ghost use Rattle.cx_program.specs.Input.{Draws, IsPiece, Shows};
+ghost use Rattle.cx_program.specs.Input.{Draws, IsPiece, ShowsInput};
 
 use cx_base::{Failed, Source};
 use std::alloc::{AllocError, Global};
@@ -12,7 +12,7 @@ pub(crate) const LIMIT: usize = 16_777_216;
 /// The bytes that a read asks for, but where fewer are left of the limit.
 const PIECE: usize = 65_536;
 
-/// What reading to the end came to.
+/// The result of reading to the end.
 #[derive(Drop)]
 pub(crate) enum Input {
     /// All bytes, within the limit.
@@ -23,14 +23,14 @@ pub(crate) enum Input {
     Failed,
 }
 
-// So many bytes that are 0.
+// `len` bytes that are 0.
 fn zeros(alloc: Global, len: usize) -> Result<Vec<u8>, AllocError>
     ensures { IfOk result (λ bytes. vec_len bytes ≡ len) }
 {
     vec![in alloc; 0u8; len]
 }
 
-// Reads one piece, at most as long as the buffer, and puts it behind the bytes read so far. The outer `Err` is want of
+// Reads one piece, at most as long as the buffer, and puts it after the bytes read so far. The outer `Err` means out of
 // memory: then the piece is lost.
 fn read_piece<S: Source>(
     source: &mut S,
@@ -50,9 +50,9 @@ fn read_piece<S: Source>(
     Ok(Ok(n))
 }
 
-/// Reads a source to its end, or to one byte behind the limit. Each read but the last brings a byte. `Err` is want of memory.
+/// Reads a source to its end, or to one byte after the limit. Each read but the last brings a byte. `Err` means out of memory.
 pub(crate) fn read_input<S: Source>(alloc: Global, source: &mut S) -> Result<Input, AllocError>
-    ensures input { IfOk result (Shows true (S.left source.old) (S.faults source.old) (S.faults source.new)) }
+    ensures input { IfOk result (ShowsInput true (S.left source.old) (S.faults source.old) (S.faults source.new)) }
     ensures drawn { Draws S.Source 16777217 source.old source.new }
     ensures count { S.faults source.old ≤ S.faults source.new }
 {

@@ -1,18 +1,18 @@
 //! The command `load`: a script that is made and run, and told of in four lines.
 
 ghost use Rattle.std.specs.Prelude.{◌≡◌, IfOk};
-ghost use Rattle.script_answers.specs.Texts.{IsSummary};
+ghost use Rattle.doc_commands.specs.ScriptTexts.{IsSummary};
 ghost use Rattle.cx_program.specs.declared.status.Status.TheVariants.{Fine};
 
 use crate::asked::Load;
 use crate::status::{Ended, Status};
 use cx_base::Gate;
-use script_answers::summary_of_load;
+use doc_commands::summary_of_load;
 use std::alloc::{AllocError, Global};
 use std::sync::Wait;
 use std::thread::Threads;
 
-/// Runs the script of a load. Gives the lines on its life, and how the run ends. `Err` is want of memory. It may wait.
+/// Runs the script of a load. Gives the lines on its life, and how the run ends. `Err` means out of memory. It may wait.
 pub(crate) fn load_text<R: Threads + Wait + Sync, G: Gate + Sync>(
     rt: &R,
     alloc: Global,

@@ -6,7 +6,7 @@ ghost use Rattle.cx_program.specs.Output.{Appends, AppendsFront};
 
 use cx_base::{Failed, Sink};
 
-/// Writes all of a text. After `Failed` a front of it was written.
+/// Writes all of a text. After `Failed` a prefix of it was written.
 pub(crate) fn write_text<K: Sink>(sink: &mut K, text: &[u8]) -> Result<(), Failed>
     ensures ok { OnOk result (Appends text.now (K.written sink.old) (K.written sink.new)) }
     ensures front { OnErr result (AppendsFront text.now (K.written sink.old) (K.written sink.new)) }

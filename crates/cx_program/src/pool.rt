@@ -7,13 +7,13 @@ use crate::asked::Seats;
 use crate::refusal::refusal;
 use crate::status::{Ended, Status};
 use cx_base::Gate;
+use doc_commands::report_of_pool;
 use doc_text::{TextFault, read_pool_script};
-use pool_answers::report_of_pool;
 use std::alloc::{AllocError, Global};
 use std::sync::Wait;
 use std::thread::Threads;
 
-/// The text that an input calls for, and how the run ends. `Err` is want of memory. It may wait.
+/// The text that an input calls for, and how the run ends. `Err` means out of memory. It may wait.
 pub(crate) fn pool_text<R: Threads + Wait + Sync, G: Gate + Sync>(
     rt: &R,
     alloc: Global,

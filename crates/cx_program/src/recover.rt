@@ -5,10 +5,10 @@ ghost use Rattle.cx_program.specs.Commands.{recover_command};
 ghost use Rattle.cx_program.specs.Status.{status_of};
 
 use crate::status::{Ended, Status};
-use image_answers::{ImageEnd, answer_image};
+use doc_commands::{ImageEnd, answer_image};
 use std::alloc::{AllocError, Global};
 
-/// The text that an input calls for, and how the run ends. `Err` is want of memory.
+/// The text that an input calls for, and how the run ends. `Err` means out of memory.
 pub(crate) fn recover_text(alloc: Global, bytes: &[u8]) -> Result<(Vec<u8>, Ended), AllocError>
     ensures calls { IfOk result (λ made. recover_command.calls bytes.now made.1.status) }
     ensures writes { IfOk result (λ made. recover_command.writes bytes.now made.1.status made.1.trails made.0.items) }

@@ -1,14 +1,14 @@
 //! How a run ended.
 
 ghost use Rattle.std.specs.Prelude.{◌≡◌, []};
-ghost use Rattle.cx_program.specs.Status.{code_of};
+ghost use Rattle.cx_program.specs.Status.{status_code};
 ghost use Rattle.cx_program.specs.declared.status.Status.TheVariants.{Fine};
 
 use cx_base::Items;
 use cx_table::Trail;
 use std::alloc::Global;
 
-/// What a run came to.
+/// The result of a run.
 #[derive(Clone, Copy, Debug, PartialEq, Eq)]
 pub enum Status {
     /// The output was written.
@@ -32,7 +32,7 @@ pub enum Status {
 impl Status {
     /// The exit code of the program.
     pub fn code(self) -> u8
-        ensures { result ≡ code_of self }
+        ensures { result ≡ status_code self }
     {
         match self {
             Status::Fine => 0,

@@ -1,9 +1,9 @@
 //! The top call: words and input in, status and text out.
 
 ghost use Rattle.std.specs.Prelude.{◌≡◌, ◌≤◌, ℕ, List, Option, map, string_bytes, length, false, IfOk, Some};
-ghost use Rattle.cx_program.specs.Answer.{Answers, HasCause, Read, Wrote};
+ghost use Rattle.cx_program.specs.Answer.{IsWrittenWith, HasCause, Read, Wrote};
 ghost use Rattle.cx_program.specs.Commands.{command};
-ghost use Rattle.cx_program.specs.Input.{Draws, IsInput, Shows};
+ghost use Rattle.cx_program.specs.Input.{Draws, IsInput, ShowsInput};
 
 use crate::asked::Asked;
 use crate::command_line::read_words;
@@ -27,9 +27,9 @@ const USAGE: &[u8] =
     b"usage: cx_tool run | image | recover | load FROM CLIENTS OPS | pool SEATS | fifo | trace\n";
 
 /// Runs the command that the words name. With `run` it reads a script from the source, runs its lives and writes the
-/// report, with `image` the image that the last loss of power left; with `recover` it reads such an image, and tells what is recovered
+/// report, with `image` the image that the last crash left; with `recover` it reads such an image, and tells what is recovered
 /// from it; with `fifo` it reads a script of a queue, runs its lives and writes their report; with `trace` it reads a recorded trace,
-/// and tells whether it is a run or which line is the first that fails; with `pool` and a number it reads a script whose clients share so
+/// and tells whether it is a run or which line is the first that fails; with `pool` and a number it reads a script whose clients share this
 /// many callers, runs its life and writes the report; with `load` and three numbers it makes a script, runs it and tells of it in four lines,
 /// and nothing is read. A text that says why is written in its place where the words or the input are refused.
 /// The whole text is made before its first byte is written. Every outcome is a status. It may wait.
@@ -42,11 +42,11 @@ pub fn cx_run<R: Threads + Wait + Sync, S: Source, K: Sink, G: Gate + Sync>(
     gate: &G,
 ) -> Ended
     // What was written is what the command that the words ask for owes, with the one status that its input calls for. For `run` and
-    // `Fine` it is the report of legal lives of the script that the input is, each told by the trail of the service that ran it; for
+    // `Fine` it is the report of legal lives of the script that the input is, each witnessed by the execution log of the service that ran it; for
     // `image` the image from which the base is recovered that such lives end with; for `recover` what is recovered from the input; for
-    // `fifo` the report of legal lives of a queue, each told by such a trail; for `pool` the report of a pool life of the script that the input
-    // is, told by the trail of the service whose callers the clients shared; for `trace` the one verdict that is of the trace.
-    ensures answer { Answers (map string_bytes words.now) (S.left source.old) result.status result.trails (K.written sink.old) (K.written sink.new) }
+    // `fifo` the report of legal lives of a queue, each witnessed by such a log; for `pool` the report of a pool life of the script that the input
+    // is, witnessed by the execution log of the service whose callers the clients shared; for `trace` the one verdict that is of the trace.
+    ensures answer { IsWrittenWith (map string_bytes words.now) (S.left source.old) result.status result.trails (K.written sink.old) (K.written sink.new) }
     // A fault is told only where the object that was handed in counted one.
     ensures cause { HasCause result.status (S.faults source.old) (S.faults source.new) (K.faults sink.old) (K.faults sink.new) }
     ensures drawn { Draws S.Source 16777217 source.old source.new }
@@ -81,7 +81,7 @@ fn run_asked<R: Threads + Wait + Sync, S: Source, K: Sink, G: Gate + Sync>(
     sink: &mut K,
     gate: &G,
 ) -> Ended
-    ensures answer { (words : List (List ℕ)) → (command asked.now).asked words → Answers words (S.left source.old) result.status result.trails (K.written sink.old) (K.written sink.new) }
+    ensures answer { (words : List (List ℕ)) → (command asked.now).asked words → IsWrittenWith words (S.left source.old) result.status result.trails (K.written sink.old) (K.written sink.new) }
     ensures cause { HasCause result.status (S.faults source.old) (S.faults source.new) (K.faults sink.old) (K.faults sink.new) }
     ensures drawn { Draws S.Source 16777217 source.old source.new }
     ensures unread { (command asked.now).reads ≡ false → source.new ≡ source.old }
@@ -112,9 +112,9 @@ fn reads(asked: &Asked) -> bool
     }
 }
 
-// The input of a command: all of the source, or nothing. `Err` is want of memory.
+// The input of a command: all of the source, or nothing. `Err` means out of memory.
 fn input_of<S: Source>(alloc: Global, asked: &Asked, source: &mut S) -> Result<Input, AllocError>
-    ensures input { IfOk result (Shows (command asked.now).reads (S.left source.old) (S.faults source.old) (S.faults source.new)) }
+    ensures input { IfOk result (ShowsInput (command asked.now).reads (S.left source.old) (S.faults source.old) (S.faults source.new)) }
     ensures drawn { Draws S.Source 16777217 source.old source.new }
     ensures unread { (command asked.now).reads ≡ false → source.new ≡ source.old }
 {
@@ -135,7 +135,7 @@ fn run_input<R: Threads + Wait + Sync, K: Sink, G: Gate + Sync>(
     gate: &G,
 ) -> Ended
     requires { length bytes.now ≤ 16777216 }
-    ensures answer { (words : List (List ℕ)) (told : Option (List ℕ)) → (command asked.now).asked words → IsInput (command asked.now).reads told bytes.now → Answers words told result.status result.trails (K.written sink.old) (K.written sink.new) }
+    ensures answer { (words : List (List ℕ)) (told : Option (List ℕ)) → (command asked.now).asked words → IsInput (command asked.now).reads told bytes.now → IsWrittenWith words told result.status result.trails (K.written sink.old) (K.written sink.new) }
     ensures cause { (reads reads' : ℕ) → HasCause result.status reads reads' (K.faults sink.old) (K.faults sink.new) }
 {
     match text_of(rt, alloc, asked, bytes, gate) {
@@ -144,7 +144,7 @@ fn run_input<R: Threads + Wait + Sync, K: Sink, G: Gate + Sync>(
     }
 }
 
-// The text that a command has for a whole input, and how the run ends. `Err` is want of memory.
+// The text that a command has for a whole input, and how the run ends. `Err` means out of memory.
 fn text_of<R: Threads + Wait + Sync, G: Gate + Sync>(
     rt: &R,
     alloc: Global,

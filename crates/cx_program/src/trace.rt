@@ -5,11 +5,11 @@ ghost use Rattle.cx_program.specs.Commands.{trace_command};
 
 use crate::refusal::refusal;
 use crate::status::{Ended, Status};
+use doc_commands::verdict_of_trace;
 use std::alloc::{AllocError, Global};
-use trace_answers::verdict_of_trace;
 use trace_text::{TraceFault, read_trace};
 
-/// The text that an input calls for, and how the run ends. `Err` is want of memory.
+/// The text that an input calls for, and how the run ends. `Err` means out of memory.
 pub(crate) fn verdict_text(alloc: Global, bytes: &[u8]) -> Result<(Vec<u8>, Ended), AllocError>
     ensures calls { IfOk result (λ made. trace_command.calls bytes.now made.1.status) }
     ensures writes { IfOk result (λ made. trace_command.writes bytes.now made.1.status made.1.trails made.0.items) }

@@ -17,7 +17,7 @@ use Rattle.cx_core.specs.WriteSet.{stored}
 use Rattle.cx_core.proofs.HistoryLemmas.{ObjectLaws, full_lawful, full_next}
 use Rattle.cx_rule.specs.declared.rule.Known.{Known}
 use Rattle.cx_rule.specs.declared.rule.Noted.{Noted}
-use Rattle.cx_rule.specs.Fitting.{Fits, FitsOn, Fitting, Has, IsNoted, ReplayedTo, base_of, has_of, start, with_entry, with_set}
+use Rattle.cx_rule.specs.Fitting.{IsConsistentWith, FitsOn, Fitting, Has, IsNoted, ReplayedTo, base_of, has_of, start, with_entry, with_set}
 use Rattle.cx_rule.specs.Having.{IsOfHistory}
 use Rattle.cx_rule.specs.Rule.{IsBehindNotes, IsEntryFrom, IsImageOfSome, IsOrigin, NotesHold}
 
@@ -70,7 +70,7 @@ module _ (lines : ℕ) (lawful : List ℕ → Type 0) (instance : Instance) (law
   full_base region f = subst (λ ws. LawfulBase lines lawful (let b : Base = record { place = place_of region; words = ws } in b)) (sym f.full) (full_at (place_of region) f.from f.to)
 
   -- what is there fits
-  pub traced_fits : (accesses : List Note) (first now : List ℕ) → IsOrigin instance history first → NotesLead accesses first now → Fits lines lawful instance.base accesses first now
+  pub traced_fits : (accesses : List Note) (first now : List ℕ) → IsOrigin instance history first → NotesLead accesses first now → IsConsistentWith lines lawful instance.base accesses first now
   traced_fits accesses first now o leads = record { origin = full_base first (origin_full first o); from = o.from; leads = leads }
 
   -- so it is lawful at its ticket

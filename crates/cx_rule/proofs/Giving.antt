@@ -97,7 +97,7 @@ module _ (lines : ℕ) (lawful : List ℕ → Type 0) (instance : Instance) (law
       let full = chain_full lines lawful instance laws base law.history law.tickets.below (entries_from instance state law) (has_of known) had traced.first traced.origin place traced.now chain in
       subst (λ ws. IsFull instance law.history ws × (place_of ws ≡ place)) (traced.held h has) full
 
-  -- an exclusive right is given up on a full image
+  -- an exclusive right is released on a full image
   pub learns_release : (r : ℕ) (known : Known) (word : ℕ) → IsClean instance.callers r known.local → word ≡ step_word instance (ReleaseExclusive r) known.local → IsReplayed lines lawful instance.base instance.step known →
       LearnsBy instance (λ _. ReleaseExclusive r) known word (λ x. new_word instance (ReleaseExclusive r) known.local x)
   learns_release r known word clean at replayed words _ locals law l of_caller shows noted traced sets own some =

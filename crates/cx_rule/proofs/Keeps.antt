@@ -34,9 +34,9 @@ use Rattle.cx_rule.specs.Seats.{IsByShown, WordFits, accesses_after, known_after
 use Rattle.core_runs.proofs.Keeps.{bounds_of, kind_kept}
 use Rattle.cx_rule.proofs.ShownLaws.{guard_shown, known_shown, lawful_shown, put_shown, told_shown, word_shown}
 use Rattle.cx_rule.proofs.Notes.{noted_hold, notes-append, notes_still}
-use Rattle.cx_rule.specs.Steps.{IsCopyLearned, IsEventOn, IsImageLearned, IsStore, Puts, Teaches, TeachesCopied, TeachesImage, known_copied, known_taken}
+use Rattle.cx_rule.specs.Steps.{IsCopyLearned, IsEventOn, IsImageLearned, IsStoreEvent, Puts, Teaches, TeachesCopied, TeachesImage, known_copied, known_taken}
 use Rattle.cx_rule.specs.Timing.{AddTimes, AreTimes}
-use Rattle.cx_rule.specs.Told.{Told}
+use Rattle.cx_rule.specs.Told.{KnownOfLoad}
 use Rattle.cx_rule.proofs.Telling.{told_holds}
 use Rattle.cx_rule.proofs.Behind.{behind_notes}
 use Rattle.cx_rule.proofs.Entries.{entries_from}
@@ -289,7 +289,7 @@ event_teaches instance kind s id known word new held view learns =
       knows = refl;
       lawful = seat_lawful instance s id known held view;
       lawful_after = leaves.0;
-      told = subst (λ (x : Local). Told instance kind x found) (sym mine.shows) (told_shown instance kind l found (subst (λ (w : ℕ). Told instance kind l (slice_index s.words w)) here told));
+      told = subst (λ (x : Local). KnownOfLoad instance kind x found) (sym mine.shows) (told_shown instance kind l found (subst (λ (w : ℕ). KnownOfLoad instance kind l (slice_index s.words w)) here told));
       behind = leaves.1;
     }
 
@@ -352,7 +352,7 @@ allows_taking instance kind image known slots id word me f one learn taking =
     )))
 
 -- what a step teaches that does not look at the word found
-pub blind_teaches : (instance : Instance) (kind : Kind) (known : Known) (found : ℕ) → ((x y : ℕ) → known_after instance kind known x ≡ known_after instance kind known y) → Told instance kind known.local 0 →
+pub blind_teaches : (instance : Instance) (kind : Kind) (known : Known) (found : ℕ) → ((x y : ℕ) → known_after instance kind known x ≡ known_after instance kind known y) → KnownOfLoad instance kind known.local 0 →
     Teaches instance kind known found (known_after instance kind known found ∷ [], []) → Teaches instance kind known 0 (known_after instance kind known found ∷ [], [])
 blind_teaches instance kind known found blind silent taught = record {
   knows = ap (λ (k : Known). the_me k) (blind found 0);
@@ -381,7 +381,7 @@ allows_found r step reads kind slots id word table me f event puts =
 
 -- the same of a store, which finds no word
 pub allows_store : {O : Type 0} (r : Running O) (step : O → List ℕ → List ℕ → List ℕ × List ℕ) (reads : O → List ℕ → Bool) (kind : Kind) (slots id word : ℕ) (table : TableId) (me : atomic.Me ℕ (List Known)) (new : ℕ) →
-    IsEventOn r step reads kind word table me → IsStore (instance_at r step reads) kind (known_of me.0) new → atomic.Allows (RuleHolds (instance_at r step reads)) slots id me word (λ _. new) (λ _. Teaches (instance_at r step reads) kind (known_of me.0) 0)
+    IsEventOn r step reads kind word table me → IsStoreEvent (instance_at r step reads) kind (known_of me.0) new → atomic.Allows (RuleHolds (instance_at r step reads)) slots id me word (λ _. new) (λ _. Teaches (instance_at r step reads) kind (known_of me.0) 0)
 allows_store r step reads kind slots id word table me new event store =
     let instance = instance_at r step reads in
     let known = known_of me.0 in

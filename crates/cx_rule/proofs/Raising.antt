@@ -30,7 +30,7 @@ use Rattle.cx_core.proofs.MergeLemmas.{history_is}
 use Rattle.core_queue.specs.NotedSets.{OwnSetsHold, SetNotesHold}
 use Rattle.cx_rule.specs.declared.rule.Known.{Known}
 use Rattle.cx_rule.specs.Fitting.{FitsKnown, FitsOn, Has, ReadFits, ReplayedTo, has_of, loaded_of, loads_of}
-use Rattle.cx_rule.specs.Raises.{AnswersOf, IsRaiseLearned, TeachesRaised, TellsAnswers, TellsReads, TellsReply, answered_local, known_answered, op_in, read_at, times_raised}
+use Rattle.cx_rule.specs.Raises.{AnswersOf, IsRaiseLearned, TeachesRaised, TellsAnswers, TellsReads, TellsReply, answered_local, known_answered, read_op_in, read_at, times_raised}
 use Rattle.cx_rule.specs.Rule.{IsTraced, NotesHold, RuleHolds}
 use Rattle.cx_rule.specs.Seats.{place_noted}
 use Rattle.cx_rule.specs.Timing.{AddTimes}
@@ -69,8 +69,8 @@ answered_adds olds news answers ts n m same given (inr one) =
 
 -- its time, and that of a read that it answers
 raise_adds : (instance : Instance) (scene : Scene) (code : ℕ) (known : Known) (l : Local) → known.local ≡ shown l → (answers : List Answer) → answers ≡ answers_below instance scene.history (root_place_of instance.callers code) (unanswered l) →
-    (count : ℕ) (read : Option (List ℕ × List ℕ)) → CanRaise instance code (op_in read) known.local →
-    AddTimes l (raised_by instance scene code (op_in read) l) known.times (times_raised answers (read_at (root_place_of instance.callers code) count read) known)
+    (count : ℕ) (read : Option (List ℕ × List ℕ)) → CanRaise instance code (read_op_in read) known.local →
+    AddTimes l (raised_by instance scene code (read_op_in read) l) known.times (times_raised answers (read_at (root_place_of instance.callers code) count read) known)
 raise_adds instance scene code known l shows answers given count read can = record {
   linked = inl (refl, refl);
   answered = answered_adds l.answered _ answers known.times.answered (one_more known.local.steps) (one_more l.steps) steps given (answers_are instance scene.history (root_place_of instance.callers code) (unanswered l));
@@ -81,9 +81,9 @@ raise_adds instance scene code known l shows answers given count read can = reco
     steps : one_more known.local.steps ≡ one_more l.steps
     steps = ap (λ (x : Local). one_more x.steps) shows
 
-    by : (r : Option (List ℕ × List ℕ)) → CanRaise instance code (op_in r) known.local →
-        ((length (raised_by instance scene code (op_in r) l).seen_reads ≡ length l.seen_reads) × ((times_raised answers (read_at (root_place_of instance.callers code) count r) known).reads ≡ known.times.reads))
-        ⊎ ((l.fresh ≡ true) × (length (raised_by instance scene code (op_in r) l).seen_reads ≡ length l.seen_reads + 1)
+    by : (r : Option (List ℕ × List ℕ)) → CanRaise instance code (read_op_in r) known.local →
+        ((length (raised_by instance scene code (read_op_in r) l).seen_reads ≡ length l.seen_reads) × ((times_raised answers (read_at (root_place_of instance.callers code) count r) known).reads ≡ known.times.reads))
+        ⊎ ((l.fresh ≡ true) × (length (raised_by instance scene code (read_op_in r) l).seen_reads ≡ length l.seen_reads + 1)
         × ((times_raised answers (read_at (root_place_of instance.callers code) count r) known).reads ≡ known.times.reads ++ (known.times.loaded, one_more l.steps) ∷ []))
     by None can = inl (ap length (append-nil l.seen_reads), append-nil known.times.reads)
     by (Some op) can = inr (ap (λ (x : Local). x.fresh) (sym shows) ∙ can.1.2, length-append l.seen_reads _, ap (λ n. known.times.reads ++ (known.times.loaded, n) ∷ []) steps)
@@ -145,8 +145,8 @@ module _ (lines : ℕ) (lawful : List ℕ → Type 0) (instance : Instance) (law
         ∙ ap (λ p. reply_after instance law.history p op) place
 
     -- so a read that is told has the history's reply
-    reads_told : 0 < length instance.base.words → (code count : ℕ) (read : Option (List ℕ × List ℕ)) → CanRaise instance code (op_in read) known.local → TellsReads lines lawful instance.base instance.step known read →
-        read_at (root_place_of instance.callers code) count read ≡ reads_at instance law.history (root_place_of instance.callers code) count (op_in read)
+    reads_told : 0 < length instance.base.words → (code count : ℕ) (read : Option (List ℕ × List ℕ)) → CanRaise instance code (read_op_in read) known.local → TellsReads lines lawful instance.base instance.step known read →
+        read_at (root_place_of instance.callers code) count read ≡ reads_at instance law.history (root_place_of instance.callers code) count (read_op_in read)
     reads_told some code count None can tells = refl
     reads_told some code count (Some read) can tells =
         let place = root_place_of instance.callers code in
@@ -154,7 +154,7 @@ module _ (lines : ℕ) (lawful : List ℕ → Type 0) (instance : Instance) (law
         (read_told some code read.0 read.1 known.local.shared (sym (ap (λ (x : Local). x.shared) shows)) can.1.3 tells)
 
   -- A raise is learned by what its caller noted.
-  pub learns_raise : (code : ℕ) (answers : List Answer) (read : Option (List ℕ × List ℕ)) (known : Known) (word : ℕ) → CanRaise instance code (op_in read) known.local → word ≡ dur_at →
+  pub learns_raise : (code : ℕ) (answers : List Answer) (read : Option (List ℕ × List ℕ)) (known : Known) (word : ℕ) → CanRaise instance code (read_op_in read) known.local → word ≡ dur_at →
       TellsAnswers lines lawful instance.base instance.step known (root_place_of instance.callers code) answers → TellsReads lines lawful instance.base instance.step known read → IsRaiseLearned instance code answers read known word
   learns_raise code answers read known word can at tells reads words locals law l of_caller shows noted traced sets own some =
       let scene = scene_of instance (record { words = words; locals = locals }) in
@@ -164,17 +164,17 @@ module _ (lines : ℕ) (lawful : List ℕ → Type 0) (instance : Instance) (law
       let count_is : length known.local.answered + length answers ≡ count = ap (λ (x : Local). length x.answered + length answers) shows in
       let given : answers ≡ answers_below instance scene.history place (unanswered l) =
       answers_told words locals law known l of_caller shows noted traced sets own place answers tells ∙ ap (λ (h : List Entry). answers_below instance h place (unanswered l)) (sym same) in
-      let given_reads : read_at place (length known.local.answered + length answers) read ≡ reads_at instance scene.history place count (op_in read) =
+      let given_reads : read_at place (length known.local.answered + length answers) read ≡ reads_at instance scene.history place count (read_op_in read) =
       reads_told words locals law known l of_caller shows noted traced sets own some code (length known.local.answered + length answers) read can reads
-      ∙ ap (λ (n : ℕ). reads_at instance law.history place n (op_in read)) count_is
-      ∙ ap (λ (h : List Entry). reads_at instance h place count (op_in read)) (sym same) in
+      ∙ ap (λ (n : ℕ). reads_at instance law.history place n (read_op_in read)) count_is
+      ∙ ap (λ (h : List Entry). reads_at instance h place count (read_op_in read)) (sym same) in
       record {
-        guard = can_raise instance code (op_in read) l (subst (CanRaise instance code (op_in read)) shows can);
+        guard = can_raise instance code (read_op_in read) l (subst (CanRaise instance code (read_op_in read)) shows can);
         word_is = at;
         new_is = refl;
         shows = ap (answered_local instance code answers (read_at place (length known.local.answered + length answers) read)) shows
             ∙ ap (λ (rs : List SeenRead). answered_local instance code answers rs (shown l)) given_reads
-            ∙ ap (λ (told : List Answer). answered_local instance code told (reads_at instance scene.history place (length l.answered + length told) (op_in read)) (shown l)) given;
+            ∙ ap (λ (told : List Answer). answered_local instance code told (reads_at instance scene.history place (length l.answered + length told) (read_op_in read)) (shown l)) given;
         notes = noted;
         traced = record { first = traced.first; now = traced.now; origin = traced.origin; leads = traced.leads; held = λ h has. traced.held h has };
         sets = sets;
@@ -215,7 +215,7 @@ pub allows_raised : (instance : Instance) (code : ℕ) (answers : List Answer) (
 allows_raised instance code answers read known slots id word me one learn =
     let tells : ℕ → atomic.Me ℕ (List Known) → Type 0 = λ _ after. (told : List Answer) → IsRaiseLearned instance code told read known word → TeachesRaised instance code told read known after in
     subst (λ m. atomic.Allows (RuleHolds instance) slots id m word (λ x. max x code) tells) (sym one) (λ s held homes view fits.
-    (let kind = Raise code (op_in read) in
+    (let kind = Raise code (read_op_in read) in
     let put = max (slice_index s.words word) code in
     let known' = known_answered instance code answers read known in (
       known' ∷ [],

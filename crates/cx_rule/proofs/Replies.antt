@@ -20,7 +20,7 @@ use Rattle.cx_core.proofs.HistoryLemmas.{ObjectLaws, begins, full_lawful, full_n
 use Rattle.cx_core.proofs.KeepLemmas as keep
 use Rattle.cx_core.proofs.Locals.{linked_below, linked_within}
 use Rattle.cx_core.proofs.MergeLemmas.{has_own, own_mine, own_other}
-use Rattle.core_answers.proofs.OwnLaws.{own_linked, own_rises}
+use Rattle.core_replica.proofs.OwnLaws.{own_linked, own_rises}
 
 -- one entry more is one step more of the object
 image_next : (step : List ℕ → List ℕ → List ℕ × List ℕ) (image : List ℕ) (history : List Entry) (n : ℕ) (entry : Entry) → slice_get history n ≡ Some entry →

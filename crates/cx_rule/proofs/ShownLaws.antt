@@ -21,7 +21,7 @@ use Rattle.core_replica.proofs.LockLaws.{few_same}
 use Rattle.cx_rule.specs.Rule.{IsLawfulLocal}
 use Rattle.cx_rule.specs.declared.rule.Known.{Known}
 use Rattle.cx_rule.specs.Seats.{IsByShown, known_local, shown_next, unseen}
-use Rattle.cx_rule.specs.Told.{Told}
+use Rattle.cx_rule.specs.Told.{KnownOfLoad}
 
 abbrev blank : HeldExclusive → HeldExclusive
 blank h = record h { words = [] }
@@ -133,7 +133,7 @@ shown_rights l = record { exclusive = on l.exclusive; shared = refl; passer = re
     on (Some h) = refl
 
 -- what the rule says of the word found
-pub told_shown : (instance : Instance) (kind : Kind) (l : Local) (found : ℕ) → Told instance kind l found → Told instance kind (shown l) found
+pub told_shown : (instance : Instance) (kind : Kind) (l : Local) (found : ℕ) → KnownOfLoad instance kind l found → KnownOfLoad instance kind (shown l) found
 told_shown instance (Link j) l found told = record { names = told.names; later = told.later }
 told_shown instance (Look s) l found told = record { names = told.names; greatest = told.greatest; live = told.live }
 told_shown instance LoadCur l found told = record { most = told.most; apart = λ held. told.apart (sym (shown_rights l).exclusive ∙ held) }

@@ -23,10 +23,10 @@ use Rattle.core_queue.proofs.LinkLaws.{code_ticket}
 use Rattle.core_queue.proofs.LiveCells.{linked_callers, seen_shown}
 use Rattle.core_queue.proofs.QueueFrames.{queue_of}
 use Rattle.core_queue.proofs.SetNotes.{read_count}
-use Rattle.core_root.proofs.Unheld.{current_unheld}
+use Rattle.core_replica.proofs.Unheld.{current_unheld}
 use Rattle.cx_core.proofs.Claims.{unheld_none}
 use Rattle.cx_core.proofs.Locals.{linked_below}
-use Rattle.cx_rule.specs.Told.{CurTold, LinkTold, LookTold, NamesTicket, Told}
+use Rattle.cx_rule.specs.Told.{CurTold, LinkTold, LookTold, NamesTicket, KnownOfLoad}
 
 -- the slot that a guard speaks of was seen
 open_seen : (callers : ℕ) (seen : Option SeenSlot) (ticket : ℕ) → ShowsOpen callers seen ticket → (x : SeenSlot) × (seen ≡ Some x) × (x.slot ≡ ticket % cell_count callers)
@@ -165,7 +165,7 @@ count_told instance s law caller l k t i at first guard =
 
 -- what a step tells of the word found
 pub told_holds : (instance : Instance) (kind : Kind) (s : State) (law : Lawful instance s) (caller : ℕ) (l : Local) → slice_get s.locals caller ≡ Some l → Guard instance (scene_of instance s) kind l →
-    Told instance kind l (found_by instance kind l s.words)
+    KnownOfLoad instance kind l (found_by instance kind l s.words)
 told_holds instance (Link j) s law caller l at guard = link_told instance s law caller l at guard.4
 told_holds instance (Look slot) s law caller l at guard = look_told instance s law caller l slot at guard
 told_holds instance LoadFree s law caller l at guard = (law.fronts.each caller l at).free

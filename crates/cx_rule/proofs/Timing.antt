@@ -3,8 +3,8 @@ use Rattle.std.proofs.Common.{◌≡◌, ◌+◌, ◌==◌, ◌<◌, ◌≤◌, 
 use Rattle.std.proofs.lemmas.Bool.{false≢true}
 use Rattle.std.proofs.lemmas.List.{append-nil, length-append}
 use Rattle.std.specs.List.{slice_get}
-use Rattle.core_order.specs.RealTime.{Operation}
-use Rattle.core_order.specs.RealTime.Operation.{Update, Read}
+use Rattle.core_runs.specs.RealTime.{Operation}
+use Rattle.core_runs.specs.RealTime.Operation.{Update, Read}
 use Rattle.cx_core.specs.declared.kinds.Event.{Event}
 use Rattle.cx_core.specs.declared.kinds.Kind.{Kind}
 use Rattle.cx_core.specs.declared.kinds.Kind.TheVariants.{Confirm, Link, LoadCur, LoadWord, TryExclusive, TryShared, BackOff, Publish, Raise, OpenFree, WriteCell}

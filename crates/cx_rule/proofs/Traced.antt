@@ -14,7 +14,7 @@ use Rattle.cx_core.specs.Events.{Guard, found_by, local_after}
 use Rattle.cx_core.specs.History.{full_image}
 use Rattle.cx_core.specs.Lawful.{Lawful}
 use Rattle.cx_core.specs.LawfulLocks.{total}
-use Rattle.cx_core.specs.LawfulRegions.{IsImage, vol_word}
+use Rattle.cx_core.specs.LawfulRegions.{IsReplicaImage, vol_word}
 use Rattle.cx_core.specs.Layout.{lock_at, replica_words, vol_at}
 use Rattle.cx_core.specs.LockEvents.{exclusive_mark, passing, refused_by, shared_by, taken}
 use Rattle.cx_core.specs.Merge.{IsLinked, scene_of}
@@ -86,7 +86,7 @@ images_added instance history history' images images' grows are (inr one) = λ i
 ]
 
 -- a replica that is an image, as a list
-pub image_origin : (instance : Instance) (s : State) (law : Lawful instance s) (r : ℕ) → r < 2 * instance.callers → 0 < length instance.base.words → IsImage instance law.history s.words r →
+pub image_origin : (instance : Instance) (s : State) (law : Lawful instance s) (r : ℕ) → r < 2 * instance.callers → 0 < length instance.base.words → IsReplicaImage instance law.history s.words r →
     IsOrigin instance law.history (replica_words instance.callers (length instance.base.words) s.words r)
 image_origin instance s law r small some image =
     let region = length instance.base.words in

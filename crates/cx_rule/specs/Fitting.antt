@@ -23,7 +23,7 @@ base_of words = record { place = place_of words; words = words }
 
 -- A pair of lists fits the accesses of a replica held exclusively: the first is lawful as a base, at a place from the base's
 -- on, and the accesses lead from it to the second.
-pub record Fits (lines : ℕ) (lawful : List ℕ → Type 0) (base : Base) (accesses : List Note) (first now : List ℕ) : Type 0 where
+pub record IsConsistentWith (lines : ℕ) (lawful : List ℕ → Type 0) (base : Base) (accesses : List Note) (first now : List ℕ) : Type 0 where
   pub origin : LawfulBase lines lawful (base_of first)
   pub from : base.place ≤ place_of first
   pub leads : NotesLead accesses first now
@@ -34,10 +34,10 @@ loads_of loaded = map (λ (x : ℕ × ℕ). (false, x.0, x.1)) loaded
 
 -- the same for a replica held shared, which nobody stores to: the second list is the first
 pub record ReadFits (lines : ℕ) (lawful : List ℕ → Type 0) (base : Base) (loaded : List (ℕ × ℕ)) (first now : List ℕ) : Type 0 where
-  pub fits : Fits lines lawful base (loads_of loaded) first now
+  pub fits : IsConsistentWith lines lawful base (loads_of loaded) first now
   pub same : now ≡ first
 
--- the accesses tell this word of a replica that has so many
+-- the accesses tell this word of a replica that has this number of words
 abbrev pub TellsWord : ℕ → List Note → ℕ → ℕ → Type 0
 TellsWord region accesses at word = (first now : List ℕ) → length first ≡ region → NotesLead accesses first now → slice_index now at ≡ word
 
@@ -117,7 +117,7 @@ ReplayedTo step has = Chain step has.entry has.set
 -- The accesses lead from the first list to the second, and whatever the entries and sets that a seat has lead to from the first is lawful
 -- as a base at its place. So a list fits that stays lawful through what was applied.
 pub record FitsOn (lines : ℕ) (lawful : List ℕ → Type 0) (base : Base) (step : List ℕ → List ℕ → List ℕ × List ℕ) (has : Has) (accesses : List Note) (first now : List ℕ) : Type 0 where
-  pub fits : Fits lines lawful base accesses first now
+  pub fits : IsConsistentWith lines lawful base accesses first now
   pub stays : (place : ℕ) (mid : List ℕ) → ReplayedTo step has first place mid → LawfulBase lines lawful (record { place = place; words = mid })
 
 -- a pair fits what a seat knows of the replica that its caller holds exclusively or held so last
@@ -128,7 +128,7 @@ FitsKnown lines lawful base step known = FitsOn lines lawful base step (has_of k
 abbrev pub SomeFits : ℕ → (List ℕ → Type 0) → Base → (List ℕ → List ℕ → List ℕ × List ℕ) → Known → Type 0
 SomeFits lines lawful base step known = ∥ ((first : List ℕ) × (now : List ℕ) × FitsKnown lines lawful base step known first now) ∥₁
 
--- a set has at most 256 pairs, each with the address of one of so many words
+-- a set has at most 256 pairs, each with the address of a word of a region of this size
 pub record IsSetWithin (size : ℕ) (set : List ℕ) : Type 0 where
   pub few : slice_index set 0 ≤ 256
   pub within : (m : ℕ) → m < slice_index set 0 → slice_index set (2 * m + 1) < size

@@ -52,10 +52,10 @@ abbrev pub TellsReads : ℕ → (List ℕ → Type 0) → Base → (List ℕ →
 TellsReads lines lawful base step known None = Unit {0}
 TellsReads lines lawful base step known (Some read) = TellsRead lines lawful base step known read.0 read.1
 
-abbrev pub op_in : Option (List ℕ × List ℕ) → Option (List ℕ)
-op_in read = option_map (λ (x : List ℕ × List ℕ). x.0) read
+abbrev pub read_op_in : Option (List ℕ × List ℕ) → Option (List ℕ)
+read_op_in read = option_map (λ (x : List ℕ × List ℕ). x.0) read
 
--- a read as it is answered at a place, where so many entries of its caller are answered
+-- a read as it is answered at a place, where this number of its caller's entries is answered
 abbrev pub read_at : ℕ → ℕ → Option (List ℕ × List ℕ) → List SeenRead
 read_at place answered None = []
 read_at place answered (Some read) = record { place = place; op = read.0; reply = read.1; before = answered } ∷ []
@@ -90,7 +90,7 @@ known_answered instance code answers read known =
 -- what a raise teaches is known by what the caller noted
 abbrev pub IsRaiseLearned : Instance → ℕ → List Answer → Option (List ℕ × List ℕ) → Known → ℕ → Type 0
 IsRaiseLearned instance code answers read known word =
-    (words : List ℕ) → LearnsAnyway instance words (Raise code (op_in read)) known word (max (slice_index words word) code) (known_answered instance code answers read known)
+    (words : List ℕ) → LearnsAnyway instance words (Raise code (read_op_in read)) known word (max (slice_index words word) code) (known_answered instance code answers read known)
 
 -- what it teaches: what the caller then knows, what the lawful state says of its local state by itself, before and after, and what
 -- is behind the notes
@@ -104,7 +104,7 @@ pub record TeachesRaised (instance : Instance) (code : ℕ) (answers : List Answ
 -- is given it is answered at the code's place.
 pub record Raises {O : Type 0} (r : Running O) (step : O → List ℕ → List ℕ → List ℕ × List ℕ) (reads : O → List ℕ → Bool) (code : ℕ) (answers : List Answer) (read : Option (List ℕ × List ℕ)) (before after : Seated) : Type 0 where
   pub allowed : ¬ IsAtLimit before.known.local
-  pub guard : CanRaise (instance_at r step reads) code (op_in read) before.known.local
+  pub guard : CanRaise (instance_at r step reads) code (read_op_in read) before.known.local
   pub made : after ≡ record before { known = known_answered (instance_at r step reads) code answers read before.known }
   pub lawful : IsLawfulLocal (instance_at r step reads) before.known.local
   pub lawful_after : IsLawfulLocal (instance_at r step reads) after.known.local

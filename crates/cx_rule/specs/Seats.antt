@@ -29,8 +29,8 @@ use Rattle.cx_rule.specs.declared.rule.Times.{Times}
 abbrev pub unseen : Scene
 unseen = record { history = []; words = [] }
 
--- Those are the kinds whose guard, whose word put and whose shown local state afterwards look at no word of a region. To give
--- up an exclusive right its words have to be a full image, what is persisted is one of them, a load that is marked as a
+-- Those are the kinds whose guard, whose word put and whose shown local state afterwards look at no word of a region. To release
+-- an exclusive right its words have to be a full image, what is persisted is one of them, a load that is marked as a
 -- refusal found another place, and what a raise answers is the history's.
 abbrev pub IsByShown : Kind → Type 0
 IsByShown (Downgrade r) = ⊥

@@ -13,7 +13,7 @@ use Rattle.cx_rule.specs.Learns.{LearnsAnyway, LearnsBy}
 use Rattle.cx_rule.specs.Rule.{IsBehindNotes, IsImageOfSome, IsLawfulLocal}
 use Rattle.cx_rule.specs.Running.{IsSeatOf, Running, instance_at}
 use Rattle.cx_rule.specs.Seats.{IsAtLimit, IsByShown, IsWithinLimit, Seated, WordFits, kind_found, known_after, known_of, stepped, unseen}
-use Rattle.cx_rule.specs.Told.{Told}
+use Rattle.cx_rule.specs.Told.{KnownOfLoad}
 
 -- an event of this kind is allowed for the caller of a seat of this table, and this is the word that it is on
 pub record IsEventOn {O : Type 0} (r : Running O) (step : O → List ℕ → List ℕ → List ℕ × List ℕ) (reads : O → List ℕ → Bool) (kind : Kind) (word : ℕ) (table : TableId) (me : Me ℕ (List Known)) : Type 0 where
@@ -36,13 +36,13 @@ Puts instance kind l put = (x : ℕ) → new_word instance kind l x ≡ put x
 -- whatever an event finds, its caller knows the same, and it is told nothing
 pub record IsBlind (instance : Instance) (kind : Kind) (known : Known) : Type 0 where
   pub blind : (x y : ℕ) → known_after instance kind known x ≡ known_after instance kind known y
-  pub silent : Told instance kind known.local 0
+  pub silent : KnownOfLoad instance kind known.local 0
 
 -- the event is a store of this word: whatever it finds, it puts this, and its caller knows the same and is told nothing
-pub record IsStore (instance : Instance) (kind : Kind) (known : Known) (new : ℕ) : Type 0 where
+pub record IsStoreEvent (instance : Instance) (kind : Kind) (known : Known) (new : ℕ) : Type 0 where
   pub puts : Puts instance kind known.local (λ _. new)
   pub blind : (x y : ℕ) → known_after instance kind known x ≡ known_after instance kind known y
-  pub silent : Told instance kind known.local 0
+  pub silent : KnownOfLoad instance kind known.local 0
 
 -- what an event of a caller that found this word teaches the caller's seat: what it then knows, what the lawful state says of
 -- the caller's local state by itself, before and after, what the rule says of the word found, and what is behind the notes
@@ -50,7 +50,7 @@ pub record Teaches (instance : Instance) (kind : Kind) (known : Known) (found : 
   pub knows : after ≡ (known_after instance kind known found ∷ [], [])
   pub lawful : IsLawfulLocal instance known.local
   pub lawful_after : IsLawfulLocal instance (known_after instance kind known found).local
-  pub told : Told instance kind known.local found
+  pub told : KnownOfLoad instance kind known.local found
   pub behind : IsBehindNotes instance (known_after instance kind known found)
 
 -- The step was made, which the limit allowed: the seat is the one after the event of this kind that found this word. The
@@ -60,7 +60,7 @@ pub record Steps {O : Type 0} (r : Running O) (step : O → List ℕ → List �
   pub made : after ≡ stepped (instance_at r step reads) kind before found
   pub lawful : IsLawfulLocal (instance_at r step reads) before.known.local
   pub lawful_after : IsLawfulLocal (instance_at r step reads) after.known.local
-  pub told : Told (instance_at r step reads) kind before.known.local found
+  pub told : KnownOfLoad (instance_at r step reads) kind before.known.local found
   pub within : IsWithinLimit after.known.local
   pub seat : IsSeatOf r after
 

@@ -1,7 +1,7 @@
 -- When a caller's operations began and were answered: a moment of the run of all callers, by how many steps the caller had made.
 use Rattle.std.specs.Prelude.{◌≡◌, ◌+◌, ◌≤◌, ◌⊎◌, true, false, ℕ, min, List, [], ◌∷◌, ◌++◌, Some, length, slice_get}
-use Rattle.core_order.specs.RealTime.{IsAhead, IsAnswered, Operation}
-use Rattle.core_order.specs.RealTime.Operation.{Update, Read}
+use Rattle.core_runs.specs.RealTime.{IsAhead, IsAnswered, Operation}
+use Rattle.core_runs.specs.RealTime.Operation.{Update, Read}
 use Rattle.cx_core.specs.declared.kinds.Event.{Event}
 use Rattle.cx_core.specs.declared.local.Local.{Local}
 use Rattle.cx_core.specs.Events.{Run}
@@ -9,7 +9,7 @@ use Rattle.cx_core.specs.Layout.{max_word}
 use Rattle.cx_core.specs.State.{Instance, State}
 use Rattle.cx_rule.specs.declared.rule.Times.{Times}
 
--- the run of these events comes by a moment at which a caller had made so many steps
+-- the run of these events passes a moment at which a caller had made this number of steps
 pub record ComesBy (instance : Instance) (from : State) (events : List Event) (caller steps : ℕ) : Type 0 where
   pub before : List Event
   pub after : List Event
@@ -49,8 +49,8 @@ pub record AddTimes (l l' : Local) (t t' : Times) : Type 0 where
   pub reads : ((length l'.seen_reads ≡ length l.seen_reads) × (t'.reads ≡ t.reads))
       ⊎ ((l.fresh ≡ true) × (length l'.seen_reads ≡ length l.seen_reads + 1) × (t'.reads ≡ t.reads ++ (t.loaded, l'.steps) ∷ []))
 
--- An entry was linked behind so many steps of its caller, or one was answered before the caller had made more than so many: the list of
--- counts has one more. A count stays at the end of its type.
+-- An entry was linked when its caller had made at least this number of steps, or one was answered when the caller had made at most this number:
+-- the list of counts has one more. A count stays at the end of its type.
 pub record BeginsIn (first : ℕ) (old new : List ℕ) : Type 0 where
   pub at : ℕ
   pub from : min first max_word ≤ at
@@ -61,7 +61,7 @@ pub record EndsIn (last : ℕ) (old new : List ℕ) : Type 0 where
   pub to : at ≤ last
   pub is : new ≡ old ++ at ∷ []
 
--- the same of a read that began behind so many steps and was answered in so many
+-- the same of a read, which began after at least the first number of steps and was answered within the last
 pub record ReadsIn (first last : ℕ) (old new : List (ℕ × ℕ)) : Type 0 where
   pub begun : ℕ
   pub ended : ℕ

@@ -35,14 +35,14 @@ pub record CurTold (instance : Instance) (l : Local) (found : ℕ) : Type 0 wher
   pub apart : exclusive_on l ≡ Some (root_replica_of instance.callers found) → ⊥
 
 -- FREE, LOW and CUR never fall, the caller's own need is the one that it stated, and word 0 of a write set is the number of its pairs
-abbrev pub Told : Instance → Kind → Local → ℕ → Type 0
-Told instance (Link j) l found = LinkTold instance l found
-Told instance (Look s) l found = LookTold instance s l found
-Told instance LoadFree l found = l.seen_free ≤ found
-Told instance LoadCur l found = CurTold instance l found
-Told instance Publish l found = l.seen_cur ≤ found
-Told instance Confirm l found = l.seen_low ≤ found
-Told instance (Scan d) l found = d ≡ l.number → found ≡ need_word l.protection
-Told instance OpenFree l found = l.seen_free ≤ found
-Told instance (ReadSet k t i) l found = i ≡ 0 → found ≤ 256
-Told instance _ l found = Unit {0}
+abbrev pub KnownOfLoad : Instance → Kind → Local → ℕ → Type 0
+KnownOfLoad instance (Link j) l found = LinkTold instance l found
+KnownOfLoad instance (Look s) l found = LookTold instance s l found
+KnownOfLoad instance LoadFree l found = l.seen_free ≤ found
+KnownOfLoad instance LoadCur l found = CurTold instance l found
+KnownOfLoad instance Publish l found = l.seen_cur ≤ found
+KnownOfLoad instance Confirm l found = l.seen_low ≤ found
+KnownOfLoad instance (Scan d) l found = d ≡ l.number → found ≡ need_word l.protection
+KnownOfLoad instance OpenFree l found = l.seen_free ≤ found
+KnownOfLoad instance (ReadSet k t i) l found = i ≡ 0 → found ≤ 256
+KnownOfLoad instance _ l found = Unit {0}

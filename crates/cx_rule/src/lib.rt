@@ -1,5 +1,10 @@
-//! The rule of the running table: the core's lawful state over the table's words and what its seats know. Each event of the
-//! core keeps it.
+//! The invariant of the state machine speaks of all words and all callers at once. A thread sees one word at a time, and knows only what its own
+//! steps have found.
+//!
+//! The rule of the table bridges this: between any two atomic instructions there are local states, of which each caller's seat shows what its
+//! caller knows, such that they and the shared words satisfy the invariant. The form of the rule, an invariant over atomic words and the seats'
+//! ghost state, is that of the kit's `atomic_table`; that loads and stores of a held replica are noted, and that whatever fits the notes tells the
+//! words, is what CX needs beside it.
 //!
 //! - The rule holds between any two steps of any callers: the words, and local states of which the seats show all but the words of a replica
 //!   held exclusively, are a lawful state of the core; words of entries that a caller read are the history's: `CoreRule` (`RuleHolds`). What it
@@ -22,7 +27,7 @@
 //! - Some pair of words fits what a caller noted of the replicas that it holds: words lawful as a base, at a place from the base's on, that
 //!   agree with the loads and lead by the stores to the words now: `fits` of `try_exclusive`, `try_shared`, `load_word` and `store_word`
 //!   (`Fitting`). The rule says that what is really there does.
-//! - An exclusive right is given up where whatever fits is the image after its place by entries and write sets that the caller has: `replayed` of
+//! - An exclusive right is released where whatever fits is the image after its place by entries and write sets that the caller has: `replayed` of
 //!   `downgrade` and `release_exclusive` asks that, and the event's guard, that the words are a full image, then holds.
 //! - A word found in CUR, FREE or LOW is at least what the caller found there before, and the replica that CUR names is not held exclusively by
 //!   the caller. A word found by `look` and `link` names a ticket of its slot, at least as late as each of the slot below the front; one that

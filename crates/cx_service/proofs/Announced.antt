@@ -1,5 +1,5 @@
 -- What announcing an operation leaves of a caller that halts in it.
-use Rattle.std.proofs.Common.{◌≡◌, ◌+◌, ◌<◌, ◌≤◌, ℕ, Bool, List, [], ◌∷◌, length, drop, ap, inl, inr, arith, Result, Ok, Err, OnErr}
+use Rattle.std.proofs.Common.{◌≡◌, ◌+◌, ◌<◌, ◌≤◌, ℕ, Bool, List, [], ◌∷◌, length, drop, ap, inl, inr, arith, Result, Ok, Err, IfOk, OnErr}
 use Rattle.std.proofs.lemmas.Bool.{cases_eq, eq-eqb, ne_eqb}
 use Rattle.std.proofs.Common.{cond}
 use Rattle.cx_core.specs.QueueEvents.{cell_of, next_number}
@@ -32,7 +32,7 @@ halted_in r j most op s t caller room many long halted =
       halts r (stale s) t (ap beside_submit halted.rest) most caller (ap (λ (x : Seated). x.known.local.own) halted.rest) (ap (λ (x : Seated). x.known.times.linked) halted.rest) (omega (arith, front)) (omega (arith, cur))
           (omega (arith, limit, few, halted.limit.0, halted.short, many, long))
           (λ k within idle. record { free = ap (λ (x : Seated). x.known.local.seen_free) halted.rest; scans = ap (λ (x : Seated). x.known.local.scans) halted.rest })
-          halted.limit,
+          halted.limit (let since = halted.since in omega (arith, since)),
       record { cell = j; within = room; idle = halted.idle; short = (let short : s.known.local.limit < (stale s).known.local.steps + writes (stale s).known.local j (next_number r.base (stale s).known.local ∷ op) = halted.short in omega (arith, limit, short)); others = halted.others },
     )
 
@@ -40,3 +40,8 @@ halted_in r j most op s t caller room many long halted =
 pub if_any_err : {A E P : Type 0} (r : Result A E) → P → OnErr r P
 if_any_err (Ok a) p = tt
 if_any_err (Err e) p = p
+
+-- what holds in two ways of a value holds in both
+pub both_ok : {A E : Type 0} (r : Result A E) (P Q : A → Type 0) → IfOk r P → IfOk r Q → IfOk r (λ a. P a × Q a)
+both_ok (Ok a) P Q p q = (p, q)
+both_ok (Err e) P Q p q = tt

@@ -1,5 +1,5 @@
 -- A caller announces an operation in an idle cell, and tries to link it.
-use Rattle.std.proofs.Common.{◌≡◌, ◌≢◌, ◌+◌, ◌<◌, ◌≤◌, ℕ, min, false, List, [], ◌∷◌, ◌++◌, length, get_or, slice_index, slice_range, take_all, refl, sym, ap, subst, ◌∙◌, inl, inr, arith, Some, None, length-append}
+use Rattle.std.proofs.Common.{◌≡◌, ◌≢◌, ◌+◌, ◌<◌, ◌≤◌, ℕ, zero, suc, min, false, List, [], ◌∷◌, ◌++◌, length, get_or, slice_index, slice_range, take_all, refl, sym, ap, subst, ◌∙◌, inl, inr, arith, Some, None, length-append}
 use Rattle.std.specs.List.{slice_get}
 use Rattle.std.specs.Option.{option_map}
 use Rattle.std.proofs.Math.ListN.{get_or-eq_default}
@@ -19,9 +19,9 @@ use Rattle.mutation_queue.specs.declared.linking.LinkTried.{LinkTried}
 use Rattle.mutation_queue.specs.declared.linking.LinkTried.TheVariants.{Again, Linked as LinkedAt, Worn}
 use Rattle.mutation_queue.specs.Cells.{writes}
 use Rattle.cx_turns.specs.Turns.{StepsOn}
-use Rattle.mutation_queue.specs.Links.{LinksAgain, LinksAt, LinksNone, LosesTries, IsWorn, Tried}
+use Rattle.mutation_queue.specs.Links.{EndsBy, LinksAgain, LinksAt, LinksNone, LosesTries, LosesTry, MakesTries, IsWorn, Tried, WinsTry}
 use Rattle.cx_service.specs.Callers.{HasOwnCells, IsBetweenCalls, IsCallerOf, IsLinkedOf, unlinked}
-use Rattle.cx_service.specs.Submits.{EntersIn, LooksForNothing, SubmitAgain, SubmitHalted, SubmitKeeps, SubmitLinked, SubmitWorn, TriesOf, entry_at}
+use Rattle.cx_service.specs.Submits.{EntersIn, LooksForNothing, SubmitAgain, SubmitHalted, SubmitKeeps, SubmitLinked, SubmitWorn, TriesOf, next_entry}
 use Rattle.cx_service.proofs.Cells.{default, own_kept, own_more}
 
 -- what no step of a submit changes: the seat but for its entries, cells, steps and scans, its front, the slot last looked at, what was
@@ -88,13 +88,14 @@ module _ {O : Type 0} (r : Running O) (s v : Seated) (kept : beside_submit v ≡
   none_unanswered xs n past = ap (option_map (λ (x : Linked). x.ticket)) (slice_get_past xs n past)
 
   pub halts : (most : ℕ) → IsCallerOf r s → v.known.local.own ≡ s.known.local.own → v.known.times.linked ≡ s.known.times.linked → s.known.local.front ≤ v.known.local.front → s.known.local.seen_cur ≤ v.known.local.seen_cur → v.known.local.steps ≤ s.known.local.steps + most → ((j : ℕ) → j < 16 → IsIdle s.known.local j → LooksForNothing s v) →
-      IsAtLimit v.known.local → SubmitHalted r most s (unlinked v)
-  halts most caller own linked front cur steps idle limit = record {
+      IsAtLimit v.known.local → StepsOn s v → SubmitHalted r most s (unlinked v)
+  halts most caller own linked front cur steps idle limit since = record {
     caller = record { of = of_kept caller.of; limit = limit };
     linked = refl;
     keeps = keeps most front cur steps idle;
     own = own;
     times = linked;
+    since = since;
     none = none_unanswered v.known.local.own (length v.known.local.answered)
         (let long = ap (λ (x : Seated). length x.known.local.answered) kept in let same = ap (λ (xs : List Linked). length xs) own in omega (arith, long, same, caller.count));
   }
@@ -106,6 +107,25 @@ answered_still s t rest count =
     let answered : length t.known.local.answered ≡ length s.known.local.answered = ap (λ (x : Seated). length x.known.local.answered) rest in
     let own : length t.known.local.own ≡ length s.known.local.own = ap (λ (x : Seated). length x.known.local.own) rest in
     omega (arith, answered, own, count)
+
+-- a try that was lost, so many of them, and tries of which the last was won, take no step back
+lost_one_on : (callers : ℕ) (s v : Seated) → LosesTry callers s v → StepsOn s v
+lost_one_on callers s v (inl finds) = (let one = ap (λ (x : Seated). x.known.local.steps) finds.seat in omega (arith, one))
+lost_one_on callers s v (inr (mid, open_, finds)) =
+    let one = ap (λ (x : Seated). x.known.local.steps) open_.seat in
+    let two = ap (λ (x : Seated). x.known.local.steps) finds.seat in
+    omega (arith, one, two)
+
+lost_on : (callers n : ℕ) (s v : Seated) → LosesTries callers n s v → StepsOn s v
+lost_on callers zero s v same = (let none = ap (λ (x : Seated). x.known.local.steps) same in omega (arith, none))
+lost_on callers (suc n) s v (mid, lost, last) = (let first = lost_on callers n s mid lost in let one = lost_one_on callers mid v last in omega (arith, first, one))
+
+won_on : (callers cell tries : ℕ) (s v : Seated) → EndsBy callers tries (WinsTry callers cell) s v → StepsOn s v
+won_on callers cell tries s v ends =
+    let lost = lost_on callers ends.count s ends.mid ends.lost in
+    let one = ap (λ (x : Seated). x.known.local.steps) ends.last.finds.seat in
+    let two = ap (λ (x : Seated). x.known.local.steps) ends.last.seat in
+    omega (arith, lost, one, two)
 
 -- an operation was announced in a cell
 module _ {O : Type 0} (r : Running O) (j : ℕ) (op : List ℕ) (s t : Seated) (caller : IsCallerOf r s) (room : j < 16) (long : length op ≡ 144)
@@ -179,8 +199,8 @@ module _ {O : Type 0} (r : Running O) (j : ℕ) (op : List ℕ) (s t : Seated) (
     none_looked : (k : ℕ) → k < 16 → IsIdle s.known.local k → LooksForNothing s v
     none_looked = not_looked v (ap (λ (x : Seated). x.known.local.seen_free) none.same) (ap (λ (x : Seated). x.known.local.scans) none.same)
 
-    pub halts_linking : (most : ℕ) → v.known.local.steps ≤ s.known.local.steps + most → IsAtLimit v.known.local → SubmitHalted r most s (unlinked v)
-    halts_linking most steps limit = halts r s v none_kept most caller none_own none_linked (omega (arith, none.front, same_front)) none_cur steps none_looked limit
+    pub halts_linking : (most : ℕ) → v.known.local.steps ≤ s.known.local.steps + most → IsAtLimit v.known.local → StepsOn s t → SubmitHalted r most s (unlinked v)
+    halts_linking most steps limit since = halts r s v none_kept most caller none_own none_linked (omega (arith, none.front, same_front)) none_cur steps none_looked limit (omega (arith, none.since, since))
 
   -- tries were made then
   pub tries_of : (come_to : Seated → Seated → Type 0) (v : Seated) → min (s.known.local.steps + writes s.known.local j (next_number r.base s.known.local ∷ op)) max_word ≤ t.known.local.steps → come_to t v → TriesOf r 0 come_to s v
@@ -225,7 +245,7 @@ module _ {O : Type 0} (r : Running O) (j : ℕ) (op : List ℕ) (s t : Seated) (
     at_kept : beside_submit v ≡ beside_submit s
     at_kept = ap beside_submit at.same ∙ announced_kept
 
-    entry_is : entry_in t.known.local j ≡ (entry_at r s.known.local op ticket).entry
+    entry_is : entry_in t.known.local j ≡ (next_entry r s.known.local op ticket).entry
     entry_is =
         let words : (cell_of t.known.local j).words ≡ next_number r.base s.known.local ∷ op = ap (λ (x : Cell). x.words) cell in
         let e = λ (c n : ℕ) (o : List ℕ). (let x : Linked = record { ticket = ticket; entry = record { caller = c; number = n; op = o } } in x.entry) in
@@ -233,7 +253,7 @@ module _ {O : Type 0} (r : Running O) (j : ℕ) (op : List ℕ) (s t : Seated) (
         ∙ ap (λ ws. e s.known.local.number (slice_index ws 0) (slice_range ws 1 145)) words
         ∙ ap (λ o. e s.known.local.number (next_number r.base s.known.local) o) (take_all 144 op (omega (arith, long)))
 
-    at_own : v.known.local.own ≡ s.known.local.own ++ entry_at r s.known.local op ticket ∷ []
+    at_own : v.known.local.own ≡ s.known.local.own ++ next_entry r s.known.local op ticket ∷ []
     at_own =
         at.own
         ∙ ap (λ (xs : List Linked). xs ++ record { ticket = ticket; entry = entry_in t.known.local j } ∷ []) same_own
@@ -264,14 +284,14 @@ module _ {O : Type 0} (r : Running O) (j : ℕ) (op : List ℕ) (s t : Seated) (
 
     at_cells : HasOwnCells v.known.local
     at_cells =
-        own_more s.known.local v.known.local (entry_at r s.known.local op ticket) j caller.cells at_own (omega (arith, at.from, same_front)) at.front
+        own_more s.known.local v.known.local (next_entry r s.known.local op ticket) j caller.cells at_own (omega (arith, at.from, same_front)) at.front
         (λ k n ne there. sym (at_others k ne) ∙ there)
         at_here
 
     at_caller : IsLinkedOf r v
     at_caller =
         between r s v at_kept 1 caller (ap (λ (x : Seated). x.known.local.fresh) at.same ∙ same_fresh) (ap (λ (x : Seated). x.known.local.scan) at.same ∙ no_scan)
-        (ap (λ (xs : List Linked). length xs) at_own ∙ length-append s.known.local.own (entry_at r s.known.local op ticket ∷ []))
+        (ap (λ (xs : List Linked). length xs) at_own ∙ length-append s.known.local.own (next_entry r s.known.local op ticket ∷ []))
         (omega (arith, at.from, at.front, same_front))
         at_cells
 
@@ -280,10 +300,10 @@ module _ {O : Type 0} (r : Running O) (j : ℕ) (op : List ℕ) (s t : Seated) (
         let e : length v.known.local.answered ≡ length s.known.local.own = (let same = ap (λ (x : Seated). length x.known.local.answered) at_kept in omega (arith, same, caller.count)) in
         ap (λ n. option_map (λ (x : Linked). x.ticket) (slice_get v.known.local.own n)) e
         ∙ ap (λ (xs : List Linked). option_map (λ (x : Linked). x.ticket) (slice_get xs (length s.known.local.own))) at_own
-        ∙ ap (option_map (λ (x : Linked). x.ticket)) (slice_get-last s.known.local.own (entry_at r s.known.local op ticket))
+        ∙ ap (option_map (λ (x : Linked). x.ticket)) (slice_get-last s.known.local.own (next_entry r s.known.local op ticket))
 
-  pub linked_at : (ticket most : ℕ) (v : Seated) → LinksAt j ticket t v → ¬ IsAtLimit s.known.local → v.known.local.steps ≤ s.known.local.steps + most → StepsOn s t → SubmitLinked r op most s v
-  linked_at ticket most v at allowed steps since = record {
+  pub linked_at : (ticket most : ℕ) (v : Seated) → LinksAt j ticket t v → StepsOn t v → ¬ IsAtLimit s.known.local → v.known.local.steps ≤ s.known.local.steps + most → StepsOn s t → SubmitLinked r op most s v
+  linked_at ticket most v at on allowed steps since = record {
     caller = at_caller ticket v at;
     keeps = keeps r s v (at_kept ticket v at) most (omega (arith, at.from, at.front, same_front)) (let e = ap (λ (x : Seated). x.known.local.seen_cur) at.same in let f = ap (λ (x : Seated). x.known.local.seen_cur) rest in omega (arith, e, f)) steps (not_looked v (ap (λ (x : Seated). x.known.local.seen_free) at.same) (ap (λ (x : Seated). x.known.local.scans) at.same));
     allowed = allowed;
@@ -294,6 +314,7 @@ module _ {O : Type 0} (r : Running O) (j : ℕ) (op : List ℕ) (s t : Seated) (
     from = omega (arith, at.from, same_front);
     front = at.front;
     begun = record { at = at.linked.at; from = omega (arith, at.linked.from, since); is = at.linked.is ∙ ap (λ ts. ts ++ at.linked.at ∷ []) same_linked };
+    since = omega (arith, on, since);
   }
 
   -- whatever they came to, no write sets were read
@@ -303,8 +324,8 @@ module _ {O : Type 0} (r : Running O) (j : ℕ) (op : List ℕ) (s t : Seated) (
   no_sets_read callers tries v Worn links = ap (λ (x : Seated). x.known.sets) links.none.same ∙ ap (λ (x : Seated). x.known.sets) rest
 
   -- what tries to link it come to
-  pub entered : (tries most : ℕ) (v : Seated) (tried : LinkTried) → Tried r.callers j tries t v tried → ¬ IsAtLimit s.known.local → v.known.local.steps ≤ s.known.local.steps + most →
+  pub entered : (tries most : ℕ) (v : Seated) (tried : LinkTried) → Tried r.callers j tries t v tried × MakesTries r.callers j tries t v tried → ¬ IsAtLimit s.known.local → v.known.local.steps ≤ s.known.local.steps + most →
       min (s.known.local.steps + writes s.known.local j (next_number r.base s.known.local ∷ op)) max_word ≤ t.known.local.steps → EntersIn 0 most r op tries s v tried
-  entered tries most v (LinkedAt ticket) links allowed steps since = linked_at ticket most v links allowed steps (omega (arith, since))
-  entered tries most v Again links allowed steps since = (again tries most v links allowed steps (omega (arith, since)), tries_of (LosesTries r.callers tries) v since links.lost)
-  entered tries most v Worn links allowed steps since = worn most v links allowed steps (omega (arith, since))
+  entered tries most v (LinkedAt ticket) (links, made) allowed steps since = linked_at ticket most v links (won_on r.callers j tries t v made) allowed steps (omega (arith, since))
+  entered tries most v Again (links, made) allowed steps since = (again tries most v links allowed steps (omega (arith, since)), tries_of (LosesTries r.callers tries) v since links.lost)
+  entered tries most v Worn (links, made) allowed steps since = worn most v links allowed steps (omega (arith, since))

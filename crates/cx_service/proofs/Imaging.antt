@@ -1,5 +1,5 @@
 -- What turns by which an image is taken leave of their caller.
-use Rattle.std.proofs.Common.{◌≡◌, ◌+◌, ◌<◌, ◌≤◌, inl, inr, ℕ, List, [], ◌∷◌, ◌++◌, length, map, refl, ap, subst, ◌∙◌, arith, None}
+use Rattle.std.proofs.Common.{◌≡◌, ◌+◌, ◌<◌, ◌≤◌, inl, inr, ℕ, List, [], ◌∷◌, ◌++◌, refl, ap, subst, ◌∙◌, arith, None}
 use Rattle.std.specs.List.{slice_get}
 use Rattle.cx_base.specs.declared.object.Object.{Ghosts}
 use Rattle.cx_core.specs.declared.local.Answer.{Answer}
@@ -11,35 +11,24 @@ use Rattle.cx_service.specs.Callers.{IsCallerOf, StoppedSeat}
 use Rattle.cx_service.specs.Checkpoints.{CheckpointHalted, CheckpointKeeps, CheckpointTaken}
 use Rattle.cx_service.specs.Drives.{MeetsFewer}
 use Rattle.cx_service.specs.Lookups.{ReadDue, ReadPending}
-use Rattle.cx_service.proofs.Turning.{LooksOn, between_after, looks_met, meets_one, most_one, read_keeps_then, rises_one}
+use Rattle.cx_service.proofs.Turning.{LooksOn, beside_look, look_keeps, look_rests, looks_met, meets_one, most_one, read_keeps_then, rises_one}
 use Rattle.cx_turns.specs.Checkpointing.{HaltsImage, TakesImage, TakesNone, beside_checkpoint}
 use Rattle.cx_turns.specs.Turns.{IsAtRest, StepsAtMost, StepsOn, TurnRefused}
-use Rattle.replica_sets.specs.Own.{but_set}
 
 -- one turn
-module _ {O : Type 0} (o : Ghosts O) (r : Running O) (s v : Seated) (caller : IsCallerOf r s) (rest : beside_checkpoint v ≡ beside_checkpoint s) (front : s.known.local.front ≤ v.known.local.front) (of : IsSeatOf r v) (rises : s.known.local.seen_cur ≤ v.known.local.seen_cur) where
+module _ {O : Type 0} (o : Ghosts O) (r : Running O) (s v : Seated) (caller : IsCallerOf r s) (rest : beside_checkpoint v ≡ beside_checkpoint s) (front : s.known.local.front ≤ v.known.local.front) (of : IsSeatOf r v) (rises : s.known.local.seen_cur ≤ v.known.local.seen_cur) (on : StepsOn s v) where
+  look_rest : beside_look v ≡ beside_look s
+  look_rest = ap (λ (x : Seated). (let y : Seated = record x { known = record x.known { local = record x.known.local { seen_reads = [] }; times = record x.known.times { reads = [] } } } in y)) rest
+
   keeps : CheckpointKeeps s v
   keeps = record {
-    lists = record {
-      number = ap (λ (x : Seated). x.known.local.number) rest;
-      limit = ap (λ (x : Seated). x.known.local.limit) rest;
-      own = ap (λ (x : Seated). x.known.local.own) rest;
-      answered = ap (λ (x : Seated). x.known.local.answered) rest;
-      scans = ap (λ (x : Seated). x.known.local.scans) rest;
-      sets = ap (λ (x : Seated). x.known.sets) rest;
-      front = front;
-      cur = rises;
-      linked = ap (λ (x : Seated). x.known.times.linked) rest;
-      ended = ap (λ (x : Seated). x.known.times.answered) rest;
-    };
+    lists = look_keeps r s v caller look_rest front of rises on;
     reads = ap (λ (x : Seated). x.known.local.seen_reads) rest;
     times = ap (λ (x : Seated). x.known.times.reads) rest;
   }
 
   still : IsAtRest v.known.local → IsCallerOf r v
-  still at =
-      between_after r 0 0 s v caller (ap (λ (x : Seated). x.known.local.own) rest) (ap (λ (x : Seated). map but_set x.known.local.cells) rest) front of at
-      (ap (λ (x : Seated). length x.known.local.answered + 0) rest)
+  still = look_rests r s v caller look_rest front of rises on
 
   pub image_taken : (words : List ℕ) (place : ℕ) → ¬ IsAtLimit s.known.local → TakesImage o r words place s v → CheckpointTaken o r words place s v × MeetsFewer 1 s v
   image_taken words place allowed taken =

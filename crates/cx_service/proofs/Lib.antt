@@ -1,10 +1,11 @@
 pub mod Announced
+mod CallOrder
 pub mod Cells
 pub mod Entering
+pub mod Imaging
 pub mod Looking
+pub mod Seeing
 pub mod Starting
 pub mod Tickets
 pub mod Turning
 pub mod Updating
-pub mod Seeing
-pub mod Imaging

@@ -26,7 +26,7 @@ use Rattle.cx_core.specs.declared.local.FullNote.{FullNote}
 use Rattle.cx_service.specs.declared.submit.Submitted.{Submitted}
 use Rattle.cx_service.specs.declared.submit.Submitted.TheVariants.{Linked as LinkedIs, Again, Full, Worn, Halted}
 use Rattle.cx_service.specs.Callers.{IsCallerOf, StoppedSeat, unlinked}
-use Rattle.cx_service.specs.Submits.{AreInUse, AreTickets, EndsLooking, Enters, EntersIn, FindsAgain, FindsCell, FindsIdle, FindsNone, HaltsEntering, HaltsLooking, IsLooking, IsWriting, LooksBy, LooksForCell, LooksForNothing, NamesHolder, SubmitAgain, SubmitFull, SubmitHalted, SubmitKeeps, SubmitLinked, SubmitWorn, SubmitsIn, TriesOf, entry_at}
+use Rattle.cx_service.specs.Submits.{AreInUse, AreTickets, EndsLooking, EntersOperation, EntersIn, FindsAgain, FindsCell, FindsIdle, FindsNone, HaltsEntering, HaltsLooking, IsLooking, IsWriting, LooksBy, LooksForCell, LooksForNothing, NamesHolder, SubmitAgain, SubmitFull, SubmitHalted, SubmitKeeps, SubmitLinked, SubmitWorn, SubmitsIn, TriesOf, next_entry}
 use Rattle.cx_service.proofs.Cells.{answered_below, many_own, own_kept, used_ticket}
 use Rattle.cx_service.proofs.Entering.{beside_submit, between, halts, keeps, stale}
 
@@ -116,10 +116,10 @@ module _ {O : Type 0} (r : Running O) (more : ℕ) (s t : Seated) (first : Prece
     images = after.images ∙ ap (λ (x : Seated). x.known.images) first.kept;
   }
 
-  same_entry : (op : List ℕ) (ticket : ℕ) → entry_at r t.known.local op ticket ≡ entry_at r s.known.local op ticket
+  same_entry : (op : List ℕ) (ticket : ℕ) → next_entry r t.known.local op ticket ≡ next_entry r s.known.local op ticket
   same_entry op ticket =
-      ap (λ c. entry_at r (record t.known.local { number = c }) op ticket) (ap (λ (x : Seated). x.known.local.number) first.kept)
-      ∙ ap (λ own. entry_at r (record s.known.local { own = own }) op ticket) first.own
+      ap (λ c. next_entry r (record t.known.local { number = c }) op ticket) (ap (λ (x : Seated). x.known.local.number) first.kept)
+      ∙ ap (λ own. next_entry r (record s.known.local { own = own }) op ticket) first.own
 
   -- tries from there are of the submit from the beginning
   pub tries_then : (n took : ℕ) (come_to : Seated → Seated → Type 0) (v : Seated) → min (s.known.local.steps + took) max_word ≤ t.known.local.steps → TriesOf r n come_to t v → TriesOf r (took + n) come_to s v
@@ -162,10 +162,11 @@ module _ {O : Type 0} (r : Running O) (more : ℕ) (s t : Seated) (first : Prece
     scans = omega (arith, first.scans, after.scans);
     ticket = after.ticket;
     lends = after.lends;
-    own = after.own ∙ ap (λ (xs : List Linked). xs ++ entry_at r t.known.local op after.ticket ∷ []) first.own ∙ ap (λ x. s.known.local.own ++ x ∷ []) (same_entry op after.ticket);
+    own = after.own ∙ ap (λ (xs : List Linked). xs ++ next_entry r t.known.local op after.ticket ∷ []) first.own ∙ ap (λ x. s.known.local.own ++ x ∷ []) (same_entry op after.ticket);
     from = omega (arith, after.from, first.front);
     front = after.front;
     begun = record { at = after.begun.at; from = omega (arith, after.begun.from, first.since); is = after.begun.is ∙ ap (λ ts. ts ++ after.begun.at ∷ []) first.linked };
+    since = omega (arith, after.since, first.since);
   }
 
   again_then : (tries m n : ℕ) (v : Seated) → m + more ≤ n → SubmitAgain r tries m t v → SubmitAgain r tries n s v
@@ -203,6 +204,7 @@ module _ {O : Type 0} (r : Running O) (more : ℕ) (s t : Seated) (first : Prece
     own = halted.own ∙ first.own;
     none = halted.none;
     times = halted.times ∙ first.linked;
+    since = omega (arith, halted.since, first.since);
   }
 
   pub enters_then : (op : List ℕ) (k took tries m n : ℕ) (v : Seated) (tried : LinkTried) → m + more ≤ n → min (s.known.local.steps + took) max_word ≤ t.known.local.steps → EntersIn k m r op tries t v tried → EntersIn (took + k) n r op tries s v tried
@@ -211,7 +213,7 @@ module _ {O : Type 0} (r : Running O) (more : ℕ) (s t : Seated) (first : Prece
   enters_then op k took tries m n v TriedWorn most least after = worn_then took (k + 1) (took + k + 1) m n v most (omega arith) least after
 
   -- and so is what one in an idle cell does that was found by so many steps
-  pub submits_then : (op : List ℕ) (tries m n : ℕ) (result : Submitted) → m + more ≤ n → (cell : ℕ) → FindsIdle r.callers s t cell → Enters m r op tries t result → SubmitsIn n r op tries s result
+  pub submits_then : (op : List ℕ) (tries m n : ℕ) (result : Submitted) → m + more ≤ n → (cell : ℕ) → FindsIdle r.callers s t cell → EntersOperation m r op tries t result → SubmitsIn n r op tries s result
   submits_then op tries m n (LinkedIs v) most cell finds after = linked_then op m n v most after
   submits_then op tries m n (Again v) most cell finds after = (
     again_then tries m n v most after.0,
@@ -329,6 +331,16 @@ collect_halts callers target s v used halts = elim halts.left [
   | inr opens ↦ (let count = opens.count in inr (opens.scans, omega (arith, count)))
 ]
 
+-- which takes no step back
+pub collect_on : (callers target : ℕ) (s v : Seated) → HaltsCollecting callers target s v → StepsOn s v
+collect_on callers target s v halts = elim halts.left [
+  | inl some ↦ elim some [
+    | inl same ↦ (let none = ap (λ (x : Seated). x.known.local.steps) same in omega (arith, none))
+    | inr scans ↦ (let count = scans.2.count in omega (arith, count))
+  ]
+  | inr opens ↦ (let count = opens.count in omega (arith, count))
+]
+
 -- a caller with all cells in use
 module _ {O : Type 0} (r : Running O) (s : Seated) (tickets : List ℕ) (caller : IsCallerOf r s) (are : AreTickets s.known.local tickets) where
   -- each of the tickets is that of an own entry
@@ -395,7 +407,7 @@ collect_ends callers target s v found small collects = record { scan = collects.
 pub halts_looking : {O : Type 0} (r : Running O) (most n : ℕ) (s t : Seated) → IsCallerOf r s → LooksForCell n s t → n ≤ most → (op : List ℕ) (tries : ℕ) → HaltsLooking (r.callers + 3) s t → HaltsEntering r op tries most s (unlinked t)
 halts_looking r most n s t caller looked few op tries halted =
     let front = looked_front n s t looked in
-    (halts r s t (looked_kept n s t looked) most caller (looked_own n s t looked) (ap (λ (x : Seated). x.known.times.linked) looked.same) (omega (arith, front)) (looked_cur n s t looked) (omega (arith, looked.steps, few)) (looked_idle s t (inl halted.used)) halted.limit, inl halted.looking)
+    (halts r s t (looked_kept n s t looked) most caller (looked_own n s t looked) (ap (λ (x : Seated). x.known.times.linked) looked.same) (omega (arith, front)) (looked_cur n s t looked) (omega (arith, looked.steps, few)) (looked_idle s t (inl halted.used)) halted.limit halted.since, inl halted.looking)
 
 -- no cell is idle
 pub full_there : {O : Type 0} (r : Running O) (most n : ℕ) (s t : Seated) (note : FullNote) → LooksForCell n s t → IsCallerOf r s → FindsNone r.callers (r.callers + 4) s t note → n ≤ most → SubmitFull r most s t note

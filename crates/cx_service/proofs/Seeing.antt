@@ -27,7 +27,7 @@ use Rattle.cx_service.specs.declared.update.Updated.{Updated}
 use Rattle.cx_service.specs.declared.update.Updated.TheVariants.{Done as UpdatedDone, Full as UpdatedFull, Worn as UpdatedWorn, Halted as UpdatedHalted}
 use Rattle.cx_service.specs.Drives.{DriveDone}
 use Rattle.cx_service.specs.Lookups.{ReadAnswered, ReadKeeps}
-use Rattle.cx_service.specs.Submits.{SubmitKeeps, SubmitLinked, entry_at}
+use Rattle.cx_service.specs.Submits.{SubmitKeeps, SubmitLinked, next_entry}
 use Rattle.cx_service.specs.Updates.{KeepsLists, ReadQueues, ReadsInAll, UpdateDone, Updates}
 use Rattle.cx_service.proofs.Cells.{own_kept}
 use Rattle.cx_turns.specs.declared.lookup.Seen.{Seen}
@@ -37,7 +37,7 @@ module _ {O : Type 0} (r : Running O) (op : List ℕ) (before after : Seated) wh
   pub done_front : (answer : Answer) → UpdateDone r op before after answer → answer.ticket < after.known.local.front
   done_front answer done =
       let l = before.known.local in
-      let x : Linked = entry_at r l op answer.ticket in
+      let x : Linked = next_entry r l op answer.ticket in
       let at : slice_get after.known.local.own (length l.own) ≡ Some x = ap (λ (xs : List Linked). slice_get xs (length l.own)) done.links.own ∙ slice_get-last l.own x in
       done.caller.cells.to (length l.own) x at
 

@@ -19,7 +19,7 @@ use Rattle.cx_service.specs.Callers.{IsBetweenCalls, IsCallerOf, IsLinkedOf, Sto
 use Rattle.cx_service.specs.Drives.{DriveDone, DriveHalted, DriveKeeps, DriveDue, DrivePending, MeetsAtMost, MeetsFewer, MeetsMore}
 use Rattle.cx_service.specs.Lookups.{ReadAnswered, ReadDue, ReadHalted, ReadKeeps, ReadPending}
 use Rattle.cx_service.proofs.Cells.{default, own_kept}
-use Rattle.cx_turns.specs.Answering.{AnswersEntry, AnswersRead, HaltsFor, HaltsLookup, beside_lookup, beside_update, with_answer, with_read}
+use Rattle.cx_turns.specs.Answering.{AnswersEntry, AnswersRead, HaltsFor, HaltsLookup, beside_lookup, beside_update, with_answer, reads_with}
 use Rattle.cx_turns.specs.declared.lookup.Seen.{Seen}
 use Rattle.cx_turns.specs.Bringing.{BringsEntries}
 use Rattle.cx_turns.proofs.Bringing.{brings_around}
@@ -63,7 +63,7 @@ between_after r n m s v was own cells front of rest answered = record {
   cells = own_kept s.known.local v.known.local was.cells own front (λ j t at. sym (same_tickets v.known.local.cells s.known.local.cells cells j) ∙ at);
 }
 
-module _ {O : Type 0} (r : Running O) (s v : Seated) (linked : IsLinkedOf r s) (rest : beside_update v ≡ beside_update s) (front : s.known.local.front ≤ v.known.local.front) (of : IsSeatOf r v) where
+module _ {O : Type 0} (r : Running O) (s v : Seated) (linked : IsLinkedOf r s) (rest : beside_update v ≡ beside_update s) (front : s.known.local.front ≤ v.known.local.front) (of : IsSeatOf r v) (since : StepsOn s v) where
   drive_keeps : DriveKeeps s v
   drive_keeps = record {
     number = ap (λ (x : Seated). x.known.local.number) rest;
@@ -73,6 +73,7 @@ module _ {O : Type 0} (r : Running O) (s v : Seated) (linked : IsLinkedOf r s) (
     linked = ap (λ (x : Seated). x.known.times.linked) rest;
     read = ap (λ (x : Seated). x.known.times.reads) rest;
     images = ap (λ (x : Seated). x.known.images) rest;
+    since = since;
   }
 
   stands : (m : ℕ) → IsAtRest v.known.local → length v.known.local.answered + m ≡ length s.known.local.answered + 1 → IsBetweenCalls m r v
@@ -127,7 +128,7 @@ module _ {O : Type 0} (r : Running O) (s v : Seated) (linked : IsLinkedOf r s) (
 -- turns after others, in each of which a refusal was met
 module _ {O : Type 0} (r : Running O) (n : ℕ) (s u : Seated) (before : DrivePending r n s u) where
   keeps_then : (v : Seated) → DriveKeeps u v → DriveKeeps s v
-  keeps_then v k = record { number = k.number ∙ before.keeps.number; limit = k.limit ∙ before.keeps.limit; own = k.own ∙ before.keeps.own; reads = k.reads ∙ before.keeps.reads; linked = k.linked ∙ before.keeps.linked; read = k.read ∙ before.keeps.read; images = k.images ∙ before.keeps.images }
+  keeps_then v k = record { number = k.number ∙ before.keeps.number; limit = k.limit ∙ before.keeps.limit; own = k.own ∙ before.keeps.own; reads = k.reads ∙ before.keeps.reads; linked = k.linked ∙ before.keeps.linked; read = k.read ∙ before.keeps.read; images = k.images ∙ before.keeps.images; since = omega (arith, before.keeps.since, k.since) }
 
   same_ticket : unanswered_ticket s.known.local ≡ unanswered_ticket u.known.local
   same_ticket =
@@ -239,10 +240,14 @@ again_done r s u v answer again d = done_on r again.turns s u again.on v answer 
 pub again_halted : {O : Type 0} (r : Running O) (s u : Seated) (v : StoppedSeat) → DrivesAgain r s u → DriveHalted r u v → DriveHalted r s v
 again_halted r s u v again h = halted_on r again.turns s u again.on v h
 
--- the same of turns for a read
-module _ {O : Type 0} (r : Running O) (op : List ℕ) (s v : Seated) (caller : IsCallerOf r s) (rest : beside_lookup v ≡ beside_lookup s) (front : s.known.local.front ≤ v.known.local.front) (of : IsSeatOf r v) (rises : s.known.local.seen_cur ≤ v.known.local.seen_cur) where
-  read_keeps : ReadKeeps s v
-  read_keeps = record {
+-- what neither a turn for a read nor one that takes an image changes: what no raise does, but the reads and the images
+abbrev pub beside_look : Seated → Seated
+beside_look s = (let b = beside_lookup s in record b { known = record b.known { images = [] } })
+
+-- such a turn keeps the lists, and its caller may go on
+module _ {O : Type 0} (r : Running O) (s v : Seated) (caller : IsCallerOf r s) (rest : beside_look v ≡ beside_look s) (front : s.known.local.front ≤ v.known.local.front) (of : IsSeatOf r v) (rises : s.known.local.seen_cur ≤ v.known.local.seen_cur) (since : StepsOn s v) where
+  pub look_keeps : ReadKeeps s v
+  look_keeps = record {
     number = ap (λ (x : Seated). x.known.local.number) rest;
     limit = ap (λ (x : Seated). x.known.local.limit) rest;
     own = ap (λ (x : Seated). x.known.local.own) rest;
@@ -251,14 +256,26 @@ module _ {O : Type 0} (r : Running O) (op : List ℕ) (s v : Seated) (caller : I
     sets = ap (λ (x : Seated). x.known.sets) rest;
     front = front;
     cur = rises;
+    since = since;
     linked = ap (λ (x : Seated). x.known.times.linked) rest;
     ended = ap (λ (x : Seated). x.known.times.answered) rest;
   }
 
-  still : IsAtRest v.known.local → IsCallerOf r v
-  still at =
+  pub look_rests : IsAtRest v.known.local → IsCallerOf r v
+  look_rests at =
       between_after r 0 0 s v caller (ap (λ (x : Seated). x.known.local.own) rest) (ap (λ (x : Seated). map but_set x.known.local.cells) rest) front of at
       (ap (λ (x : Seated). length x.known.local.answered + 0) rest)
+
+-- the same of turns for a read
+module _ {O : Type 0} (r : Running O) (op : List ℕ) (s v : Seated) (caller : IsCallerOf r s) (rest : beside_lookup v ≡ beside_lookup s) (front : s.known.local.front ≤ v.known.local.front) (of : IsSeatOf r v) (rises : s.known.local.seen_cur ≤ v.known.local.seen_cur) (on : StepsOn s v) where
+  look_rest : beside_look v ≡ beside_look s
+  look_rest = ap (λ (x : Seated). (let y : Seated = record x { known = record x.known { images = [] } } in y)) rest
+
+  read_keeps : ReadKeeps s v
+  read_keeps = look_keeps r s v caller look_rest front of rises on
+
+  still : IsAtRest v.known.local → IsCallerOf r v
+  still = look_rests r s v caller look_rest front of rises on
 
   pub read_done : (seen : Seen) → ¬ IsAtLimit s.known.local → AnswersRead s.known.local.steps op seen.place seen.reply s v → seen.place ≡ root_place_of r.callers v.known.local.seen_cur → seen.place ≤ v.known.local.front → ReadAnswered r op s v seen
   read_done seen allowed answers placed reached = record {
@@ -309,13 +326,13 @@ all_answered r s caller = ap (option_map (λ (x : Linked). x.ticket)) (slice_get
 
 module _ {O : Type 0} (r : Running O) (op : List ℕ) (n : ℕ) (s u : Seated) (before : ReadPending r n s u) where
   pub read_keeps_then : (v : Seated) → ReadKeeps u v → ReadKeeps s v
-  read_keeps_then v k = record { number = k.number ∙ before.keeps.number; limit = k.limit ∙ before.keeps.limit; own = k.own ∙ before.keeps.own; answered = k.answered ∙ before.keeps.answered; scans = k.scans ∙ before.keeps.scans; sets = k.sets ∙ before.keeps.sets; front = omega (arith, before.keeps.front, k.front); cur = omega (arith, before.keeps.cur, k.cur); linked = k.linked ∙ before.keeps.linked; ended = k.ended ∙ before.keeps.ended }
+  read_keeps_then v k = record { number = k.number ∙ before.keeps.number; limit = k.limit ∙ before.keeps.limit; own = k.own ∙ before.keeps.own; answered = k.answered ∙ before.keeps.answered; scans = k.scans ∙ before.keeps.scans; sets = k.sets ∙ before.keeps.sets; front = omega (arith, before.keeps.front, k.front); cur = omega (arith, before.keeps.cur, k.cur); since = omega (arith, before.keeps.since, k.since); linked = k.linked ∙ before.keeps.linked; ended = k.ended ∙ before.keeps.ended }
 
   -- reads with one more, in terms of the first seat
-  more_reads : (place : ℕ) (reply : List ℕ) → with_read place op reply (length u.known.local.answered) u.known.local.seen_reads ≡ with_read place op reply (length s.known.local.answered) s.known.local.seen_reads
+  more_reads : (place : ℕ) (reply : List ℕ) → reads_with place op reply (length u.known.local.answered) u.known.local.seen_reads ≡ reads_with place op reply (length s.known.local.answered) s.known.local.seen_reads
   more_reads place reply =
-      ap (λ (xs : List Answer). with_read place op reply (length xs) u.known.local.seen_reads) before.keeps.answered
-      ∙ ap (with_read place op reply (length s.known.local.answered)) before.reads
+      ap (λ (xs : List Answer). reads_with place op reply (length xs) u.known.local.seen_reads) before.keeps.answered
+      ∙ ap (reads_with place op reply (length s.known.local.answered)) before.reads
 
   read_pending_then : (v : Seated) → ReadPending r 1 u v → ReadPending r (n + 1) s v
   read_pending_then v p = record {

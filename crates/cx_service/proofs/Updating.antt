@@ -12,7 +12,7 @@ use Rattle.cx_rule.specs.Timing.{KeepsTimes}
 use Rattle.cx_core.specs.declared.local.FullNote.{FullNote}
 use Rattle.cx_service.specs.Callers.{StoppedSeat}
 use Rattle.cx_service.specs.Drives.{DriveDone, DriveHalted}
-use Rattle.cx_service.specs.Submits.{SubmitAgain, SubmitFull, SubmitHalted, SubmitKeeps, SubmitLinked, SubmitWorn, entry_at}
+use Rattle.cx_service.specs.Submits.{SubmitAgain, SubmitFull, SubmitHalted, SubmitKeeps, SubmitLinked, SubmitWorn, next_entry}
 use Rattle.cx_service.specs.Lookups.{ReadPending}
 use Rattle.cx_service.specs.Submits.{Submits}
 use Rattle.cx_service.specs.declared.submit.Submitted.TheVariants.{Halted as SubmitHalts}
@@ -29,13 +29,13 @@ use Rattle.cx_turns.specs.Turns.{StepsOn}
 pub keeps_all : (s : Seated) → KeepsLists s s
 keeps_all s = record { number = refl; limit = refl; own = refl; answered = refl; reads = refl; front = omega arith; cur = omega arith }
 
-module _ {O : Type 0} (r : Running O) (op : List ℕ) (s u : Seated) (same : KeepsLists s u) (times : KeepsTimes s.known.times u.known.times) (since : StepsOn s u) (stood : IsAtLimit s.known.local → u ≡ s) (images : u.known.images ≡ s.known.images) where
+module _ {O : Type 0} (r : Running O) (op : List ℕ) (s u : Seated) (same : KeepsLists s u) (times : KeepsTimes s.known.times u.known.times) (since : StepsOn s u) (stood : IsAtLimit s.known.local → u ≡ s) (images : u.known.images ≡ s.known.images) (met : u.known.local.met ≡ s.known.local.met) where
   -- what is allowed after the tries so far was so before them
   allowed_first : ¬ IsAtLimit u.known.local → ¬ IsAtLimit s.known.local
   allowed_first free at = free (subst (λ (x : Seated). IsAtLimit x.known.local) (sym (stood at)) at)
 
   -- the caller's next entry is the same
-  same_entry : (ticket : ℕ) → entry_at r u.known.local op ticket ≡ entry_at r s.known.local op ticket
+  same_entry : (ticket : ℕ) → next_entry r u.known.local op ticket ≡ next_entry r s.known.local op ticket
   same_entry ticket =
       ap (λ (n : ℕ). (let e : OwnEntry = record { ticket = ticket; entry = record { caller = n; number = slot_number n r.base.words + length u.known.local.own + 1; op = op } } in e)) same.number
       ∙ ap (λ (xs : List OwnEntry). (let e : OwnEntry = record { ticket = ticket; entry = record { caller = s.known.local.number; number = slot_number s.known.local.number r.base.words + length xs + 1; op = op } } in e)) same.own
@@ -64,6 +64,9 @@ module _ {O : Type 0} (r : Running O) (op : List ℕ) (s u : Seated) (same : Kee
   pub again_images : (tries most : ℕ) (v : Seated) → SubmitAgain r tries most u v → v.known.images ≡ s.known.images
   again_images tries most v a = a.keeps.images ∙ images
 
+  pub again_met : (tries most : ℕ) (v : Seated) → SubmitAgain r tries most u v → v.known.local.met ≡ s.known.local.met
+  again_met tries most v a = a.keeps.met ∙ met
+
   pub again_stood : (tries most : ℕ) (v : Seated) → SubmitAgain r tries most u v → IsAtLimit s.known.local → v ≡ s
   again_stood tries most v a at = absurd (allowed_first a.allowed at)
 
@@ -72,6 +75,7 @@ module _ {O : Type 0} (r : Running O) (op : List ℕ) (s u : Seated) (same : Kee
     caller = f.caller;
     allowed = allowed_first f.allowed;
     keeps = keeps_on most v f.own f.keeps;
+    met = f.keeps.met ∙ met;
     full = (let e = ap (λ (xs : List OwnEntry). length xs) same.own in omega (arith, e, f.full));
     scans = elim (cases_lt (u.known.local.scans + 1) max_word) [
       | inl below ↦ inl (let e = f.scans in omega (arith, e, below, rise))
@@ -89,6 +93,7 @@ module _ {O : Type 0} (r : Running O) (op : List ℕ) (s u : Seated) (same : Kee
     caller = w.caller;
     allowed = allowed_first w.allowed;
     keeps = keeps_on most v w.own w.keeps;
+    met = w.keeps.met ∙ met;
     front = w.front;
     steps = (let least = w.steps in omega (arith, least, since));
     idle = w.idle;
@@ -109,21 +114,24 @@ module _ {O : Type 0} (r : Running O) (op : List ℕ) (s u : Seated) (same : Kee
       none = h.linked;
       times = record { linked = h.times ∙ times.linked; answered = h.keeps.times.answered ∙ times.answered; reads = h.keeps.times.reads ∙ times.reads };
       keeps = keeps_on most v.seat h.own h.keeps;
+      since = omega (arith, since, h.since);
+      met = h.keeps.met ∙ met;
     });
   }
 
   -- an entry that was linked, and driven on
   module _ (most : ℕ) (l : Seated) (linked : SubmitLinked r op most u l) where
     links : (v : Seated) (ticket : ℕ) → ticket ≡ linked.ticket → v.known.local.number ≡ l.known.local.number → v.known.local.limit ≡ l.known.local.limit → v.known.local.own ≡ l.known.local.own → v.known.local.seen_reads ≡ l.known.local.seen_reads →
-        v.known.times.linked ≡ l.known.times.linked → v.known.times.reads ≡ l.known.times.reads → LinksEntry r op ticket s v
-    links v ticket is number limit own reads still read = record {
+        v.known.times.linked ≡ l.known.times.linked → v.known.times.reads ≡ l.known.times.reads → StepsOn l v → LinksEntry r op ticket s v
+    links v ticket is number limit own reads still read on = record {
       number = number ∙ linked.keeps.number ∙ same.number;
       limit = limit ∙ linked.keeps.limit ∙ same.limit;
-      own = own ∙ linked.own ∙ ap (λ (xs : List OwnEntry). xs ++ entry_at r u.known.local op linked.ticket ∷ []) same.own
-          ∙ ap (λ (x : OwnEntry). s.known.local.own ++ x ∷ []) (same_entry linked.ticket ∙ ap (entry_at r s.known.local op) (sym is));
+      own = own ∙ linked.own ∙ ap (λ (xs : List OwnEntry). xs ++ next_entry r u.known.local op linked.ticket ∷ []) same.own
+          ∙ ap (λ (x : OwnEntry). s.known.local.own ++ x ∷ []) (same_entry linked.ticket ∙ ap (next_entry r s.known.local op) (sym is));
       reads = reads ∙ linked.keeps.reads ∙ same.reads;
       begun = record { at = linked.begun.at; from = omega (arith, linked.begun.from, since); is = still ∙ linked.begun.is ∙ ap (λ ts. ts ++ linked.begun.at ∷ []) times.linked };
       read = read ∙ linked.keeps.times.reads ∙ times.reads;
+      since = omega (arith, since, linked.since, on);
     }
 
     before_ended : l.known.times.answered ≡ s.known.times.answered
@@ -135,9 +143,10 @@ module _ {O : Type 0} (r : Running O) (op : List ℕ) (s u : Seated) (same : Kee
     pub update_done : (v : Seated) (answer : Answer) → u.known.sets ≡ s.known.sets → s.known.local.front ≤ u.known.local.front → DriveDone r l v answer → UpdateDone r op s v answer
     update_done v answer still rise d = record {
       caller = d.caller;
+      met = (let still = linked.keeps.met in omega (arith, still, met, d.met));
       from = (let same = same_Some answer.ticket linked.ticket (sym d.ticket ∙ linked.lends) in omega (arith, same, rise, linked.from));
       allowed = allowed_first linked.allowed;
-      links = links v answer.ticket (same_Some answer.ticket linked.ticket (sym d.ticket ∙ linked.lends)) d.keeps.number d.keeps.limit d.keeps.own d.keeps.reads d.keeps.linked d.keeps.read;
+      links = links v answer.ticket (same_Some answer.ticket linked.ticket (sym d.ticket ∙ linked.lends)) d.keeps.number d.keeps.limit d.keeps.own d.keeps.reads d.keeps.linked d.keeps.read d.keeps.since;
       answered = d.answered ∙ ap (with_answer answer.ticket answer.reply) before_answered;
       brought = brings_around s l v v (linked.keeps.sets ∙ still) d.brought refl;
       ended = record { at = d.ended.at; to = d.ended.to; is = d.ended.is ∙ ap (λ ts. ts ++ d.ended.at ∷ []) before_ended };
@@ -152,7 +161,7 @@ module _ {O : Type 0} (r : Running O) (op : List ℕ) (s u : Seated) (same : Kee
       lists = inr (record {
         ticket = h.ticket;
         linked = h.linked;
-        links = links v.seat h.ticket (same_Some h.ticket linked.ticket (sym h.is ∙ linked.lends)) h.keeps.number h.keeps.limit h.keeps.own h.keeps.reads h.keeps.linked h.keeps.read;
+        links = links v.seat h.ticket (same_Some h.ticket linked.ticket (sym h.is ∙ linked.lends)) h.keeps.number h.keeps.limit h.keeps.own h.keeps.reads h.keeps.linked h.keeps.read h.keeps.since;
         answered = elim h.answered [
           | inl none ↦ inl (none ∙ before_answered)
           | inr one ↦ inr (one.0, one.1 ∙ ap (with_answer h.ticket one.0) before_answered, one.2)

@@ -13,7 +13,7 @@ pub record HasOwnCells (l : Local) : Type 0 where
   pub apart : (j k t : ℕ) → (cell_of l j).ticket ≡ Some t → (cell_of l k).ticket ≡ Some t → j ≡ k
   pub to : (i : ℕ) (x : Linked) → slice_get l.own i ≡ Some x → x.ticket < l.front
 
--- the seat of a caller of this service that is in no call, of whose entries so many are not answered
+-- the seat of a caller of this service that is in no call, with this many entries that are not answered
 pub record IsBetweenCalls {O : Type 0} (unanswered : ℕ) (r : Running O) (seat : Seated) : Type 0 where
   pub of : IsSeatOf r seat
   pub rest : IsAtRest seat.known.local

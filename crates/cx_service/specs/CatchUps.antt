@@ -1,4 +1,4 @@
--- What it comes to that a caller catches up with a place that another one told.
+-- The result of having a caller catch up with a place that another one told.
 use Rattle.std.specs.Prelude.{◌≡◌, ◌+◌, ◌<◌, ◌≤◌, ◌⊎◌, ℕ, min, slice_get, None, Some}
 use Rattle.cx_base.specs.Codes.{root_place_of}
 use Rattle.cx_core.specs.declared.local.Answer.{Answer}
@@ -14,6 +14,7 @@ use Rattle.cx_service.specs.declared.update.ReadDone.TheVariants.{Read, Queued, 
 use Rattle.cx_service.specs.declared.update.Updated.{Updated}
 use Rattle.cx_service.specs.declared.update.Updated.TheVariants.{Done as UpdatedDone, Full as UpdatedFull, Worn as UpdatedWorn, Halted as UpdatedHalted}
 use Rattle.cx_service.specs.Callers.{IsCallerOf, IsStoppedOf, StoppedSeat}
+use Rattle.cx_turns.specs.Turns.{StepsOn}
 
 -- A caller has seen a place: its front is at the place or above it, and so is what it found in CUR or what is behind an entry that it was
 -- answered. So it links no entry below the place, and reads nothing below it.
@@ -66,11 +67,17 @@ pub record CatchUpBehind {O : Type 0} (r : Running O) (place found : ℕ) (befor
   pub is : found ≡ root_place_of r.callers after.known.local.seen_cur
   pub below : found < place
 
+-- A further step is due: at most one of the two was made, and none is taken back.
+pub record IsCatchingUp (before after : Seated) : Type 0 where
+  pub fewer : after.known.local.steps < before.known.local.steps + 2
+  pub since : StepsOn before after
+
 -- A further step was to be made and the steps equal the limit.
 pub record CatchUpHalted {O : Type 0} (r : Running O) (before : Seated) (after : StoppedSeat) : Type 0 where
   pub caller : IsStoppedOf r after.seat
   pub linked : after.linked ≡ None
   pub keeps : CatchUpKeeps before after.seat
+  pub due : IsCatchingUp before after.seat
 
 abbrev pub CatchesUp : {O : Type 0} → Running O → ℕ → Seated → CaughtUp → Type 0
 CatchesUp r place before (Caught after) = CatchUpCaught r place before after

@@ -1,4 +1,4 @@
--- What a checkpoint comes to: a caller takes the image of the current replica while others go on.
+-- The result of a checkpoint: a caller takes the image of the current replica while others go on.
 use Rattle.std.specs.Prelude.{◌≡◌, ◌<◌, ◌≤◌, ℕ, List, [], ◌∷◌, ◌++◌, slice_get, Some, None}
 use Rattle.cx_base.specs.Codes.{root_place_of}
 use Rattle.cx_base.specs.declared.object.Object.{Ghosts}
@@ -40,7 +40,7 @@ pub record CheckpointHalted {O : Type 0} (r : Running O) (before : Seated) (afte
   pub keeps : CheckpointKeeps before after.seat
   pub images : after.seat.known.images ≡ before.known.images
 
--- What a checkpoint in so many turns comes to. The turn that takes the image meets no refusal; one that is refused is as a read's.
+-- The result of a checkpoint in this many turns. The turn that takes the image meets no refusal; one that is refused is as a read's.
 abbrev pub Checkpoints : {O : Type 0} → Ghosts O → Running O → List ℕ → ℕ → Seated → Checkpointed → Type 0
 Checkpoints o r words tries before (Taken after place) = CheckpointTaken o r words place before after × MeetsFewer tries before after
 Checkpoints o r words tries before (Pending after) = ReadPending r tries before after

@@ -1,4 +1,4 @@
--- What driving a linked entry comes to.
+-- The result of driving a linked entry.
 use Rattle.std.specs.Prelude.{◌≡◌, ◌≢◌, ◌+◌, ◌<◌, ◌≤◌, ◌⊎◌, ℕ, List, Some, None}
 use Rattle.cx_base.specs.Codes.{root_place_of}
 use Rattle.cx_core.specs.declared.local.Answer.{Answer}
@@ -11,13 +11,14 @@ use Rattle.cx_service.specs.declared.drive.Driven.TheVariants.{Done, Pending, Ha
 use Rattle.cx_service.specs.Callers.{IsCallerOf, IsLinkedOf, IsStoppedOf, StoppedSeat}
 use Rattle.cx_turns.specs.Answering.{with_answer}
 use Rattle.cx_turns.specs.Bringing.{BringsEntries}
+use Rattle.cx_turns.specs.Turns.{StepsOn}
 use Rattle.strong_trylock.specs.Held.{all_rights, no_rights}
 
--- at least so many refusals were met, where the count is not at its end
+-- at least this many refusals were met, where the count is not at its end
 abbrev pub MeetsMore : ℕ → Seated → Seated → Type 0
 MeetsMore tries before after = (before.known.local.met + tries ≤ after.known.local.met) ⊎ (max_word ≤ after.known.local.met)
 
--- and at most so many
+-- and at most this many
 abbrev pub MeetsAtMost : ℕ → Seated → Seated → Type 0
 MeetsAtMost most before after = after.known.local.met ≤ before.known.local.met + most
 
@@ -29,7 +30,7 @@ MeetsFewer tries before after = after.known.local.met < before.known.local.met +
 abbrev pub EndsOrNot : Seated → Seated → Type 0
 EndsOrNot before after = (after.known.times.answered ≡ before.known.times.answered) ⊎ EndsIn after.known.local.steps before.known.times.answered after.known.times.answered
 
--- what each answer of a drive leaves as it was
+-- what each answer of a drive leaves as it was, and no step that is taken back
 pub record DriveKeeps (before after : Seated) : Type 0 where
   pub number : after.known.local.number ≡ before.known.local.number
   pub limit : after.known.local.limit ≡ before.known.local.limit
@@ -38,6 +39,7 @@ pub record DriveKeeps (before after : Seated) : Type 0 where
   pub linked : after.known.times.linked ≡ before.known.times.linked
   pub read : after.known.times.reads ≡ before.known.times.reads
   pub images : after.known.images ≡ before.known.images
+  pub since : StepsOn before after
 
 -- The entry is answered, and nothing else: the caller has one answer more, at the entry's ticket. The count of others' entries that were
 -- brought on by their sets rises by those of this call. The limit allowed a step.
@@ -51,7 +53,7 @@ pub record DriveDone {O : Type 0} (r : Running O) (before after : Seated) (answe
   pub brought : BringsEntries before after
   pub ended : EndsIn after.known.local.steps before.known.times.answered after.known.times.answered
 
--- In each of so many turns one refusal was met, and no word of a set was read. The entry stands, unanswered. The limit allowed a step.
+-- In each of the given number of turns one refusal was met, and no word of a set was read. The entry stands, unanswered. The limit allowed a step.
 pub record DrivePending {O : Type 0} (r : Running O) (tries : ℕ) (before after : Seated) : Type 0 where
   pub caller : IsLinkedOf r after
   pub keeps : DriveKeeps before after
@@ -75,13 +77,13 @@ pub record DriveHalted {O : Type 0} (r : Running O) (before : Seated) (after : S
       ⊎ ((reply : List ℕ) × (after.seat.known.local.answered ≡ with_answer ticket reply before.known.local.answered) × (after.seat.known.local.won ≢ None))
   pub ended : EndsOrNot before after.seat
 
--- A further step is due to a drive in so many turns: fewer refusals were met, a right stands that is still to be given up, or a code is
+-- A further step is due to a drive in this many turns: fewer refusals were met, a right stands that is still to be released, or a code is
 -- found in CUR whose place is above the entry's ticket, by which DUR is still to be raised. No turn meets more than one refusal.
 pub record DriveDue {O : Type 0} (r : Running O) (tries : ℕ) (before : Seated) (after : StoppedSeat) : Type 0 where
   pub most : MeetsAtMost tries before after.seat
   pub due : all_rights after.seat ≡ no_rights → MeetsFewer tries before after.seat ⊎ ((ticket : ℕ) × (after.linked ≡ Some ticket) × (ticket < root_place_of r.callers after.seat.known.local.seen_cur))
 
--- What a drive of a linked entry in so many turns comes to. A turn meets at most one refusal, also the last one where a publication
+-- The result of a drive of a linked entry in this many turns. A turn meets at most one refusal, also the last one where a publication
 -- was lost in it.
 abbrev pub Drives : {O : Type 0} → Running O → ℕ → Seated → Driven → Type 0
 Drives r tries before (Done after answer) = DriveDone r before after answer × MeetsAtMost tries before after

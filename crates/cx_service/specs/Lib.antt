@@ -1,9 +1,11 @@
+pub mod CallOrder
 pub mod Callers
 pub mod CatchUps
 pub mod Checkpoints
+pub mod ClosedOrder
 pub mod Closes
-pub mod Starts
-pub mod Submits
 pub mod Drives
 pub mod Lookups
+pub mod Starts
+pub mod Submits
 pub mod Updates

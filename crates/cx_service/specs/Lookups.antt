@@ -1,4 +1,4 @@
--- What a read beside the queue comes to.
+-- The result of a read beside the queue.
 use Rattle.std.specs.Prelude.{◌≡◌, ◌≢◌, ◌*◌, ◌<◌, ◌≤◌, ◌⊎◌, ℕ, List, length, slice_get, Some, None}
 use Rattle.cx_base.specs.Codes.{root_place_of}
 use Rattle.cx_core.specs.declared.local.Answer.{Answer}
@@ -13,11 +13,11 @@ use Rattle.cx_service.specs.declared.lookup.ReadTried.TheVariants.{Read, Pending
 use Rattle.cx_service.specs.Callers.{IsCallerOf, IsStoppedOf, StoppedSeat}
 use Rattle.cx_service.specs.Drives.{MeetsAtMost, MeetsFewer, MeetsMore}
 use Rattle.cx_turns.specs.declared.lookup.Seen.{Seen}
-use Rattle.cx_turns.specs.Answering.{with_read}
+use Rattle.cx_turns.specs.Answering.{reads_with}
 use Rattle.cx_turns.specs.Turns.{StepsAtMost, StepsOn}
 use Rattle.strong_trylock.specs.Held.{all_rights, no_rights}
 
--- what each answer of a read leaves as it was, and a front and a code found in CUR that do not fall
+-- what each answer of a read leaves as it was, a front and a code found in CUR that do not fall, and no step that is taken back
 pub record ReadKeeps (before after : Seated) : Type 0 where
   pub number : after.known.local.number ≡ before.known.local.number
   pub limit : after.known.local.limit ≡ before.known.local.limit
@@ -27,6 +27,7 @@ pub record ReadKeeps (before after : Seated) : Type 0 where
   pub sets : after.known.sets ≡ before.known.sets
   pub front : before.known.local.front ≤ after.known.local.front
   pub cur : before.known.local.seen_cur ≤ after.known.local.seen_cur
+  pub since : StepsOn before after
   pub linked : after.known.times.linked ≡ before.known.times.linked
   pub ended : after.known.times.answered ≡ before.known.times.answered
 
@@ -38,7 +39,7 @@ pub record ReadAnswered {O : Type 0} (r : Running O) (op : List ℕ) (before aft
   pub keeps : ReadKeeps before after
   pub allowed : ¬ IsAtLimit before.known.local
   pub met : before.known.local.met ≤ after.known.local.met
-  pub reads : after.known.local.seen_reads ≡ with_read seen.place op seen.reply (length before.known.local.answered) before.known.local.seen_reads
+  pub reads : after.known.local.seen_reads ≡ reads_with seen.place op seen.reply (length before.known.local.answered) before.known.local.seen_reads
   pub place : seen.place ≡ root_place_of r.callers after.known.local.seen_cur
   pub reached : seen.place ≤ after.known.local.front
   pub above : (i : ℕ) (x : Answer) → slice_get before.known.local.answered i ≡ Some x → x.ticket < seen.place
@@ -46,7 +47,7 @@ pub record ReadAnswered {O : Type 0} (r : Running O) (op : List ℕ) (before aft
   pub times : ReadsIn before.known.local.steps after.known.local.steps before.known.times.reads after.known.times.reads
   pub images : after.known.images ≡ before.known.images
 
--- In each of so many turns one refusal was met, by at most four steps. The limit allowed a step.
+-- In each of the given number of turns one refusal was met, by at most four steps. The limit allowed a step.
 pub record ReadPending {O : Type 0} (r : Running O) (tries : ℕ) (before after : Seated) : Type 0 where
   pub caller : IsCallerOf r after
   pub keeps : ReadKeeps before after
@@ -67,23 +68,23 @@ pub record ReadHalted {O : Type 0} (r : Running O) (op : List ℕ) (before : Sea
   pub linked : after.linked ≡ None
   pub keeps : ReadKeeps before after.seat
   pub reads : (after.seat.known.local.seen_reads ≡ before.known.local.seen_reads)
-      ⊎ ((place : ℕ) × (reply : List ℕ) × (after.seat.known.local.seen_reads ≡ with_read place op reply (length before.known.local.answered) before.known.local.seen_reads) × (after.seat.known.local.shared ≢ None))
+      ⊎ ((place : ℕ) × (reply : List ℕ) × (after.seat.known.local.seen_reads ≡ reads_with place op reply (length before.known.local.answered) before.known.local.seen_reads) × (after.seat.known.local.shared ≢ None))
   pub times : (after.seat.known.times.reads ≡ before.known.times.reads) ⊎ ReadsIn before.known.local.steps after.seat.known.local.steps before.known.times.reads after.seat.known.times.reads
   pub images : after.seat.known.images ≡ before.known.images
 
--- A further step is due to a read in so many turns: fewer refusals were met, or a right stands that is still to be given up. No turn meets
+-- A further step is due to a read in this many turns: fewer refusals were met, or a right stands that is still to be released. No turn meets
 -- more than one.
 pub record ReadDue (tries : ℕ) (before after : Seated) : Type 0 where
   pub most : MeetsAtMost tries before after
   pub due : all_rights after ≡ no_rights → MeetsFewer tries before after
 
--- What a read of this operation in so many turns comes to. The turn that answers it meets no refusal.
+-- The result of a read of this operation in this many turns. The turn that answers it meets no refusal.
 abbrev pub Looks : {O : Type 0} → Running O → List ℕ → ℕ → Seated → ReadTried → Type 0
 Looks r op tries before (Read after seen) = ReadAnswered r op before after seen × MeetsFewer tries before after
 Looks r op tries before (Pending after) = ReadPending r tries before after
 Looks r op tries before (Halted after) = ReadHalted r op before after × ReadDue tries before after.seat
 
--- what one turn of it comes to, beside the reply
+-- the result of one turn of it, without the reply
 abbrev pub LooksOnce : {O : Type 0} → Running O → List ℕ → List ℕ → Seated → Looked → Type 0
 LooksOnce r op reply before (Found after place) = ReadAnswered r op before after (record { place = place; reply = reply }) × MeetsFewer 1 before after
 LooksOnce r op reply before (Refused after) = ReadPending r 1 before after

@@ -1,4 +1,4 @@
--- What starting a service comes to.
+-- The result of starting a service.
 use Rattle.std.specs.Prelude.{◌≡◌, ◌≤◌, ℕ, List, [], All, map}
 use Rattle.std.specs.List.{range_with_len}
 use Rattle.cx_core.specs.declared.entry.Base.{Base}
@@ -17,7 +17,7 @@ AreFewCallers callers = (1 ≤ callers) × (callers ≤ 8)
 abbrev pub AreFewLines : ℕ → Type 0
 AreFewLines lines = (64 ≤ lines) × (lines ≤ 16384)
 
--- the cause of a fault: the first number that is not right, or want of memory where both are
+-- the cause of a fault: the first number that is not right, or out of memory where both are
 abbrev pub IsStartFault : ℕ → ℕ → StartFault → Type 0
 IsStartFault callers lines (Callers found) = (found ≡ callers) × (¬ AreFewCallers callers)
 IsStartFault callers lines (Lines found) = (found ≡ lines) × AreFewCallers callers × (¬ AreFewLines lines)
@@ -27,7 +27,7 @@ IsStartFault callers lines Memory = AreFewCallers callers × AreFewLines lines
 abbrev pub HasNoSets : Seated → Type 0
 HasNoSets seat = seat.known.sets ≡ []
 
--- The service of so many callers of this object, which opens from this base, and its callers, of caller 0 first. None has made a
+-- The service of this object with this many callers, which opens from this base, and its callers, of caller 0 first. None has made a
 -- step. The limit of caller c is item c of the limits.
 pub record Starts {O : Type 0} (object : O) (lines callers : ℕ) (limits : List ℕ) (base : Base) (service : Running O) (seats : List Seated) : Type 0 where
   pub right : AreFewCallers callers × AreFewLines lines

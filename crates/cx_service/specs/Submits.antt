@@ -1,4 +1,4 @@
--- What submitting an operation comes to.
+-- The result of submitting an operation.
 use Rattle.std.specs.Prelude.{◌≡◌, ◌≢◌, ◌+◌, ◌*◌, ◌^◌, ◌<◌, ◌≤◌, ◌⊎◌, false, ℕ, min, List, [], ◌∷◌, ◌++◌, length, slice_index, Some, None, Result, Ok, Err}
 use Rattle.cx_base.specs.Codes.{root_place_of}
 use Rattle.cx_core.specs.declared.local.Linked.{Linked as OwnEntry}
@@ -35,7 +35,7 @@ pub record KeepsEnds (before after : Times) : Type 0 where
   pub answered : after.answered ≡ before.answered
   pub reads : after.reads ≡ before.reads
 
--- what each answer of a submit leaves as it was, a front and a code found in CUR that do not fall, and at most so many steps; where a cell was
+-- what each answer of a submit leaves as it was, a front and a code found in CUR that do not fall, and at most this many steps; where a cell was
 -- idle, none was looked for
 pub record SubmitKeeps (most : ℕ) (before after : Seated) : Type 0 where
   pub number : after.known.local.number ≡ before.known.local.number
@@ -52,8 +52,8 @@ pub record SubmitKeeps (most : ℕ) (before after : Seated) : Type 0 where
   pub images : after.known.images ≡ before.known.images
 
 -- the caller's next entry, with this operation and this ticket
-abbrev pub entry_at : {O : Type 0} → Running O → Local → List ℕ → ℕ → OwnEntry
-entry_at r l op ticket = record { ticket = ticket; entry = record { caller = l.number; number = next_number r.base l; op = op } }
+abbrev pub next_entry : {O : Type 0} → Running O → Local → List ℕ → ℕ → OwnEntry
+next_entry r l op ticket = record { ticket = ticket; entry = record { caller = l.number; number = next_number r.base l; op = op } }
 
 -- The entry is linked, and no other: the caller has one entry more, of this operation, at the ticket that it lends. It was linked by a step
 -- of this call.
@@ -64,12 +64,13 @@ pub record SubmitLinked {O : Type 0} (r : Running O) (op : List ℕ) (most : ℕ
   pub scans : before.known.local.scans ≤ after.known.local.scans
   pub ticket : ℕ
   pub lends : unanswered_ticket after.known.local ≡ Some ticket
-  pub own : after.known.local.own ≡ before.known.local.own ++ entry_at r before.known.local op ticket ∷ []
+  pub own : after.known.local.own ≡ before.known.local.own ++ next_entry r before.known.local op ticket ∷ []
   pub from : before.known.local.front ≤ ticket
   pub front : after.known.local.front ≡ ticket + 1
   pub begun : BeginsIn before.known.local.steps before.known.times.linked after.known.times.linked
+  pub since : StepsOn before after
 
--- What tries to link an entry came to, one after another: it was written into a cell before, behind so many steps, by one for the first
+-- The result of tries to link an entry, one after another: it was written into a cell before, after this many steps, by one for the first
 -- word and for each other that differed.
 pub record TriesOf {O : Type 0} (r : Running O) (n : ℕ) (come_to : Seated → Seated → Type 0) (before after : Seated) : Type 0 where
   pub cell : ℕ
@@ -78,7 +79,7 @@ pub record TriesOf {O : Type 0} (r : Running O) (n : ℕ) (come_to : Seated → 
   pub since : min (before.known.local.steps + n + writes before.known.local cell (cell_of from.known.local cell).words) max_word ≤ from.known.local.steps
   pub made : come_to from after
 
--- Nothing was linked, so many tries were lost, and tickets are left.
+-- Nothing was linked, this many tries were lost, and tickets are left.
 pub record SubmitAgain {O : Type 0} (r : Running O) (tries most : ℕ) (before after : Seated) : Type 0 where
   pub caller : IsCallerOf r after
   pub keeps : SubmitKeeps most before after
@@ -118,7 +119,7 @@ pub record SubmitFull {O : Type 0} (r : Running O) (most : ℕ) (before after : 
   pub names : NamesHolder r.callers after.known.local note
   pub linked : after.known.times.linked ≡ before.known.times.linked
 
--- A cell is idle, and there is no further ticket. At least so many steps were made.
+-- A cell is idle, and there is no further ticket. At least this many steps were made.
 pub record SubmitWorn {O : Type 0} (r : Running O) (least most : ℕ) (before after : Seated) : Type 0 where
   pub caller : IsCallerOf r after
   pub keeps : SubmitKeeps most before after
@@ -130,7 +131,7 @@ pub record SubmitWorn {O : Type 0} (r : Running O) (least most : ℕ) (before af
   pub idle : (j : ℕ) × (j < 16) × IsIdle after.known.local j
   pub linked : after.known.times.linked ≡ before.known.times.linked
 
--- A further step was to be made and the steps equal the limit. Nothing was linked.
+-- A further step was to be made and the steps equal the limit. Nothing was linked, and no step is taken back.
 pub record SubmitHalted {O : Type 0} (r : Running O) (most : ℕ) (before : Seated) (after : StoppedSeat) : Type 0 where
   pub caller : IsStoppedOf r after.seat
   pub linked : after.linked ≡ None
@@ -138,8 +139,9 @@ pub record SubmitHalted {O : Type 0} (r : Running O) (most : ℕ) (before : Seat
   pub own : after.seat.known.local.own ≡ before.known.local.own
   pub none : unanswered_ticket after.seat.known.local ≡ None
   pub times : after.seat.known.times.linked ≡ before.known.times.linked
+  pub since : StepsOn before after.seat
 
--- A cell was looked for by so many steps: by none where one was idle, by one where FREE was loaded alone, and by the scan's too where one
+-- A cell was looked for by this many steps: by none where one was idle, by one where FREE was loaded alone, and by the scan's too where one
 -- was made.
 abbrev pub LooksBy : ℕ → ℕ → Seated → Seated → Type 0
 LooksBy callers n before after =
@@ -147,14 +149,14 @@ LooksBy callers n before after =
     ⊎ (((n ≡ 1) × AreInUse before.known.local × (after.known.local.scans ≡ before.known.local.scans))
     ⊎ ((n ≡ callers + 4) × AreInUse before.known.local × (after.known.local.scans ≡ one_more before.known.local.scans)))
 
--- A step is due in looking for a cell, which so many steps do but the last: no cell is idle and no scan has ended, or one has, and FREE is
--- still to be loaded.
+-- A step is due in looking for a cell: no cell is idle and no scan has ended, or one has, by this many steps in all, and FREE is still to be
+-- loaded.
 abbrev pub IsLooking : ℕ → Seated → Seated → Type 0
 IsLooking n before after =
     (AreInUse after.known.local × (after.known.local.scans ≡ before.known.local.scans))
     ⊎ ((after.known.local.scans ≡ one_more before.known.local.scans) × (after.known.local.steps ≡ min (before.known.local.steps + n) max_word))
 
--- A step is due in entering an operation in an idle cell, behind so many others: CUR is to be loaded, or the entry to be written there, and
+-- A step is due in entering an operation in an idle cell, after this many others: CUR is to be loaded, or the entry to be written there, and
 -- the limit is less than what that needs. No other cell was written.
 pub record IsWriting {O : Type 0} (r : Running O) (op : List ℕ) (n : ℕ) (before after : Seated) : Type 0 where
   pub cell : ℕ
@@ -163,40 +165,40 @@ pub record IsWriting {O : Type 0} (r : Running O) (op : List ℕ) (n : ℕ) (bef
   pub short : after.known.local.limit < before.known.local.steps + n + writes before.known.local cell (next_number r.base before.known.local ∷ op)
   pub others : (k : ℕ) → k ≢ cell → cell_of after.known.local k ≡ cell_of before.known.local k
 
--- A step is due to a submit in trying to link: fewer tries were lost than so many, and a ticket is left.
+-- A step is due to a submit in trying to link: fewer tries were lost than this number, and a ticket is left.
 abbrev pub IsTrying : {O : Type 0} → Running O → ℕ → ℕ → Seated → Seated → Type 0
 IsTrying r tries n before after = TriesOf r n (EndsBy r.callers tries (HaltsTry r.callers)) before after
 
--- the limit was come to in one of so many tries to link an operation in an idle cell, or before them
+-- the step limit was reached in one of this many tries to link an operation in an idle cell, or before them
 abbrev pub HaltsInCell : {O : Type 0} → Running O → List ℕ → ℕ → ℕ → Seated → StoppedSeat → Type 0
 HaltsInCell r op tries most before after = SubmitHalted r most before after × (IsWriting r op 1 before after.seat ⊎ IsTrying r tries 1 before after.seat)
 
--- the limit was come to in one of so many tries, or before them
+-- the step limit was reached in one of this many tries, or before them
 abbrev pub HaltsEntering : {O : Type 0} → Running O → List ℕ → ℕ → ℕ → Seated → StoppedSeat → Type 0
 HaltsEntering r op tries most before after =
     SubmitHalted r most before after
     × (IsLooking (r.callers + 3) before after.seat
     ⊎ ((n : ℕ) × LooksBy r.callers n before after.seat × (IsWriting r op (n + 1) before after.seat ⊎ IsTrying r tries (n + 1) before after.seat)))
 
--- each of so many tries, behind so many steps, found another's link
+-- each of the given number of tries, after the given number of steps, found another's link
 abbrev pub FindsLinks : {O : Type 0} → Running O → ℕ → ℕ → Seated → Seated → Type 0
 FindsLinks r tries n before after = TriesOf r n (LosesTries r.callers tries) before after
 
--- an operation that was announced, behind so many steps and by one or more, and tried to be linked, in at most so many
+-- an operation that was announced, after the given number of steps and by one or more, and tried to be linked, in at most the other number
 abbrev pub EntersIn : {O : Type 0} → ℕ → ℕ → Running O → List ℕ → ℕ → Seated → Seated → LinkTried → Type 0
 EntersIn n most r op tries before after (TriedLinked ticket) = SubmitLinked r op most before after
 EntersIn n most r op tries before after TriedAgain = SubmitAgain r tries most before after × FindsLinks r tries n before after
 EntersIn n most r op tries before after TriedWorn = SubmitWorn r (n + 1) most before after
 
--- what entering an operation in an idle cell comes to, in at most so many steps
-abbrev pub Enters : {O : Type 0} → ℕ → Running O → List ℕ → ℕ → Seated → Submitted → Type 0
-Enters most r op tries before (Linked after) = SubmitLinked r op most before after
-Enters most r op tries before (Again after) = SubmitAgain r tries most before after × FindsLinks r tries 1 before after
-Enters most r op tries before (Full after note) = ⊥
-Enters most r op tries before (Worn after) = SubmitWorn r 2 most before after
-Enters most r op tries before (Halted after) = HaltsInCell r op tries most before after
+-- the result of entering an operation in an idle cell, in at most this many steps
+abbrev pub EntersOperation : {O : Type 0} → ℕ → Running O → List ℕ → ℕ → Seated → Submitted → Type 0
+EntersOperation most r op tries before (Linked after) = SubmitLinked r op most before after
+EntersOperation most r op tries before (Again after) = SubmitAgain r tries most before after × FindsLinks r tries 1 before after
+EntersOperation most r op tries before (Full after note) = ⊥
+EntersOperation most r op tries before (Worn after) = SubmitWorn r 2 most before after
+EntersOperation most r op tries before (Halted after) = HaltsInCell r op tries most before after
 
--- a submit that makes at most so many steps
+-- a submit that makes at most this many steps
 abbrev pub SubmitsIn : {O : Type 0} → ℕ → Running O → List ℕ → ℕ → Seated → Submitted → Type 0
 SubmitsIn most r op tries before (Linked after) = SubmitLinked r op most before after
 SubmitsIn most r op tries before (Again after) = SubmitAgain r tries most before after × (n : ℕ) × LooksBy r.callers n before after × FindsLinks r tries (n + 1) before after
@@ -204,11 +206,11 @@ SubmitsIn most r op tries before (Full after note) = SubmitFull r most before af
 SubmitsIn most r op tries before (Worn after) = SubmitWorn r 2 most before after
 SubmitsIn most r op tries before (Halted after) = HaltsEntering r op tries most before after
 
--- what a submit of this operation by a caller comes to
+-- the result of a submit of this operation by a caller
 abbrev pub Submits : {O : Type 0} → Running O → List ℕ → ℕ → Seated → Submitted → Type 0
 Submits r op tries before submitted = SubmitsIn (200 + r.callers + 3 * tries) r op tries before submitted
 
--- A cell was looked for, in at most so many steps: nothing is changed but what was found of FREE and of the callers' needs, a scan
+-- A cell was looked for, in at most this many steps: nothing is changed but what was found of FREE and of the callers' needs, a scan
 -- under way, whether what was seen of CUR is fresh, and the counts of steps and scans.
 pub record LooksForCell (most : ℕ) (before after : Seated) : Type 0 where
   pub same : but_collected after ≡ but_collected before
@@ -221,13 +223,14 @@ pub record EndsLooking (before after : Seated) : Type 0 where
   pub scans : before.known.local.scans ≤ after.known.local.scans
   pub since : min before.known.local.steps max_word ≤ after.known.local.steps
 
--- the limit was come to, in looking for a cell where none was idle, which so many steps do but the last
+-- the step limit was reached in looking for a cell, where none was idle; the search takes one step more than this number, and none is taken back
 pub record HaltsLooking (n : ℕ) (before after : Seated) : Type 0 where
   pub limit : IsAtLimit after.known.local
   pub used : AreInUse before.known.local
   pub looking : IsLooking n before after
+  pub since : StepsOn before after
 
--- no cell is idle, though what no caller needs was given again, by so many steps
+-- no cell is idle, though the cells that no caller needs were opened again, by this many steps
 pub record FindsNone (callers n : ℕ) (before after : Seated) (note : FullNote) : Type 0 where
   pub ends : EndsLooking before after
   pub used : AreInUse before.known.local
@@ -255,12 +258,12 @@ pub record FindsFreed (callers : ℕ) (before after : Seated) (cell : ℕ) : Typ
   pub scans : after.known.local.scans ≡ one_more before.known.local.scans
   pub count : after.known.local.steps ≡ min (before.known.local.steps + callers + 3) max_word
 
--- what a scan comes to where all cells are in use
+-- the result of a scan where all cells are in use
 abbrev pub FindsAgain : ℕ → Seated → Seated → Result ℕ FullNote → Type 0
 FindsAgain callers before after (Ok cell) = FindsFreed callers before after cell
 FindsAgain callers before after (Err note) = FindsNone callers (callers + 3) before after note
 
--- what looking for an idle cell comes to
+-- the result of looking for an idle cell
 abbrev pub FindsCell : ℕ → Seated → Seated → Result ℕ FullNote → Type 0
 FindsCell callers before after (Ok cell) = FindsIdle callers before after cell
 FindsCell callers before after (Err note) = FindsNone callers (callers + 4) before after note

@@ -1,4 +1,4 @@
--- What an update comes to, and a read that may enter the queue.
+-- The result of an update, and of a read that may enter the queue.
 use Rattle.std.specs.Prelude.{◌≡◌, ◌≢◌, ◌+◌, ◌^◌, ◌<◌, ◌≤◌, ◌⊎◌, ℕ, min, List, [], ◌∷◌, ◌++◌, length, Some, None}
 use Rattle.cx_core.specs.declared.local.Answer.{Answer}
 use Rattle.cx_core.specs.Layout.{max_word}
@@ -15,9 +15,10 @@ use Rattle.cx_service.specs.declared.update.Updated.TheVariants.{Done, Full, Wor
 use Rattle.cx_service.specs.Callers.{IsCallerOf, IsStoppedOf, StoppedSeat}
 use Rattle.cx_service.specs.Drives.{DriveDone, DriveHalted, EndsOrNot, MeetsFewer}
 use Rattle.cx_service.specs.Lookups.{ReadAnswered, ReadDue, ReadHalted, ReadPending}
-use Rattle.cx_service.specs.Submits.{NamesHolder, Submits, entry_at}
+use Rattle.cx_service.specs.Submits.{NamesHolder, Submits, next_entry}
 use Rattle.cx_turns.specs.Answering.{with_answer}
 use Rattle.cx_turns.specs.Bringing.{BringsEntries}
+use Rattle.cx_turns.specs.Turns.{StepsOn}
 
 -- the caller's number, its limit and its lists are as they were, and its front and what it found in CUR do not fall
 pub record KeepsLists (before after : Seated) : Type 0 where
@@ -29,21 +30,23 @@ pub record KeepsLists (before after : Seated) : Type 0 where
   pub front : before.known.local.front ≤ after.known.local.front
   pub cur : before.known.local.seen_cur ≤ after.known.local.seen_cur
 
--- an entry of this operation was linked at a ticket, and no other
+-- an entry of this operation was linked at a ticket, and no other, and no step is taken back
 pub record LinksEntry {O : Type 0} (r : Running O) (op : List ℕ) (ticket : ℕ) (before after : Seated) : Type 0 where
   pub number : after.known.local.number ≡ before.known.local.number
   pub limit : after.known.local.limit ≡ before.known.local.limit
-  pub own : after.known.local.own ≡ before.known.local.own ++ entry_at r before.known.local op ticket ∷ []
+  pub own : after.known.local.own ≡ before.known.local.own ++ next_entry r before.known.local op ticket ∷ []
   pub reads : after.known.local.seen_reads ≡ before.known.local.seen_reads
   pub begun : BeginsIn before.known.local.steps before.known.times.linked after.known.times.linked
   pub read : after.known.times.reads ≡ before.known.times.reads
+  pub since : StepsOn before after
 
 -- The entry is linked and answered, and nothing else: the caller has one entry more and one answer more, at the answer's ticket, which is not
--- below the caller's front. It was linked and answered by steps of this call. The count of others' entries that were brought on by their sets
--- rises by those of this call.
+-- below the caller's front. It was linked and answered by steps of this call, and no refusal is taken back. The count of others' entries that
+-- were brought on by their sets rises by those of this call.
 pub record UpdateDone {O : Type 0} (r : Running O) (op : List ℕ) (before after : Seated) (answer : Answer) : Type 0 where
   pub caller : IsCallerOf r after
   pub allowed : ¬ IsAtLimit before.known.local
+  pub met : before.known.local.met ≤ after.known.local.met
   pub from : before.known.local.front ≤ answer.ticket
   pub links : LinksEntry r op answer.ticket before after
   pub answered : after.known.local.answered ≡ with_answer answer.ticket answer.reply before.known.local.answered
@@ -57,6 +60,7 @@ pub record UpdateFull {O : Type 0} (r : Running O) (before after : Seated) (note
   pub caller : IsCallerOf r after
   pub allowed : ¬ IsAtLimit before.known.local
   pub keeps : KeepsLists before after
+  pub met : after.known.local.met ≡ before.known.local.met
   pub full : 16 ≤ length before.known.local.own
   pub scans : (before.known.local.scans < after.known.local.scans) ⊎ (after.known.local.scans ≡ max_word)
   pub steps : min (before.known.local.steps + (r.callers + 4)) max_word ≤ after.known.local.steps
@@ -70,6 +74,7 @@ pub record UpdateWorn {O : Type 0} (r : Running O) (before after : Seated) : Typ
   pub caller : IsCallerOf r after
   pub allowed : ¬ IsAtLimit before.known.local
   pub keeps : KeepsLists before after
+  pub met : after.known.local.met ≡ before.known.local.met
   pub front : after.known.local.front ≡ 2 ^ 40
   pub steps : min (before.known.local.steps + 2) max_word ≤ after.known.local.steps
   pub idle : (j : ℕ) × (j < 16) × IsIdle after.known.local j
@@ -82,16 +87,19 @@ pub data SubmitsAgain {O : Type 0} (r : Running O) (op : List ℕ) (first : Seat
   not_yet : (now : Seated) → now ≡ first → SubmitsAgain r op first now
   once_more : (mid now : Seated) → SubmitsAgain r op first mid → Submits r op 16 mid (SubmitsBack now) → SubmitsAgain r op first now
 
--- Nothing was linked before the limit was come to: it was in the last of such submits, to which a further step was due.
+-- Nothing was linked before the step limit was reached: it was in the last of such submits, to which a further step was due. No step is
+-- taken back.
 pub record HaltsUnlinked {O : Type 0} (r : Running O) (op : List ℕ) (before : Seated) (after : StoppedSeat) : Type 0 where
   pub none : after.linked ≡ None
   pub keeps : KeepsLists before after.seat
+  pub met : after.seat.known.local.met ≡ before.known.local.met
   pub last : Seated
   pub tried : SubmitsAgain r op before last
   pub due : Submits r op 16 last (SubmitHalts after)
+  pub since : StepsOn before after.seat
   pub times : KeepsTimes before.known.times after.seat.known.times
 
--- The entry was linked before the limit was come to, and no call answered it. The caller has no answer more, or the entry's, and then a
+-- The entry was linked before the step limit was reached, and no call answered it. The caller has no answer more, or the entry's, and then a
 -- win that is still to be retired.
 pub record HaltsLinked {O : Type 0} (r : Running O) (op : List ℕ) (before : Seated) (after : StoppedSeat) : Type 0 where
   pub ticket : ℕ
@@ -108,14 +116,14 @@ pub record UpdateHalted {O : Type 0} (r : Running O) (op : List ℕ) (before : S
   pub lists : HaltsUnlinked r op before after ⊎ HaltsLinked r op before after
   pub images : after.seat.known.images ≡ before.known.images
 
--- what an update of this operation comes to
+-- the result of an update of this operation
 abbrev pub Updates : {O : Type 0} → Running O → List ℕ → Seated → Updated → Type 0
 Updates r op before (Done after answer) = UpdateDone r op before after answer
 Updates r op before (Full after note) = UpdateFull r before after note
 Updates r op before (Worn after) = UpdateWorn r before after
 Updates r op before (Halted after) = UpdateHalted r op before after
 
--- what driving a linked entry to its end comes to
+-- the result of driving a linked entry to its end
 abbrev pub Finishes : {O : Type 0} → Running O → Seated → Updated → Type 0
 Finishes r before (Done after answer) = DriveDone r before after answer
 Finishes r before (Full after note) = ⊥
@@ -135,7 +143,7 @@ pub record ReadStops {O : Type 0} (r : Running O) (op : List ℕ) (before : Seat
   pub lists : (ReadHalted r op before after × ReadDue 8 before after.seat) ⊎ ReadQueues r op before (Halted after)
   pub images : after.seat.known.images ≡ before.known.images
 
--- what a read of this operation comes to
+-- the result of a read of this operation
 abbrev pub ReadsInAll : {O : Type 0} → Running O → List ℕ → Seated → ReadDone → Type 0
 ReadsInAll r op before (Read after seen) = ReadAnswered r op before after seen × MeetsFewer 8 before after
 ReadsInAll r op before (Queued after answer) = ReadQueues r op before (Done after answer)
@@ -143,7 +151,7 @@ ReadsInAll r op before (FullRead after note) = ReadQueues r op before (Full afte
 ReadsInAll r op before (WornRead after) = ReadQueues r op before (Worn after)
 ReadsInAll r op before (HaltedRead after) = ReadStops r op before after
 
--- what a read that enters the queue comes to
+-- the result of a read that enters the queue
 abbrev pub QueuesRead : {O : Type 0} → Running O → List ℕ → Seated → ReadDone → Type 0
 QueuesRead r op before (Read after seen) = ⊥
 QueuesRead r op before (Queued after answer) = Updates r op before (Done after answer)

@@ -3,7 +3,7 @@
 
 ghost use Rattle.std.specs.Prelude.{◌≡◌, ◌+◌, ◌^◌, ◌<◌, ◌≤◌, Some, length, min};
 ghost use Rattle.cx_core.specs.Layout.{max_word};
-ghost use Rattle.cx_rule.specs.Seats.{unanswered_ticket};
+ghost use Rattle.cx_rule.specs.Seats.{IsWithinLimit, unanswered_ticket};
 ghost use Rattle.redo_set.specs.Taking.{sets_read};
 
 use cx_core::Answer;
@@ -82,9 +82,10 @@ impl Caller {
         self.desk.seat.number()
     }
 
-    /// The steps made. This stays at 2^64 - 1 once there.
+    /// The steps made, of which there are no more than the limit allows. This stays at 2^64 - 1 once there.
     pub fn steps(&self) -> u64
-        ensures { result ≡ self.now.known.local.steps }
+        ensures value { result ≡ self.now.known.local.steps }
+        ensures within { IsWithinLimit self.now.known.local }
     {
         self.desk.seat.steps()
     }
@@ -130,9 +131,10 @@ impl Linked {
         self.desk.seat.number()
     }
 
-    /// The steps made. This stays at 2^64 - 1 once there.
+    /// The steps made, of which there are no more than the limit allows. This stays at 2^64 - 1 once there.
     pub fn steps(&self) -> u64
-        ensures { result ≡ self.now.known.local.steps }
+        ensures value { result ≡ self.now.known.local.steps }
+        ensures within { IsWithinLimit self.now.known.local }
     {
         self.desk.seat.steps()
     }
@@ -191,8 +193,8 @@ impl Stopped {
         self.desk.seat.met()
     }
 
-    /// The ticket of its linked entry that no call has answered, also where the durable root was raised above it before the limit was
-    /// come to.
+    /// The ticket of its linked entry that no call has answered, also where the durable root was raised above it before the step
+    /// limit was reached.
     pub fn linked(&self) -> Option<u64>
         ensures { result ≡ self.now.linked }
     {

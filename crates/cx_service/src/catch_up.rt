@@ -2,7 +2,7 @@
 
 ghost use Rattle.std.specs.Prelude.{◌≡◌, IfOk, OnErr};
 ghost use Rattle.cx_service.specs.Callers.{IsCallerOf, IsStoppedOf};
-ghost use Rattle.cx_service.specs.CatchUps.{CatchUpKeeps, CatchesUp, SeesCurrent};
+ghost use Rattle.cx_service.specs.CatchUps.{CatchUpKeeps, CatchesUp, IsCatchingUp, SeesCurrent};
 
 use crate::callers::{Caller, Stopped};
 use crate::service::Service;
@@ -10,7 +10,7 @@ use cx_base::{Halt, Object, root_place};
 use cx_table::{CallerSeat, Shared};
 use publish::make_durable;
 
-/// What catching up with a place comes to.
+/// The result of catching up with a place.
 #[derive(Drop)]
 pub enum CaughtUp {
     /// The caller has seen the place.
@@ -49,7 +49,7 @@ fn see_current<O: Object>(shared: &Shared<O>, seat: &mut CallerSeat) -> Result<u
     requires { IsCallerOf shared.now seat.old }
     ensures seen { IfOk result (SeesCurrent shared.now seat.old seat.new) }
     ensures keeps { CatchUpKeeps seat.old seat.new }
-    ensures halted { OnErr result (IsStoppedOf shared.now seat.new) }
+    ensures halted { OnErr result (IsStoppedOf shared.now seat.new × IsCatchingUp seat.old seat.new) }
     ensures sets { seat.new.known.sets ≡ seat.old.known.sets }
 {
     let code = shared.load_cur(seat)?;

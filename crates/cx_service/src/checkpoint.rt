@@ -9,7 +9,7 @@ use crate::service::Service;
 use cx_base::{Halt, Object};
 use cx_turns::checkpoint_turn;
 
-/// What a checkpoint comes to.
+/// The result of a checkpoint.
 #[derive(Drop)]
 pub enum Checkpointed {
     /// The image was taken, at this place.
@@ -21,7 +21,7 @@ pub enum Checkpointed {
 }
 
 impl<O: Object> Service<O> {
-    /// Takes the image of the current replica, results included, in at most so many turns. `Taken` is told by a raise of the durable root: the
+    /// Takes the image of the current replica, results included, in at most `tries` turns. `Taken` is told by a raise of the durable root: the
     /// words are the image after the entries below the place, all of which a loss of power keeps, and a base from which a service may start. Only
     /// a caller that wants that replica exclusively is kept from it, by one copy. `Pending` comes only where the count of refusals rose in each
     /// turn. `Halted` comes exactly where a further step is to be made and the steps equal the limit.

@@ -4,14 +4,14 @@ ghost use Rattle.std.specs.Prelude.{◌≡◌, ◌≤◌, [], IfErr, IfOk, map, 
 ghost use Rattle.cx_rule.specs.Running.{instance_at};
 ghost use Rattle.cx_table.specs.Remains.{AreSeats, Leaves};
 ghost use Rattle.cx_service.specs.Closes.{seat_of, seats_of};
-ghost use Rattle.table_order.specs.Closings.{IsClosedLinearizable};
+ghost use Rattle.cx_service.specs.ClosedOrder.{IsClosedLinearizable};
 
 use crate::callers::{Caller, Desk, Linked, Stopped};
+use crate::closed_order::closed_tables_are_linearizable;
 use crate::service::Service;
 use cx_base::Object;
 use cx_table::{CallerSeat, Remains};
 use std::alloc::Global;
-use table_order::closing::closed_tables_are_linearizable;
 
 /// A caller that is handed in, in whatever state it is.
 #[derive(Drop)]
@@ -21,7 +21,7 @@ pub enum Handed {
     Stopped(Stopped),
 }
 
-/// A service that was not closed for want of memory, and its callers: all as it was.
+/// A service that was not closed since memory ran out, and its callers: all as it was.
 #[derive(Drop)]
 pub struct Kept<O: Object> {
     pub service: Service<O>,
@@ -31,8 +31,8 @@ pub struct Kept<O: Object> {
 impl<O: Object> Service<O> {
     /// Closes the service, whose callers are handed in, of caller 0 first. What it leaves was reached by all callers' steps, one after
     /// another: by their order the history is a linearization (Herlihy and Wing), also over a crash (Izraelevitz and others), and where the
-    /// steps of one call stand before those of another, so do the calls' operations. `Err` is want of memory alone, and hands all back
-    /// as it was.
+    /// steps of one call stand before those of another, so do the calls' operations. `Err` comes only where memory runs out, and hands
+    /// all back as it was.
     pub fn close(self, alloc: Global, callers: Vec<Handed>) -> Result<Remains, Kept<O>>
         requires { AreSeats self (seats_of callers.items) }
         ensures remains { IfOk result (λ r. Leaves self (instance_at self O.step O.only_reads) (seats_of callers.items) r) }

@@ -10,7 +10,7 @@ use cx_base::{Halt, Object};
 use cx_core::Answer;
 use cx_turns::update_turn;
 
-/// What driving an entry comes to.
+/// The result of driving an entry.
 #[derive(Drop)]
 pub enum Driven {
     /// The entry is applied and durable: its ticket, and the reply.
@@ -22,7 +22,7 @@ pub enum Driven {
 }
 
 impl<O: Object> Service<O> {
-    /// Drives a caller's linked entry to its answer, in at most so many turns. `Done` is answered by a raise of the durable root
+    /// Drives a caller's linked entry to its answer, in at most `tries` turns. `Done` is answered by a raise of the durable root
     /// alone: the reply is the object's after the entries before the ticket, and a loss of power keeps the entry. `Pending` comes
     /// only where the count of refusals rose in each turn; no turn adds more than one. `Halted` comes exactly where a further step is to
     /// be made and the steps equal the limit; the caller keeps the entry's ticket.

@@ -6,10 +6,10 @@ ghost use Rattle.cx_service.specs.Lookups.{Looks, LooksOnce};
 
 use crate::callers::{Caller, Stopped};
 use crate::service::Service;
-use cx_base::{Halt, Object};
+use cx_base::{Halt, OP_WORDS, Object, OpWords};
 use cx_turns::{Seen, read_turn};
 
-/// What a read beside the queue comes to.
+/// The result of a read beside the queue.
 #[derive(Drop)]
 pub enum ReadTried {
     /// The read is answered: its place, and the reply there.
@@ -20,7 +20,7 @@ pub enum ReadTried {
     Halted(Stopped),
 }
 
-/// What one turn for a read comes to, beside the reply.
+/// The result of one turn for a read, without the reply.
 #[derive(Drop)]
 pub(crate) enum Looked {
     /// The read is answered at this place.
@@ -32,18 +32,18 @@ pub(crate) enum Looked {
 }
 
 impl<O: Object> Service<O> {
-    /// Answers an operation that only reads on the current replica, in at most so many turns, and does not enter the queue. `Read` is
+    /// Answers an operation that only reads on the current replica, in at most `tries` turns, and does not enter the queue. `Read` is
     /// answered by a raise of the durable root alone: the reply is the object's after the entries below the place, all of which a loss
     /// of power keeps. `Pending` comes only where the count of refusals rose in each turn. `Halted` comes exactly where a
     /// further step is to be made and the steps equal the limit.
-    pub fn try_read(&self, caller: Caller, op: &[u64; 144], tries: u64) -> ReadTried
+    pub fn try_read(&self, caller: Caller, op: &OpWords, tries: u64) -> ReadTried
         requires caller { IsCallerOf self.now caller }
         requires reads { IsTrue (O.only_reads self.now.object op.now) }
         requires tries { 1 ≤ tries }
         ensures { Looks self.now op.now tries caller result }
     {
         let mut caller = caller;
-        let mut reply = [0; 144];
+        let mut reply = [0; OP_WORDS];
         for _turn in 0..tries {
             match self.read_once(caller, op, &mut reply) {
                 Looked::Refused(back) => caller = back,
@@ -54,8 +54,8 @@ impl<O: Object> Service<O> {
         ReadTried::Pending(caller)
     }
 
-    /// One turn of it, which makes the reply where the caller has it.
-    fn read_once(&self, caller: Caller, op: &[u64; 144], reply: &mut [u64; 144]) -> Looked
+    /// One turn of it, which writes the reply into the caller's buffer.
+    fn read_once(&self, caller: Caller, op: &OpWords, reply: &mut OpWords) -> Looked
         requires caller { IsCallerOf self.now caller }
         requires reads { IsTrue (O.only_reads self.now.object op.now) }
         ensures { LooksOnce self.now op.now reply.new caller result }

@@ -48,13 +48,13 @@ pub fn answered_reads_are_seen<O: Object>()
     ensures { (r : Running O) (op : List ℕ) (before after : Seated) (seen : Seen) → ReadAnswered r op before after seen → HasSeen r.callers seen.place after.known.local }
 {}
 
-/// Whatever a submit comes to, what was seen before has been seen still, and an entry that it linked has a ticket at or above it.
+/// Whatever a submit answers, what was seen before has been seen still, and an entry that it linked has a ticket at or above it.
 pub fn submits_stand_behind_what_was_seen<O: Object>()
     ensures linked { (r : Running O) (op : List ℕ) (most place : ℕ) (before after : Seated) → HasSeen r.callers place before.known.local → (links : SubmitLinked r op most before after) → place ≤ links.ticket }
     ensures seen { (r : Running O) (most place : ℕ) (before after : Seated) → IsCallerOf r before → HasSeen r.callers place before.known.local → SubmitKeeps most before after → HasSeen r.callers place after.known.local }
 {}
 
-/// Whatever a read beside the queue comes to, what was seen before has been seen still.
+/// Whatever a read beside the queue answers, what was seen before has been seen still.
 pub fn reads_keep_what_was_seen<O: Object>()
     ensures { (r : Running O) (place : ℕ) (before after : Seated) → IsCallerOf r before → HasSeen r.callers place before.known.local → ReadKeeps before after → HasSeen r.callers place after.known.local }
 {}

@@ -19,7 +19,7 @@ pub enum StartFault {
     Callers { found: u32 },
     /// The object's lines are not 64 to 16,384.
     Lines { found: u64 },
-    /// Want of memory.
+    /// Out of memory.
     Memory,
 }
 

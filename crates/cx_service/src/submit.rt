@@ -6,16 +6,16 @@ ghost use Rattle.cx_rule.specs.Rule.{IsLawfulLocal};
 ghost use Rattle.cx_rule.specs.Running.{instance_at};
 ghost use Rattle.cx_rule.specs.Seats.{IsAtLimit};
 ghost use Rattle.cx_service.specs.Callers.{IsCallerOf, unlinked};
-ghost use Rattle.cx_service.specs.Submits.{AreInUse, AreTickets, Enters, EntersIn, FindsAgain, FindsCell, HaltsInCell, HaltsLooking, LooksForCell, Submits};
+ghost use Rattle.cx_service.specs.Submits.{AreInUse, AreTickets, EntersOperation, EntersIn, FindsAgain, FindsCell, HaltsInCell, HaltsLooking, LooksForCell, Submits};
 
 use crate::callers::{Caller, Linked, Stopped};
 use crate::service::Service;
-use cx_base::{Halt, Object};
+use cx_base::{Halt, Object, OpWords};
 use cx_core::FullNote;
 use cx_table::{CallerSeat, Shared};
 use mutation_queue::{LinkTried, announce, collect, idle_cell, link};
 
-/// What a submit comes to. It hands the caller back in each case.
+/// The result of a submit. It hands the caller back in each case.
 #[derive(Drop)]
 pub enum Submitted {
     /// The entry is linked.
@@ -31,12 +31,12 @@ pub enum Submitted {
 }
 
 impl<O: Object> Service<O> {
-    /// Enters an operation into the queue, with so many tries to link it. `Full` comes only where the count of scans rose in
+    /// Enters an operation into the queue, in at most `tries` tries to link it. `Full` comes only where the count of scans rose in
     /// this call, the caller's 16 cells all hold tickets, and another caller needs entries from the least of them on or from
     /// before it: the note names that caller. `Worn` comes exactly where a cell was idle and the front is then 2^40; else
     /// `Again` exactly where each of the tries found another's link. `Halted` comes exactly where a further step is to be made
     /// and the steps equal the limit. It makes at most `200 + callers + 3 * tries` steps.
-    pub fn submit(&self, caller: Caller, op: &[u64; 144], tries: u64) -> Submitted
+    pub fn submit(&self, caller: Caller, op: &OpWords, tries: u64) -> Submitted
         requires caller { IsCallerOf self.now caller }
         requires tries { 1 ≤ tries }
         ensures { Submits self.now op.now tries caller result }
@@ -50,11 +50,11 @@ impl<O: Object> Service<O> {
     }
 
     /// Enters an operation in an idle cell of the caller.
-    fn enter(&self, caller: Caller, cell: u32, op: &[u64; 144], tries: u64) -> Submitted
+    fn enter(&self, caller: Caller, cell: u32, op: &OpWords, tries: u64) -> Submitted
         requires caller { IsCallerOf self.now caller }
         requires cell { (cell < 16) × IsIdle caller.known.local cell }
         requires tries { 1 ≤ tries }
-        ensures { Enters (146 + 2 * tries) self.now op.now tries caller result }
+        ensures { EntersOperation (146 + 2 * tries) self.now op.now tries caller result }
     {
         let Caller { mut desk } = caller;
         match announce_and_link(&self.shared, &mut desk.seat, cell, op, tries) {
@@ -72,7 +72,7 @@ fn announce_and_link<O: Object>(
     shared: &Shared<O>,
     seat: &mut CallerSeat,
     cell: u32,
-    op: &[u64; 144],
+    op: &OpWords,
     tries: u64,
 ) -> Result<LinkTried, Halt>
     requires caller { IsCallerOf shared.now seat.old }

@@ -9,7 +9,7 @@ use crate::drive::Driven;
 use crate::lookup::ReadTried;
 use crate::service::Service;
 use crate::submit::Submitted;
-use cx_base::Object;
+use cx_base::{Object, OpWords};
 use cx_core::{Answer, FullNote};
 use cx_turns::Seen;
 use std::sync::Wait;
@@ -21,7 +21,7 @@ const TRIES: u64 = 16;
 /// The turns of a read beside the queue before it enters the queue.
 const READ_TRIES: u64 = 8;
 
-/// What an update comes to.
+/// The result of an update.
 #[derive(Drop)]
 pub enum Updated {
     /// The entry is applied and durable: its ticket, and the reply.
@@ -34,7 +34,7 @@ pub enum Updated {
     Halted(Stopped),
 }
 
-/// What a read comes to.
+/// The result of a read.
 #[derive(Drop)]
 pub enum ReadDone {
     /// The read is answered beside the queue: its place, and the reply there.
@@ -54,7 +54,7 @@ impl<O: Object> Service<O> {
     /// replicas, and so it may wait for them; before it does, other threads may run. `Full` comes only where the count of scans rose in this call and another caller,
     /// which the note names, needs the entries in the caller's cells. `Halted` comes exactly where a further step is to be made, of the submit that
     /// was begun last or of driving the linked entry, and the steps equal the limit.
-    pub fn update<R: Wait>(&self, rt: &R, caller: Caller, op: &[u64; 144]) -> Updated
+    pub fn update<R: Wait>(&self, rt: &R, caller: Caller, op: &OpWords) -> Updated
         requires { IsCallerOf self.now caller }
         ensures { Updates self.now op.now caller result }
     {
@@ -96,7 +96,7 @@ impl<O: Object> Service<O> {
     /// Answers an operation that only reads: beside the queue where the current replica can be read in 8 turns, and else as an entry
     /// of the queue, which it may wait for as an update does. So no read is kept out for good by those who publish. `Halted` comes
     /// exactly where a further step is to be made and the steps equal the limit.
-    pub fn read<R: Wait>(&self, rt: &R, caller: Caller, op: &[u64; 144]) -> ReadDone
+    pub fn read<R: Wait>(&self, rt: &R, caller: Caller, op: &OpWords) -> ReadDone
         requires caller { IsCallerOf self.now caller }
         requires reads { IsTrue (O.only_reads self.now.object op.now) }
         ensures { ReadsInAll self.now op.now caller result }
@@ -109,7 +109,7 @@ impl<O: Object> Service<O> {
     }
 
     /// Enters a read into the queue.
-    fn queue<R: Wait>(&self, rt: &R, caller: Caller, op: &[u64; 144]) -> ReadDone
+    fn queue<R: Wait>(&self, rt: &R, caller: Caller, op: &OpWords) -> ReadDone
         requires { IsCallerOf self.now caller }
         ensures { QueuesRead self.now op.now caller result }
     {

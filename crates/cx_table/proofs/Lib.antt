@@ -1,5 +1,7 @@
 mod Closing
+pub mod GapLoads
 mod GapSteps
+pub mod GapWalks
 mod Handing
 mod Marking
 mod Opening

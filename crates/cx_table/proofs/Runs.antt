@@ -2,7 +2,7 @@
 use Rattle.std.proofs.Common.{true, false, cond, inl, inr, ◌==◌, ◌≡◌, ◌+◌, ◌-◌, ◌*◌, ◌^◌, ◌<◌, ◌≤◌, ℕ, zero, suc, Bool, List, [], ◌∷◌, ◌++◌, ◌⊎◌, length, take, set, refl, ap, sym, subst, ◌∙◌, arith, add-one, length-append, Option, Some, None}
 use Rattle.std.specs.Option.{option_map}
 use Rattle.std.proofs.lemmas.Bool.{cases_Bool, eqb-true}
-use Rattle.std.proofs.lemmas.List.{length-take-le}
+use Rattle.std.proofs.lemmas.List.{length-set, length-take-le}
 use Rattle.std.proofs.lemmas.Nat.{mod_below}
 use Rattle.atomic_table.specs.Seated.{TableId}
 use Rattle.atomic_table.specs.Table.{Me}
@@ -25,7 +25,7 @@ use Rattle.seat_memory.specs.declared.summary.Summary.{Summary}
 use Rattle.seat_memory.specs.Copies.{Copied, copied_after}
 use Rattle.seat_memory.specs.Summaries.{summary_of}
 use Rattle.seat_memory.proofs.SummaryLaws.{IsSeat, seated, step_made_at}
-use Rattle.cx_table.specs.Runs.{Runs, TeachesRun, no_step, one_more_step, taught_more, taught_none}
+use Rattle.cx_table.specs.Runs.{AreLoaded, Runs, TeachesRun, loads_from, no_step, one_more_step, taught_more, taught_none}
 use Rattle.cx_table.proofs.Handing.{step_fits}
 
 -- one more of the words is in its place
@@ -87,13 +87,25 @@ kept_loading r i v k c behind =
       | false ↦ refl
     ]
 
+-- one word more was loaded, and the others may be still
+pub loaded_on : (instance : Instance) (replica from i n v : ℕ) (begun : Me ℕ (List Known)) (words : List ℕ) (mid after : Me ℕ (List Known)) → n ≡ i + 1 → i < length words → AreLoaded instance replica from begun i words mid →
+    Teaches instance (LoadWord replica (from + i) false) (known_of mid.0) v after → AreLoaded instance replica from begun n (set words i v) after
+loaded_on instance replica from i n v begun words mid after more below was taught =
+    let known = ap (λ (m : Me ℕ (List Known)). known_of m.0) taught.knows in
+    record {
+      one = taught.knows ∙ ap (λ k. (k ∷ [], [])) (sym known);
+      may = λ j least. subst (λ (k : Known). CanLoad instance.callers (length instance.base.words) replica (from + j) k.local) (sym known)
+          (may_still instance instance.callers (length instance.base.words) replica (from + j) replica (from + i) v (known_of mid.0) (was.may j (subst (λ m. j < m) (length-set words i v) least)));
+      taught = subst (λ m. TeachesRun instance (loads_from replica from) (take m (set words i v)) begun after) (sym more) (taught_on instance (loads_from replica from) words i v begun mid after below was.taught taught);
+    }
+
 -- Steps of kinds that stay allowed, that change no number but the steps, and nothing that is kept of words.
 module _ {O : Type 0} (line_count : O → ℕ) (lawful : O → List ℕ → Type 0) (step : O → List ℕ → List ℕ → List ℕ × List ℕ) (reads : O → List ℕ → Bool) (r : Running O) (running : IsRunning line_count lawful r)
     (laws : ObjectLaws r.lines (lawful r.object) (step r.object)) (kinds : ℕ → Kind) (n : ℕ) (May : Known → Type 0) (guard : (k : Known) (i : ℕ) → i < n → May k → SeenGuard (instance_at r step reads) (kinds i) k.local)
     (stays : (k : Known) (i v : ℕ) → May k → May (known_after (instance_at r step reads) (kinds i) k v))
     (numbers : (k : Known) (i v : ℕ) → summary_of (known_local (instance_at r step reads) (kinds i) k v) ≡ record (summary_of k.local) { steps = one_more k.local.steps })
     (kept : (k : Known) (i v : ℕ) (c : Copied) → copied_after (kinds i) k v c ≡ c) (me : Me ℕ (List Known)) (summary : Summary) (copy : Copied) (table : TableId) (before : ℕ) where
-  -- the numbers after so many steps
+  -- the numbers after i further steps
   abbrev pub counted : ℕ → Summary
   counted i = record summary { steps = summary.steps + i }
 

@@ -1,5 +1,5 @@
 -- A seat after the release of a shared right all of whose words were loaded: they are one image more that its caller took.
-use Rattle.std.proofs.Common.{◌≡◌, ℕ, Bool, List, [], ◌∷◌, ◌++◌, length, refl, ap, sym, subst, ◌∙◌}
+use Rattle.std.proofs.Common.{◌≡◌, ℕ, Bool, List, [], ◌∷◌, length, refl, ap, sym, subst, ◌∙◌}
 use Rattle.atomic_table.specs.Seated.{TableId}
 use Rattle.atomic_table.specs.Table.{Me}
 use Rattle.cx_core.specs.declared.kinds.Kind.{Kind}
@@ -46,11 +46,6 @@ module _ {O : Type 0} (r : Running O) (step : O → List ℕ → List ℕ → Li
         (summarised, copied),
         record { event = subst (λ (s : Seated). Steps r step reads (BackOff replica) found old s) made.1.made made.1; made = whole; seat = stands },
       )
-
--- a step of a replica that is another way to say the same
-pub taken_same : {O : Type 0} {r : Running O} {step : O → List ℕ → List ℕ → List ℕ × List ℕ} {reads : O → List ℕ → Bool} {replica replica' found : ℕ} {image : List ℕ} {before after : Seated} → replica ≡ replica' → StepsTaking r step reads replica found image before after →
-    StepsTaking r step reads replica' found image before after
-taken_same {r = r} {step = step} {reads = reads} {found = found} {image = image} {before = before} {after = after} same steps = subst (λ (n : ℕ). StepsTaking r step reads n found image before after) same steps
 
 -- what really is there fits what was noted
 pub taken_fits : {O : Type 0} (line_count : O → ℕ) (lawful : O → List ℕ → Type 0) (step : O → List ℕ → List ℕ → List ℕ × List ℕ) (reads : O → List ℕ → Bool) (r : Running O) (kind : Kind) (image : List ℕ) (known : Known) (found : ℕ) (me' : Me ℕ (List Known)) →

@@ -8,10 +8,13 @@ pub use Rattle.cx_rule.specs.Ending
 pub use Rattle.cx_rule.specs.Fitting
 pub use Rattle.cx_rule.specs.Listed
 pub mod Calls
+pub mod GapMarks
+pub mod GapWords
 pub mod Gaps
 pub mod OwnCells
-pub mod Right
-pub mod Tokens
+pub mod Releases
 pub mod Remains
+pub mod Right
 pub mod Runs
+pub mod Tokens
 pub mod Words

@@ -46,7 +46,7 @@ pub record IsRoomOf {O : Type 0} (r : Running O) (room : RoomFor) : Type 0 where
 abbrev pub opening_seat : {O : Type 0} → Running O → List ℕ → ℕ → Seated
 opening_seat r limits caller = record { table = r.table; before = slot_number caller r.base.words; region = length r.base.words; known = opening_known r.callers r.base.place limits caller }
 
--- a table of so many callers that opens from a base, and the callers' seats
+-- a table of this number of callers that opens from a base, and the callers' seats
 pub record IsMade {O : Type 0} (callers : ℕ) (limits : List ℕ) (base : Base) (lines : ℕ) (object : O) (r : Running O) (made : List Seated) : Type 0 where
   pub table : r ≡ record { table = r.table; callers = callers; lines = lines; base = base; object = object }
   pub seats : made ≡ map (opening_seat r limits) (range_with_len 0 callers)
@@ -62,7 +62,7 @@ pub record IsDirty (locals : List Local) (replica at : ℕ) : Type 0 where
   pub here : held.replica ≡ replica
   pub dirty : Contains held.dirty at
 
--- the marks say of each word of each replica, which has so many words, whether it is dirty
+-- the marks say of each word of each replica whether it is dirty; each has as many words as a region
 pub record MarksDirty (locals : List Local) (replicas region : ℕ) (marks : List Bool) : Type 0 where
   pub long : length marks ≡ region * replicas
   pub is : (replica at : ℕ) → replica < replicas → at < region → (slice_get marks (region * replica + at) ≡ Some true) ↔ IsDirty locals replica at

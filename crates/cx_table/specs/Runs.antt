@@ -1,9 +1,10 @@
--- Steps that are made by one call, one behind another: each is as its own call would tell it.
-use Rattle.std.specs.Prelude.{false, ◌≡◌, ◌+◌, ℕ, Bool, List, [], ◌∷◌, ◌++◌, length}
+-- Steps that are made by one call, one after another: each is as its own call would tell it.
+use Rattle.std.specs.Prelude.{false, ◌≡◌, ◌+◌, ◌<◌, ℕ, Bool, List, [], ◌∷◌, ◌++◌, length, take}
 use Rattle.atomic_table.specs.Table.{Me}
 use Rattle.cx_core.specs.declared.kinds.Kind.{Kind}
 use Rattle.cx_core.specs.declared.kinds.Kind.TheVariants.{LoadWord, ReadCell, ReadSet}
 use Rattle.cx_core.specs.Layout.{vol_at}
+use Rattle.cx_core.specs.RegionEvents.{CanLoad}
 use Rattle.cx_core.specs.State.{Instance}
 use Rattle.cx_rule.specs.declared.rule.Known.{Known}
 use Rattle.cx_rule.specs.Fitting.{Fitting}
@@ -36,3 +37,9 @@ pub data TeachesRun (instance : Instance) (kinds : ℕ → Kind) : List ℕ → 
   taught_none : (words : List ℕ) (before after : Me ℕ (List Known)) → words ≡ [] → after ≡ before → TeachesRun instance kinds words before after
   taught_more : (words : List ℕ) (before after : Me ℕ (List Known)) (first : List ℕ) (found : ℕ) (mid : Me ℕ (List Known)) → words ≡ first ++ found ∷ [] → TeachesRun instance kinds first before mid → Teaches instance (kinds (length first)) (known_of mid.0) found after →
       TeachesRun instance kinds words before after
+
+-- the first n of these words were loaded of a replica, from one on, since the seat was that one, and the words may be loaded now
+pub record AreLoaded (instance : Instance) (replica from : ℕ) (begun : Me ℕ (List Known)) (n : ℕ) (words : List ℕ) (me : Me ℕ (List Known)) : Type 0 where
+  pub one : me ≡ (known_of me.0 ∷ [], [])
+  pub may : (i : ℕ) → i < length words → CanLoad instance.callers (length instance.base.words) replica (from + i) (known_of me.0).local
+  pub taught : TeachesRun instance (loads_from replica from) (take n words) begun me

@@ -1,15 +1,14 @@
 //! An event of the core as one atomic step of the table: an atomic instruction on one word.
 
-ghost use Rattle.std.specs.Prelude.{◌≡◌, ◌+◌, ◌-◌, ◌%◌, ◌^◌, ◌<◌, ℕ, List};
+ghost use Rattle.std.specs.Prelude.{◌≡◌, ◌<◌, ℕ, List};
 ghost use Rattle.atomic_table.specs.Table.{Allows};
 ghost use Rattle.cx_core.specs.declared.local.Answer.{Answer};
 ghost use Rattle.cx_core.specs.declared.local.Local.{Local};
 ghost use Rattle.cx_rule.specs.Raises.{IsRaiseLearned, TeachesRaised};
-ghost use Rattle.cx_rule.specs.Learns.{LearnsBy};
 ghost use Rattle.cx_rule.specs.Rule.{RuleHolds};
 ghost use Rattle.cx_rule.specs.Running.{instance_at};
 ghost use Rattle.cx_rule.specs.Seats.{kind_found, known_of};
-ghost use Rattle.cx_rule.specs.Steps.{IsBlind, IsCopyLearned, IsEventOn, IsImageLearned, IsLearned, IsStore, Puts, Teaches, TeachesCopied, TeachesImage};
+ghost use Rattle.cx_rule.specs.Steps.{IsBlind, IsEventOn, IsLearned, IsStoreEvent, Puts, Teaches};
 ghost use Rattle.cx_table.specs.Words.{IsOnWord, IsTaught, put_by};
 
 use crate::raise_step::AnsweredRead;
@@ -58,7 +57,7 @@ pub(crate) enum Instruction {
 impl<O: Object> Shared<O> {
     /// Makes an instruction, and gives the word found. What it is about is for the proofs alone, and so is the kind of an event
     /// below.
-    fn run<J: Named, A>(
+    pub(crate) fn run<J: Named, A>(
         &self,
         seat: &mut Seat<u8, View>,
         about: &A,
@@ -113,42 +112,6 @@ impl<O: Object> Shared<O> {
         self.run::<Brand, Kind>(seat, kind, word, instruction)
     }
 
-    /// A subtraction that is the event of this kind, the release of a shared right whose words were copied over the replica
-    /// held exclusively. It gives the word found.
-    pub(crate) fn subtract_copied(
-        &self,
-        seat: &mut Seat<u8, View>,
-        kind: &Kind,
-        word: usize,
-        k: u64,
-    ) -> u64
-        requires on { IsOnWord self.now word seat.old.table_id seat.old.me }
-        requires learns { LearnsBy (instance_at self.now O.step O.only_reads) (λ _. kind.now) (known_of seat.old.me.0) word (λ x. (x + (2 ^ 64 - k)) % 2 ^ 64) }
-        requires copied { IsCopyLearned (instance_at self.now O.step O.only_reads) kind.now (known_of seat.old.me.0) word (λ x. (x + (2 ^ 64 - k)) % 2 ^ 64) }
-        ensures { IsTaught seat.old.table_id seat.new.table_id (TeachesCopied (instance_at self.now O.step O.only_reads) kind.now (known_of seat.old.me.0) result seat.new.me) }
-    {
-        self.run::<Brand, Kind>(seat, kind, word, Instruction::Subtract(k))
-    }
-
-    /// A subtraction that is the event of this kind, the release of a shared right all of whose words were loaded: they are this image. It
-    /// gives the word found.
-    pub(crate) fn subtract_taken(
-        &self,
-        seat: &mut Seat<u8, View>,
-        kind: &Kind,
-        word: usize,
-        k: u64,
-        image: &[u64],
-    ) -> u64
-        requires on { IsOnWord self.now word seat.old.table_id seat.old.me }
-        requires learns { LearnsBy (instance_at self.now O.step O.only_reads) (λ _. kind.now) (known_of seat.old.me.0) word (λ x. (x + (2 ^ 64 - k)) % 2 ^ 64) }
-        requires taken { IsImageLearned (instance_at self.now O.step O.only_reads) kind.now image.now (known_of seat.old.me.0) word (λ x. (x + (2 ^ 64 - k)) % 2 ^ 64) }
-        ensures { IsTaught seat.old.table_id seat.new.table_id (TeachesImage (instance_at self.now O.step O.only_reads) kind.now image.now (known_of seat.old.me.0) result seat.new.me) }
-    {
-        let about = (kind, image);
-        self.run::<Brand, (&Kind, &[u64])>(seat, &about, word, Instruction::Subtract(k))
-    }
-
     /// A raise of DUR by a code as what its caller noted tells what it answers, with a read that is answered or without. It
     /// gives the word found.
     pub(crate) fn raise_learned(
@@ -169,7 +132,7 @@ impl<O: Object> Shared<O> {
     /// A store that is the event of this kind, which looks at no word found and tells of none.
     pub(crate) fn store_event(&self, seat: &mut Seat<u8, View>, kind: &Kind, word: usize, new: u64)
         requires event { IsEventOn self.now O.step O.only_reads kind.now word seat.old.table_id seat.old.me }
-        requires stores { IsStore (instance_at self.now O.step O.only_reads) kind.now (known_of seat.old.me.0) new }
+        requires stores { IsStoreEvent (instance_at self.now O.step O.only_reads) kind.now (known_of seat.old.me.0) new }
         ensures { IsTaught seat.old.table_id seat.new.table_id (Teaches (instance_at self.now O.step O.only_reads) kind.now (known_of seat.old.me.0) 0 seat.new.me) }
     {
         self.store_as::<Brand>(seat, kind, word, new);

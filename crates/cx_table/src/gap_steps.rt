@@ -1,5 +1,5 @@
-//! The step calls of the ring of gaps: a caller notes which lines the entry of a ticket leaves as they are, loads what was noted, and gives the
-//! replica back of which it then copied the other lines alone. `Halt` comes exactly where the seat's steps equal its limit, and then nothing
+//! The step calls of the ring of gaps: a caller notes which lines the entry of a ticket leaves as they are, loads what was noted, and releases the
+//! replica of which it then copied the other lines alone. `Halt` comes exactly where the seat's steps equal its limit, and then nothing
 //! changes.
 
 ghost use Rattle.std.specs.Prelude.{◌≡◌, ◌+◌, ◌<◌, ◌≤◌, ℕ, IsTrue, List, OnOk, false, length};
@@ -19,17 +19,16 @@ ghost use Rattle.cx_table.specs.Words.{IsOfOne, IsTaught};
 use crate::events::Instruction;
 use crate::seat::CallerSeat;
 use crate::shared::Shared;
-use crate::tokens::{Exclusive, SharedHold, Token};
+use crate::tokens::{Exclusive, SharedHold};
 use atomic_table::Seat;
 use core_guards::gaps::gap_at;
 use cx_base::{Halt, Object};
 use cx_core::Kind;
-use cx_core::layout::lock_at;
 use cx_rule::View;
 
 impl<O: Object> Shared<O> {
     /// Stores a word into a slot of the ring of gaps. It names a gap of a ticket: whatever fits what the caller noted tells a write set of the ticket,
-    /// no address of which is in the lines between.
+    /// no address of which is in the lines between. `Halt` comes only where the limit leaves no step.
     pub fn note_gap(&self, seat: &mut CallerSeat, s: u64, i: u64, v: u64) -> Result<(), Halt>
         requires may { MayStep O.Object self.now (NoteGap s i v) seat.old }
         requires told { (pairs : List ℕ) × TellsGap self.now.lines (O.lawful self.now.object) self.now.base (O.step self.now.object) seat.old.known (gap_of self.now.callers s v) pairs }
@@ -43,7 +42,8 @@ impl<O: Object> Shared<O> {
         Ok(())
     }
 
-    /// Loads a word of a slot of the ring of gaps, and notes it: the gap that it names is one of the history.
+    /// Loads a word of a slot of the ring of gaps, and notes it: the gap that it names is one of the history. `Halt` comes only where the limit
+    /// leaves no step.
     pub fn load_gap(&self, seat: &mut CallerSeat, s: u64, i: u64) -> Result<u64, Halt>
         requires { MayStep O.Object self.now (LoadGap s i) seat.old }
         ensures { MakesFittingStep O.Object self.now seat.old seat.new result (λ found. Steps self.now O.step O.only_reads (LoadGap s i) found seat.old seat.new) }
@@ -56,7 +56,7 @@ impl<O: Object> Shared<O> {
         Ok(found)
     }
 
-    /// Loads words of a slot, from one on, each as `load_gap` does. It answers whether the limit leaves so many steps: if not, nothing changes.
+    /// Loads words of a slot, from one on, each as `load_gap` does. It answers whether the limit leaves as many steps: if not, nothing changes.
     pub fn load_gaps(&self, seat: &mut CallerSeat, s: u64, from: u64, into: &mut [u64]) -> bool
         requires seat { IsSeatOf self.now seat.old × (from + length into.old ≤ 16) }
         requires slot { s < gap_slots self.now.callers }
@@ -90,9 +90,9 @@ impl<O: Object> Shared<O> {
         }
     }
 
-    /// Gives a shared right back of whose words the listed lines alone were copied over the replica held exclusively, each other line of which is as it
-    /// was, and no differing one by the gaps that were loaded. The words loaded are then what is noted of the replica held exclusively, as after
-    /// `release_copied`. It gives the word found.
+    /// Releases a shared right on a replica of which the listed lines alone were copied over the replica held exclusively. Each other line of that is as
+    /// it was, and by the gaps that were loaded does not differ. The words loaded are then what is noted of the replica held exclusively, as after
+    /// `release_copied`. It gives the word found. `Halt` comes only where the limit leaves no step.
     pub fn release_listed(
         &self,
         seat: &mut CallerSeat,
@@ -104,18 +104,6 @@ impl<O: Object> Shared<O> {
         ensures step { MakesFittingStep O.Object self.now seat.old seat.new result (λ found. StepsCopied self.now O.step O.only_reads source.replica found seat.old seat.new) }
         ensures held { OnOk result (IsExclusiveOf self.now.callers seat.new held.now) }
     {
-        let _ = held;
-        let Token {
-            replica,
-            caller: _,
-            kind: _,
-        } = source;
-        seat.summary.check()?;
-        let r = replica as u64;
-        let kind = Kind::BackOff { r };
-        let word = lock_at(self.callers.number, r);
-        let found = self.subtract_copied(&mut seat.seat, &kind, word, 1);
-        seat.summary.back_off(r);
-        Ok(found)
+        self.release_moved(seat, held, source)
     }
 }

@@ -20,7 +20,7 @@ use std::alloc::{AllocError, Global};
 use std::marker::Model;
 use std::snapshot::Snapshot;
 
-/// A table that was not closed for want of memory, and its seats: all as it was.
+/// A table that was not closed, since memory ran out, and its seats: all as it was.
 #[derive(Drop)]
 pub struct KeptTable<O: Object> {
     pub shared: Shared<O>,
@@ -79,7 +79,7 @@ struct Space {
 }
 
 impl Space {
-    /// Room for so many callers and so many words of the replicas, of which none is dirty.
+    /// Room for this number of callers and for `count` words of the replicas, of which none is dirty.
     fn take(alloc: Global, callers: usize, count: usize) -> Result<Space, AllocError>
         requires { callers ≤ 8 }
         ensures published { IfOk result (λ r. (r.published.items ≡ []) × (callers + 1 ≤ vec_capacity r.published)) }
@@ -105,7 +105,7 @@ impl Space {
 
 impl<O: Object> Shared<O> {
     /// Closes the table, whose callers' seats are handed in, of caller 0 first, each at whatever step its caller stopped.
-    /// An `Err` is want of memory alone, and hands all back as it was.
+    /// `Err` comes only where memory runs out, and hands all back as it was.
     pub fn gather(self, alloc: Global, seats: Vec<CallerSeat>) -> Result<Remains, KeptTable<O>>
         requires { AreSeats self seats.items }
         ensures remains { IfOk result (λ r. Leaves self (instance_at self O.step O.only_reads) seats.items r) }
@@ -120,7 +120,7 @@ impl<O: Object> Shared<O> {
         Ok(self.gather_in(room, seats))
     }
 
-    /// Room for what the closing hands out.
+    /// Room for what the closing hands out. `Err` says that memory ran out.
     pub fn room(&self, alloc: Global) -> Result<Room, AllocError>
         ensures { IfOk result (IsRoomOf self.now) }
     {

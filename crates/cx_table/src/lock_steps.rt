@@ -1,27 +1,35 @@
-//! The step calls on locks: tries, and rights given up. A call that begins a right hands out its token beside the word found,
+//! The step calls on locks: tries and releases. A call that begins a right hands out its token beside the word found,
 //! and a call that ends one takes it. `Halt` comes exactly where the seat's steps equal its limit, and then nothing changes.
 
 ghost use Rattle.std.specs.Prelude.{◌≡◌, OnOk, IfOk};
 ghost use Rattle.cx_core.specs.declared.kinds.Kind.TheVariants.{BackOff, Downgrade, ReleaseExclusive, TryExclusive, TryShared};
 ghost use Rattle.cx_core.specs.Base.{LawfulBase};
+ghost use Rattle.cx_core.specs.LockEvents.{CanBackOff};
 ghost use Rattle.cx_rule.specs.Fitting.{IsReplayed, IsReplayedToPlace, base_of};
-ghost use Rattle.cx_rule.specs.Running.{IsSeatOf};
+ghost use Rattle.cx_rule.specs.Running.{IsSeatOf, instance_at};
+ghost use Rattle.cx_rule.specs.Seats.{known_of};
 ghost use Rattle.cx_rule.specs.Steps.{Steps, StepsCopied, StepsTaking};
 ghost use Rattle.cx_table.specs.Tokens.{HandsExclusive, HandsShared, IsCopiedFrom, IsDowngradedOf, IsExclusiveOf, IsRightOf, IsTakenFrom, TriedExclusive, TriedShared, replica_of};
 ghost use Rattle.cx_table.specs.Calls.{MakesFittingStep, MakesStep, MayStep};
+ghost use Rattle.cx_table.specs.Releases.{IsMovedFrom, MayRelease};
+ghost use Rattle.cx_table.specs.Words.{IsOfOne, IsTaught};
+ghost use Rattle.seat_memory.specs.Summaries.{Follows};
 
-use crate::events::Instruction;
+use crate::events::{Instruction, Named};
 use crate::seat::CallerSeat;
 use crate::shared::Shared;
 use crate::tokens::{Downgraded, Exclusive, Passer, SharedHold, SharedRight, Token};
+use atomic_table::Seat;
 use cx_base::{Halt, Object};
 use cx_core::Kind;
 use cx_core::layout::{EXCLUSIVE_MARK, lock_at};
-use std::marker::PhantomData;
+use cx_rule::View;
+use seat_memory::Summary;
+use std::marker::{Brand, PhantomData};
 
 impl<O: Object> Shared<O> {
     /// Tries to take a replica exclusively: a compare-exchange of its lock word from 0. It gives the word found, and where
-    /// that is 0 the replica's token.
+    /// that is 0 the replica's token. `Halt` comes only where the limit leaves no step.
     pub fn try_exclusive(
         &self,
         seat: &mut CallerSeat,
@@ -46,7 +54,7 @@ impl<O: Object> Shared<O> {
     }
 
     /// Tries to take a replica shared: adds 1 to its lock word. It gives the word found, and where that is below 2^32 a hold,
-    /// else a passer, which has to be taken back.
+    /// else a passer, which has to be taken back. `Halt` comes only where the limit leaves no step.
     pub fn try_shared(
         &self,
         seat: &mut CallerSeat,
@@ -64,8 +72,8 @@ impl<O: Object> Shared<O> {
         Ok((found, shared_token(found, r as u32, seat.summary.number)))
     }
 
-    /// Takes a shared right, a passer's mark or a downgraded right back: subtracts 1 from the lock word. It gives the word
-    /// found.
+    /// Releases a shared right or a downgraded one, or takes a passer's mark back: subtracts 1 from the lock word. It gives the word
+    /// found. `Halt` comes only where the limit leaves no step.
     pub fn back_off(&self, seat: &mut CallerSeat, right: SharedRight) -> Result<u64, Halt>
         requires seat { IsSeatOf self.now seat.old }
         requires right { IsRightOf self.now.callers seat.old right }
@@ -80,9 +88,9 @@ impl<O: Object> Shared<O> {
         Ok(found)
     }
 
-    /// Gives a shared right back whose words were copied over the replica held exclusively: each was loaded, and it is the
+    /// Releases a shared right whose words were copied over the replica held exclusively: each was loaded, and it is the
     /// word that was loaded or stored last there. The words loaded are then what is noted of the replica held exclusively, with
-    /// nothing stored since. It gives the word found.
+    /// nothing stored since. It gives the word found. `Halt` comes only where the limit leaves no step.
     pub fn release_copied(
         &self,
         seat: &mut CallerSeat,
@@ -94,23 +102,30 @@ impl<O: Object> Shared<O> {
         ensures step { MakesFittingStep O.Object self.now seat.old seat.new result (λ found. StepsCopied self.now O.step O.only_reads source.replica found seat.old seat.new) }
         ensures held { OnOk result (IsExclusiveOf self.now.callers seat.new held.now) }
     {
-        let _ = held;
-        let Token {
-            replica,
-            caller: _,
-            kind: _,
-        } = source;
-        seat.summary.check()?;
-        let r = replica as u64;
-        let kind = Kind::BackOff { r };
-        let word = lock_at(self.callers.number, r);
-        let found = self.subtract_copied(&mut seat.seat, &kind, word, 1);
-        seat.summary.back_off(r);
-        Ok(found)
+        self.release_moved(seat, held, source)
     }
 
-    /// Gives a shared right back on a replica all of whose words were loaded: they are these, a lawful base, and one image more that the
-    /// caller took. It gives the word found.
+    /// Releases a shared right whose words were copied over the replica held exclusively, as far as that may be told. The words loaded are then
+    /// what is noted of the replica held exclusively. It gives the word found.
+    pub(crate) fn release_moved(
+        &self,
+        seat: &mut CallerSeat,
+        held: &Exclusive,
+        source: SharedHold,
+    ) -> Result<u64, Halt>
+        requires seat { IsSeatOf self.now seat.old }
+        requires moved { IsMovedFrom (instance_at self.now O.step O.only_reads) seat.old held.now source }
+        ensures step { MakesFittingStep O.Object self.now seat.old seat.new result (λ found. StepsCopied self.now O.step O.only_reads source.replica found seat.old seat.new) }
+        ensures held { OnOk result (IsExclusiveOf self.now.callers seat.new held.now) }
+    {
+        let _ = held;
+        let _ = &self.table;
+        seat.summary.check()?;
+        Ok(self.give_back::<Brand, ()>(&mut seat.seat, &mut seat.summary, &(), source))
+    }
+
+    /// Releases a shared right on a replica all of whose words were loaded: they are these, a lawful base, and one image more that the
+    /// caller took. It gives the word found. `Halt` comes only where the limit leaves no step.
     pub fn release_taken(
         &self,
         seat: &mut CallerSeat,
@@ -122,22 +137,41 @@ impl<O: Object> Shared<O> {
         ensures step { MakesFittingStep O.Object self.now seat.old seat.new result (λ found. StepsTaking self.now O.step O.only_reads source.replica found image.now seat.old seat.new) }
         ensures base { OnOk result (LawfulBase self.now.lines (O.lawful self.now.object) (base_of image.now)) }
     {
+        let _ = &self.table;
+        seat.summary.check()?;
+        Ok(self.give_back::<Brand, &[u64]>(&mut seat.seat, &mut seat.summary, &image, source))
+    }
+
+    /// Takes a shared right back by a step that tells this: subtracts 1 from the lock word. It gives the word found. What it is about is for the
+    /// proofs alone.
+    fn give_back<J: Named, A>(
+        &self,
+        seat: &mut Seat<u8, View>,
+        summary: &mut Summary,
+        about: &A,
+        source: SharedHold,
+    ) -> u64
+        requires one { IsOfOne self.now seat.old.table_id seat.old.me }
+        requires right { CanBackOff self.now.callers source.replica (known_of seat.old.me.0).local }
+        requires allows { MayRelease (instance_at self.now O.step O.only_reads) source.replica self.now.table.slots seat.old.id seat.old.me J.tells }
+        ensures taught { IsTaught seat.old.table_id seat.new.table_id (J.tells result seat.new.me) }
+        ensures summary { Follows self.now.callers (BackOff source.replica) result summary.old summary.new }
+    {
         let Token {
             replica,
             caller: _,
             kind: _,
         } = source;
-        seat.summary.check()?;
         let r = replica as u64;
-        let kind = Kind::BackOff { r };
         let word = lock_at(self.callers.number, r);
-        let found = self.subtract_taken(&mut seat.seat, &kind, word, 1, image);
-        seat.summary.back_off(r);
-        Ok(found)
+        let found = self.run::<J, A>(seat, about, word, Instruction::Subtract(1));
+        summary.back_off(r);
+        found
     }
 
     /// Turns an exclusive right into a shared one, where no word is dirty and whatever fits what is noted is the image after
-    /// the place noted, by entries that the caller has. It gives the word found and the token of the shared right.
+    /// the place noted, by entries that the caller has. It gives the word found and the token of the shared right. `Halt` comes only where
+    /// the limit leaves no step.
     pub fn downgrade(
         &self,
         seat: &mut CallerSeat,
@@ -173,8 +207,8 @@ impl<O: Object> Shared<O> {
         Ok((found, lowered))
     }
 
-    /// Gives an exclusive right up, where no word is dirty and whatever fits what is noted is the image after its place, by
-    /// entries that the caller has. It gives the word found.
+    /// Releases an exclusive right, where no word is dirty and whatever fits what is noted is the image after its place, by
+    /// entries that the caller has. It gives the word found. `Halt` comes only where the limit leaves no step.
     pub fn release_exclusive(&self, seat: &mut CallerSeat, held: Exclusive) -> Result<u64, Halt>
         requires may { MayStep O.Object self.now (ReleaseExclusive held.replica) seat.old }
         requires held { IsExclusiveOf self.now.callers seat.old held }

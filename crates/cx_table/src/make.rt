@@ -33,7 +33,7 @@ impl Split<View> for CutFirst {
 
 impl<O: Object> Shared<O> {
     /// Makes the table of 1 to 8 callers that opens from a base, and the callers' seats, of caller 0 first. The limit of
-    /// caller `c` is item `c` of `limits`; 2^64 - 1 is no limit. `Err` is want of memory, and drops the object.
+    /// caller `c` is item `c` of `limits`; 2^64 - 1 is no limit. `Err` says that memory ran out, and drops the object.
     #[tactic(auto, using(crate::proofs::Opening::long_opening))]
     pub fn make(
         alloc: Global,

@@ -7,6 +7,7 @@ ghost use Rattle.cx_rule.specs.Fitting.{IsOwnSet};
 ghost use Rattle.cx_table.specs.OwnCells.{HasTicketAs};
 
 use crate::seat::CallerSeat;
+use cx_base::SET_WORDS;
 use cx_core::SeenOffer;
 
 impl CallerSeat {
@@ -21,7 +22,7 @@ impl CallerSeat {
     /// A word of the set of a cell of the caller, as it was last written.
     pub fn set_word(&self, j: u64, i: u64) -> u64
         requires j { j < 16 }
-        requires i { i < 513 }
+        requires i { i < SET_WORDS }
         ensures { result ≡ slice_index (cell_of self.now.known.local j).set i }
     {
         self.copy.set_word(j, i)

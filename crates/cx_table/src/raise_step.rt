@@ -5,12 +5,12 @@ ghost use Rattle.std.specs.Prelude.{List};
 ghost use Rattle.cx_base.specs.Codes.{root_place_of};
 ghost use Rattle.cx_core.specs.declared.kinds.Kind.TheVariants.{Raise};
 ghost use Rattle.cx_core.specs.declared.local.Answer.{Answer};
-ghost use Rattle.cx_rule.specs.Raises.{Raises, TellsAnswers, TellsReads, op_in};
+ghost use Rattle.cx_rule.specs.Raises.{Raises, TellsAnswers, TellsReads, read_op_in};
 ghost use Rattle.cx_table.specs.Calls.{MakesFittingStep, MayStep};
 
 use crate::seat::CallerSeat;
 use crate::shared::Shared;
-use cx_base::{Halt, Object};
+use cx_base::{Halt, Object, OpWords};
 use cx_core::layout::DUR_AT;
 use std::marker::Model;
 
@@ -18,8 +18,8 @@ use std::marker::Model;
 /// them.
 #[derive(Drop)]
 pub struct AnsweredRead<'a> {
-    pub op: &'a [u64; 144],
-    pub reply: &'a [u64; 144],
+    pub op: &'a OpWords,
+    pub reply: &'a OpWords,
 }
 
 impl<'a> Model for AnsweredRead<'a> {
@@ -34,14 +34,14 @@ impl<O: Object> Shared<O> {
     /// Raises DUR to a code, which is the one last found in CUR or the one that the caller won with. The caller's unanswered
     /// entry is answered where its ticket is below the code's place: its reply was read in the replica that was held
     /// exclusively, above that ticket. A read is answered at the code's place: the reply was read in the replica that is held
-    /// shared. It gives the word found.
+    /// shared. It gives the word found. `Halt` comes only where the limit leaves no step, and then nothing is answered.
     pub fn raise(
         &self,
         seat: &mut CallerSeat,
         code: u64,
         read: Option<AnsweredRead>,
     ) -> Result<u64, Halt>
-        requires may { MayStep O.Object self.now (Raise code (op_in read)) seat.old }
+        requires may { MayStep O.Object self.now (Raise code (read_op_in read)) seat.old }
         requires told { ((answers : List Answer) × TellsAnswers self.now.lines (O.lawful self.now.object) self.now.base (O.step self.now.object) seat.old.known (root_place_of self.now.callers code) answers) × TellsReads self.now.lines (O.lawful self.now.object) self.now.base (O.step self.now.object) seat.old.known read }
         ensures { MakesFittingStep O.Object self.now seat.old seat.new result (λ _. (answers : List Answer) → TellsAnswers self.now.lines (O.lawful self.now.object) self.now.base (O.step self.now.object) seat.old.known (root_place_of self.now.callers code) answers → Raises self.now O.step O.only_reads code answers read.entry seat.old seat.new) }
     {

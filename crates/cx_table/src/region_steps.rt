@@ -39,7 +39,7 @@ impl<O: Object> Shared<O> {
         Ok(found)
     }
 
-    /// Stores a word of a replica that the caller holds exclusively, and marks it as dirty.
+    /// Stores a word of a replica that the caller holds exclusively, and marks it as dirty. `Halt` comes only where the limit leaves no step.
     pub fn store_word(&self, seat: &mut CallerSeat, r: u64, i: u64, v: u64) -> Result<(), Halt>
         requires { MayStep O.Object self.now (StoreWord r i v) seat.old }
         ensures { MakesFittingStep O.Object self.now seat.old seat.new result (λ _. Steps self.now O.step O.only_reads (StoreWord r i v) 0 seat.old seat.new) }
@@ -53,7 +53,8 @@ impl<O: Object> Shared<O> {
         Ok(())
     }
 
-    /// Persists a dirty word of a replica that the caller holds exclusively: the medium gets what was stored last.
+    /// Persists a dirty word of a replica that the caller holds exclusively: the medium gets what was stored last. `Halt` comes only where
+    /// the limit leaves no step.
     pub fn persist(&self, seat: &mut CallerSeat, r: u64, i: u64) -> Result<(), Halt>
         requires { MayStep O.Object self.now (Persist r i) seat.old }
         ensures { MakesStep self.now seat.old seat.new result (λ _. Steps self.now O.step O.only_reads (Persist r i) 0 seat.old seat.new) }

@@ -1,4 +1,4 @@
-//! The step calls of the ring, in which cells come round again: what a caller needs is stated, confirmed and given up, and
+//! The step calls of the ring, in which cells come round again: what a caller needs is stated, confirmed and released, and
 //! tickets are closed, scanned and opened. `Halt` comes exactly where the seat's steps equal its limit, and then nothing
 //! changes.
 
@@ -14,7 +14,8 @@ use cx_core::Kind;
 use cx_core::layout::{FREE_AT, LOW_AT, MAX_WORD, need_at};
 
 impl<O: Object> Shared<O> {
-    /// Stores in the caller's need that it needs the tickets from `p` on. It protects nothing before it is confirmed.
+    /// Stores in the caller's need that it needs the tickets from `p` on. It protects nothing before it is confirmed. `Halt`
+    /// comes only where the limit leaves no step.
     pub fn protect(&self, seat: &mut CallerSeat, p: u64) -> Result<(), Halt>
         requires { MayStep O.Object self.now (Protect p) seat.old }
         ensures { MakesStep self.now seat.old seat.new result (λ _. Steps self.now O.step O.only_reads (Protect p) 0 seat.old seat.new) }
@@ -29,7 +30,7 @@ impl<O: Object> Shared<O> {
     }
 
     /// Loads LOW, which confirms the protection stated where it is at most its place: the tickets from there on are then not
-    /// closed.
+    /// closed. `Halt` comes only where the limit leaves no step.
     pub fn confirm(&self, seat: &mut CallerSeat) -> Result<u64, Halt>
         requires { MayStep O.Object self.now Confirm seat.old }
         ensures { MakesStep self.now seat.old seat.new result (λ found. Steps self.now O.step O.only_reads Confirm found seat.old seat.new) }
@@ -41,7 +42,7 @@ impl<O: Object> Shared<O> {
         Ok(found)
     }
 
-    /// Gives the caller's protection up: stores in its need that it needs no ticket.
+    /// Releases the caller's protection: stores in its need that it needs no ticket. `Halt` comes only where the limit leaves no step.
     pub fn unprotect(&self, seat: &mut CallerSeat) -> Result<(), Halt>
         requires { MayStep O.Object self.now Unprotect seat.old }
         ensures { MakesStep self.now seat.old seat.new result (λ _. Steps self.now O.step O.only_reads Unprotect 0 seat.old seat.new) }
@@ -55,7 +56,7 @@ impl<O: Object> Shared<O> {
     }
 
     /// Raises LOW to a target, so that no protection below it is confirmed any more, and begins a scan of what the callers
-    /// need. It gives the word found.
+    /// need. It gives the word found. `Halt` comes only where the limit leaves no step.
     pub fn close_low(&self, seat: &mut CallerSeat, target: u64) -> Result<u64, Halt>
         requires { MayStep O.Object self.now (CloseLow target) seat.old }
         ensures { MakesStep self.now seat.old seat.new result (λ found. Steps self.now O.step O.only_reads (CloseLow target) found seat.old seat.new) }
@@ -68,7 +69,8 @@ impl<O: Object> Shared<O> {
         Ok(found)
     }
 
-    /// Loads the need of caller `d`, the next one of the caller's scan, which lowers the scan's bound to it.
+    /// Loads the need of caller `d`, the next one of the caller's scan, which lowers the scan's bound to it. `Halt` comes only where the
+    /// limit leaves no step.
     pub fn scan(&self, seat: &mut CallerSeat, d: u64) -> Result<u64, Halt>
         requires { MayStep O.Object self.now (Scan d) seat.old }
         ensures { MakesStep self.now seat.old seat.new result (λ found. Steps self.now O.step O.only_reads (Scan d) found seat.old seat.new) }
@@ -83,7 +85,7 @@ impl<O: Object> Shared<O> {
     }
 
     /// Raises FREE to the bound that the caller's scan of every need found, so that the cells of the tickets below it may be
-    /// written again, and ends the scan. It gives the word found.
+    /// written again, and ends the scan. It gives the word found. `Halt` comes only where the limit leaves no step.
     pub fn open_free(&self, seat: &mut CallerSeat) -> Result<u64, Halt>
         requires { MayStep O.Object self.now OpenFree seat.old }
         ensures { MakesStep self.now seat.old seat.new result (λ found. Steps self.now O.step O.only_reads OpenFree found seat.old seat.new) }

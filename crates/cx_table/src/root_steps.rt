@@ -18,7 +18,7 @@ use cx_core::Kind;
 use cx_core::layout::{CUR_AT, lock_at};
 
 impl<O: Object> Shared<O> {
-    /// Loads CUR: the code of the replica that was published last, and of its place.
+    /// Loads CUR: the code of the replica that was published last, and of its place. `Halt` comes only where the limit leaves no step.
     pub fn load_cur(&self, seat: &mut CallerSeat) -> Result<u64, Halt>
         requires { IsSeatOf self.now seat.old }
         ensures { MakesFittingStep O.Object self.now seat.old seat.new result (λ found. Steps self.now O.step O.only_reads LoadCur found seat.old seat.new) }
@@ -32,7 +32,7 @@ impl<O: Object> Shared<O> {
 
     /// Publishes the replica that the caller has downgraded, at a place above that of the code last found in CUR, where each win
     /// of its own is retired: a compare-exchange of CUR from that code to the replica's. It gives the code found, and where that
-    /// is the one last found before, the win, else the downgraded right back.
+    /// is the one last found before, the win, else the downgraded right back. `Halt` comes only where the limit leaves no step.
     pub fn publish(
         &self,
         seat: &mut CallerSeat,
@@ -57,7 +57,7 @@ impl<O: Object> Shared<O> {
     }
 
     /// Retires a win by whose code the caller raised DUR: subtracts 1 from the lock word of the replica of the code before.
-    /// It gives the word found.
+    /// It gives the word found. `Halt` comes only where the limit leaves no step.
     pub fn retire(&self, seat: &mut CallerSeat, won: Won) -> Result<u64, Halt>
         requires may { MayStep O.Object self.now Retire seat.old }
         requires won { IsWonOf self.now.callers seat.old won }

@@ -1,23 +1,28 @@
 //! Several loads by one call: each is an event of its own, and they are counted at once. Where the limit leaves fewer steps than there are
 //! words, none is made.
 
-ghost use Rattle.std.specs.Prelude.{◌≡◌, ◌+◌, ◌*◌, ◌<◌, ◌≤◌, ℕ, IsTrue, false, length};
+ghost use Rattle.std.specs.Prelude.{◌≡◌, ◌+◌, ◌*◌, ◌<◌, ◌≤◌, ℕ, IsTrue, List, false, length};
+ghost use Rattle.atomic_table.specs.Table.{Me};
 ghost use Rattle.cx_core.specs.Events.{Guard};
 ghost use Rattle.cx_core.specs.declared.kinds.Kind.TheVariants.{ReadCell, ReadSet};
 ghost use Rattle.cx_core.specs.RegionEvents.{CanLoad};
+ghost use Rattle.cx_rule.specs.declared.rule.Known.{Known};
 ghost use Rattle.cx_rule.specs.Running.{IsSeatOf, instance_at};
 ghost use Rattle.cx_rule.specs.Seats.{known_of, unseen};
-ghost use Rattle.cx_table.specs.Runs.{Runs, StartsAt, TeachesRun, loads_from, reads_of, set_reads_from};
+ghost use Rattle.cx_table.specs.Runs.{AreLoaded, Runs, StartsAt, TeachesRun, loads_from, reads_of, set_reads_from};
 ghost use Rattle.cx_table.specs.Words.{IsOfOne, IsTaught};
 
 use crate::events::Instruction;
 use crate::seat::CallerSeat;
 use crate::shared::Shared;
 use atomic_table::Seat;
-use cx_base::Object;
+use cx_base::{ENTRY_WORDS, Object, SET_WORDS};
 use cx_core::Kind;
 use cx_core::layout::{CELL_WORDS, cell_at, set_at, vol_at};
 use cx_rule::View;
+
+/// The words that are loaded by a turn of the loop.
+const TURN: usize = 8;
 
 impl<O: Object> Shared<O> {
     /// Where the words of a replica begin in the table.
@@ -29,8 +34,8 @@ impl<O: Object> Shared<O> {
         vol_at(self.callers.number, seat.copy.region(), r, 0)
     }
 
-    /// Loads words of a replica that the caller holds exclusively or shared, from one behind the place on, each as `load_word`
-    /// does without a mark. Where the replica's words begin was computed before. It answers whether the limit leaves so many steps:
+    /// Loads words of a replica that the caller holds exclusively or shared, from one after the place on, each as `load_word`
+    /// does without a mark. Where the replica's words begin was computed before. It answers whether the limit leaves as many steps:
     /// if not, nothing changes.
     pub fn load_words(
         &self,
@@ -56,7 +61,7 @@ impl<O: Object> Shared<O> {
         true
     }
 
-    /// Loads words of a replica, as events of the seat's caller.
+    /// Loads words of a replica, as events of the seat's caller: eight by a turn of the loop, and the rest.
     fn load_each(
         &self,
         seat: &mut Seat<u8, View>,
@@ -71,8 +76,37 @@ impl<O: Object> Shared<O> {
         ensures taught { IsTaught seat.old.table_id seat.new.table_id (TeachesRun (instance_at self.now O.step O.only_reads) (loads_from r from) into.new seat.old.me seat.new.me) }
         ensures length { length into.new ≡ length into.old }
     {
+        let turns = into.len() / TURN;
+        for i in 0..turns {
+            self.load_part(seat, r, start, from, into, TURN * i, TURN);
+        }
+        let rest = into.len() - TURN * turns;
+        self.load_part(seat, r, start, from, into, TURN * turns, rest);
+    }
+
+    /// Loads the given number of the words, from one on, where those before it were loaded. A number that is known is no loop in the code that is made.
+    #[inline(always)]
+    fn load_part(
+        &self,
+        seat: &mut Seat<u8, View>,
+        r: u64,
+        start: usize,
+        from: u64,
+        into: &mut [u64],
+        at: usize,
+        count: usize,
+    )
+        requires table { seat.old.table_id ≡ self.now.table }
+        requires start { StartsAt self.now r start }
+        requires within { at + count ≤ length into.old }
+        requires loaded { (begun : Me ℕ (List Known)) × AreLoaded (instance_at self.now O.step O.only_reads) r from begun at into.old seat.old.me }
+        ensures table { seat.new.table_id ≡ self.now.table }
+        ensures loaded { (begun : Me ℕ (List Known)) → AreLoaded (instance_at self.now O.step O.only_reads) r from begun at into.old seat.old.me → AreLoaded (instance_at self.now O.step O.only_reads) r from begun (at + count) into.new seat.new.me }
+        ensures length { length into.new ≡ length into.old }
+    {
         let _ = &self.table;
-        for i in 0..into.len() {
+        for j in 0..count {
+            let i = at + j;
             let kind = Kind::LoadWord {
                 r,
                 i: from + i as u64,
@@ -84,13 +118,19 @@ impl<O: Object> Shared<O> {
     }
 
     /// Loads the words of the cell that the slot last looked at shows with a ticket, each as `read_cell` does. It answers whether the
-    /// limit leaves so many steps: if not, nothing changes.
-    pub fn read_words(&self, seat: &mut CallerSeat, t: u64, k: u64, into: &mut [u64; 145]) -> bool
+    /// limit leaves as many steps: if not, nothing changes.
+    pub fn read_words(
+        &self,
+        seat: &mut CallerSeat,
+        t: u64,
+        k: u64,
+        into: &mut [u64; ENTRY_WORDS],
+    ) -> bool
         requires seat { IsSeatOf self.now seat.old }
-        requires guard { (i : ℕ) → i < 145 → Guard (instance_at self.now O.step O.only_reads) unseen (ReadCell t k i) seat.old.known.local }
+        requires guard { (i : ℕ) → i < ENTRY_WORDS → Guard (instance_at self.now O.step O.only_reads) unseen (ReadCell t k i) seat.old.known.local }
         ensures made { IsTrue result → Runs self.now O.step O.only_reads (O.lawful self.now.object) (reads_of t k) into.new seat.old seat.new }
         ensures none { result ≡ false → seat.new ≡ seat.old }
-        ensures short { result ≡ false → seat.old.known.local.limit < seat.old.known.local.steps + 145 }
+        ensures short { result ≡ false → seat.old.known.local.limit < seat.old.known.local.steps + ENTRY_WORDS }
         ensures seat { IsSeatOf self.now seat.new }
     {
         let _ = &self.table;
@@ -102,9 +142,9 @@ impl<O: Object> Shared<O> {
     }
 
     /// Loads the words of a cell, as events of the seat's caller.
-    fn read_each(&self, seat: &mut Seat<u8, View>, t: u64, k: u64, into: &mut [u64; 145])
+    fn read_each(&self, seat: &mut Seat<u8, View>, t: u64, k: u64, into: &mut [u64; ENTRY_WORDS])
         requires one { IsOfOne self.now seat.old.table_id seat.old.me }
-        requires guard { (i : ℕ) → i < 145 → Guard (instance_at self.now O.step O.only_reads) unseen (ReadCell t k i) (known_of seat.old.me.0).local }
+        requires guard { (i : ℕ) → i < ENTRY_WORDS → Guard (instance_at self.now O.step O.only_reads) unseen (ReadCell t k i) (known_of seat.old.me.0).local }
         ensures { IsTaught seat.old.table_id seat.new.table_id (TeachesRun (instance_at self.now O.step O.only_reads) (reads_of t k) into.new seat.old.me seat.new.me) }
     {
         let callers = self.callers.number;
@@ -116,7 +156,7 @@ impl<O: Object> Shared<O> {
     }
 
     /// Loads words of the set of the cell that the offer word last loaded shows to be offered with a ticket, from one on, each as `read_set`
-    /// does. It answers whether the limit leaves so many steps: if not, nothing changes.
+    /// does. It answers whether the limit leaves as many steps: if not, nothing changes.
     pub fn read_set_words(
         &self,
         seat: &mut CallerSeat,
@@ -125,8 +165,8 @@ impl<O: Object> Shared<O> {
         from: u64,
         into: &mut [u64],
     ) -> bool
-        requires seat { IsSeatOf self.now seat.old × (from + length into.old ≤ 513) }
-        requires guard { (i : ℕ) → i < 513 → Guard (instance_at self.now O.step O.only_reads) unseen (ReadSet k t i) seat.old.known.local }
+        requires seat { IsSeatOf self.now seat.old × (from + length into.old ≤ SET_WORDS) }
+        requires guard { (i : ℕ) → i < SET_WORDS → Guard (instance_at self.now O.step O.only_reads) unseen (ReadSet k t i) seat.old.known.local }
         ensures made { IsTrue result → Runs self.now O.step O.only_reads (O.lawful self.now.object) (set_reads_from k t from) into.new seat.old seat.new }
         ensures short { result ≡ false → (seat.new ≡ seat.old) × (seat.old.known.local.limit < seat.old.known.local.steps + length into.old) }
         ensures length { length into.new ≡ length into.old }
@@ -143,8 +183,8 @@ impl<O: Object> Shared<O> {
     /// Loads words of a set, as events of the seat's caller.
     fn read_set_each(&self, seat: &mut Seat<u8, View>, k: u64, t: u64, from: u64, into: &mut [u64])
         requires one { IsOfOne self.now seat.old.table_id seat.old.me }
-        requires within { from + length into.old ≤ 513 }
-        requires guard { (i : ℕ) → i < 513 → Guard (instance_at self.now O.step O.only_reads) unseen (ReadSet k t i) (known_of seat.old.me.0).local }
+        requires within { from + length into.old ≤ SET_WORDS }
+        requires guard { (i : ℕ) → i < SET_WORDS → Guard (instance_at self.now O.step O.only_reads) unseen (ReadSet k t i) (known_of seat.old.me.0).local }
         ensures taught { IsTaught seat.old.table_id seat.new.table_id (TeachesRun (instance_at self.now O.step O.only_reads) (set_reads_from k t from) into.new seat.old.me seat.new.me) }
         ensures length { length into.new ≡ length into.old }
     {

@@ -8,6 +8,7 @@ ghost use Rattle.cx_rule.specs.Seats.{HasCells, IsWithinLimit, place_noted, unan
 ghost use Rattle.seat_memory.specs.Summaries.{IsOwnEntry};
 
 use atomic_table::Seat;
+use cx_base::{OP_WORDS, OpWords};
 use cx_core::{Entry, HeldDowngraded, Protection, SeenNeed, SeenSlot, WonCode};
 use cx_rule::View;
 use seat_memory::{Copies, Summary};
@@ -113,13 +114,13 @@ impl CallerSeat {
 
     /// The first place from one on at which an operation differs from the one in a cell of the caller, as its words were last written, and 144
     /// where that is none.
-    pub fn cell_apart(&self, j: u64, op: &[u64; 144], from: usize) -> usize
+    pub fn cell_apart(&self, j: u64, op: &OpWords, from: usize) -> usize
         requires j { j < 16 }
-        requires from { from ≤ 144 }
+        requires from { from ≤ OP_WORDS }
         ensures least { from ≤ result }
-        ensures most { result ≤ 144 }
+        ensures most { result ≤ OP_WORDS }
         ensures same { (at : ℕ) → from ≤ at → at < result → slice_index (cell_of self.now.known.local j).words (at + 1) ≡ slice_index op.now at }
-        ensures apart { result < 144 → slice_index (cell_of self.now.known.local j).words (result + 1) ≢ slice_index op.now result }
+        ensures apart { result < OP_WORDS → slice_index (cell_of self.now.known.local j).words (result + 1) ≢ slice_index op.now result }
     {
         self.copy.cell_apart(j, op, from)
     }
@@ -237,7 +238,7 @@ impl CallerSeat {
         self.summary.floor
     }
 
-    /// What keeps the cells from a ticket on from being given again, as the caller stated it.
+    /// What keeps the cells from a ticket on from being written again, as the caller stated it.
     pub fn protection(&self) -> Protection
         ensures { result ≡ self.now.known.local.protection }
     {

@@ -14,7 +14,7 @@ use cx_core::Kind;
 use cx_core::layout::{CELLS, FREE_AT, cell_at, cell_count, link_at};
 
 impl<O: Object> Shared<O> {
-    /// Stores a word into a cell of the caller, which has to be idle.
+    /// Stores a word into a cell of the caller, which has to be idle. `Halt` comes only where the limit leaves no step.
     pub fn write_cell(&self, seat: &mut CallerSeat, j: u64, i: u64, v: u64) -> Result<(), Halt>
         requires { MayStep O.Object self.now (WriteCell j i v) seat.old }
         ensures { MakesStep self.now seat.old seat.new result (λ _. Steps self.now O.step O.only_reads (WriteCell j i v) 0 seat.old seat.new) }
@@ -30,7 +30,8 @@ impl<O: Object> Shared<O> {
     }
 
     /// Tries to link the entry in a cell of the caller at the caller's front: a compare-exchange of the slot last looked at,
-    /// from the word seen to the link code. It gives the word found, and won where that is the word seen.
+    /// from the word seen to the link code. It gives the word found, and won where that is the word seen. `Halt` comes only where the limit
+    /// leaves no step.
     pub fn link(&self, seat: &mut CallerSeat, j: u64) -> Result<u64, Halt>
         requires { MayStep O.Object self.now (Link j) seat.old }
         ensures { MakesStep self.now seat.old seat.new result (λ found. Steps self.now O.step O.only_reads (Link j) found seat.old seat.new) }
@@ -53,7 +54,7 @@ impl<O: Object> Shared<O> {
         Ok(found)
     }
 
-    /// Loads the word of a link slot.
+    /// Loads the word of a link slot. `Halt` comes only where the limit leaves no step.
     pub fn look(&self, seat: &mut CallerSeat, s: u64) -> Result<u64, Halt>
         requires { MayStep O.Object self.now (Look s) seat.old }
         ensures { MakesStep self.now seat.old seat.new result (λ found. Steps self.now O.step O.only_reads (Look s) found seat.old seat.new) }
@@ -66,7 +67,8 @@ impl<O: Object> Shared<O> {
         Ok(found)
     }
 
-    /// Loads a word of the cell that the slot last looked at shows with a ticket, and notes it with the ticket.
+    /// Loads a word of the cell that the slot last looked at shows with a ticket, and notes it with the ticket. `Halt` comes only where the
+    /// limit leaves no step.
     pub fn read_cell(&self, seat: &mut CallerSeat, t: u64, k: u64, i: u64) -> Result<u64, Halt>
         requires { MayStep O.Object self.now (ReadCell t k i) seat.old }
         ensures { MakesFittingStep O.Object self.now seat.old seat.new result (λ found. Steps self.now O.step O.only_reads (ReadCell t k i) found seat.old seat.new) }
@@ -79,7 +81,7 @@ impl<O: Object> Shared<O> {
         Ok(found)
     }
 
-    /// Loads FREE, the ticket below which cells may be written again.
+    /// Loads FREE, the ticket below which cells may be written again. `Halt` comes only where the limit leaves no step.
     pub fn load_free(&self, seat: &mut CallerSeat) -> Result<u64, Halt>
         requires { IsSeatOf self.now seat.old }
         ensures { MakesStep self.now seat.old seat.new result (λ found. Steps self.now O.step O.only_reads LoadFree found seat.old seat.new) }

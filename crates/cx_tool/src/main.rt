@@ -1,4 +1,8 @@
-//! Runs a script of clients over the document store, one that is read or one that is made, and writes what happened.
+//! The problem: the proved top call takes its words, its input, its output and its memory as arguments, and a process has to give them to it.
+//!
+//! The idea: `main` does that and nothing else, so no promise rests on it but that it passes them on.
+//!
+//! The commands, as `run` of a script of clients over the document store, are those of `cx_program`.
 #![tactic(auto)]
 
 use cx_base::OpenGate;

@@ -23,10 +23,10 @@ use Rattle.cx_rule.specs.Fitting.{has_of}
 use Rattle.cx_rule.proofs.Raising.{reply_still, tells_one}
 use Rattle.cx_table.specs.Right.{Right, WonRight}
 use Rattle.cx_table.specs.Tokens.{IsWonOf}
-use Rattle.cx_turns.specs.Answering.{AnswersBy, AnswersEntry, AnswersNone, AnswersOne, AnswersReadBy, HaltsFor, HaltsLookup, HaltsWon, IsPublishedFor, IsReadyFor, beside_hand_over, beside_settling, with_answer, with_read}
+use Rattle.cx_turns.specs.Answering.{AnswersBy, AnswersEntry, AnswersNone, AnswersOne, AnswersReadBy, HaltsFor, HaltsLookup, HaltsWon, IsPublishedFor, IsReadyFor, beside_hand_over, beside_settling, with_answer, reads_with}
 use Rattle.cx_turns.specs.Preparing.{Prepares}
 use Rattle.cx_turns.specs.Turns.{IsAtRest, TurnsIn, beside_prepare, cur_rises}
-use Rattle.mutation_queue.specs.Leaves.{Leaves}
+use Rattle.mutation_queue.specs.Leaves.{LeavesSeatPart}
 use Rattle.publish.proofs.Options.{none_of, some_of}
 use Rattle.publish.specs.Publishing.{LeavesRest, PassedBy, beside_publish, place_in}
 use Rattle.strong_trylock.specs.Held.{AllRights}
@@ -152,7 +152,7 @@ module _ {O : Type 0} (o : Ghosts O) (r : Running O) (code ticket : ℕ) (reply 
       ∙ ap (λ rs. (let s : Seated = record b { known = record b.known { times = record b.known.times { reads = rs } } } in s)) (append-nil before.known.times.reads)
 
   -- what it leaves of the seat
-  pub raised_leaves : Leaves r beside_settling 1 before after
+  pub raised_leaves : LeavesSeatPart r beside_settling 1 before after
   raised_leaves = record { of = by.seat; rest = raised_rest; steps = (let one = ap (λ (s : Seated). s.known.local.steps) by.made in omega (arith, one)) }
 
   -- with no win to retire the caller is at rest
@@ -178,7 +178,7 @@ module _ {O : Type 0} (o : Ghosts O) (r : Running O) (code ticket : ℕ) (reply 
   still_won won was = record { few = was.few; caller = was.caller ∙ sym (ap (λ (s : Seated). s.known.local.number) by.made); holds = ap (λ (s : Seated). s.known.local.won) by.made ∙ was.holds }
 
   -- the limit was come to before the win was retired
-  pub halted_leaves : (last : Seated) → Halts r after last → Leaves r beside_settling 2 before last
+  pub halted_leaves : (last : Seated) → Halts r after last → LeavesSeatPart r beside_settling 2 before last
   halted_leaves last h = record {
     of = h.seat;
     rest = ap beside_settling h.same ∙ raised_rest;
@@ -199,7 +199,7 @@ module _ {O : Type 0} (o : Ghosts O) (r : Running O) (code ticket : ℕ) (reply 
 
   -- the win is retired then
   module _ (found : ℕ) (last : Seated) (s : Steps r o.step o.only_reads Retire found after last) where
-    pub retired_leaves : Leaves r beside_settling 2 before last
+    pub retired_leaves : LeavesSeatPart r beside_settling 2 before last
     retired_leaves = record {
       of = s.seat;
       rest = ap beside_settling s.made
@@ -234,7 +234,7 @@ module _ {O : Type 0} (o : Ghosts O) (r : Running O) (code ticket : ℕ) (reply 
         record { rest = retired_rests rest ended; met = omega (arith, met); most = omega (arith, met); answered = ap (λ (t : Seated). t.known.local.answered) s.made ∙ raised_answered; ended = retired_ended }
 
 -- what a publication and the few steps behind it leave of the seat
-pub settled_turns : {O : Type 0} (r : Running O) (n : ℕ) (before mid after : Seated) → n ≤ 2 → LeavesRest r 1 before mid → Leaves r beside_settling n mid after → TurnsIn r beside_hand_over (3 + cur_rises before after) before after
+pub settled_turns : {O : Type 0} (r : Running O) (n : ℕ) (before mid after : Seated) → n ≤ 2 → LeavesRest r 1 before mid → LeavesSeatPart r beside_settling n mid after → TurnsIn r beside_hand_over (3 + cur_rises before after) before after
 settled_turns r n before mid after few leaves last =
     let cur : after.known.local.seen_cur ≡ mid.known.local.seen_cur = ap (λ (s : Seated). s.known.local.seen_cur) last.rest in
     let front : after.known.local.front ≡ mid.known.local.front = ap (λ (s : Seated). s.known.local.front) last.rest in
@@ -301,7 +301,7 @@ read_halted o r code q op reply before after last holds by h =
       reads = inr (
         root_place_of r.callers code,
         reply,
-        ap (λ (s : Seated). s.known.local.seen_reads) same ∙ ap (λ n. with_read (root_place_of r.callers code) op reply n before.known.local.seen_reads) (none_more (length before.known.local.answered)),
+        ap (λ (s : Seated). s.known.local.seen_reads) same ∙ ap (λ n. reads_with (root_place_of r.callers code) op reply n before.known.local.seen_reads) (none_more (length before.known.local.answered)),
         record { ended = one_more before.known.local.steps; to = (let steps = ap (λ (s : Seated). s.known.local.steps) same in omega (arith, steps)); is = ap (λ (s : Seated). s.known.times.reads) same },
         λ none. none-some q (sym (ap (option_map (λ (x : HeldShared). x.replica)) none) ∙ ap (λ (s : Seated). shared_on s.known.local) same ∙ holds),
       );

@@ -1,5 +1,5 @@
 -- What calls bring on by write sets, one after another.
-use Rattle.std.proofs.Common.{◌≡◌, ◌+◌, ◌⊎◌, inl, inr, ℕ, List, refl, ap, ◌∙◌, arith, Option, Some, None, Result, Ok, Err, IfOk}
+use Rattle.std.proofs.Common.{◌≡◌, ◌+◌, inl, inr, ℕ, List, refl, ap, ◌∙◌, arith, Option, Some, None, Result, Ok, Err, IfOk}
 use Rattle.cx_rule.specs.Seats.{Seated}
 use Rattle.cx_turns.specs.Bringing.{BringsAtMost, BringsEntries, BringsIn, BringsOn, none_yet, one_more}
 use Rattle.redo_set.specs.Taking.{sets_read}
@@ -36,7 +36,12 @@ brings_around s t u v before brought after = brings_then s u v (brings_then s t 
 
 pub brings_at : (ticket : ℕ) (s u v : Seated) → u.known.sets ≡ s.known.sets → BringsAtMost ticket u v → BringsEntries s v
 brings_at ticket s u v before (inl same) = brings_none s v (same ∙ before)
-brings_at ticket s u v before (inr (set, stores)) = brings_then s u v (brings_none s u before) (brings_one u v ticket set stores)
+brings_at ticket s u v before (inr (set, mid, same, stores)) = brings_then s mid v (brings_none s mid (same ∙ before)) (brings_one mid v ticket set stores)
+
+-- at most one, behind what changes nothing of what is noted of sets
+pub at_most_behind : (ticket : ℕ) (s u v : Seated) → u.known.sets ≡ s.known.sets → BringsAtMost ticket u v → BringsAtMost ticket s v
+at_most_behind ticket s u v before (inl same) = inl (same ∙ before)
+at_most_behind ticket s u v before (inr (set, mid, same, stores)) = inr (set, mid, same ∙ before, stores)
 
 -- the same of a turn that may give nothing
 pub in_before : {X E : Type 0} (s t v : Seated) → t.known.sets ≡ s.known.sets → (result : Result (Option X) E) → IfOk result (BringsIn {X = X} t v) → IfOk result (BringsIn {X = X} s v)

@@ -16,7 +16,7 @@ use Rattle.cx_rule.specs.Seats.{Seated}
 use Rattle.cx_rule.specs.Steps.{Steps}
 use Rattle.cx_rule.proofs.HasMore.{fits_same, some_same}
 use Rattle.cx_table.specs.Right.{Right}
-use Rattle.cx_turns.specs.Keeping.{Guards, HoldsCurrent, HoldsSource, IsAtImage, IsBehind, IsKept, Others, SeesCurrent, no_others, others}
+use Rattle.cx_turns.specs.Keeping.{Guards, HoldsCurrent, HoldsSource, IsAtImage, IsBehindRing, IsUnrefused, Others, SeesCurrentReplica, no_others, others}
 use Rattle.cx_turns.specs.Reads.{beside_read}
 use Rattle.cx_turns.specs.Turns.{IsAtRest, TurnRefused, beside_turn}
 use Rattle.mutation_queue.specs.Protections.{but_protected}
@@ -25,7 +25,7 @@ use Rattle.replica.specs.Copies.{MayList, beside_listed, but_loads, without_shar
 use Rattle.replica.specs.Held.{IsHeld}
 use Rattle.replica.specs.Laws.{image_same}
 use Rattle.replica.specs.Regions.{HasPlace}
-use Rattle.replica.specs.Replays.{IsImage, ShowsReply, StoresNone, noted_place}
+use Rattle.replica.specs.Replays.{IsHeldImage, ShowsReply, StoresNone, noted_place}
 use Rattle.strong_trylock.specs.Held.{AllRights, all_rights}
 
 -- a turn that ended at rest by one refusal
@@ -46,7 +46,7 @@ not_above : (a b : ℕ) → a ≡ b → b ≤ a
 not_above a b e = omega (arith, e)
 
 -- a replica at the place of the code that is in use shows it to be outdated, where it is behind
-pub behind_current : (callers : ℕ) (before after : Seated) → IsBehind callers before after → noted_place before ≡ root_place_of callers before.known.local.seen_cur → before.known.local.fresh ≡ true →
+pub behind_current : (callers : ℕ) (before after : Seated) → IsBehindRing callers before after → noted_place before ≡ root_place_of callers before.known.local.seen_cur → before.known.local.fresh ≡ true →
     (after.known.local.met ≡ one_more before.known.local.met) × (after.known.local.fresh ≡ false)
 behind_current callers before after behind at fresh = behind.outdated (not_above (noted_place before) (root_place_of callers before.known.local.seen_cur) at, fresh)
 
@@ -110,11 +110,11 @@ module _ {O : Type 0} (o : Ghosts O) (r : Running O) (before after : Seated) (he
       record { unstored = subst StoresNone (sym accesses) none; begun = subst HasPlace (sym accesses) was.image.begun; source = taken.place }
 
   -- a replica is kept once the entries are guarded
-  pub kept_at : (ticket : ℕ) (first : Seated) → Guards r.callers ticket before after true → before.known.local.met ≡ first.known.local.met → IsAtImage o r after held → IsKept o r ticket first after held
+  pub kept_at : (ticket : ℕ) (first : Seated) → Guards r.callers ticket before after true → before.known.local.met ≡ first.known.local.met → IsAtImage o r after held → IsUnrefused o r ticket first after held
   kept_at ticket first guards met at = record { at_image = at; guarded = guards.0; met = guards.1.met ∙ met }
 
   -- through a copy, after which the shared right is given back
-  pub copied_image : (q : ℕ) → beside_listed after ≡ without_shared (beside_listed before) → others before.known.local ≡ record no_others { shared = Some q } → IsHeld (o.line_count r.object) r (o.lawful r.object) (o.step r.object) after held → IsImage (o.line_count r.object) (o.lawful r.object) r.base (o.step r.object) after.known → IsAtImage o r after held
+  pub copied_image : (q : ℕ) → beside_listed after ≡ without_shared (beside_listed before) → others before.known.local ≡ record no_others { shared = Some q } → IsHeld (o.line_count r.object) r (o.lawful r.object) (o.step r.object) after held → IsHeldImage (o.line_count r.object) (o.lawful r.object) r.base (o.step r.object) after.known → IsAtImage o r after held
   copied_image q same was held image =
       let shared : after.known.local.shared ≡ None = none_of but_loads after.known.local.shared (ap (λ (s : Seated). s.known.local.shared) same) in
       let rest : Seated → Others = λ s. record (others s.known.local) { shared = None } in
@@ -128,7 +128,7 @@ module _ {O : Type 0} (o : Ghosts O) (r : Running O) (before after : Seated) (he
 
 module _ {O : Type 0} (o : Ghosts O) (r : Running O) (before after : Seated) (held : Right) where
   -- what is known once CUR was loaded
-  pub seen_current : (found : ℕ) → Steps r o.step o.only_reads LoadCur found before after → IsAtImage o r before held → SeesCurrent o r before after held
+  pub seen_current : (found : ℕ) → Steps r o.step o.only_reads LoadCur found before after → IsAtImage o r before held → SeesCurrentReplica o r before after held
   seen_current found s was =
       let accesses : after.known.accesses ≡ before.known.accesses = ap (λ (t : Seated). t.known.accesses) s.made in
       let has : has_of after.known ≡ has_of before.known = ap (λ (t : Seated). has_of t.known) s.made ∙ ap (λ ns. has_of (record before.known { noted = ns })) (append-nil before.known.noted) in

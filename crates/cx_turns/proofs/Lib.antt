@@ -1,6 +1,7 @@
 pub mod Queries
 pub mod ReadEntries
 mod Kept
+mod Stepping
 pub mod ReadSteps
 mod Refusals
 mod Taken

@@ -8,7 +8,7 @@ use Rattle.cx_core.specs.History.{IsLawfulEntry}
 use Rattle.cx_core.specs.Region.{region_words}
 use Rattle.cx_core.specs.Rights.{held_dirty}
 use Rattle.cx_core.specs.RingEvents.{Protects}
-use Rattle.cx_rule.specs.Fitting.{Fitting, HasEntry, SomeFits, entries_of, has_of}
+use Rattle.cx_rule.specs.Fitting.{Fitting, HasEntry, IsNoted, SomeFits, entries_of, has_of}
 use Rattle.cx_rule.specs.Running.{IsSeatOf, Running}
 use Rattle.cx_rule.specs.Seats.{Seated}
 use Rattle.cx_rule.proofs.HasMore.{HasMore, noted_more}
@@ -46,6 +46,14 @@ ready_read o r caller ticket at words before after held of read fits was = recor
 pub read_comes : {O : Type 0} (o : Ghosts O) (r : Running O) (at : ℕ) (entry : Entry) (before after : Seated) → ReadsNext o r at entry before after → noted_place after ≡ at → ComesNext entry after
 read_comes o r at entry before after next place = record {
   had = subst (λ p. HasEntry (entries_of after.known) p entry) (sym place) (inl next.noted.noted);
+  lawful = subst (λ p. IsLawfulEntry p entry) (sym place) next.noted.lawful;
+  small = subst (λ p. p < 2 ^ 40) (sym place) next.noted.small;
+}
+
+-- it still does where what is noted of entries stayed
+pub offered_comes : {O : Type 0} (o : Ghosts O) (r : Running O) (at : ℕ) (entry : Entry) (before mid after : Seated) → ReadsNext o r at entry before mid → after.known.noted ≡ mid.known.noted → noted_place after ≡ at → ComesNext entry after
+offered_comes o r at entry before mid after next same place = record {
+  had = subst (λ p. HasEntry (entries_of after.known) p entry) (sym place) (inl (subst (λ ns. IsNoted ns at entry) (sym same) next.noted.noted));
   lawful = subst (λ p. IsLawfulEntry p entry) (sym place) next.noted.lawful;
   small = subst (λ p. p < 2 ^ 40) (sym place) next.noted.small;
 }

@@ -16,7 +16,7 @@ use Rattle.cx_rule.specs.Seats.{Seated, is_outdated, marked_load}
 use Rattle.cx_rule.specs.Steps.{Steps}
 use Rattle.cx_table.specs.Right.{Right}
 use Rattle.cx_turns.specs.Keeping.{HoldsCurrent}
-use Rattle.cx_turns.specs.Reads.{HoldsPlace, IsRead}
+use Rattle.cx_turns.specs.Reads.{HoldsPlace, IsReplyRead}
 use Rattle.cx_rule.specs.Raises.{TellsRead}
 use Rattle.replica.specs.Held.{IsHeldShared, LoadsShared, beside_shared}
 use Rattle.replica.proofs.Access.{load_shared_loads}
@@ -65,7 +65,7 @@ is_current o r hold found before after made here is fresh has =
 module _ {O : Type 0} (o : Ghosts O) (r : Running O) (op : List ℕ) (hold : Right) (reply : List ℕ) (before after : Seated) where
   -- a read of the replica that is held at the place of the code last loaded from CUR
   pub is_read : (place : ℕ) → beside_shared hold.replica after ≡ beside_shared hold.replica before → HoldsCurrent o r no_rights before before hold → place ≡ root_place_of r.callers before.known.local.seen_cur →
-      HoldsPlace o r place after hold → TellsRead (o.line_count r.object) (o.lawful r.object) r.base (o.step r.object) after.known op reply → IsRead o r op reply before after hold
+      HoldsPlace o r place after hold → TellsRead (o.line_count r.object) (o.lawful r.object) r.base (o.step r.object) after.known op reply → IsReplyRead o r op reply before after hold
   unfolding with_shared
   is_read place rest was at has tells =
       let cur : after.known.local.seen_cur ≡ before.known.local.seen_cur = ap (λ (s : Seated). s.known.local.seen_cur) rest in

@@ -7,7 +7,7 @@ use Rattle.cx_core.specs.declared.local.HeldShared.{HeldShared}
 use Rattle.cx_core.specs.Layout.{max_word}
 use Rattle.cx_core.specs.Rights.{shared_on}
 use Rattle.cx_rule.specs.Seats.{Seated}
-use Rattle.cx_turns.specs.Replaying.{beside_bringing, beside_replay, beside_work, but_loads}
+use Rattle.cx_turns.specs.Replaying.{beside_bringing, beside_replay, beside_work, but_shared_loads}
 use Rattle.cx_turns.specs.Turns.{KeepsCount, but_sets, unguarded}
 use Rattle.replica.specs.Held.{beside_held, but_loaded, but_words}
 use Rattle.redo_set.specs.Taking.{sets_read}
@@ -19,7 +19,7 @@ words_once : (o : Option HeldExclusive) → option_map but_words (option_map but
 words_once None = refl
 words_once (Some h) = refl
 
-loads_once : (r : ℕ) (o : Option HeldShared) → option_map but_loads (option_map (but_loaded r) o) ≡ option_map but_loads o
+loads_once : (r : ℕ) (o : Option HeldShared) → option_map but_shared_loads (option_map (but_loaded r) o) ≡ option_map but_shared_loads o
 loads_once r None = refl
 loads_once r (Some h) = refl
 
@@ -29,7 +29,7 @@ with_rights s exclusive shared = record (beside_work s) { known = record (beside
 work_beside : (r : ℕ) (s : Seated) → beside_work (beside_held r s) ≡ beside_work s
 unfolding with_rights
 work_beside r s =
-    ap (λ o. with_rights s o (option_map but_loads (option_map (but_loaded r) s.known.local.shared))) (words_once s.known.local.exclusive)
+    ap (λ o. with_rights s o (option_map but_shared_loads (option_map (but_loaded r) s.known.local.shared))) (words_once s.known.local.exclusive)
     ∙ ap (λ o. with_rights s (option_map but_words s.known.local.exclusive) o) (loads_once r s.known.local.shared)
 
 -- an access of the replica is such work
@@ -66,7 +66,7 @@ replica_once : (o : Option HeldExclusive) → option_map (λ (h : HeldExclusive)
 replica_once None = refl
 replica_once (Some h) = refl
 
-shared_once : (o : Option HeldShared) → option_map (λ (h : HeldShared). h.replica) (option_map but_loads o) ≡ option_map (λ (h : HeldShared). h.replica) o
+shared_once : (o : Option HeldShared) → option_map (λ (h : HeldShared). h.replica) (option_map but_shared_loads o) ≡ option_map (λ (h : HeldShared). h.replica) o
 shared_once None = refl
 shared_once (Some h) = refl
 

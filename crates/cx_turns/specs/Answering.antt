@@ -1,4 +1,4 @@
--- What a turn comes to that answers its caller's entry, and one that answers a read.
+-- The result of a turn that answers its caller's entry, and of one that answers a read.
 use Rattle.std.specs.Prelude.{◌≡◌, ◌≢◌, ◌+◌, ◌<◌, ◌≤◌, ◌⊎◌, false, ℕ, List, [], ◌∷◌, ◌++◌, length, slice_get, Option, Some, None}
 use Rattle.std.specs.Option.{option_map}
 use Rattle.cx_base.specs.Codes.{root_place_of}
@@ -12,7 +12,7 @@ use Rattle.cx_rule.specs.Seats.{IsAtLimit, Seated, unanswered_ticket}
 use Rattle.cx_rule.specs.Timing.{EndsIn}
 use Rattle.cx_table.specs.Right.{Right}
 use Rattle.cx_turns.specs.declared.lookup.Seen.{Seen}
-use Rattle.cx_turns.specs.Reads.{IsRead}
+use Rattle.cx_turns.specs.Reads.{IsReplyRead}
 use Rattle.cx_turns.specs.Turns.{HaltsTurn, IsAtRest, StepsAtMost, StepsOn, TurnRefused, beside_turn, but_sets}
 use Rattle.publish.specs.Publishing.{beside_publish, place_in}
 use Rattle.strong_trylock.specs.Held.{all_rights, no_rights}
@@ -64,7 +64,7 @@ pub record AnswersBy {O : Type 0} (o : Ghosts O) (r : Running O) (code ticket : 
   pub made : after ≡ record before { known = known_answered (instance_at r o.step o.only_reads) code (record { ticket = ticket; reply = reply } ∷ []) None before.known }
   pub seat : IsSeatOf r after
 
--- The caller's unanswered entry is answered with this reply, at most so many refusals are met, and the caller is at rest.
+-- The caller's unanswered entry is answered with this reply, at most this many refusals are met, and the caller is at rest.
 pub record AnswersEntry (refusals ticket : ℕ) (reply : List ℕ) (before after : Seated) : Type 0 where
   pub rest : IsAtRest after.known.local
   pub met : before.known.local.met ≤ after.known.local.met
@@ -72,7 +72,7 @@ pub record AnswersEntry (refusals ticket : ℕ) (reply : List ℕ) (before after
   pub answered : after.known.local.answered ≡ with_answer ticket reply before.known.local.answered
   pub ended : EndsIn after.known.local.steps before.known.times.answered after.known.times.answered
 
--- what a turn for an entry with a ticket comes to; one that answers it meets a refusal where its publication was lost once
+-- the result of a turn for an entry with a ticket; one that answers it meets a refusal where its publication was lost once
 abbrev pub TurnsFor : ℕ → Seated → Seated → Option (List ℕ) → Type 0
 TurnsFor ticket before after (Some reply) = AnswersEntry 1 ticket reply before after
 TurnsFor ticket before after None = TurnRefused before after
@@ -87,15 +87,15 @@ pub record AnswersOne (ticket : ℕ) (reply : List ℕ) (before after : Seated) 
   pub is : after.known.local.answered ≡ with_answer ticket reply before.known.local.answered
   pub ended : EndsIn after.known.local.steps before.known.times.answered after.known.times.answered
 
--- The limit was come to before a won code's win was retired, with no refusal: before the raise nothing is answered, and behind it the
--- entry is.
+-- The step limit was reached before a won code's win was retired, with no refusal: before the raise nothing is answered, and after it
+-- the entry is.
 pub record HaltsWon (ticket : ℕ) (before after : Seated) : Type 0 where
   pub limit : IsAtLimit after.known.local
   pub met : after.known.local.met ≡ before.known.local.met
   pub won : after.known.local.won ≡ before.known.local.won
   pub answered : AnswersNone before after ⊎ ((reply : List ℕ) × AnswersOne ticket reply before after)
 
--- The limit was come to, and a further step was due: no refusal was met, a right stands, or a code is found in CUR whose place is above
+-- The step limit was reached, and a further step was due: no refusal was met, a right stands, or a code is found in CUR whose place is above
 -- the ticket, by which DUR is still to be raised. Before that raise nothing is answered, and behind it the entry is, and the win is still
 -- to be retired. At most one refusal was met.
 pub record HaltsFor (callers ticket : ℕ) (before after : Seated) : Type 0 where
@@ -104,9 +104,9 @@ pub record HaltsFor (callers ticket : ℕ) (before after : Seated) : Type 0 wher
   pub due : all_rights after ≡ no_rights → (after.known.local.met ≡ before.known.local.met) ⊎ (ticket < root_place_of callers after.known.local.seen_cur)
   pub answered : AnswersNone before after ⊎ ((reply : List ℕ) × AnswersOne ticket reply before after × (after.known.local.won ≢ None))
 
--- reads with one more, of an operation at a place, where so many entries of its caller are answered
-abbrev pub with_read : ℕ → List ℕ → List ℕ → ℕ → List SeenRead → List SeenRead
-with_read place op reply answered reads = reads ++ record { place = place; op = op; reply = reply; before = answered } ∷ []
+-- reads with one more, of an operation at a place, where this many entries of its caller are answered
+abbrev pub reads_with : ℕ → List ℕ → List ℕ → ℕ → List SeenRead → List SeenRead
+reads_with place op reply answered reads = reads ++ record { place = place; op = op; reply = reply; before = answered } ∷ []
 
 -- one read more has times, of which this is the first
 pub record ReadsFrom (begun : ℕ) (before after : Seated) : Type 0 where
@@ -120,11 +120,11 @@ pub record ReadsNone (before after : Seated) : Type 0 where
   pub times : after.known.times.reads ≡ before.known.times.reads
 
 -- A read is answered at a place that is not below the floor, which rises to it, and so above each ticket and not below any place
--- that the caller was answered before. It began behind so many steps. No refusal is met, and the caller is at rest.
+-- that the caller was answered before. It began after this many steps. No refusal is met, and the caller is at rest.
 pub record AnswersRead (begun : ℕ) (op : List ℕ) (place : ℕ) (reply : List ℕ) (before after : Seated) : Type 0 where
   pub rest : IsAtRest after.known.local
   pub met : after.known.local.met ≡ before.known.local.met
-  pub reads : after.known.local.seen_reads ≡ with_read place op reply (length before.known.local.answered) before.known.local.seen_reads
+  pub reads : after.known.local.seen_reads ≡ reads_with place op reply (length before.known.local.answered) before.known.local.seen_reads
   pub times : ReadsFrom begun before after
   pub floor : before.known.local.floor ≤ place
   pub above : (i : ℕ) (x : Answer) → slice_get before.known.local.answered i ≡ Some x → x.ticket < place
@@ -134,17 +134,17 @@ pub record AnswersRead (begun : ℕ) (op : List ℕ) (place : ℕ) (reply : List
 abbrev pub seen_at : List ℕ → Option ℕ → Option Seen
 seen_at reply place = option_map (λ p. record { place = p; reply = reply }) place
 
--- what a turn for a read comes to; one that is refused makes at most four steps
+-- the result of a turn for a read; one that is refused makes at most four steps
 abbrev pub LooksUp : List ℕ → Seated → Seated → Option Seen → Type 0
 LooksUp op before after (Some found) = AnswersRead before.known.local.steps op found.place found.reply before after
 LooksUp op before after None = TurnRefused before after × StepsAtMost 4 before after × StepsOn before after
 
--- The limit was come to, and a further step was due. Before the raise no read is answered, and behind it this one is, and the shared
+-- The step limit was reached, and a further step was due. Before the raise no read is answered, and behind it this one is, and the shared
 -- right is still to be given back.
 pub record HaltsLookup (begun : ℕ) (op : List ℕ) (before after : Seated) : Type 0 where
   pub halts : HaltsTurn before after
   pub reads : ReadsNone before after
-      ⊎ ((place : ℕ) × (reply : List ℕ) × (after.known.local.seen_reads ≡ with_read place op reply (length before.known.local.answered) before.known.local.seen_reads) × ReadsFrom begun before after × (after.known.local.shared ≢ None))
+      ⊎ ((place : ℕ) × (reply : List ℕ) × (after.known.local.seen_reads ≡ reads_with place op reply (length before.known.local.answered) before.known.local.seen_reads) × ReadsFrom begun before after × (after.known.local.shared ≢ None))
 
 -- DUR was raised by the code last loaded from CUR, which answers the read and nothing else.
 pub record AnswersReadBy {O : Type 0} (o : Ghosts O) (r : Running O) (code : ℕ) (op reply : List ℕ) (before after : Seated) : Type 0 where
@@ -155,7 +155,7 @@ pub record AnswersReadBy {O : Type 0} (o : Ghosts O) (r : Running O) (code : ℕ
 -- A read was found on the replica that the code last loaded from CUR names, and beside the shared right on it the caller is at rest,
 -- with each of its entries answered.
 pub record IsLookedUp {O : Type 0} (o : Ghosts O) (r : Running O) (op reply : List ℕ) (seat : Seated) (hold : Right) : Type 0 where
-  pub read : IsRead o r op reply seat seat hold
+  pub read : IsReplyRead o r op reply seat seat hold
   pub rest : IsAtRest (record seat.known.local { shared = None; fresh = false })
   pub answered : unanswered_ticket seat.known.local ≡ None
 

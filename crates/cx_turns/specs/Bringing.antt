@@ -4,11 +4,11 @@ use Rattle.cx_rule.specs.Seats.{Seated}
 use Rattle.redo_set.specs.Taking.{sets_read}
 use Rattle.replica_sets.specs.Offered.{StoresSet}
 
--- At most the entry with this ticket was brought on so: no word of a set was read, or one set was, and just its pairs were stored.
+-- At most the entry with this ticket was brought on so: no word of a set was read, or one set was, and from there on just its pairs were stored.
 abbrev pub BringsAtMost : ℕ → Seated → Seated → Type 0
-BringsAtMost ticket before after = (after.known.sets ≡ before.known.sets) ⊎ ((set : List ℕ) × StoresSet ticket set before after)
+BringsAtMost ticket before after = (after.known.sets ≡ before.known.sets) ⊎ ((set : List ℕ) × (mid : Seated) × (mid.known.sets ≡ before.known.sets) × StoresSet ticket set mid after)
 
--- From the first seat on so many entries were brought on by their sets, each by a set that was read for it and stored, and no word of any
+-- From the first seat on this many entries were brought on by their sets, each by a set that was read for it and stored, and no word of any
 -- other set was read.
 pub data BringsOn (before : Seated) : ℕ → Seated → Type 0 where
   none_yet : (n : ℕ) (now : Seated) → n ≡ 0 → now.known.sets ≡ before.known.sets → BringsOn before n now

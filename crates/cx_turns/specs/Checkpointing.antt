@@ -37,12 +37,12 @@ pub record TakesImage {O : Type 0} (o : Ghosts O) (r : Running O) (image : List 
   pub above : (i : ℕ) (x : Answer) → slice_get before.known.local.answered i ≡ Some x → x.ticket < place
   pub from : (i : ℕ) (x : SeenRead) → slice_get before.known.local.seen_reads i ≡ Some x → x.place ≤ place
 
--- what a turn comes to; one that is refused makes at most four steps
+-- the result of a turn that takes an image; one that is refused makes at most four steps
 abbrev pub TakesTurn : {O : Type 0} → Ghosts O → Running O → List ℕ → Seated → Seated → Option ℕ → Type 0
 TakesTurn o r image before after (Some place) = TakesImage o r image place before after
 TakesTurn o r image before after None = TurnRefused before after × StepsAtMost 4 before after × StepsOn before after × TakesNone before after
 
--- The limit was come to, and a further step was due. No image was taken.
+-- The step limit was reached, and a further step was due. No image was taken.
 pub record HaltsImage (before after : Seated) : Type 0 where
   pub halts : HaltsTurn before after
   pub none : TakesNone before after

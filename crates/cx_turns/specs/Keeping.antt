@@ -1,4 +1,4 @@
--- What a replica that was just taken comes to before entries are read for it: it is kept, or the current one is copied over it, or the
+-- What becomes of a replica that was just taken, before entries are read for it: it is kept, or the current one is copied over it, or the
 -- turn ends.
 use Rattle.std.specs.Prelude.{◌≡◌, ◌≢◌, ◌<◌, ◌⊎◌, true, false, ℕ, Bool, List, [], Option, Some, None}
 use Rattle.std.specs.List.{Contains}
@@ -15,10 +15,10 @@ use Rattle.cx_rule.specs.Running.{Running}
 use Rattle.cx_rule.specs.Seats.{Seated}
 use Rattle.cx_table.specs.Right.{Right}
 use Rattle.cx_turns.specs.Turns.{StepsOn, TurnRefused}
-use Rattle.mutation_queue.specs.Protections.{MeetsNone, ShowsOutdated}
+use Rattle.mutation_queue.specs.Protections.{MeetsNone, ShowsRootOutdated}
 use Rattle.replica.specs.Copies.{HoldsBoth}
 use Rattle.replica.specs.Held.{IsHeld, IsHeldShared}
-use Rattle.replica.specs.Replays.{IsImage, noted_place}
+use Rattle.replica.specs.Replays.{IsHeldImage, noted_place}
 use Rattle.strong_trylock.specs.Held.{AllRights, all_rights}
 
 -- the rights of a caller beside the exclusive one, its scan, and the replicas that were refused
@@ -41,7 +41,7 @@ no_others = record { shared = None; passer = None; downgraded = None; won = None
 -- refused
 pub record IsAtImage {O : Type 0} (o : Ghosts O) (r : Running O) (seat : Seated) (held : Right) : Type 0 where
   pub is_held : IsHeld (o.line_count r.object) r (o.lawful r.object) (o.step r.object) seat held
-  pub image : IsImage (o.line_count r.object) (o.lawful r.object) r.base (o.step r.object) seat.known
+  pub image : IsHeldImage (o.line_count r.object) (o.lawful r.object) r.base (o.step r.object) seat.known
   pub alone : others seat.known.local ≡ no_others
 
 -- The entries from the replica's place up to a ticket may be read: there is none, and no protection stands, or the tickets from the place
@@ -51,30 +51,30 @@ IsGuarded ticket seat =
     ((ticket < noted_place seat) × (seat.known.local.protection ≡ Unprotected)) ⊎ (seat.known.local.protection ≡ Confirmed (noted_place seat))
 
 -- The replica held is one on which they are, and no refusal was met.
-pub record IsKept {O : Type 0} (o : Ghosts O) (r : Running O) (ticket : ℕ) (before after : Seated) (held : Right) : Type 0 where
+pub record IsUnrefused {O : Type 0} (o : Ghosts O) (r : Running O) (ticket : ℕ) (before after : Seated) (held : Right) : Type 0 where
   pub at_image : IsAtImage o r after held
   pub guarded : IsGuarded ticket after
   pub met : after.known.local.met ≡ before.known.local.met
 
--- what keeping a replica comes to; it may end the turn, by one refusal
+-- the result of keeping a replica; it may end the turn, by one refusal
 abbrev pub TriesKeep : {O : Type 0} → Ghosts O → Running O → ℕ → Seated → Seated → Option Right → Type 0
-TriesKeep o r ticket before after (Some held) = IsKept o r ticket before after held
+TriesKeep o r ticket before after (Some held) = IsUnrefused o r ticket before after held
 TriesKeep o r ticket before after None = TurnRefused before after
 
 -- The place is behind the ring: a LOW above it was found. Where that shows the code last loaded from CUR to be outdated, a refusal is met.
-pub record IsBehind (callers : ℕ) (before after : Seated) : Type 0 where
+pub record IsBehindRing (callers : ℕ) (before after : Seated) : Type 0 where
   pub above : noted_place before < after.known.local.seen_low
   pub protection : after.known.local.protection ≡ Unprotected
-  pub outdated : ShowsOutdated callers (noted_place before) before.known.local → (after.known.local.met ≡ one_more before.known.local.met) × (after.known.local.fresh ≡ false)
-  pub current : (ShowsOutdated callers (noted_place before) before.known.local → ⊥) → MeetsNone before after
+  pub outdated : ShowsRootOutdated callers (noted_place before) before.known.local → (after.known.local.met ≡ one_more before.known.local.met) × (after.known.local.fresh ≡ false)
+  pub current : (ShowsRootOutdated callers (noted_place before) before.known.local → ⊥) → MeetsNone before after
 
--- what guarding the entries up to a ticket comes to
+-- the result of guarding the entries up to a ticket
 abbrev pub Guards : ℕ → ℕ → Seated → Seated → Bool → Type 0
 Guards callers ticket before after true = IsGuarded ticket after × MeetsNone before after
-Guards callers ticket before after false = IsBehind callers before after
+Guards callers ticket before after false = IsBehindRing callers before after
 
 -- CUR was loaded: the replica that it names is not the one held exclusively
-pub record SeesCurrent {O : Type 0} (o : Ghosts O) (r : Running O) (before after : Seated) (held : Right) : Type 0 where
+pub record SeesCurrentReplica {O : Type 0} (o : Ghosts O) (r : Running O) (before after : Seated) (held : Right) : Type 0 where
   pub at_image : IsAtImage o r after held
   pub apart : held.replica ≢ root_replica_of r.callers after.known.local.seen_cur
   pub fresh : after.known.local.fresh ≡ true
@@ -99,7 +99,7 @@ pub record MissesCurrent (rights : AllRights) (before after : Seated) : Type 0 w
   pub met : after.known.local.met ≡ one_more before.known.local.met
   pub since : StepsOn before after
 
--- what taking it comes to
+-- the result of taking it
 abbrev pub TakesCurrent : {O : Type 0} → Ghosts O → Running O → AllRights → Seated → Seated → Option Right → Type 0
 TakesCurrent o r rights before after (Some hold) = HoldsCurrent o r rights before after hold
 TakesCurrent o r rights before after None = MissesCurrent rights before after

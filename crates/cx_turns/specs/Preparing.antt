@@ -25,7 +25,7 @@ pub record Prepares {O : Type 0} (o : Ghosts O) (r : Running O) (ticket : ℕ) (
   pub refused : after.known.local.refused ≡ []
   pub met : after.known.local.met ≡ before.known.local.met
 
--- what preparing one comes to; where the turn ends without one, a refusal was met
+-- the result of preparing one; where the turn ends without one, a refusal was met
 abbrev pub TriesPrepare : {O : Type 0} → Ghosts O → Running O → ℕ → List ℕ → Seated → Seated → Option Right → Type 0
 TriesPrepare o r ticket answer before after (Some held) = Prepares o r ticket answer before after held
 TriesPrepare o r ticket answer before after None = TurnRefused before after

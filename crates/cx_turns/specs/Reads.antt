@@ -23,18 +23,18 @@ beside_read s = record s {
 
 -- A reply was read. The caller has one right, shared, on the replica that the code last loaded from CUR names, at the code's
 -- place, and nothing ended that code's use.
-pub record IsRead {O : Type 0} (o : Ghosts O) (r : Running O) (op reply : List ℕ) (before after : Seated) (hold : Right) : Type 0 where
+pub record IsReplyRead {O : Type 0} (o : Ghosts O) (r : Running O) (op reply : List ℕ) (before after : Seated) (hold : Right) : Type 0 where
   pub current : HoldsCurrent o r no_rights before after hold
   pub shows : ShowsPlace r.callers after.known.local.seen_cur after.known.local.shared
   pub tells : TellsRead (o.line_count r.object) (o.lawful r.object) r.base (o.step r.object) after.known op reply
 
--- what reading it comes to; it is refused where the replica is held exclusively, or is at another place, by at most three steps
+-- the result of reading it; the read is refused where the replica is held exclusively, or is at another place, by at most three steps
 abbrev pub ReadsCurrent : {O : Type 0} → Ghosts O → Running O → List ℕ → List ℕ → Seated → Seated → Option Right → Type 0
-ReadsCurrent o r op reply before after (Some hold) = IsRead o r op reply before after hold
+ReadsCurrent o r op reply before after (Some hold) = IsReplyRead o r op reply before after hold
 ReadsCurrent o r op reply before after None = MeetsRefusal before after × StepsAtMost 3 before after × StepsOn before after
 
 -- a caller of this table without rights, that has just loaded CUR
-pub record MayRead {O : Type 0} (r : Running O) (seat : Seated) : Type 0 where
+pub record MayReadReply {O : Type 0} (r : Running O) (seat : Seated) : Type 0 where
   pub of : IsSeatOf r seat
   pub free : all_rights seat ≡ no_rights
   pub fresh : seat.known.local.fresh ≡ true

@@ -15,11 +15,11 @@ use Rattle.mutation_queue.specs.Entries.{IsNotedEntry, ReadsEntry}
 use Rattle.replica.specs.Flushes.{IsFlushed}
 use Rattle.replica.specs.Held.{IsHeld, beside_held, but_words}
 use Rattle.replica.specs.Regions.{HasPlace}
-use Rattle.replica.specs.Replays.{IsImage, IsReady, ShowsReply, noted_place}
+use Rattle.replica.specs.Replays.{IsHeldImage, IsReady, ShowsReply, noted_place}
 
 -- a replica held shared but for what is loaded of it
-abbrev pub but_loads : HeldShared → HeldShared
-but_loads h = record { replica = h.replica; loaded = [] }
+abbrev pub but_shared_loads : HeldShared → HeldShared
+but_shared_loads h = record { replica = h.replica; loaded = [] }
 
 -- what no work on the replica held exclusively changes: the seat but for its words and what is noted of entries and replicas, the
 -- slot last looked at, and the steps
@@ -29,7 +29,7 @@ beside_work s = record s {
     local = record s.known.local {
       seen_slot = None;
       exclusive = option_map but_words s.known.local.exclusive;
-      shared = option_map but_loads s.known.local.shared;
+      shared = option_map but_shared_loads s.known.local.shared;
       steps = 0;
     };
     noted = [];
@@ -51,14 +51,14 @@ pub record ReadsNext {O : Type 0} (o : Ghosts O) (r : Running O) (ticket : ℕ) 
 -- has this reply.
 pub record IsBroughtUp {O : Type 0} (o : Ghosts O) (r : Running O) (held : Right) (ticket : ℕ) (seat : Seated) (reply : List ℕ) : Type 0 where
   pub is_held : IsHeld (o.line_count r.object) r (o.lawful r.object) (o.step r.object) seat held
-  pub image : IsImage (o.line_count r.object) (o.lawful r.object) r.base (o.step r.object) seat.known
+  pub image : IsHeldImage (o.line_count r.object) (o.lawful r.object) r.base (o.step r.object) seat.known
   pub clean : IsFlushed seat
   pub place : ticket < noted_place seat
   pub reply_is : ShowsReply (o.line_count r.object) (o.lawful r.object) r.base (o.step r.object) seat.known seat.known.local.number reply
   pub none : seat.known.local.protection ≡ Unprotected
 
 -- a replica held exclusively is the image after a place above a ticket
-pub record IsReplayed {O : Type 0} (o : Ghosts O) (r : Running O) (held : Right) (ticket : ℕ) (seat : Seated) : Type 0 where
+pub record IsReplayedPast {O : Type 0} (o : Ghosts O) (r : Running O) (held : Right) (ticket : ℕ) (seat : Seated) : Type 0 where
   pub ready : IsReady o r held (noted_place seat) seat
   pub place : ticket < noted_place seat
 
@@ -69,7 +69,7 @@ pub record IsApplied {O : Type 0} (o : Ghosts O) (r : Running O) (held : Right) 
   pub replied : IsTrue own → ShowsReply (o.line_count r.object) (o.lawful r.object) r.base (o.step r.object) seat.known seat.known.local.number reply
 
 -- It is the image after the place that it had, no word of it is dirty, and the caller's last entry there has this reply.
-pub record IsSettled {O : Type 0} (o : Ghosts O) (r : Running O) (held : Right) (before after : Seated) (reply : List ℕ) : Type 0 where
+pub record IsReplicaSettled {O : Type 0} (o : Ghosts O) (r : Running O) (held : Right) (before after : Seated) (reply : List ℕ) : Type 0 where
   pub ready : IsReady o r held (noted_place before) after
   pub clean : IsFlushed after
   pub reply_is : ShowsReply (o.line_count r.object) (o.lawful r.object) r.base (o.step r.object) after.known after.known.local.number reply

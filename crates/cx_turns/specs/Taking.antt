@@ -1,4 +1,4 @@
--- What a caller that takes a replica, whichever is free, comes to.
+-- The result of taking a replica, whichever is free.
 use Rattle.std.specs.Prelude.{◌≡◌, if◌then◌else◌, ℕ, [], Option, Some, None}
 use Rattle.cx_base.specs.declared.object.Object.{Ghosts}
 use Rattle.cx_core.specs.LockEvents.{has_all, with_number}
@@ -53,7 +53,7 @@ abbrev pub TakesAny : {O : Type 0} → Ghosts O → Running O → Seated → Sea
 TakesAny o r before after (Some held) = TakesOne o r before after held
 TakesAny o r before after None = IsRefusedByAll before after
 
--- the limit was come to before each replica had refused the caller
+-- the step limit was reached before each replica had refused the caller
 pub record HaltsTaking (before after : Seated) : Type 0 where
   pub limit : IsAtLimit after.known.local
   pub met : after.known.local.met ≡ before.known.local.met

@@ -9,6 +9,7 @@ use Rattle.cx_rule.specs.Running.{IsSeatOf, Running}
 use Rattle.cx_rule.specs.Seats.{IsAtLimit, Seated}
 use Rattle.cx_rule.specs.Timing.{KeepsTimes}
 use Rattle.redo_set.specs.Taking.{sets_read}
+pub use Rattle.cx_table.specs.GapMarks.{StepsOn}
 use Rattle.replica_sets.specs.Own.{but_set}
 use Rattle.strong_trylock.specs.Held.{all_rights, no_rights}
 
@@ -84,7 +85,7 @@ abbrev pub KeepsCount : ℕ → Seated → ℕ → Seated → Type 0
 KeepsCount taken before now after = IsCounted taken before → IsCounted now after
 
 -- what a call leaves of a seat: it is one of the table, and what the call does not change, which this function gives, is as it was
-pub record Keeps {O : Type 0} (r : Running O) (beside : Seated → Seated) (before after : Seated) : Type 0 where
+pub record KeepsSeat {O : Type 0} (r : Running O) (beside : Seated → Seated) (before after : Seated) : Type 0 where
   pub seat : IsSeatOf r after
   pub rest : beside after ≡ beside before
 
@@ -94,15 +95,11 @@ pub record Turns {O : Type 0} (r : Running O) (beside : Seated → Seated) (befo
   pub rest : beside after ≡ beside before
   pub front : before.known.local.front ≤ after.known.local.front
 
--- at most so many steps were made
+-- at most this many steps were made
 abbrev pub StepsAtMost : ℕ → Seated → Seated → Type 0
 StepsAtMost n before after = after.known.local.steps ≤ before.known.local.steps + n
 
--- no step is taken back
-abbrev pub StepsOn : Seated → Seated → Type 0
-StepsOn before after = min before.known.local.steps max_word ≤ after.known.local.steps
-
--- the same of a call that may raise the front, by at most so many steps
+-- the same of a call that may raise the front, by at most this many steps
 pub record TurnsIn {O : Type 0} (r : Running O) (beside : Seated → Seated) (n : ℕ) (before after : Seated) : Type 0 where
   pub seat : IsSeatOf r after
   pub rest : beside after ≡ beside before
@@ -113,14 +110,14 @@ pub record TurnsIn {O : Type 0} (r : Running O) (beside : Seated → Seated) (n 
 abbrev pub cur_rises : Seated → Seated → ℕ
 cur_rises before after = after.known.local.seen_cur - before.known.local.seen_cur
 
--- The limit was come to, and a further step was due: no refusal was met, or a right stands that is still to be given up. At most one
+-- The step limit was reached, and a further step was due: no refusal was met, or a right stands that is still to be released. At most one
 -- refusal was met.
 pub record HaltsTurn (before after : Seated) : Type 0 where
   pub limit : IsAtLimit after.known.local
   pub most : after.known.local.met ≤ before.known.local.met + 1
   pub due : all_rights after ≡ no_rights → after.known.local.met ≡ before.known.local.met
 
--- the same while a replica is held exclusively, which is still to be given up
+-- the same while a replica is held exclusively, which is still to be released
 pub record HaltsHolding (replica : ℕ) (before after : Seated) : Type 0 where
   pub limit : IsAtLimit after.known.local
   pub most : after.known.local.met ≤ before.known.local.met + 1
@@ -132,7 +129,7 @@ pub record MayTurn {O : Type 0} (r : Running O) (ticket : ℕ) (seat : Seated) :
   pub rest : IsAtRest seat.known.local
   pub linked : ticket < seat.known.local.front
 
--- the limit was come to, and at most one refusal was met
+-- the step limit was reached, and at most one refusal was met
 pub record HaltsMeeting (before after : Seated) : Type 0 where
   pub limit : IsAtLimit after.known.local
   pub most : after.known.local.met ≤ before.known.local.met + 1

@@ -6,7 +6,7 @@ ghost use Rattle.cx_rule.specs.Seats.{IsAtLimit, unanswered_ticket};
 ghost use Rattle.cx_rule.specs.Steps.{Halts};
 ghost use Rattle.cx_turns.specs.Checkpointing.{HaltsImage, IsAtCurrent, LoadsImage, LoadsSome, RaisesCurrent, TakesImage, TakesTurn, beside_checkpoint};
 ghost use Rattle.cx_turns.specs.Answering.{MayLook};
-ghost use Rattle.cx_turns.specs.Turns.{Turns};
+ghost use Rattle.cx_turns.specs.Turns.{StepsOn, Turns};
 ghost use Rattle.replica.specs.Held.{IsHeldShared};
 
 use crate::reading::take_current;
@@ -29,6 +29,7 @@ pub fn checkpoint_turn<O: Object>(
     ensures turned { IfOk result (TakesTurn O.Object shared.now into.new seat.old seat.new) }
     ensures halted { OnErr result (HaltsImage seat.old seat.new) }
     ensures turns { Turns shared.now beside_checkpoint seat.old seat.new }
+    ensures since { StepsOn seat.old seat.new }
     ensures rises { seat.old.known.local.seen_cur ≤ seat.new.known.local.seen_cur }
     ensures length { length into.new ≡ length into.old }
 {
@@ -51,6 +52,7 @@ fn take_image<O: Object>(
     ensures taken { IfOk result (λ place. TakesImage O.Object shared.now into.new place seat.old seat.new) }
     ensures halted { OnErr result (HaltsImage seat.old seat.new) }
     ensures turns { Turns shared.now beside_checkpoint seat.old seat.new }
+    ensures since { StepsOn seat.old seat.new }
     ensures same { seat.new.known.local.seen_cur ≡ seat.old.known.local.seen_cur }
     ensures length { length into.new ≡ length into.old }
 {
@@ -75,7 +77,7 @@ fn raise_current<O: Object>(
     make_durable(shared, seat, code, None)
 }
 
-/// Loads all words of a replica that is held shared, the place by itself and the others by one call where the limit leaves so many steps.
+/// Loads all words of a replica that is held shared, the place by itself and the others by one call where the limit leaves enough steps.
 fn load_image<O: Object>(
     shared: &Shared<O>,
     seat: &mut CallerSeat,
@@ -85,6 +87,7 @@ fn load_image<O: Object>(
     requires held { IsHeldShared (O.line_count shared.now.object) shared.now (O.lawful shared.now.object) seat.old hold.now }
     requires words { length into.old ≡ length shared.now.base.words }
     ensures loaded { MatchResult result (λ _. LoadsImage O.Object shared.now hold.now into.new seat.old seat.new) (λ _. LoadsSome O.Object shared.now hold.now seat.old seat.new × IsAtLimit seat.new.known.local) }
+    ensures since { StepsOn seat.old seat.new }
     ensures length { length into.new ≡ length into.old }
 {
     let start = shared.start_shared(seat, hold);

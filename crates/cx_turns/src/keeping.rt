@@ -6,9 +6,9 @@ ghost use Rattle.std.specs.Prelude.{◌<◌, ◌≡◌, MatchResult, false};
 ghost use Rattle.cx_core.specs.declared.local.Protection.TheVariants.{Unprotected};
 ghost use Rattle.cx_rule.specs.Running.{IsSeatOf};
 ghost use Rattle.cx_rule.specs.Seats.{IsAtLimit};
-ghost use Rattle.cx_turns.specs.Keeping.{Guards, HoldsSource, IsAtImage, MayKeep, SeesCurrent, TriesKeep};
-ghost use Rattle.cx_turns.specs.Turns.{HaltsHolding, HaltsMeeting, IsAtRest, Turns, TurnsIn, beside_turn, unguarded};
-ghost use Rattle.mutation_queue.specs.Leaves.{Leaves};
+ghost use Rattle.cx_turns.specs.Keeping.{Guards, HoldsSource, IsAtImage, MayKeep, SeesCurrentReplica, TriesKeep};
+ghost use Rattle.cx_turns.specs.Turns.{HaltsHolding, HaltsMeeting, IsAtRest, StepsOn, Turns, TurnsIn, beside_turn, unguarded};
+ghost use Rattle.mutation_queue.specs.Leaves.{LeavesSeatPart};
 ghost use Rattle.mutation_queue.specs.Protections.{but_protected};
 ghost use Rattle.cx_base.specs.Codes.{root_place_of};
 ghost use Rattle.replica.specs.Copies.{MayList};
@@ -38,6 +38,7 @@ pub fn keep<O: Object>(
     requires unstored { StoresNone seat.old.known.accesses }
     ensures kept { MatchResult result (TriesKeep O.Object shared.now ticket seat.old seat.new) (λ _. HaltsHolding held.replica seat.old seat.new) }
     ensures turns { Turns shared.now beside_turn seat.old seat.new }
+    ensures since { StepsOn seat.old seat.new }
 {
     if guard(shared, seat, ticket)? {
         return Ok(Some(held));
@@ -51,7 +52,8 @@ fn guard<O: Object>(shared: &Shared<O>, seat: &mut CallerSeat, ticket: u64) -> R
     requires none { seat.old.known.local.protection ≡ Unprotected }
     requires linked { ticket < seat.old.known.local.front }
     ensures guarded { MatchResult result (Guards shared.now.callers ticket seat.old seat.new) (λ _. HaltsMeeting seat.old seat.new) }
-    ensures leaves { Leaves shared.now but_protected 3 seat.old seat.new }
+    ensures leaves { LeavesSeatPart shared.now but_protected 3 seat.old seat.new }
+    ensures since { StepsOn seat.old seat.new }
 {
     // tickets are few
     let _front = seat.front();
@@ -79,6 +81,7 @@ fn copy_current<O: Object>(
     requires linked { ticket < seat.old.known.local.front }
     ensures kept { MatchResult result (TriesKeep O.Object shared.now ticket seat.old seat.new) (λ _. HaltsHolding held.replica seat.old seat.new) }
     ensures turns { Turns shared.now beside_turn seat.old seat.new }
+    ensures since { StepsOn seat.old seat.new }
 {
     load_current(shared, seat, &held)?;
     match take_current(shared, seat)? {
@@ -97,8 +100,9 @@ fn load_current<O: Object>(
     held: &Exclusive,
 ) -> Result<(), Halt>
     requires held { IsAtImage O.Object shared.now seat.old held.now }
-    ensures seen { MatchResult result (λ _. SeesCurrent O.Object shared.now seat.old seat.new held.now) (λ _. Halts shared.now seat.old seat.new) }
+    ensures seen { MatchResult result (λ _. SeesCurrentReplica O.Object shared.now seat.old seat.new held.now) (λ _. Halts shared.now seat.old seat.new) }
     ensures turns { TurnsIn shared.now beside_turn 1 seat.old seat.new }
+    ensures since { StepsOn seat.old seat.new }
 {
     let _ = held;
     shared.load_cur(seat)?;
@@ -119,6 +123,7 @@ fn copy_and_keep<O: Object>(
     requires linked { ticket < seat.old.known.local.front }
     ensures kept { MatchResult result (TriesKeep O.Object shared.now ticket seat.old seat.new) (λ _. HaltsHolding held.replica seat.old seat.new) }
     ensures turns { Turns shared.now beside_turn seat.old seat.new }
+    ensures since { StepsOn seat.old seat.new }
 {
     let to = root_place(shared.callers(), seat.seen_cur());
     renew_listed(shared, seat, &held, source, to)?;
@@ -141,17 +146,19 @@ fn give_up<O: Object>(
     ensures ended { MatchResult result (λ _. IsAtRest seat.new.known.local) (λ _. HaltsHolding held.replica seat.old seat.new) }
     ensures met { seat.new.known.local.met ≡ seat.old.known.local.met }
     ensures turns { Turns shared.now beside_turn seat.old seat.new }
+    ensures since { StepsOn seat.old seat.new }
 {
     flush(shared, seat, &held)?;
     release(shared, seat, held)?;
     Ok(())
 }
 
-/// Removes the protection, where one stands.
+/// Removes the protection, where one stands. `Halt` comes only where the seat's steps equal its limit.
 pub fn unguard<O: Object>(shared: &Shared<O>, seat: &mut CallerSeat) -> Result<(), Halt>
     requires seat { IsSeatOf shared.now seat.old }
     ensures removed { MatchResult result (λ _. seat.new.known.local.protection ≡ Unprotected) (λ _. IsAtLimit seat.new.known.local) }
-    ensures leaves { Leaves shared.now unguarded 1 seat.old seat.new }
+    ensures leaves { LeavesSeatPart shared.now unguarded 1 seat.old seat.new }
+    ensures since { StepsOn seat.old seat.new }
 {
     match seat.protection() {
         Protection::Unprotected => Ok(()),

@@ -1,3 +1,12 @@
+//! The problem: each of 1 to 8 threads is to have its operation applied to a shared object and answered durably, though any other thread may stall at
+//! any step.
+//!
+//! The idea is that of CX (Correia, Ramalhete, Felber, "A Wait-Free Universal Construction for Large Objects", PPoPP 2020; durable, and with redo
+//! logs: "Persistent Memory and the Rise of Universal Constructions", EuroSys 2020): a caller takes a replica by a try-lock, applies the entries of
+//! all callers to it up to its own (combining), flushes it and publishes it; a read uses the published replica, beside the log. Here one such pass is
+//! a turn. It waits for nobody: where others are in the way it ends with the caller at rest, who may make another. Unlike there, nothing is promised
+//! of how many turns an operation needs: progress (wait-freedom) is not proved.
+//!
 //! The parts of a caller's turn over its seat: a replica is taken, brought up to the caller's own entry and made durable, or
 //! the current one is read, or its image taken, beside the queue.
 //!
@@ -8,8 +17,8 @@
 //!   under a protection. Which of these it is, and whether the set of an own step is offered, is in no contract. But the sets of others that were
 //!   taken are counted, and own ones are not: where no call halts the count is right up to 2^64 - 1, where it stays (`counted`, of `replay_to`,
 //!   `prepare` and `update_turn`). As many sets were read as entries were brought on by them: of each there is a seat from which to a
-//!   next just its pairs were stored (`by_sets`: `BringsEntries`), which of one entry are those before and behind it (`BringsAtMost`, within the
-//!   crate). A turn that gives nothing reads no word of a set.
+//!   next just its pairs were stored (`by_sets`: `BringsEntries`), between which and the seat before one entry no word of a set is read
+//!   (`BringsAtMost`, within the crate). A turn that gives nothing reads no word of a set.
 //!   The reply to the caller's last entry there, for whatever fits what was noted, is the one that the step of that entry gave (`replied`), or is
 //!   loaded where the last entry was applied otherwise: `own_outcome`. Where cells from the replica's place on are closed it is a copy of the
 //!   current one first: of the lines alone that changed, where the ring of gaps tells them. It is made durable and downgraded: `prepare` (`prepared`).
@@ -25,6 +34,8 @@
 //! - A turn for a read that is refused makes at most 4 steps: `read_turn` (`turned`: `LooksUp`). Of a turn for an entry each part outside replay,
 //!   copy and flush has a bound: `take_any` makes at most two tries for each caller (`leaves`), and what publishes, answers and retires makes 3
 //!   steps and one for each later code that was found (`hand_over`). What an object loads and stores is not counted.
+//! - No step is taken back, where the count is not at its end, whether a call halts or not: `since` of each (`StepsOn`). Where an object runs on a
+//!   replica that is since the region keeps the count that it began with.
 #![tactic(auto)]
 
 mod checkpointing;

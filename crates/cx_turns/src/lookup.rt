@@ -8,10 +8,10 @@ ghost use Rattle.cx_rule.specs.Running.{IsSeatOf, instance_at};
 ghost use Rattle.cx_rule.specs.Seats.{IsAtLimit, unanswered_ticket};
 ghost use Rattle.cx_rule.specs.Steps.{Halts};
 ghost use Rattle.cx_turns.specs.Answering.{AnswersRead, AnswersReadBy, HaltsLookup, IsLookedUp, LooksUp, MayLook, beside_lookup, seen_at};
-ghost use Rattle.cx_turns.specs.Turns.{Turns, TurnsIn};
+ghost use Rattle.cx_turns.specs.Turns.{StepsOn, Turns, TurnsIn};
 
 use crate::reading::read_current;
-use cx_base::{Halt, Object, root_place};
+use cx_base::{Halt, Object, OpWords, root_place};
 use cx_table::{AnsweredRead, CallerSeat, Shared, SharedHold};
 use publish::make_durable;
 use strong_trylock::release_shared;
@@ -20,18 +20,18 @@ use strong_trylock::release_shared;
 #[derive(Clone, Copy, Debug, PartialEq, Eq, Drop)]
 pub struct Seen {
     pub place: u64,
-    pub reply: [u64; 144],
+    pub reply: OpWords,
 }
 
 /// One turn for an operation that only reads, of a caller whose entries are all answered. CUR is loaded, its replica is read, and
-/// DUR raised by its code. It gives the place that was read, and the reply is made where the caller has it, since each copy of its
+/// DUR raised by its code. It returns the place that was read, and the reply is written into the caller's buffer, since each copy of its
 /// words costs a good part of the turn. `None` comes where another holds the replica exclusively or it is at another place by then.
 /// `Halt` comes only where the seat's steps equal its limit.
 pub fn read_turn<O: Object>(
     shared: &Shared<O>,
     seat: &mut CallerSeat,
-    op: &[u64; 144],
-    reply: &mut [u64; 144],
+    op: &OpWords,
+    reply: &mut OpWords,
 ) -> Result<Option<u64>, Halt>
     requires ready { MayLook shared.now seat.old }
     requires reads { IsTrue (O.only_reads shared.now.object op.now) }
@@ -39,6 +39,7 @@ pub fn read_turn<O: Object>(
     ensures turned { IfOk result (λ place. LooksUp op.now seat.old seat.new (seen_at reply.new place)) }
     ensures halted { OnErr result (HaltsLookup seat.old.known.local.steps op.now seat.old seat.new) }
     ensures turns { Turns shared.now beside_lookup seat.old seat.new }
+    ensures since { StepsOn seat.old seat.new }
     ensures rises { seat.old.known.local.seen_cur ≤ seat.new.known.local.seen_cur }
     ensures place { IfOk result (λ found. IfSome found (λ place. place ≡ root_place_of shared.now.callers seat.new.known.local.seen_cur)) }
     ensures reached { IfOk result (λ found. IfSome found (λ place. place ≤ seat.new.known.local.front)) }
@@ -57,14 +58,15 @@ fn settle_read<O: Object>(
     shared: &Shared<O>,
     seat: &mut CallerSeat,
     hold: SharedHold,
-    op: &[u64; 144],
-    reply: &[u64; 144],
+    op: &OpWords,
+    reply: &OpWords,
 ) -> Result<(), Halt>
     requires read { IsLookedUp O.Object shared.now op.now reply.now seat.old hold }
     requires reads { IsTrue (O.only_reads shared.now.object op.now) }
     ensures answered { OnOk result (AnswersRead seat.old.known.times.loaded op.now (root_place_of shared.now.callers seat.old.known.local.seen_cur) reply.now seat.old seat.new) }
     ensures halted { OnErr result (HaltsLookup seat.old.known.times.loaded op.now seat.old seat.new) }
     ensures turns { TurnsIn shared.now beside_lookup 2 seat.old seat.new }
+    ensures since { StepsOn seat.old seat.new }
     ensures same { seat.new.known.local.seen_cur ≡ seat.old.known.local.seen_cur }
 {
     let code = seat.seen_cur();
@@ -78,8 +80,8 @@ fn answer_read<O: Object>(
     shared: &Shared<O>,
     seat: &mut CallerSeat,
     code: u64,
-    op: &[u64; 144],
-    reply: &[u64; 144],
+    op: &OpWords,
+    reply: &OpWords,
 ) -> Result<(), Halt>
     requires seat { IsSeatOf shared.now seat.old }
     requires code { code ≡ seat.old.known.local.seen_cur }

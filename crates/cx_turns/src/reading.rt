@@ -11,13 +11,13 @@ ghost use Rattle.cx_rule.specs.Running.{IsSeatOf};
 ghost use Rattle.cx_rule.specs.Seats.{IsAtLimit};
 ghost use Rattle.cx_rule.specs.Raises.{TellsRead};
 ghost use Rattle.cx_turns.specs.Keeping.{HoldsCurrent, TakesCurrent};
-ghost use Rattle.cx_turns.specs.Reads.{HoldsPlace, IsRead, MayRead, ReadsCurrent, beside_read};
-ghost use Rattle.cx_turns.specs.Turns.{HaltsTurn, Keeps};
-ghost use Rattle.mutation_queue.specs.Leaves.{Leaves};
+ghost use Rattle.cx_turns.specs.Reads.{HoldsPlace, IsReplyRead, MayReadReply, ReadsCurrent, beside_read};
+ghost use Rattle.cx_turns.specs.Turns.{HaltsTurn, KeepsSeat, StepsOn};
+ghost use Rattle.mutation_queue.specs.Leaves.{LeavesSeatPart};
 ghost use Rattle.replica.specs.Held.{IsHeldShared, beside_shared};
 ghost use Rattle.strong_trylock.specs.Held.{all_rights, no_rights};
 
-use cx_base::{Halt, Memory, Object, root_place, root_replica};
+use cx_base::{Halt, Memory, Object, OpWords, root_place, root_replica};
 use cx_core::{LINE_WORDS, OBJECT_START, Part};
 use cx_table::{CallerSeat, Shared, SharedHold};
 use replica::ReadRegion;
@@ -26,12 +26,13 @@ use strong_trylock::{SharedTried, release_shared, try_shared};
 /// The word of a region that has the place.
 const PLACE_AT: u64 = 0;
 
-/// Makes the object's reply to an operation that only reads, on the object part of a region, and stores nothing.
+/// Makes the object's reply to an operation that only reads, on the object part of a region, and stores nothing. `Halt` comes only where
+/// the memory has no access left.
 pub fn query_part<O: Object, M: Memory>(
     object: &O,
     mem: &mut M,
-    op: &[u64; 144],
-    reply: &mut [u64; 144],
+    op: &OpWords,
+    reply: &mut OpWords,
 ) -> Result<(), Halt>
     requires size { M.size mem.old ≡ region_words (O.line_count object.now) }
     requires small { region_words (O.line_count object.now) < 2 ^ 64 }
@@ -49,20 +50,21 @@ pub fn query_part<O: Object, M: Memory>(
 }
 
 /// Makes the object's reply to an operation that only reads, on a replica held shared whose place was loaded. That the place was
-/// loaded stays known.
+/// loaded stays known. `Halt` comes only where the seat's steps equal its limit.
 pub fn query_held<O: Object>(
     shared: &Shared<O>,
     seat: &mut CallerSeat,
     held: &SharedHold,
     place: u64,
-    op: &[u64; 144],
-    reply: &mut [u64; 144],
+    op: &OpWords,
+    reply: &mut OpWords,
 ) -> Result<(), Halt>
     requires placed { HoldsPlace O.Object shared.now place seat.old held.now }
     requires reads { IsTrue (O.only_reads shared.now.object op.now) }
     ensures placed { HoldsPlace O.Object shared.now place seat.new held.now }
     ensures reply { MatchResult result (λ _. TellsRead (O.line_count shared.now.object) (O.lawful shared.now.object) shared.now.base (O.step shared.now.object) seat.new.known op.now reply.new) (λ _. IsAtLimit seat.new.known.local) }
     ensures rest { beside_shared held.now.replica seat.new ≡ beside_shared held.now.replica seat.old }
+    ensures since { StepsOn seat.old seat.new }
 {
     let object = shared.object();
     query_part(
@@ -80,13 +82,14 @@ pub fn query_held<O: Object>(
 pub fn read_current<O: Object>(
     shared: &Shared<O>,
     seat: &mut CallerSeat,
-    op: &[u64; 144],
-    reply: &mut [u64; 144],
+    op: &OpWords,
+    reply: &mut OpWords,
 ) -> Result<Option<SharedHold>, Halt>
-    requires ready { MayRead shared.now seat.old }
+    requires ready { MayReadReply shared.now seat.old }
     requires reads { IsTrue (O.only_reads shared.now.object op.now) }
     ensures read { MatchResult result (ReadsCurrent O.Object shared.now op.now reply.new seat.old seat.new) (λ _. HaltsTurn seat.old seat.new) }
-    ensures keeps { Keeps shared.now beside_read seat.old seat.new }
+    ensures keeps { KeepsSeat shared.now beside_read seat.old seat.new }
+    ensures since { StepsOn seat.old seat.new }
 {
     // callers are some
     let _callers = shared.callers();
@@ -101,13 +104,14 @@ fn read_taken<O: Object>(
     shared: &Shared<O>,
     seat: &mut CallerSeat,
     hold: SharedHold,
-    op: &[u64; 144],
-    reply: &mut [u64; 144],
+    op: &OpWords,
+    reply: &mut OpWords,
 ) -> Result<SharedHold, Halt>
     requires current { HoldsCurrent O.Object shared.now no_rights seat.old seat.old hold }
     requires reads { IsTrue (O.only_reads shared.now.object op.now) }
-    ensures read { MatchResult result (IsRead O.Object shared.now op.now reply.new seat.old seat.new) (λ _. HaltsTurn seat.old seat.new) }
-    ensures keeps { Keeps shared.now beside_read seat.old seat.new }
+    ensures read { MatchResult result (IsReplyRead O.Object shared.now op.now reply.new seat.old seat.new) (λ _. HaltsTurn seat.old seat.new) }
+    ensures keeps { KeepsSeat shared.now beside_read seat.old seat.new }
+    ensures since { StepsOn seat.old seat.new }
 {
     let place = root_place(shared.callers(), seat.seen_cur());
     query_held(shared, seat, &hold, place, op, reply)?;
@@ -125,7 +129,8 @@ pub(crate) fn take_current<O: Object>(
     requires free { CanTryShared shared.now.callers (root_replica_of shared.now.callers seat.old.known.local.seen_cur) seat.old.known.local }
     requires fresh { seat.old.known.local.fresh ≡ true }
     ensures taken { MatchResult result (TakesCurrent O.Object shared.now (all_rights seat.old) seat.old seat.new) (λ _. HaltsTurn seat.old seat.new) }
-    ensures leaves { Leaves shared.now beside_read 3 seat.old seat.new }
+    ensures leaves { LeavesSeatPart shared.now beside_read 3 seat.old seat.new }
+    ensures since { StepsOn seat.old seat.new }
 {
     let _lines = shared.lines();
     let replica = root_replica(shared.callers(), seat.seen_cur());
@@ -147,7 +152,8 @@ fn test_place<O: Object>(
     requires apart { is_at hold.replica (exclusive_on seat.old.known.local) ≡ false }
     requires fresh { seat.old.known.local.fresh ≡ true }
     ensures taken { MatchResult result (TakesCurrent O.Object shared.now (record (all_rights seat.old) { shared = None }) seat.old seat.new) (λ _. HaltsTurn seat.old seat.new) }
-    ensures leaves { Leaves shared.now beside_read 2 seat.old seat.new }
+    ensures leaves { LeavesSeatPart shared.now beside_read 2 seat.old seat.new }
+    ensures since { StepsOn seat.old seat.new }
 {
     let place = root_place(shared.callers(), seat.seen_cur());
     let found = shared.load_word(seat, hold.replica() as u64, PLACE_AT, true)?;

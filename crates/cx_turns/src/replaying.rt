@@ -7,10 +7,11 @@ ghost use Rattle.cx_core.specs.RingEvents.{Protects};
 ghost use Rattle.cx_rule.specs.Fitting.{FitsKnown};
 ghost use Rattle.cx_rule.specs.Seats.{IsAtLimit};
 ghost use Rattle.cx_turns.specs.Bringing.{BringsAtMost, BringsEntries};
-ghost use Rattle.cx_turns.specs.Keeping.{IsKept};
-ghost use Rattle.cx_turns.specs.Replaying.{IsApplied, IsBroughtUp, IsReplayed, IsSettled, LoadsOnly, ReadsNext, beside_bringing, beside_replay, beside_work};
-ghost use Rattle.cx_turns.specs.Turns.{Keeps, KeepsCount};
+ghost use Rattle.cx_turns.specs.Keeping.{IsUnrefused};
+ghost use Rattle.cx_turns.specs.Replaying.{IsApplied, IsBroughtUp, IsReplayedPast, IsReplicaSettled, LoadsOnly, ReadsNext, beside_bringing, beside_replay, beside_work};
+ghost use Rattle.cx_turns.specs.Turns.{KeepsSeat, KeepsCount, StepsOn};
 ghost use Rattle.mutation_queue.specs.Entries.{MayRead};
+ghost use Rattle.redo_set.specs.Taking.{CountsTaken};
 ghost use Rattle.replica.specs.Held.{IsHeld, beside_held, left_of};
 ghost use Rattle.replica.specs.Regions.{HasPlace};
 ghost use Rattle.replica.specs.Replays.{IsReady, ShowsReply, noted_place};
@@ -18,14 +19,13 @@ ghost use Rattle.seat_memory.specs.Summaries.{IsOwnEntry};
 
 use crate::keeping::unguard;
 use crate::scratch::Scratch;
-use cx_base::{Halt, Object};
+use cx_base::{ENTRY_WORDS, Halt, Object, OpWords};
 use cx_core::Entry;
 use cx_table::{CallerSeat, Exclusive, Shared};
 use mutation_queue::entry;
-use noting_region::apply_noting;
 use redo_set::WriteSet;
 use replica::{Region, flush, outcome};
-use replica_sets::{replay_offered, replay_own, step_and_offer};
+use replica_sets::{apply_noting, replay_offered, replay_own, step_and_offer};
 
 /// Brings a replica that was kept for the entries up to a ticket up to it, removes the protection, and makes it durable. The reply to the
 /// caller's last entry there is the one that the step of that entry gave, where it was made here, and else it is read. `Halt` comes only
@@ -36,14 +36,15 @@ pub(crate) fn bring_up<O: Object>(
     held: &Exclusive,
     ticket: u64,
     scratch: &mut Scratch,
-    reply: &mut [u64; 144],
+    reply: &mut OpWords,
 ) -> Result<(), Halt>
-    requires kept { IsKept O.Object shared.now ticket seat.old seat.old held.now }
+    requires kept { IsUnrefused O.Object shared.now ticket seat.old seat.old held.now }
     requires linked { ticket < seat.old.known.local.front }
     ensures brought { MatchResult result (λ _. IsBroughtUp O.Object shared.now held.now ticket seat.new reply.new) (λ _. IsAtLimit seat.new.known.local) }
     ensures counted { OnOk result (KeepsCount scratch.old.taken seat.old scratch.new.taken seat.new) }
     ensures by_sets { OnOk result (BringsEntries seat.old seat.new) }
-    ensures keeps { Keeps shared.now beside_bringing seat.old seat.new }
+    ensures keeps { KeepsSeat shared.now beside_bringing seat.old seat.new }
+    ensures since { StepsOn seat.old seat.new }
 {
     let replied = replay_to(shared, seat, held, ticket, scratch, reply)?;
     unguard(shared, seat)?;
@@ -57,12 +58,13 @@ fn settle<O: Object>(
     seat: &mut CallerSeat,
     held: &Exclusive,
     replied: bool,
-    reply: &mut [u64; 144],
+    reply: &mut OpWords,
 ) -> Result<(), Halt>
     requires ready { IsReady O.Object shared.now held.now (noted_place seat.old) seat.old }
     requires given { IsTrue replied → ShowsReply (O.line_count shared.now.object) (O.lawful shared.now.object) shared.now.base (O.step shared.now.object) seat.old.known seat.old.known.local.number reply.old }
-    ensures settled { MatchResult result (λ _. IsSettled O.Object shared.now held.now seat.old seat.new reply.new) (λ _. IsAtLimit seat.new.known.local) }
-    ensures keeps { Keeps shared.now beside_work seat.old seat.new }
+    ensures settled { MatchResult result (λ _. IsReplicaSettled O.Object shared.now held.now seat.old seat.new reply.new) (λ _. IsAtLimit seat.new.known.local) }
+    ensures keeps { KeepsSeat shared.now beside_work seat.old seat.new }
+    ensures since { StepsOn seat.old seat.new }
 {
     own_reply(shared, seat, held, replied, reply)?;
     flush(shared, seat, held)?;
@@ -75,13 +77,14 @@ fn own_reply<O: Object>(
     seat: &mut CallerSeat,
     held: &Exclusive,
     replied: bool,
-    reply: &mut [u64; 144],
+    reply: &mut OpWords,
 ) -> Result<(), Halt>
     requires ready { IsReady O.Object shared.now held.now (noted_place seat.old) seat.old }
     requires given { IsTrue replied → ShowsReply (O.line_count shared.now.object) (O.lawful shared.now.object) shared.now.base (O.step shared.now.object) seat.old.known seat.old.known.local.number reply.old }
     ensures reply { MatchResult result (λ _. ShowsReply (O.line_count shared.now.object) (O.lawful shared.now.object) shared.now.base (O.step shared.now.object) seat.new.known seat.new.known.local.number reply.new) (λ _. IsAtLimit seat.new.known.local) }
     ensures ready { IsReady O.Object shared.now held.now (noted_place seat.old) seat.new }
     ensures rest { beside_held held.now.replica seat.new ≡ beside_held held.now.replica seat.old }
+    ensures since { StepsOn seat.old seat.new }
 {
     if replied {
         return Ok(());
@@ -100,16 +103,17 @@ pub fn replay_to<O: Object>(
     held: &Exclusive,
     ticket: u64,
     scratch: &mut Scratch,
-    reply: &mut [u64; 144],
+    reply: &mut OpWords,
 ) -> Result<bool, Halt>
     requires ready { IsReady O.Object shared.now held.now (noted_place seat.old) seat.old }
     requires linked { ticket < seat.old.known.local.front }
     requires protected { (t : ℕ) → noted_place seat.old ≤ t → t ≤ ticket → Protects t seat.old.known.local.protection }
-    ensures replayed { MatchResult result (λ _. IsReplayed O.Object shared.now held.now ticket seat.new) (λ _. IsAtLimit seat.new.known.local) }
+    ensures replayed { MatchResult result (λ _. IsReplayedPast O.Object shared.now held.now ticket seat.new) (λ _. IsAtLimit seat.new.known.local) }
     ensures replied { IfOk result (λ own. IsTrue own → ShowsReply (O.line_count shared.now.object) (O.lawful shared.now.object) shared.now.base (O.step shared.now.object) seat.new.known seat.new.known.local.number reply.new) }
     ensures counted { OnOk result (KeepsCount scratch.old.taken seat.old scratch.new.taken seat.new) }
     ensures by_sets { OnOk result (BringsEntries seat.old seat.new) }
-    ensures keeps { Keeps shared.now beside_replay seat.old seat.new }
+    ensures keeps { KeepsSeat shared.now beside_replay seat.old seat.new }
+    ensures since { StepsOn seat.old seat.new }
 {
     // tickets are few
     let _front = seat.front();
@@ -131,7 +135,7 @@ fn replay_next<O: Object>(
     held: &Exclusive,
     at: u64,
     scratch: &mut Scratch,
-    reply: &mut [u64; 144],
+    reply: &mut OpWords,
 ) -> Result<bool, Halt>
     requires ready { IsReady O.Object shared.now held.now at seat.old }
     requires may { MayRead shared.now at seat.old }
@@ -139,7 +143,8 @@ fn replay_next<O: Object>(
     ensures applied { MatchResult result (IsApplied O.Object shared.now held.now at reply.new seat.new) (λ _. IsAtLimit seat.new.known.local) }
     ensures counted { OnOk result (KeepsCount scratch.old.taken seat.old scratch.new.taken seat.new) }
     ensures by_sets { OnOk result (BringsEntries seat.old seat.new) }
-    ensures keeps { Keeps shared.now beside_replay seat.old seat.new }
+    ensures keeps { KeepsSeat shared.now beside_replay seat.old seat.new }
+    ensures since { StepsOn seat.old seat.new }
 {
     let done = replay_own(shared, seat, held, at)?;
     if done {
@@ -161,13 +166,14 @@ fn step_own<O: Object>(
     held: &Exclusive,
     at: u64,
     scratch: &mut Scratch,
-    reply: &mut [u64; 144],
+    reply: &mut OpWords,
 ) -> Result<(), Halt>
     requires ready { IsReady O.Object shared.now held.now at seat.old }
     requires found { IsOwnEntry seat.old.known.local.own seat.old.known.local.number at scratch.old.next }
     ensures applied { MatchResult result (λ _. IsApplied O.Object shared.now held.now at reply.new seat.new true) (λ _. IsAtLimit seat.new.known.local) }
     ensures count { (scratch.new.taken ≡ scratch.old.taken) × (seat.new.known.sets ≡ seat.old.known.sets) }
-    ensures keeps { Keeps shared.now beside_replay seat.old seat.new }
+    ensures keeps { KeepsSeat shared.now beside_replay seat.old seat.new }
+    ensures since { StepsOn seat.old seat.new }
 {
     // callers are few
     let _callers = shared.callers();
@@ -176,14 +182,15 @@ fn step_own<O: Object>(
     Ok(())
 }
 
-/// Applies another's entry, whose ticket is the place of a replica held exclusively: by its write set where that is offered, and else by its step.
+/// Applies another's entry, whose ticket is the place of a replica held exclusively: by its write set where that is offered, at once or by the time
+/// that the entry was read, and else by its step.
 fn replay_another<O: Object>(
     shared: &Shared<O>,
     seat: &mut CallerSeat,
     held: &Exclusive,
     at: u64,
     scratch: &mut Scratch,
-    reply: &mut [u64; 144],
+    reply: &mut OpWords,
 ) -> Result<(), Halt>
     requires ready { IsReady O.Object shared.now held.now at seat.old }
     requires may { MayRead shared.now at seat.old }
@@ -191,7 +198,8 @@ fn replay_another<O: Object>(
     ensures applied { MatchResult result (λ _. IsReady O.Object shared.now held.now (at + 1) seat.new) (λ _. IsAtLimit seat.new.known.local) }
     ensures counted { OnOk result (KeepsCount scratch.old.taken seat.old scratch.new.taken seat.new) }
     ensures by_sets { OnOk result (BringsAtMost at seat.old seat.new) }
-    ensures keeps { Keeps shared.now beside_replay seat.old seat.new }
+    ensures keeps { KeepsSeat shared.now beside_replay seat.old seat.new }
+    ensures since { StepsOn seat.old seat.new }
 {
     let taken = replay_offered(shared, seat, held, at, &mut scratch.set)?;
     if taken {
@@ -204,30 +212,42 @@ fn replay_another<O: Object>(
         set,
         ..
     } = scratch;
-    step_another(shared, seat, held, at, words, next, set, reply)?;
+    let taken_late = step_another(shared, seat, held, at, words, next, set, reply)?;
+    if taken_late {
+        scratch.taken = scratch.taken.saturating_add(1);
+    }
     Ok(())
 }
 
-/// Reads another's entry, whose ticket is the place of a replica held exclusively, and does its step.
+/// Reads another's entry, whose ticket is the place of a replica held exclusively, and does its step, unless it is offered by then: it is true where
+/// it was, and then the replica was brought on by its write set.
 fn step_another<O: Object>(
     shared: &Shared<O>,
     seat: &mut CallerSeat,
     held: &Exclusive,
     at: u64,
-    words: &mut [u64; 145],
+    words: &mut [u64; ENTRY_WORDS],
     next: &mut Entry,
     set: &mut WriteSet,
-    reply: &mut [u64; 144],
-) -> Result<(), Halt>
+    reply: &mut OpWords,
+) -> Result<bool, Halt>
     requires ready { IsReady O.Object shared.now held.now at seat.old }
     requires may { MayRead shared.now at seat.old }
     requires later { shared.now.base.place ≤ at }
     ensures applied { MatchResult result (λ _. IsReady O.Object shared.now held.now (at + 1) seat.new) (λ _. IsAtLimit seat.new.known.local) }
-    ensures keeps { Keeps shared.now beside_work seat.old seat.new }
+    ensures counted { IfOk result (CountsTaken seat.old seat.new) }
+    ensures by_sets { OnOk result (BringsAtMost at seat.old seat.new) }
+    ensures keeps { KeepsSeat shared.now beside_replay seat.old seat.new }
+    ensures since { StepsOn seat.old seat.new }
 {
     read_next(shared, seat, at, words, next)?;
+    // its caller may have been in the midst of its own step, which takes about as long as this reading
+    let taken = replay_offered(shared, seat, held, at, set)?;
+    if taken {
+        return Ok(true);
+    }
     apply_noting(shared, seat, held, next, set, reply)?;
-    Ok(())
+    Ok(false)
 }
 
 /// Reads the entry with a ticket, which is linked and protected.
@@ -235,13 +255,14 @@ fn read_next<O: Object>(
     shared: &Shared<O>,
     seat: &mut CallerSeat,
     ticket: u64,
-    words: &mut [u64; 145],
+    words: &mut [u64; ENTRY_WORDS],
     next: &mut Entry,
 ) -> Result<(), Halt>
     requires may { MayRead shared.now ticket seat.old }
     requires later { shared.now.base.place ≤ ticket }
     ensures read { MatchResult result (λ _. ReadsNext O.Object shared.now ticket next.new seat.old seat.new) (λ _. IsAtLimit seat.new.known.local) }
-    ensures keeps { Keeps shared.now beside_work seat.old seat.new }
+    ensures keeps { KeepsSeat shared.now beside_work seat.old seat.new }
+    ensures since { StepsOn seat.old seat.new }
 {
     let caller = entry(shared, seat, ticket, words)?;
     set_entry(next, caller, words);
@@ -249,7 +270,7 @@ fn read_next<O: Object>(
 }
 
 /// Makes an entry that of a caller, of these words.
-fn set_entry(entry: &mut Entry, caller: u32, words: &[u64; 145])
+fn set_entry(entry: &mut Entry, caller: u32, words: &[u64; ENTRY_WORDS])
     ensures caller { entry.new.caller ≡ caller }
     ensures words { entry.new.number ∷ entry.new.op ≡ words.now }
 {
@@ -264,12 +285,13 @@ pub fn own_outcome<O: Object>(
     shared: &Shared<O>,
     seat: &mut CallerSeat,
     held: &Exclusive,
-    reply: &mut [u64; 144],
+    reply: &mut OpWords,
 ) -> Result<(), Halt>
     requires ready { IsReady O.Object shared.now held.now (noted_place seat.old) seat.old }
     ensures reply { MatchResult result (λ _. ShowsReply (O.line_count shared.now.object) (O.lawful shared.now.object) shared.now.base (O.step shared.now.object) seat.new.known seat.new.known.local.number reply.new) (λ _. IsAtLimit seat.new.known.local) }
     ensures ready { IsReady O.Object shared.now held.now (noted_place seat.old) seat.new }
     ensures rest { beside_held held.now.replica seat.new ≡ beside_held held.now.replica seat.old }
+    ensures since { StepsOn seat.old seat.new }
 {
     load_own(shared, seat, held, reply)
 }
@@ -279,12 +301,13 @@ fn load_own<O: Object>(
     shared: &Shared<O>,
     seat: &mut CallerSeat,
     held: &Exclusive,
-    reply: &mut [u64; 144],
+    reply: &mut OpWords,
 ) -> Result<(), Halt>
     requires held { IsHeld (O.line_count shared.now.object) shared.now (O.lawful shared.now.object) (O.step shared.now.object) seat.old held.now }
     requires begun { HasPlace seat.old.known.accesses }
     ensures read { MatchResult result (λ _. Reads (FitsKnown (O.line_count shared.now.object) (O.lawful shared.now.object) shared.now.base (O.step shared.now.object) seat.old.known) (FitsKnown (O.line_count shared.now.object) (O.lawful shared.now.object) shared.now.base (O.step shared.now.object) seat.new.known) (λ region. slot_reply seat.old.known.local.number region ≡ reply.new)) (λ _. left_of seat.new.known.local ≡ Some 0) }
     ensures loads { LoadsOnly O.Object shared.now held.now seat.old seat.new }
+    ensures since { StepsOn seat.old seat.new }
 {
     // callers are few
     let _callers = shared.callers();

@@ -2,6 +2,7 @@
 
 ghost use Rattle.std.specs.Prelude.{◌≡◌, IfOk};
 
+use cx_base::{ENTRY_WORDS, OP_WORDS};
 use cx_core::Entry;
 use redo_set::WriteSet;
 use std::alloc::{AllocError, Global};
@@ -10,24 +11,24 @@ use std::alloc::{AllocError, Global};
 /// others were taken, which stays at 2^64 - 1 once there.
 #[derive(Drop)]
 pub struct Scratch {
-    pub words: [u64; 145],
+    pub words: [u64; ENTRY_WORDS],
     pub next: Entry,
     pub set: WriteSet,
     pub taken: u64,
 }
 
 impl Scratch {
-    /// Room with nothing in it yet. `Err` is want of memory.
+    /// Room with nothing in it yet. `Err` means out of memory.
     pub fn new(alloc: Global) -> Result<Scratch, AllocError>
         ensures { IfOk result (λ scratch. scratch.taken ≡ 0) }
     {
         let set = WriteSet::new(alloc)?;
         Ok(Scratch {
-            words: [0; 145],
+            words: [0; ENTRY_WORDS],
             next: Entry {
                 caller: 0,
                 number: 0,
-                op: [0; 144],
+                op: [0; OP_WORDS],
             },
             set,
             taken: 0,

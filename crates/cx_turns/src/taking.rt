@@ -4,7 +4,8 @@ ghost use Rattle.std.specs.Prelude.{◌*◌, ◌+◌, ◌<◌, ◌≡◌, ◌≤
 ghost use Rattle.cx_rule.specs.Running.{IsSeatOf};
 ghost use Rattle.cx_rule.specs.Seats.{IsAtLimit};
 ghost use Rattle.cx_turns.specs.Taking.{HaltsTaking, MayTake, TakesAny, TriesOne, beside_tries};
-ghost use Rattle.mutation_queue.specs.Leaves.{Leaves};
+ghost use Rattle.cx_turns.specs.Turns.{StepsOn};
+ghost use Rattle.mutation_queue.specs.Leaves.{LeavesSeatPart};
 ghost use Rattle.strong_trylock.specs.Held.{all_rights, no_rights};
 ghost use Rattle.cx_rule.specs.Steps.{Halts};
 
@@ -22,7 +23,8 @@ pub fn take_any<O: Object>(
     requires ready { MayTake shared.now seat.old }
     ensures allowed { OnOk result (¬ IsAtLimit seat.old.known.local) }
     ensures taken { MatchResult result (TakesAny O.Object shared.now seat.old seat.new) (λ _. HaltsTaking seat.old seat.new) }
-    ensures leaves { Leaves shared.now beside_tries (2 * shared.now.callers) seat.old seat.new }
+    ensures leaves { LeavesSeatPart shared.now beside_tries (2 * shared.now.callers) seat.old seat.new }
+    ensures since { StepsOn seat.old seat.new }
 {
     let count = 2 * shared.callers();
     let first = 2 * seat.number();
@@ -55,7 +57,8 @@ fn try_one<O: Object>(
     requires few { r < 2 * shared.now.callers }
     ensures allowed { OnOk result (¬ IsAtLimit seat.old.known.local) }
     ensures tried { MatchResult result (TriesOne O.Object shared.now r seat.old seat.new) (λ _. Halts shared.now seat.old seat.new) }
-    ensures leaves { Leaves shared.now beside_tries 1 seat.old seat.new }
+    ensures leaves { LeavesSeatPart shared.now beside_tries 1 seat.old seat.new }
+    ensures since { StepsOn seat.old seat.new }
 {
     // a running table is within its limits
     let _lines = shared.lines();

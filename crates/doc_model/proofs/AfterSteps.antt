@@ -4,7 +4,7 @@ use Rattle.std.specs.Prelude.{ℤ, ◌+ℤ◌}
 use Rattle.std.specs.Fmt.{signed_decimal}
 use Rattle.cx_base.specs.Store.{KeysRise}
 use Rattle.doc_model.specs.Meaning.{IsOp, with_pair, has_room, number_at, standing_revision, store_after_put, store_after_put_if, store_after_sum, store_after_add, store_after, only_reads}
-use Rattle.doc_model.specs.Revisions.{RevisedStore, IsRevisedStore, pairs_in, written}
+use Rattle.doc_model.specs.Revisions.{RevisedStore, IsRevisedStore, pairs_in, store_written}
 use Rattle.plain_text.specs.Number.{is_i64}
 use Rattle.doc_model.specs.declared.operations.Op.{Op}
 use Rattle.doc_model.specs.declared.operations.Op.TheVariants.{Put, Del, Add, PutIf}
@@ -19,20 +19,20 @@ either P false x y p q = q
 
 -- what holds of the store, and of each store after a lawful write or a removal, holds after each operation
 module _ (P : RevisedStore → Type 0) (lines : ℕ) (store : RevisedStore) (before : P store) where
-  after_put : (key document : List ℕ) → P (written key document store) → P (store_after_put lines store key document)
-  after_put key document changed = either P (has_room lines (with_pair key document (pairs_in store))) (written key document store) store changed before
+  after_put : (key document : List ℕ) → P (store_written key document store) → P (store_after_put lines store key document)
+  after_put key document changed = either P (has_room lines (with_pair key document (pairs_in store))) (store_written key document store) store changed before
 
-  after_put_if : (key : List ℕ) (revision : ℕ) (document : List ℕ) → P (written key document store) → P (store_after_put_if lines store key revision document)
+  after_put_if : (key : List ℕ) (revision : ℕ) (document : List ℕ) → P (store_written key document store) → P (store_after_put_if lines store key revision document)
   after_put_if key revision document changed = either P (eqb (standing_revision key store) revision) (store_after_put lines store key document) store (after_put key document changed) before
 
-  after_sum : (key : List ℕ) (sum : ℤ) → (is_i64 sum ≡ true → P (written key (signed_decimal sum) store)) → P (store_after_sum lines store key sum)
+  after_sum : (key : List ℕ) (sum : ℤ) → (is_i64 sum ≡ true → P (store_written key (signed_decimal sum) store)) → P (store_after_sum lines store key sum)
   after_sum key sum changed =
-      elim (is_i64 sum) as (λ b. (b ≡ true → P (written key (signed_decimal sum) store)) → P (cond b (store_after_put lines store key (signed_decimal sum)) store)) [
+      elim (is_i64 sum) as (λ b. (b ≡ true → P (store_written key (signed_decimal sum) store)) → P (cond b (store_after_put lines store key (signed_decimal sum)) store)) [
         | true ↦ λ f. after_put key (signed_decimal sum) (f refl)
         | false ↦ λ f. before
       ] changed
 
-  after_add : (key : List ℕ) (amount : ℤ) (number : Option ℤ) → ((sum : ℤ) → is_i64 sum ≡ true → P (written key (signed_decimal sum) store)) → P (store_after_add lines store key amount number)
+  after_add : (key : List ℕ) (amount : ℤ) (number : Option ℤ) → ((sum : ℤ) → is_i64 sum ≡ true → P (store_written key (signed_decimal sum) store)) → P (store_after_add lines store key amount number)
   after_add key amount None changed = before
   after_add key amount (Some number) changed = after_sum key (number +ℤ amount) (changed (number +ℤ amount))
 
@@ -40,7 +40,7 @@ module _ (P : RevisedStore → Type 0) (lines : ℕ) (store : RevisedStore) (bef
 abbrev Rising : RevisedStore → Type 0
 Rising store = KeysRise (pairs_in store)
 
-written_rises : (key document : List ℕ) (store : RevisedStore) → Rising store → Rising (written key document store)
+written_rises : (key document : List ℕ) (store : RevisedStore) → Rising store → Rising (store_written key document store)
 written_rises key document store rising = subst KeysRise (sym (pairs_written key document store)) (with_pair_rises key document (pairs_in store) rising)
 
 keys_rise_after : (lines : ℕ) (store : RevisedStore) (op : Op) → Rising store → Rising (store_after lines store op)

@@ -12,7 +12,7 @@ use Rattle.cx_base.proofs.PackingLemmas.{unpacked-packed, packed_fit}
 use Rattle.doc_model.specs.Words.{head_words, words_in, words_with}
 use Rattle.doc_model.specs.WordParts.{IsShortText}
 
--- eight words, a part of so many words behind them, and a part to the end
+-- eight words, a part of n words behind them, and a part to the end
 pub written : (into head key document : List ℕ) (n : ℕ) → length head ≡ 8 → 8 + n ≤ length into → length key ≡ n →
     let middle = put_mid 8 (8 + n - 8) (head ++ drop 8 into) key in
     put_mid (8 + n) (length middle - (8 + n)) middle document ≡ head ++ (key ++ document)
@@ -32,7 +32,7 @@ written into head key document n head_long room key_long =
 pub length-packed : (n : ℕ) (text : List ℕ) → length (packed n text) ≡ n
 length-packed n text = length-map-range_with_len (packed_at text) 0 n
 
--- what is packed into so many words
+-- what is packed into as many words as it has
 pub packed_as : (part text : List ℕ) (n m : ℕ) → part ≡ packed n text → length part ≡ m → part ≡ packed m text
 packed_as part text n m is long = is ∙ ap (λ k. packed k text) (sym (length-packed n text) ∙ sym (ap length is) ∙ long)
 

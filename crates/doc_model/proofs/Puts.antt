@@ -6,7 +6,7 @@ use Rattle.std.specs.Ordering.{is_lt}
 use Rattle.cx_base.specs.Store.{key_cmp}
 use Rattle.doc_model.specs.Meaning.{pairs_above, with_pair, has_room, put_reply, put_if_reply, store_after_put, store_after_put_if, standing_revision, document_at, least_key, set_reply}
 use Rattle.doc_model.specs.Place.{DoesOp, IsAtPlace, IsGapFor, pairs_of}
-use Rattle.doc_model.specs.Revisions.{RevisedStore, next_revision, triples_below, triples_above, written, pairs_in}
+use Rattle.doc_model.specs.Revisions.{RevisedStore, next_revision, triples_below, triples_above, store_written, pairs_in}
 use Rattle.doc_model.specs.declared.operations.Reply.{Reply}
 use Rattle.doc_model.specs.declared.operations.Reply.TheVariants.{New, Replaced, Absent, NoRoom, Key, Stale}
 use Rattle.doc_model.proofs.Revised.{pairs_written, kept_pairs}
@@ -29,20 +29,20 @@ module _ (triples : List ((List ℕ × List ℕ) × ℕ)) (key document : List �
   pub room_in : (lines at : ℕ) (b : Bool) → IsGapFor triples key at → b ≡ has_room lines (pairs_of (take at triples) ++ (key, document) ∷ pairs_of (drop at triples)) → has_room lines (with_pair key document (pairs_of triples)) ≡ b
   room_in lines at b gap e = ap (has_room lines) (sym (pairs_with (take at triples) (drop at triples) gap.below gap.above)) ∙ sym e
 
-  written_over : (at : ℕ) → IsAtPlace triples key at → set triples at new ≡ (written key document store).triples
+  written_over : (at : ℕ) → IsAtPlace triples key at → set triples at new ≡ (store_written key document store).triples
   written_over at here = rw (set_split triples at new here.within, ← add-one at, here.below, here.above) refl
 
-  written_between : (at : ℕ) → IsGapFor triples key at → take at triples ++ new ∷ drop at triples ≡ (written key document store).triples
+  written_between : (at : ℕ) → IsGapFor triples key at → take at triples ++ new ∷ drop at triples ≡ (store_written key document store).triples
   written_between at gap = rw (gap.below, gap.above) refl
 
   -- a write at the place of its key, and where the key goes
   pub written_at : (at given : ℕ) (items : List ((List ℕ × List ℕ) × ℕ)) (k d : List ℕ) → IsAtPlace triples key at → items ≡ triples → k ≡ key → d ≡ document → given ≡ next_revision last →
-      (let after : RevisedStore = record { last = given; triples = set items at ((k, d), given) } in after) ≡ written key document store
+      (let after : RevisedStore = record { last = given; triples = set items at ((k, d), given) } in after) ≡ store_written key document store
   written_at at given items k d here items_are key_is document_is given_is =
       rw (items_are, key_is, document_is, given_is) (ap (λ s. record { last = next_revision last; triples = s }) (written_over at here))
 
   pub written_in : (at given : ℕ) (items : List ((List ℕ × List ℕ) × ℕ)) (k d : List ℕ) → IsGapFor triples key at → items ≡ triples → k ≡ key → d ≡ document → given ≡ next_revision last →
-      (let after : RevisedStore = record { last = given; triples = take at items ++ ((k, d), given) ∷ drop at items } in after) ≡ written key document store
+      (let after : RevisedStore = record { last = given; triples = take at items ++ ((k, d), given) ∷ drop at items } in after) ≡ store_written key document store
   written_in at given items k d gap items_are key_is document_is given_is =
       rw (items_are, key_is, document_is, given_is) (ap (λ s. record { last = next_revision last; triples = s }) (written_between at gap))
 
@@ -51,15 +51,15 @@ module _ {E : Type 0} (lines : ℕ) (store : RevisedStore) (key document : List 
   pub no_room : has_room lines (with_pair key document (pairs_in store)) ≡ false → DoesOp {E = E} (put_reply lines (pairs_in store) key document) (store_after_put lines store key document) store store (Ok NoRoom)
   no_room fails = record {
     reply_is = sym (ap (λ b. cond b (cond (is_some (document_at key (pairs_in store))) Replaced New) NoRoom) fails);
-    next_is = sym (ap (λ b. cond b (written key document store) store) fails);
+    next_is = sym (ap (λ b. cond b (store_written key document store) store) fails);
     err = tt;
   }
 
-  pub is_put : (there : Bool) (after : RevisedStore) → has_room lines (with_pair key document (pairs_in store)) ≡ true → is_some (document_at key (pairs_in store)) ≡ there → after ≡ written key document store →
+  pub is_put : (there : Bool) (after : RevisedStore) → has_room lines (with_pair key document (pairs_in store)) ≡ true → is_some (document_at key (pairs_in store)) ≡ there → after ≡ store_written key document store →
       DoesOp {E = E} (put_reply lines (pairs_in store) key document) (store_after_put lines store key document) store after (Ok (cond there Replaced New))
   is_put there after fits is e = record {
     reply_is = sym (ap (λ b. cond b (cond (is_some (document_at key (pairs_in store))) Replaced New) NoRoom) fits ∙ ap (λ b. cond b Replaced New) is);
-    next_is = e ∙ sym (ap (λ b. cond b (written key document store) store) fits);
+    next_is = e ∙ sym (ap (λ b. cond b (store_written key document store) store) fits);
     err = tt;
   }
 

@@ -9,7 +9,7 @@ use Rattle.std.proofs.lemmas.List.Elements.{All-append, All-cons, All-filter, Al
 use Rattle.cx_base.specs.Store.{key_cmp, IsKey, IsDocument, IsStore}
 use Rattle.doc_model.specs.Meaning.{document_at, pairs_below, with_pair, without_key}
 use Rattle.doc_model.specs.Place.{pairs_of}
-use Rattle.doc_model.specs.Revisions.{RevisedStore, IsRevisedStore, pairs_in, next_revision, triples_below, triples_above, written, removed}
+use Rattle.doc_model.specs.Revisions.{RevisedStore, IsRevisedStore, pairs_in, next_revision, triples_below, triples_above, store_written, removed}
 use Rattle.doc_model.proofs.Stores.{IsStore-with_pair, IsStore-without_key}
 
 -- what a test of pairs keeps of triples
@@ -23,7 +23,7 @@ kept_pairs test (t ∷ triples) =
     ]
 
 -- the pairs after a write, and without a key
-pub pairs_written : (key document : List ℕ) (store : RevisedStore) → pairs_in (written key document store) ≡ with_pair key document (pairs_in store)
+pub pairs_written : (key document : List ℕ) (store : RevisedStore) → pairs_in (store_written key document store) ≡ with_pair key document (pairs_in store)
 pairs_written key document store =
     let new : (List ℕ × List ℕ) × ℕ = ((key, document), next_revision store.last) in
     map-append (λ t. t.0) (triples_below key store.triples) (new ∷ triples_above key store.triples)
@@ -63,7 +63,7 @@ next_is last small = by (ltb last (2 ^ 64 - 1)) refl
     by false e = (let le = ltb-false last (2 ^ 64 - 1) e in record { some = omega arith; no_less = omega arith; fits = omega arith })
 
 -- a write and a removal keep a store within the limits
-pub IsRevisedStore-written : (key document : List ℕ) (store : RevisedStore) → IsKey key → IsDocument document → IsRevisedStore store → IsRevisedStore (written key document store)
+pub IsRevisedStore-written : (key document : List ℕ) (store : RevisedStore) → IsKey key → IsDocument document → IsRevisedStore store → IsRevisedStore (store_written key document store)
 IsRevisedStore-written key document store is_key is_document lawful =
     let next = next_is store.last lawful.fits in
     let Given : ℕ → (List ℕ × List ℕ) × ℕ → Type 0 = λ last t. (1 ≤ t.1) × (t.1 ≤ last) in

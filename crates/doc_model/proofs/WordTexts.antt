@@ -128,7 +128,7 @@ below P (suc n) all k l = elim (cases_lt k n) [
   | inr last ↦ (let same : n ≡ k = omega arith in subst P same all.1)
 ]
 
--- want of memory is no refusal
+-- out of memory is no refusal
 pub memory_is_not_bad : {T : Type 0} (answer : Result T OpFault) → IsErrAnd answer (λ fault. fault ≡ Memory) → IsErrOf answer BadOp → ⊥
 memory_is_not_bad (Ok x) memory bad = cc
 memory_is_not_bad (Err e) memory bad = cc

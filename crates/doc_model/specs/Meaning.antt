@@ -6,7 +6,7 @@ use Rattle.std.specs.List.{find}
 use Rattle.std.specs.Fmt.{signed_decimal}
 use Rattle.cx_base.specs.Store.{Store, key_cmp, lines_of, IsKey, IsDocument}
 use Rattle.plain_text.specs.Number.{integer_of, is_i64}
-use Rattle.doc_model.specs.Revisions.{RevisedStore, pairs_in, revision_at, next_revision, written, removed}
+use Rattle.doc_model.specs.Revisions.{RevisedStore, pairs_in, revision_at, next_revision, store_written, removed}
 use Rattle.doc_model.specs.declared.operations.Op.{Op}
 use Rattle.doc_model.specs.declared.operations.Op.TheVariants.{Put, Del, Add, Get, Next, Count, PutIf, Rev}
 use Rattle.doc_model.specs.declared.operations.Reply.{Reply}
@@ -42,7 +42,7 @@ with_pair key document store = pairs_below key store ++ (key, document) ∷ pair
 abbrev pub without_key : List ℕ → Store → Store
 without_key key store = pairs_below key store ++ pairs_above key store
 
--- whether so many lines hold the store; the first line holds no pair
+-- whether the given number of lines holds the store; the first line holds no pair
 abbrev pub has_room : ℕ → Store → Bool
 has_room lines store = nat_le (lines_of store) (lines - 1)
 
@@ -59,7 +59,7 @@ put_reply lines store key document =
 
 abbrev pub store_after_put : ℕ → RevisedStore → List ℕ → List ℕ → RevisedStore
 store_after_put lines store key document =
-    if has_room lines (with_pair key document (pairs_in store)) then written key document store else store
+    if has_room lines (with_pair key document (pairs_in store)) then store_written key document store else store
 
 -- the revision of a key, and 0 where it is missing
 abbrev pub standing_revision : List ℕ → RevisedStore → ℕ
@@ -106,7 +106,7 @@ abbrev pub least_key : Store → Reply
 least_key [] = Absent
 least_key (p ∷ store) = Key p.0
 
--- the reply to an operation, in a store that has so many lines
+-- the reply to an operation, in a store that has the given number of lines
 abbrev pub reply_to : ℕ → RevisedStore → Op → Reply
 reply_to lines store (Put key document) = put_reply lines (pairs_in store) key document
 reply_to lines store (Del key) = if is_some (document_at key (pairs_in store)) then Deleted else Absent

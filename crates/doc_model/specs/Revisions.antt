@@ -36,8 +36,8 @@ abbrev pub triples_above : List ℕ → List ((List ℕ × List ℕ) × ℕ) →
 triples_above key triples = filter (λ t. is_lt (key_cmp key t.0.0)) triples
 
 -- the store after a write of this document at the key
-abbrev pub written : List ℕ → List ℕ → RevisedStore → RevisedStore
-written key document store = record {
+abbrev pub store_written : List ℕ → List ℕ → RevisedStore → RevisedStore
+store_written key document store = record {
   last = next_revision store.last;
   triples = triples_below key store.triples ++ ((key, document), next_revision store.last) ∷ triples_above key store.triples;
 }

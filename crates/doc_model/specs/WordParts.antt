@@ -24,7 +24,7 @@ key_of words = unpacked (min (slice_index words 1) 64) (take 8 (drop 8 words))
 abbrev pub document_in : List ℕ → List ℕ
 document_in words = unpacked (min (slice_index words 2) 1024) (take 128 (drop 16 words))
 
--- so many bytes at most
+-- bytes, at most `most` of them
 pub record IsShortText (most : ℕ) (text : List ℕ) : Type 0 where
   pub short : length text ≤ most
   pub bytes : All (λ b. b < 256) text

@@ -13,7 +13,7 @@ use Rattle.doc_model.specs.declared.operations.Reply.TheVariants.{New, Replaced,
 abbrev pub head_words : ℕ → List ℕ → List ℕ → ℕ → List ℕ
 head_words kind key document number = kind ∷ length key ∷ length document ∷ number ∷ 0 ∷ 0 ∷ 0 ∷ 0 ∷ []
 
--- behind them the key in so many words, and the document in so many
+-- after them the key in `key_words` words, and the document in `document_words`
 unfoldable pub words_in : ℕ → ℕ → ℕ → List ℕ → List ℕ → ℕ → List ℕ
 words_in key_words document_words kind key document number =
     head_words kind key document number ++ (packed key_words key ++ packed document_words document)

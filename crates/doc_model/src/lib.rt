@@ -1,5 +1,9 @@
-//! The operations of the document store, their replies, and what each operation means: the reply and the next
-//! store, as a table over a list of pairs, each with the revision that its last write gave it.
+//! What the document store answers, said without a word of how it is kept: its sequential specification. By such a specification a history is judged
+//! to be linearizable (Herlihy and Wing 1990).
+//!
+//! A store is a list of pairs of a key and a document, in the order of the keys, each pair with the revision that its last write gave it. A table
+//! says of each operation the reply and the next store. Operations and replies are values, and each of them is also 144 words, since the operation
+//! log and the replicas hold words.
 //!
 //! - The plain program gives the reply and the next store of the table of meanings for every operation, and an `Err` leaves the store as it
 //!   was: `Pairs::step` (`reply`, `next`, `err`).

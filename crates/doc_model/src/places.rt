@@ -82,7 +82,7 @@ fn lines_of(pairs: &[Pair]) -> u64
     lines
 }
 
-/// Whether so many lines, the first of which holds no pair, hold this pair between those below and those above.
+/// Whether `lines` lines, the first of which holds no pair, hold this pair between those below and those above.
 pub(crate) fn has_room(lines: u64, below: &[Pair], key: &[u8], doc: &[u8], above: &[Pair]) -> bool
     ensures { result ≡ meaning.has_room lines (pairs_of below.now ++ (key.now, doc.now) ∷ pairs_of above.now) }
 {

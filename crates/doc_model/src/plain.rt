@@ -69,7 +69,7 @@ impl Pairs {
         &self.table.pairs
     }
 
-    /// Does one operation in a store that has `lines` lines, the first of which holds no pair. An `Err` is want of
+    /// Does one operation in a store that has `lines` lines, the first of which holds no pair. An `Err` means out of
     /// memory, and leaves the store as it was.
     pub fn step(&mut self, alloc: Global, lines: u64, op: &Op) -> Result<Reply, AllocError>
         ensures reply { IfOk result (λ reply. reply ≡ reply_to lines self.old op.now) }

@@ -7,6 +7,8 @@ ghost use Rattle.doc_model.specs.Words.{words_with, op_words, reply_words, IsRep
 ghost use Rattle.doc_model.specs.declared.operations.Op.{Op};
 ghost use Rattle.doc_model.specs.declared.operations.Reply.{Reply};
 
+use cx_base::OP_WORDS;
+
 /// Operations and their words are one to one: two operations within the limits that have the same words are the
 /// same.
 pub fn op_words_are_one_to_one()
@@ -20,8 +22,8 @@ pub fn reply_words_are_one_to_one()
 
 /// Operations and replies have 144 words of 64 bits.
 pub fn words_are_words()
-    ensures ops { (op : Op) → IsOp op → HasIntegerAmount op → (length (op_words op) ≡ 144) × All (λ w. w < 2 ^ 64) (op_words op) }
-    ensures replies { (reply : Reply) → IsReply reply → HasWordNumber reply → (length (reply_words reply) ≡ 144) × All (λ w. w < 2 ^ 64) (reply_words reply) }
+    ensures ops { (op : Op) → IsOp op → HasIntegerAmount op → (length (op_words op) ≡ OP_WORDS) × All (λ w. w < 2 ^ 64) (op_words op) }
+    ensures replies { (reply : Reply) → IsReply reply → HasWordNumber reply → (length (reply_words reply) ≡ OP_WORDS) × All (λ w. w < 2 ^ 64) (reply_words reply) }
 {}
 
 /// The kinds of the operations that only read are 4 to 6 and 8, and those of the others are not.

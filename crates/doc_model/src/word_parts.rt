@@ -6,7 +6,7 @@ ghost use Rattle.doc_model.specs.Words as spec;
 ghost use Rattle.doc_model.specs.WordParts as kinds;
 
 use crate::packed_texts::{are_between, are_zero, is_padded};
-use cx_base::{Bytes, pack, unpack};
+use cx_base::{Bytes, OP_WORDS, OpWords, pack, unpack};
 use std::alloc::{AllocError, Global};
 use std::marker::Model;
 
@@ -31,7 +31,7 @@ pub const KEY_AT: usize = 8;
 /// The first word of the document, whose words go to the end.
 pub const DOCUMENT_AT: usize = 16;
 
-/// Writes the words of some parts, so many of them for the key and the rest for the document.
+/// Writes the words of some parts: behind the head `key_words` words for the key, and the rest for the document.
 fn write_words(
     into: &mut [u64],
     key_words: usize,
@@ -60,12 +60,12 @@ fn write_words(
 }
 
 /// The words of some parts.
-pub(crate) fn words_with(kind: u64, key: &[u8], document: &[u8], number: u64) -> [u64; 144]
+pub(crate) fn words_with(kind: u64, key: &[u8], document: &[u8], number: u64) -> OpWords
     requires key_short { length key.now ≤ 64 }
     requires document_short { length document.now ≤ 1024 }
     ensures { result ≡ spec.words_with kind key.now document.now number }
 {
-    let mut words = [0; 144];
+    let mut words = [0; OP_WORDS];
     write_words(&mut words, 8, kind, key, document, number);
     words
 }
@@ -81,17 +81,17 @@ fn write_packed(into: &mut [u64], head: &[u64], key: &[u64], document: &[u64])
     into[8 + key.len()..].copy_from_slice(document);
 }
 
-/// The words of a kind, and of a key and a document of so many bytes that are packed already.
+/// The words of a kind, and of a key and a document that are packed already; their numbers of bytes are given.
 pub(crate) fn words_of_packed(
     kind: u64,
     key_len: u64,
     key: &[u64; 8],
     document_len: u64,
     document: &[u64; 128],
-) -> [u64; 144]
+) -> OpWords
     ensures { (name text : List ℕ) → key_len ≡ length name → key.now ≡ packed 8 name → document_len ≡ length text → document.now ≡ packed 128 text → result ≡ spec.words_with kind name text 0 }
 {
-    let mut words = [0; 144];
+    let mut words = [0; OP_WORDS];
     let head = [kind, key_len, document_len, 0, 0, 0, 0, 0];
     write_packed(&mut words, &head, key, document);
     words
@@ -151,7 +151,7 @@ impl<'a, const N: usize> Text<'a, N> {
         are_between::<0x20, 0xFF>(self.words, self.len)
     }
 
-    /// Copies the bytes. `Err` is want of memory.
+    /// Copies the bytes. `Err` means out of memory.
     pub(crate) fn bytes(&self, alloc: Global) -> Result<Bytes, AllocError>
         ensures { IfOk result (λ bytes. bytes ≡ self.now) }
     {
@@ -163,7 +163,7 @@ impl<'a, const N: usize> Text<'a, N> {
 }
 
 /// Whether some parts have these words: the lengths are within the limits, and what no part uses is 0.
-fn have_parts(words: &[u64; 144]) -> bool
+fn have_parts(words: &OpWords) -> bool
     ensures { MatchBool result (kinds.HaveParts words.now) (kinds.HaveNoParts words.now) }
 {
     let key_len = words[KEY_LENGTH_AT];
@@ -191,7 +191,7 @@ pub(crate) struct Parts<'a> {
 
 impl<'a> Parts<'a> {
     /// The parts that have these words. None exactly where no parts have them.
-    pub(crate) fn of(words: &'a [u64; 144]) -> Option<Parts<'a>>
+    pub(crate) fn of(words: &'a OpWords) -> Option<Parts<'a>>
         ensures some { IfSome result (λ p. words.now ≡ spec.words_with p.kind p.key p.document p.number) }
         ensures small { IfSome result (λ p. p.number < 2 ^ 64) }
         ensures texts { IfSome result (λ p. kinds.IsShortText 64 p.key × kinds.IsShortText 1024 p.document) }

@@ -16,7 +16,7 @@ ghost use Rattle.doc_model.specs.declared.words.OpFault.TheVariants.{BadOp, Memo
 
 use crate::operations::{Op, Reply};
 use crate::word_parts::{Parts, words_of_packed, words_with};
-use cx_base::Bytes;
+use cx_base::{Bytes, OpWords};
 use std::alloc::{AllocError, Global};
 use std::error::Error;
 use std::fmt;
@@ -26,7 +26,7 @@ use std::fmt;
 pub enum OpFault {
     /// No operation, or no reply, has these words.
     BadOp,
-    /// Memory is wanting.
+    /// Out of memory.
     Memory,
 }
 
@@ -50,7 +50,7 @@ impl From<AllocError> for OpFault {
 }
 
 /// The words of an operation. They take no memory.
-pub fn op_words(op: &Op) -> [u64; 144]
+pub fn op_words(op: &Op) -> OpWords
     requires { IsOp op.now }
     ensures { result ≡ spec.op_words op.now }
 {
@@ -72,7 +72,7 @@ pub fn op_words(op: &Op) -> [u64; 144]
 }
 
 /// The words of a reply. They take no memory.
-pub fn reply_words(reply: &Reply) -> [u64; 144]
+pub fn reply_words(reply: &Reply) -> OpWords
     requires { spec.IsReply reply.now }
     ensures { result ≡ spec.reply_words reply.now }
 {
@@ -94,22 +94,22 @@ pub fn reply_words(reply: &Reply) -> [u64; 144]
     }
 }
 
-/// The words of the reply that is a document, of so many bytes that are packed already.
-pub fn packed_document_reply(len: u64, packed: &[u64; 128]) -> [u64; 144]
+/// The words of the reply that is a document of `len` bytes, which are packed already.
+pub fn packed_document_reply(len: u64, packed: &[u64; 128]) -> OpWords
     ensures { (document : List ℕ) → len ≡ length document → packed.now ≡ packing.packed 128 document → result ≡ spec.reply_words (Doc document) }
 {
     words_of_packed(5, 0, &[0; 8], len, packed)
 }
 
-/// The words of the reply that is a key, of so many bytes that are packed already.
-pub fn packed_key_reply(len: u64, packed: &[u64; 8]) -> [u64; 144]
+/// The words of the reply that is a key of `len` bytes, which are packed already.
+pub fn packed_key_reply(len: u64, packed: &[u64; 8]) -> OpWords
     ensures { (key : List ℕ) → len ≡ length key → packed.now ≡ packing.packed 8 key → result ≡ spec.reply_words (Key key) }
 {
     words_of_packed(10, len, packed, 0, &[0; 128])
 }
 
 /// Whether an operation within the limits has these words. It takes no memory.
-pub fn is_op(words: &[u64; 144]) -> bool
+pub fn is_op(words: &OpWords) -> bool
     ensures { MatchBool result (spec.AreOfAnOp words.now) (spec.AreOfNoOp words.now) }
 {
     match Parts::of(words) {
@@ -118,11 +118,12 @@ pub fn is_op(words: &[u64; 144]) -> bool
     }
 }
 
-/// The operation that has these words. `BadOp` comes exactly where none within the limits has them.
-pub fn op_of(alloc: Global, words: &[u64; 144]) -> Result<Op, OpFault>
+/// The operation that has these words. `BadOp` comes exactly where none within the limits has them, and
+/// `Memory` means out of memory.
+pub fn op_of(alloc: Global, words: &OpWords) -> Result<Op, OpFault>
     // What is read has these words.
     ensures found { IfOk result (λ op. IsOp op × (spec.op_words op ≡ words.now)) }
-    // What has these words is read, unless memory is wanting.
+    // What has these words is read, unless memory runs out.
     ensures only { (op : Op) → IsOp op → spec.HasIntegerAmount op → spec.op_words op ≡ words.now → MatchResult result (λ read. read ≡ op) (λ fault. fault ≡ OpFault.Memory) }
     ensures bad { IsErrOf result OpFault.BadOp ↔ spec.AreOfNoOp words.now }
 {
@@ -135,11 +136,12 @@ pub fn op_of(alloc: Global, words: &[u64; 144]) -> Result<Op, OpFault>
     Ok(op_with(alloc, &parts)?)
 }
 
-/// The reply that has these words. `BadOp` comes exactly where none within the limits has them.
-pub fn reply_of(alloc: Global, words: &[u64; 144]) -> Result<Reply, OpFault>
+/// The reply that has these words. `BadOp` comes exactly where none within the limits has them, and
+/// `Memory` means out of memory.
+pub fn reply_of(alloc: Global, words: &OpWords) -> Result<Reply, OpFault>
     // What is read has these words.
     ensures found { IfOk result (λ reply. spec.IsReply reply × (spec.reply_words reply ≡ words.now)) }
-    // What has these words is read, unless memory is wanting.
+    // What has these words is read, unless memory runs out.
     ensures only { (reply : Reply) → spec.IsReply reply → spec.HasWordNumber reply → spec.reply_words reply ≡ words.now → MatchResult result (λ read. read ≡ reply) (λ fault. fault ≡ OpFault.Memory) }
     ensures bad { IsErrOf result OpFault.BadOp ↔ spec.AreOfNoReply words.now }
 {

@@ -29,7 +29,7 @@ pub record IsWholeReply (reply : Reply) : Type 0 where
 abbrev pub document_encoding : Encoding Op Reply
 document_encoding = record { op_words = op_words; reply_words = reply_words }
 
--- what the operations mean in so many lines
+-- what the operations mean in the given number of lines
 abbrev pub document_meaning : ℕ → Meaning Op Reply RevisedStore
 document_meaning lines = record {
   encoding = document_encoding;

@@ -5,7 +5,7 @@ use Rattle.doc_model.specs.Meaning.{IsOp, only_reads}
 use Rattle.doc_model.specs.Words.{HasIntegerAmount, IsOpOf, op_words}
 use Rattle.doc_model.specs.declared.operations.Op.{Op}
 use Rattle.doc_model.proofs.OpKinds.{op_words_fit}
-use Rattle.doc_store.specs.ExactStep.{IsImage, op_in, opening_image, reads_in, store_step}
+use Rattle.doc_store.specs.ExactStep.{IsImageOfStore, op_in, opening_image, reads_in, store_step}
 use Rattle.doc_store.specs.DocumentMeaning.{document_meaning}
 use Rattle.doc_store.specs.OpsRead.{op_is_read}
 use Rattle.doc_store.specs.ReplyWords.{told_by_words}
@@ -22,7 +22,7 @@ reading : (op : Op) → IsOpOf (op_words op) op → reads_in (op_words op) ≡ o
 unfolding reads_in
 reading op is = (let r = op_is_read (op_words op) op is in ap (λ b. (b && only_reads (op_in (op_words op)))) r.0 ∙ ap only_reads r.1)
 
-pub documents_have_meaning : (lines : ℕ) → 1 ≤ lines → lines ≤ 2 ^ 32 → HasMeaning (IsImage lines) (opening_image lines) (store_step lines) reads_in (document_meaning lines)
+pub documents_have_meaning : (lines : ℕ) → 1 ≤ lines → lines ≤ 2 ^ 32 → HasMeaning (IsImageOfStore lines) (opening_image lines) (store_step lines) reads_in (document_meaning lines)
 documents_have_meaning lines enough few = record {
   some = λ image i. (i.store, i.stands);
   fit = fit;

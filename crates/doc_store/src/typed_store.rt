@@ -7,7 +7,7 @@ ghost use Rattle.doc_store.specs.DocumentMeaning.{document_meaning};
 ghost use Rattle.doc_store.specs.MeaningLaws.{documents_have_meaning};
 
 use crate::store::{DocStore, documents};
-use cx_base::Object;
+use cx_base::{Object, OpWords};
 use doc_model::{Op, OpFault, Reply, op_words, reply_of};
 use std::alloc::{AllocError, Global};
 use typed_object::TypedObject;
@@ -27,7 +27,7 @@ impl TypedObject for DocStore {
         DocStore::of(self.lines())
     }
 
-    fn words_of(&self, op: &Op) -> [u64; 144] {
+    fn words_of(&self, op: &Op) -> OpWords {
         op_words(op)
     }
 
@@ -35,7 +35,7 @@ impl TypedObject for DocStore {
         op.only_reads()
     }
 
-    fn reply_of(&self, alloc: Global, words: &[u64; 144]) -> Result<Option<Reply>, AllocError> {
+    fn reply_of(&self, alloc: Global, words: &OpWords) -> Result<Option<Reply>, AllocError> {
         match reply_of(alloc, words) {
             Ok(reply) => Ok(Some(reply)),
             Err(OpFault::Memory) => Err(AllocError),

@@ -14,7 +14,7 @@ use Rattle.life_records.specs.Limits.{IsCommandOf, IsCutOf, IsLifeInLimits, Keep
 use Rattle.life_records.specs.Records.{Command, Life}
 use Rattle.doc_text.specs.Generated.{IsLoad, generated_command, generated_commands, generated_life, generated_script}
 
--- the commands of n clients are so many
+-- the number of the commands of n clients
 count_commands : (from ops a n : ℕ) → length (flat_map (generated_commands from ops) (range_with_len a n)) ≡ n * ops
 count_commands from ops a zero = omega arith
 count_commands from ops a (suc n) =

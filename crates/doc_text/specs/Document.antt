@@ -27,6 +27,6 @@ abbrev pub document_of : List ℕ → Result (List ℕ) Reason
 document_of text = kept_as (read_json text)
 
 -- what is asked for is read, or why it is refused; and what is read keeps to its limits
-pub record IsRead {A : Type 0} (limits : A → Type 0) (wanted read : Result A Reason) : Type 0 where
+pub record IsTextRead {A : Type 0} (limits : A → Type 0) (wanted read : Result A Reason) : Type 0 where
   pub is : read ≡ wanted
   pub within : IfOk read limits

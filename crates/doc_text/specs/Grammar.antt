@@ -70,5 +70,5 @@ abbrev pub IsPoolScript : List ℕ → Script Op → Type 0
 IsPoolScript text script = IsTextOf pool_grammar text script
 
 -- the first line with which the lines so far are no script, counted from 1
-abbrev pub IsFirstFault : List ℕ → ℕ → Type 0
-IsFirstFault text line = lines.IsFirstFault document_grammar text line
+abbrev pub IsFirstScriptFault : List ℕ → ℕ → Type 0
+IsFirstScriptFault text line = lines.IsFirstFault document_grammar text line

@@ -6,12 +6,12 @@ use Rattle.doc_text.specs.Grammar.{document_grammar, pool_grammar}
 use Rattle.doc_text.specs.declared.script_parts.Reason.{Reason}
 
 -- why the line, counted from 1, may not stand behind those before it
-abbrev pub IsReasonAt : List ℕ → ℕ → Reason → Type 0
-IsReasonAt text line reason = lines.IsReasonAt document_grammar text line reason
+abbrev pub IsScriptReasonAt : List ℕ → ℕ → Reason → Type 0
+IsScriptReasonAt text line reason = lines.IsReasonAt document_grammar text line reason
 
 -- what is told of a text that was not read
-abbrev pub IsFault : List ℕ → TextFault Reason → Type 0
-IsFault text fault = lines.IsFault document_grammar text fault
+abbrev pub IsScriptFault : List ℕ → TextFault Reason → Type 0
+IsScriptFault text fault = lines.IsFault document_grammar text fault
 
 abbrev pub IsPoolFault : List ℕ → TextFault Reason → Type 0
 IsPoolFault text fault = lines.IsFault pool_grammar text fault

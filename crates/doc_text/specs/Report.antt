@@ -29,5 +29,5 @@ abbrev pub document_wording : Wording Op Reply
 document_wording = record { command_text = command_text; reply_text = reply_text; items = codes " documents " }
 
 -- the report of a script
-abbrev pub report_of : Script Op → List (LifeRecord Reply) → List ℕ
-report_of script records = reports.report_of document_wording script records
+abbrev pub document_report_of : Script Op → List (LifeRecord Reply) → List ℕ
+document_report_of script records = reports.report_of document_wording script records

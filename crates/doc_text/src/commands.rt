@@ -6,7 +6,7 @@ ghost use Rattle.plain_text.specs.Words.{first_word, rest_of};
 ghost use Rattle.cx_base.specs.Store.{IsKey};
 ghost use Rattle.doc_model.specs.Meaning.{IsOp};
 ghost use Rattle.doc_text.specs.CommandLaws.{reads_commands, reads_pool_commands};
-ghost use Rattle.doc_text.specs.Document.{IsRead};
+ghost use Rattle.doc_text.specs.Document.{IsTextRead};
 ghost use Rattle.doc_text.specs.Grammar.{document_commands, pool_commands};
 ghost use Rattle.doc_text.specs.Reading.{verb_of, only_key, put_with, put_if_with, add_with, op_by_verb, asked_op};
 ghost use Rattle.script_text.specs.Reading.{then_ok};
@@ -111,10 +111,10 @@ impl CommandReader for PoolDocuments {
     ghost reads = { reads_pool_commands };
 }
 
-/// The operation that the text behind a client asks for, or why it asks for none. `Err` is want of memory.
+/// The operation that the text behind a client asks for, or why it asks for none. `Err` means out of memory.
 fn read_asked(alloc: Global, text: Option<&[u8]>) -> Result<Result<Op, Reason>, AllocError>
     requires { IfSome text (λ t. IsUtf8 t.now) }
-    ensures { IfOk result (IsRead IsOp (asked_op (option_copied text.entry))) }
+    ensures { IfOk result (IsTextRead IsOp (asked_op (option_copied text.entry))) }
 {
     let Some(text) = text else {
         return Ok(Err(Reason::Command));
@@ -123,14 +123,14 @@ fn read_asked(alloc: Global, text: Option<&[u8]>) -> Result<Result<Op, Reason>, 
     read_words(alloc, read_verb(verb), words)
 }
 
-/// The operation that a verb and what stands behind it ask for, or why they ask for none. `Err` is want of memory.
+/// The operation that a verb and what stands behind it ask for, or why they ask for none. `Err` means out of memory.
 fn read_words(
     alloc: Global,
     verb: Option<Verb>,
     words: Option<&[u8]>,
 ) -> Result<Result<Op, Reason>, AllocError>
     requires { IfSome words (λ t. IsUtf8 t.now) }
-    ensures { IfOk result (IsRead IsOp (op_by_verb verb (option_copied words.entry))) }
+    ensures { IfOk result (IsTextRead IsOp (op_by_verb verb (option_copied words.entry))) }
 {
     match (verb, words) {
         (Some(Verb::Put), Some(words)) => read_put(alloc, words),
@@ -150,7 +150,7 @@ fn read_words(
 
 fn read_put(alloc: Global, words: &[u8]) -> Result<Result<Op, Reason>, AllocError>
     requires { IsUtf8 words.now }
-    ensures { IfOk result (IsRead IsOp (put_with (first_word words.now) (rest_of words.now))) }
+    ensures { IfOk result (IsTextRead IsOp (put_with (first_word words.now) (rest_of words.now))) }
 {
     let (key, json) = split_word(words);
     let Some(json) = json else {
@@ -169,7 +169,7 @@ fn read_put(alloc: Global, words: &[u8]) -> Result<Result<Op, Reason>, AllocErro
 
 fn read_put_if(alloc: Global, words: &[u8]) -> Result<Result<Op, Reason>, AllocError>
     requires { IsUtf8 words.now }
-    ensures { IfOk result (IsRead IsOp (put_if_with (first_word words.now) (rest_of words.now))) }
+    ensures { IfOk result (IsTextRead IsOp (put_if_with (first_word words.now) (rest_of words.now))) }
 {
     let (key, text) = split_word(words);
     let Some(text) = text else {
@@ -194,7 +194,7 @@ fn read_put_if(alloc: Global, words: &[u8]) -> Result<Result<Op, Reason>, AllocE
 }
 
 fn read_del(alloc: Global, words: &[u8]) -> Result<Result<Op, Reason>, AllocError>
-    ensures { IfOk result (IsRead IsOp (then_ok Op.Del (only_key words.now))) }
+    ensures { IfOk result (IsTextRead IsOp (then_ok Op.Del (only_key words.now))) }
 {
     Ok(match read_key(alloc, words)? {
         Ok(key) => Ok(Op::Del { key }),
@@ -203,7 +203,7 @@ fn read_del(alloc: Global, words: &[u8]) -> Result<Result<Op, Reason>, AllocErro
 }
 
 fn read_add(alloc: Global, words: &[u8]) -> Result<Result<Op, Reason>, AllocError>
-    ensures { IfOk result (IsRead IsOp (add_with (first_word words.now) (rest_of words.now))) }
+    ensures { IfOk result (IsTextRead IsOp (add_with (first_word words.now) (rest_of words.now))) }
 {
     let (key, amount) = split_word(words);
     let Some(amount) = amount else {
@@ -223,7 +223,7 @@ fn read_add(alloc: Global, words: &[u8]) -> Result<Result<Op, Reason>, AllocErro
 }
 
 fn read_get(alloc: Global, words: &[u8]) -> Result<Result<Op, Reason>, AllocError>
-    ensures { IfOk result (IsRead IsOp (then_ok Op.Get (only_key words.now))) }
+    ensures { IfOk result (IsTextRead IsOp (then_ok Op.Get (only_key words.now))) }
 {
     Ok(match read_key(alloc, words)? {
         Ok(key) => Ok(Op::Get { key }),
@@ -232,7 +232,7 @@ fn read_get(alloc: Global, words: &[u8]) -> Result<Result<Op, Reason>, AllocErro
 }
 
 fn read_rev(alloc: Global, words: &[u8]) -> Result<Result<Op, Reason>, AllocError>
-    ensures { IfOk result (IsRead IsOp (then_ok Op.Rev (only_key words.now))) }
+    ensures { IfOk result (IsTextRead IsOp (then_ok Op.Rev (only_key words.now))) }
 {
     Ok(match read_key(alloc, words)? {
         Ok(key) => Ok(Op::Rev { key }),
@@ -241,7 +241,7 @@ fn read_rev(alloc: Global, words: &[u8]) -> Result<Result<Op, Reason>, AllocErro
 }
 
 fn read_next(alloc: Global, words: &[u8]) -> Result<Result<Op, Reason>, AllocError>
-    ensures { IfOk result (IsRead IsOp (then_ok Op.Next (only_key words.now))) }
+    ensures { IfOk result (IsTextRead IsOp (then_ok Op.Next (only_key words.now))) }
 {
     Ok(match read_key(alloc, words)? {
         Ok(above) => Ok(Op::Next { above }),
@@ -249,9 +249,9 @@ fn read_next(alloc: Global, words: &[u8]) -> Result<Result<Op, Reason>, AllocErr
     })
 }
 
-/// The key that is the only word left, or why it is none. `Err` is want of memory.
+/// The key that is the only word left, or why it is none. `Err` means out of memory.
 fn read_key(alloc: Global, words: &[u8]) -> Result<Result<Bytes, Reason>, AllocError>
-    ensures { IfOk result (IsRead IsKey (only_key words.now)) }
+    ensures { IfOk result (IsTextRead IsKey (only_key words.now)) }
 {
     if !is_one_word(words) {
         return Ok(Err(Reason::Command));

@@ -4,7 +4,7 @@ ghost use Rattle.std.specs.Prelude.{◌≡◌, Err, IfOk, IfSome, IsUtf8};
 ghost use Rattle.serde_json.specs.Written.{has_float, items_have_float, members_have_float};
 ghost use Rattle.serde_json.specs.View.{view, items_view, members_view};
 ghost use Rattle.cx_base.specs.Store.{IsDocument};
-ghost use Rattle.doc_text.specs.Document.{IsRead, document_of};
+ghost use Rattle.doc_text.specs.Document.{IsTextRead, document_of};
 
 use crate::measure::{MAX_DOCUMENT, refusal_unbuilt};
 use crate::script_parts::Reason;
@@ -12,10 +12,10 @@ use cx_base::Bytes;
 use serde_json::{Map, Value};
 use std::alloc::{AllocError, Global};
 
-/// The document that a JSON text is kept as, or why it is none. `Err` is want of memory.
+/// The document that a JSON text is kept as, or why it is none. `Err` means out of memory.
 pub(crate) fn read_document(alloc: Global, json: &[u8]) -> Result<Result<Bytes, Reason>, AllocError>
     requires { IsUtf8 json.now }
-    ensures { IfOk result (IsRead IsDocument (document_of json.now)) }
+    ensures { IfOk result (IsTextRead IsDocument (document_of json.now)) }
 {
     if let Some(reason) = long_refusal(alloc, json)? {
         return Ok(Err(reason));
@@ -41,7 +41,7 @@ pub(crate) fn read_document(alloc: Global, json: &[u8]) -> Result<Result<Bytes, 
 }
 
 /// Why a text that is longer than a document is none, where that is known without its value being built: such a text may
-/// be all of an input, and a value takes many times the memory of its text. `Err` is want of memory.
+/// be all of an input, and a value takes many times the memory of its text. `Err` means out of memory.
 fn long_refusal(alloc: Global, json: &[u8]) -> Result<Option<Reason>, AllocError>
     ensures { IfOk result (λ found. IfSome found (λ reason. document_of json.now ≡ Err reason)) }
 {

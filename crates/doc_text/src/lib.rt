@@ -1,5 +1,9 @@
-//! The texts of documents: the script that clients are told by, and the report of what happened. Beside them the script of a load,
-//! and what it came to, and what is recovered from an image.
+//! People and programs say in a text what clients ask for, and read in a text what happened: scripts and reports whose commands put JSON documents
+//! (RFC 8259). Beside them stand the script of a load and four lines on its result, and what is recovered from a crash image.
+//!
+//! What all scripts have is read and written by `script_text`; here are the commands, the replies and the documents. A document is kept as the
+//! compact text of its JSON value. RFC 8259 leaves limits and repeated keys to the reader. Here numbers are integers of 64 bits, of a key that comes
+//! twice the last value stays, values nest at most 127 deep, and the compact text has at most 1,024 bytes.
 #![tactic(auto)]
 
 mod commands;

@@ -1,8 +1,8 @@
-//! What a load came to.
+//! The result of a load.
 
 ghost use Rattle.std.specs.Prelude.{◌≡◌, ◌++◌, ◌<◌, ◌≤◌, ◌^◌, IfOk, OnOk, length};
 ghost use Rattle.std.specs.Fmt.{signed_decimal};
-ghost use Rattle.doc_text.specs.Summary.{integer_sum, number_in, summary_text};
+ghost use Rattle.doc_text.specs.Summary.{integer_sum, document_number, summary_text};
 
 use crate::script_parts::LifeRecord;
 use doc_model::Pair;
@@ -11,7 +11,7 @@ use plain_text::{integer_of, write_labelled};
 use std::alloc::{AllocError, Global};
 
 /// A life in four lines: its clients, the entries of its history, and, where it left these pairs, their number and the sum of the
-/// documents that are 64-bit integers. `Err` is want of memory.
+/// documents that are 64-bit integers. `Err` means out of memory.
 pub fn summary(alloc: Global, told: &LifeRecord, pairs: &[Pair]) -> Result<Vec<u8>, AllocError>
     ensures { IfOk result (λ text. text.items ≡ summary_text told.now pairs.now) }
 {
@@ -25,7 +25,7 @@ pub fn summary(alloc: Global, told: &LifeRecord, pairs: &[Pair]) -> Result<Vec<u
     Ok(out)
 }
 
-// The sum of the documents that are integers. So many of 64 bits are within 128.
+// The sum of the documents that are integers of 64 bits. There are too few of them for the sum to leave 128 bits.
 fn sum_of(pairs: &[Pair]) -> i128
     ensures { result ≡ integer_sum pairs.now }
 {
@@ -38,7 +38,7 @@ fn sum_of(pairs: &[Pair]) -> i128
 
 // The integer that a document is, and 0 where it is none.
 fn number_in(pair: &Pair) -> i64
-    ensures { result ≡ number_in pair.now }
+    ensures { result ≡ document_number pair.now }
 {
     integer_of(pair.doc.as_slice()).unwrap_or(0)
 }

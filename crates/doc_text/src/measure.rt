@@ -1,4 +1,4 @@
-//! What a JSON text comes to, without its value being built.
+//! What is known of a JSON text without its value being built.
 
 ghost use Rattle.std.specs.Prelude.{◌≡◌, ◌<◌, length, Err, IfOk, IfSome, IsTrue, OnOk};
 ghost use Rattle.json.specs.Print.{IsNumber};
@@ -23,7 +23,7 @@ pub(crate) const MAX_DOCUMENT: usize = 1024;
 pub(crate) struct Measure {
     /// Whether some number of it is no 64-bit integer.
     pub(crate) has_float: bool,
-    /// Its compact text has so many bytes, or more.
+    /// A lower bound of the number of bytes of its compact text.
     pub(crate) least: usize,
 }
 
@@ -34,7 +34,7 @@ pub(crate) enum Unmeasured {
     NoValue,
     /// A member of an object with many keys has a fraction. A later member may take its place.
     Undecided,
-    /// Memory is wanting.
+    /// Out of memory.
     Memory,
 }
 
@@ -68,7 +68,7 @@ impl From<Invalid> for Unmeasured {
     }
 }
 
-/// Why a text is no document, where that is known without its value being built. `Err` is want of memory.
+/// Why a text is no document, where that is known without its value being built. `Err` means out of memory.
 pub(crate) fn refusal_unbuilt(alloc: Global, json: &str) -> Result<Option<Reason>, AllocError>
     ensures { IfOk result (λ found. IfSome found (λ reason. document_of json.now ≡ Err reason)) }
 {

@@ -8,7 +8,7 @@ use crate::measure::{Measure, Unmeasured};
 use std::alloc::Global;
 use std::collections::BTreeMap;
 
-/// The text of an object with so many keys is longer than a document.
+/// The text of an object with this many keys is longer than a document.
 const MANY: usize = 256;
 
 /// The members of an object so far. Of many it is noted only that they are many, and that no value has a fraction.

@@ -3,7 +3,7 @@
 ghost use Rattle.std.specs.Prelude.{◌≡◌, ◌++◌, IfOk, OnOk};
 ghost use Rattle.life_records.specs.Lives.{NameCommands};
 ghost use Rattle.doc_text.specs.Grammar.{command_text};
-ghost use Rattle.doc_text.specs.Report.{document_wording, report_of};
+ghost use Rattle.doc_text.specs.Report.{document_wording, document_report_of};
 
 use crate::commands::Documents;
 use crate::script_parts::{LifeRecord, Script};
@@ -12,17 +12,17 @@ use plain_text::{write_labelled, write_signed};
 use script_text::ReportWriter;
 use std::alloc::{AllocError, Global};
 
-/// The report of a script's lives. `Err` is want of memory.
+/// The report of a script's lives. `Err` means out of memory.
 pub fn report(alloc: Global, script: &Script, records: &[LifeRecord]) -> Result<Vec<u8>, AllocError>
     // There is one record for each life, and its lines name commands of the script.
     requires { NameCommands script.now.lives records.now }
-    ensures { IfOk result (λ text. text.items ≡ report_of script.now records.now) }
+    ensures { IfOk result (λ text. text.items ≡ document_report_of script.now records.now) }
 {
     script_text::report::<Documents>(alloc, script, records)
 }
 
 // Each function below appends a part of the report to what is written. After an `Err` what is written is of no use,
-// since the report is given up.
+// since there is no report then.
 
 impl ReportWriter for Documents {
     type Op = Op;

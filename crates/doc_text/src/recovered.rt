@@ -26,7 +26,7 @@ pub struct Recovered {
     pub documents: Items<Pair>,
 }
 
-/// What is recovered as text: the place, then the clients, then the documents, each in the order given. `Err` is want of memory.
+/// What is recovered as text: the place, then the clients, then the documents, each in the order given. `Err` means out of memory.
 pub fn recovered_text(alloc: Global, found: &Recovered) -> Result<Vec<u8>, AllocError>
     ensures { IfOk result (λ text. text.items ≡ recovered_text found.now) }
 {

@@ -8,7 +8,7 @@ use std::fmt;
 /// An operation that a client asks for.
 pub type Command = life_records::Command<Op>;
 
-/// The time from one start to the next loss of power, as it is asked for.
+/// The time from one start to the next crash, as it is asked for.
 pub type Life = life_records::Life<Op>;
 
 /// The lives that are asked for.

@@ -10,7 +10,7 @@ use cx_core::{Base, Event, Kind};
 use std::alloc::{AllocError, Global};
 use std::process::Abort;
 
-/// Asserts what a case came to.
+/// Asserts that a case is right.
 pub fn holds(rt: &impl Abort, is_right: bool) {
     assert!(rt; is_right);
 }
@@ -26,7 +26,7 @@ pub struct Board {
 pub type Row = (u32, Kind, bool);
 
 impl Board {
-    /// The opening state of so many callers. `Err` is want of memory.
+    /// The opening state of `callers` callers. `Err` means out of memory.
     pub fn open(alloc: Global, callers: u32) -> Result<Board, AllocError>
         requires some { 1 ≤ callers }
         requires few { callers ≤ 8 }
@@ -37,12 +37,12 @@ impl Board {
         })
     }
 
-    /// Makes an event, and answers whether it was allowed. `Err` is want of memory.
+    /// Makes an event, and answers whether it was allowed. `Err` means out of memory.
     pub fn step(&mut self, alloc: Global, caller: u32, kind: Kind) -> Result<bool, AllocError> {
         apply(alloc, &Tally, &mut self.state, &Event { caller, kind })
     }
 
-    /// Makes the events of rows up to the first that answers otherwise, and gives its number. `Err` is want of memory.
+    /// Makes the events of rows up to the first that answers otherwise, and gives its number. `Err` means out of memory.
     pub fn first_wrong(
         &mut self,
         alloc: Global,
@@ -57,7 +57,7 @@ impl Board {
     }
 
     /// Takes a replica exclusively, stores and persists these words by their places, and downgrades it. Whether all of that
-    /// was allowed. `Err` is want of memory.
+    /// was allowed. `Err` means out of memory.
     pub fn prepare(
         &mut self,
         alloc: Global,

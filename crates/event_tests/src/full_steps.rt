@@ -142,7 +142,7 @@ fn first_wrong(alloc: Global, rows: &[StepRow]) -> Result<Option<usize>, AllocEr
     Ok(None)
 }
 
-// Whether a first full step is made with so many accesses left. None comes where the fresh base is no region.
+// Whether a first full step is made with `left` accesses left. `None` comes where the fresh base is no region.
 fn is_made(alloc: Global, left: u64) -> Result<Option<bool>, AllocError> {
     let words = Base::fresh(alloc, &Tally)?.words.into_vec();
     match step(alloc, words, Some(left), &entry(3, 1, 5, 0))? {

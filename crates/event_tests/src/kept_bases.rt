@@ -7,7 +7,7 @@ ghost use Rattle.cx_core.specs.Crash.{IsKept};
 ghost use Rattle.cx_core.specs.History.{AreLawful, full_image};
 ghost use Rattle.cx_core.specs.State.{State};
 
-use core_answers::crash::kept_bases_are_lawful;
+use core_replica::crash::kept_bases_are_lawful;
 use cx_base::tally::Tally;
 use cx_core::Base;
 use std::test::Fail;

@@ -1,4 +1,8 @@
-//! Full steps by hand, and the events of the core, each kind by rows: what is allowed, and the words that it leaves. It has tests alone.
+//! The theorems speak of runs of the state machine. Were a step that callers need never allowed, they would still hold; so here the state
+//! machine is made to go.
+//!
+//! Each kind of step is tried by rows, which say whether it is allowed and which words it leaves; a race of two callers and crashes go through many
+//! of them, and full steps of an entry are worked by hand. The crate has tests alone.
 #![tactic(auto)]
 
 #[cfg(test)]

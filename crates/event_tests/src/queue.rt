@@ -148,7 +148,7 @@ fn word_of(caller: u32, i: u32) -> u64 {
     }
 }
 
-// Whether a caller may look at a slot and read so many words of the cell that it names.
+// Whether a caller may look at a slot and read this many words of the cell that it names.
 fn read(
     alloc: Global,
     board: &mut Board,

@@ -86,7 +86,7 @@ const RAISE_10: Kind = Kind::Raise {
 };
 
 /// Makes what comes before the race: both entries are linked, and each caller has downgraded its replica. Whether all of
-/// that was allowed. `Err` is want of memory.
+/// that was allowed. `Err` means out of memory.
 pub fn begins(alloc: Global, board: &mut Board) -> Result<bool, AllocError> {
     Ok(
         board.first_wrong(alloc, &LINKED)?.is_none()

@@ -1,4 +1,4 @@
-//! The kinds on the ring: each guard failing for one reason, and what is opened beside callers that state, confirm and give up
+//! The kinds on the ring: each guard failing for one reason, and what is opened beside callers that state, confirm and release
 //! what they need.
 
 use crate::board::{Row, holds};
@@ -35,7 +35,7 @@ const GUARDS: [Row; 35] = [
     (0, Kind::Protect { p: 0 }, false),
     (0, Kind::Unprotect, true),
     (0, Kind::Unprotect, false),
-    // given up before it is confirmed
+    // released before it is confirmed
     (0, Kind::Protect { p: 0 }, true),
     (0, Kind::Unprotect, true),
     (0, Kind::Confirm, false),
@@ -85,7 +85,7 @@ const BESIDE_A_NEED: [SeenRow; 10] = [
 
 const OVERWRITE: Kind = Kind::WriteCell { j: 0, i: 0, v: 2 };
 
-// So it is once more, as the need was scanned before it is given up, and then without the need.
+// The same once more, as the need was scanned before it is released, and then without the need.
 const GIVEN_UP: [SeenRow; 10] = [
     (
         (1, Kind::CloseLow { target: 2 }, true),

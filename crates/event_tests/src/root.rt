@@ -133,7 +133,7 @@ const READS: [Row; 20] = [
     (0, Kind::LoadCur, true),
     (0, Kind::WriteCell { j: 1, i: 0, v: 2 }, true),
     (0, ASKS_10, false),
-    // the right was given up
+    // the right was released
     (0, Kind::LoadCur, true),
     (0, Kind::BackOff { r: 2 }, true),
     (0, ASKS_10, false),

@@ -11,7 +11,7 @@ pub enum Part {
     Rows(&'static [&'static [Row]]),
     /// Rows, and what is so after each.
     Seen(&'static [SeenRow]),
-    /// The beginning of the race, and so many of its events.
+    /// The beginning of the race, and this many of its events.
     Race(usize),
     /// A caller takes a replica exclusively, stores and persists these words, and downgrades it.
     Prepared(u32, u64, &'static [(u64, u64)]),
@@ -22,7 +22,7 @@ pub enum Part {
 /// The number of callers, 1 to 8, and the parts.
 pub type Script = (u32, &'static [Part]);
 
-/// The first script with a part that goes otherwise, with that part. `Err` is want of memory.
+/// The first script with a part that goes otherwise, with that part. `Err` means out of memory.
 pub fn first_wrong(
     alloc: Global,
     scripts: &[Script],
@@ -82,7 +82,7 @@ fn are_as_written(alloc: Global, board: &mut Board, lists: &[&[Row]]) -> Result<
     Ok(true)
 }
 
-// Whether so many events of the race are as they are written.
+// Whether the first `events` events of the race are as they are written.
 fn races(alloc: Global, board: &mut Board, events: usize) -> Result<bool, AllocError> {
     for (row, fact) in RACE.iter().take(events) {
         if board.step(alloc, row.0, row.1)? != row.2 || !is_so(board, fact) {
@@ -92,7 +92,7 @@ fn races(alloc: Global, board: &mut Board, events: usize) -> Result<bool, AllocE
     Ok(true)
 }
 
-/// Whether rows go as they are written, and what is said of each is so after it. `Err` is want of memory.
+/// Whether rows go as they are written, and what is said of each is so after it. `Err` means out of memory.
 pub fn are_seen(alloc: Global, board: &mut Board, rows: &[SeenRow]) -> Result<bool, AllocError> {
     for (row, fact) in rows {
         if board.step(alloc, row.0, row.1)? != row.2 || !is_so(board, fact) {

@@ -5,9 +5,9 @@ use Rattle.std.proofs.lemmas.List.{get_or-drop, get_or-take, length-drop, length
 use Rattle.cx_base.specs.Calls.{Changes, Finds}
 use Rattle.cx_base.specs.Memory.{AreAt, Becomes, Framed, Reads, overwritten}
 use Rattle.cx_base.specs.declared.memory.Memory.{Ghosts}
-use Rattle.fifo_model.specs.Words.{item_in, kind_in, no_item, number_item, reply_words, words_of}
-use Rattle.fifo_model.specs.declared.operations.FifoReply.TheVariants.{Empty, Full, Pushed}
-use Rattle.fifo_object.specs.Fifo.{count_in, fifo_step, fifo_reads, front_words, head_in, item_at, len_step, peek_step, place_of, pop_step, popped, push_step, pushed, step_by}
+use Rattle.fifo_object.specs.Words.{item_in, kind_in, no_item, number_item, reply_words, words_of_item}
+use Rattle.fifo_object.specs.declared.operations.FifoReply.TheVariants.{Empty, Full, Pushed}
+use Rattle.fifo_object.specs.Fifo.{count_in, fifo_step, fifo_reads, front_words, queue_head, item_at, len_step, peek_step, item_place, pop_step, popped, push_step, pushed, step_by}
 use Rattle.fifo_object.specs.FifoLaws.{reads_kind}
 use Rattle.fifo_object.specs.Places.{item_is}
 
@@ -23,51 +23,51 @@ not_full : (b : Bool) (m n : ℕ) → nat_le m n ≡ b → n < m → b ≡ false
 not_full true m n e less = absurd (let le = leb-true m n e in omega (arith, le, less))
 not_full false m n e less = refl
 
-pub full_runs : (lines : ℕ) (item x y reply : List ℕ) (count : ℕ) → y ≡ x → count_in y ≡ count → lines - 1 ≤ count → reply ≡ words_of 2 no_item → push_step lines item x ≡ both y reply
+pub full_runs : (lines : ℕ) (item x y reply : List ℕ) (count : ℕ) → y ≡ x → count_in y ≡ count → lines - 1 ≤ count → reply ≡ words_of_item 2 no_item → push_step lines item x ≡ both y reply
 unfolding push_step
 full_runs lines item x y reply count same counted full told =
     let is : count_in x ≡ count = ap count_in (sym same) ∙ counted in
     let test : nat_le (lines - 1) (count_in x) ≡ true = le-leb (lines - 1) (count_in x) (omega (arith, is, full)) in
     ap (λ b. cond {A = Answered} b (x, reply_words Full) (pushed lines item x, reply_words Pushed)) test ∙ ap₂ both (sym same) (sym told)
 
-pub put_runs : (lines : ℕ) (item x y reply : List ℕ) (head count place : ℕ) → head_in x ≡ head → count_in x ≡ count → count < lines - 1 → place ≡ (head + count) % (lines - 1) →
-    y ≡ overwritten (8 * (place + 1)) item x → reply ≡ words_of 1 no_item → push_step lines item x ≡ both (slice_set y 2 (count + 1)) reply
+pub put_runs : (lines : ℕ) (item x y reply : List ℕ) (head count place : ℕ) → queue_head x ≡ head → count_in x ≡ count → count < lines - 1 → place ≡ (head + count) % (lines - 1) →
+    y ≡ overwritten (8 * (place + 1)) item x → reply ≡ words_of_item 1 no_item → push_step lines item x ≡ both (slice_set y 2 (count + 1)) reply
 unfolding push_step pushed
 put_runs lines item x y reply head count place headed counted room placed put told =
     let test : nat_le (lines - 1) (count_in x) ≡ false = not_full (nat_le (lines - 1) (count_in x)) (lines - 1) (count_in x) refl (omega (arith, counted, room)) in
-    let here : place_of lines x (count_in x) ≡ place = ap₂ (λ h n. (h + n) % (lines - 1)) headed counted ∙ sym placed in
+    let here : item_place lines x (count_in x) ≡ place = ap₂ (λ h n. (h + n) % (lines - 1)) headed counted ∙ sym placed in
     let image : pushed lines item x ≡ slice_set y 2 (count + 1) =
     ap₂ (λ p n. slice_set (overwritten (8 * (p + 1)) item x) 2 (n + 1)) here counted ∙ ap (λ z. slice_set z 2 (count + 1)) (sym put) in
     ap (λ b. cond {A = Answered} b (x, reply_words Full) (pushed lines item x, reply_words Pushed)) test ∙ ap₂ both image (sym told)
 
 -- ---- a pop
 
-pub none_runs : (lines : ℕ) (x y reply : List ℕ) (count : ℕ) → y ≡ x → count_in y ≡ count → count ≡ 0 → reply ≡ words_of 4 no_item → pop_step lines x ≡ both y reply
+pub none_runs : (lines : ℕ) (x y reply : List ℕ) (count : ℕ) → y ≡ x → count_in y ≡ count → count ≡ 0 → reply ≡ words_of_item 4 no_item → pop_step lines x ≡ both y reply
 unfolding pop_step
 none_runs lines x y reply count same counted none told =
     let test : (count_in x == 0) ≡ true = eq-eqb (count_in x) 0 (ap count_in (sym same) ∙ counted ∙ none) in
-    ap (λ b. cond {A = Answered} b (x, reply_words Empty) (popped lines x, words_of 3 (item_at x (head_in x)))) test ∙ ap₂ both (sym same) (sym told)
+    ap (λ b. cond {A = Answered} b (x, reply_words Empty) (popped lines x, words_of_item 3 (item_at x (queue_head x)))) test ∙ ap₂ both (sym same) (sym told)
 
-pub take_runs : (lines : ℕ) (x reply : List ℕ) (head count next less : ℕ) → head_in x ≡ head → count_in x ≡ count → count ≢ 0 → next ≡ (head + 1) % (lines - 1) → less ≡ count - 1 → reply ≡ words_of 3 (item_at x head) →
+pub take_runs : (lines : ℕ) (x reply : List ℕ) (head count next less : ℕ) → queue_head x ≡ head → count_in x ≡ count → count ≢ 0 → next ≡ (head + 1) % (lines - 1) → less ≡ count - 1 → reply ≡ words_of_item 3 (item_at x head) →
     pop_step lines x ≡ both (slice_set (slice_set x 1 next) 2 less) reply
 unfolding pop_step popped
 take_runs lines x reply head count next less headed counted some nexted lessened told =
     let test : (count_in x == 0) ≡ false = ne_eqb (count_in x) 0 (λ e. some (sym counted ∙ e)) in
-    let place : place_of lines x 1 ≡ next = ap (λ h. (h + 1) % (lines - 1)) headed ∙ sym nexted in
+    let place : item_place lines x 1 ≡ next = ap (λ h. (h + 1) % (lines - 1)) headed ∙ sym nexted in
     let image : popped lines x ≡ slice_set (slice_set x 1 next) 2 less = ap₂ (λ p n. slice_set (slice_set x 1 p) 2 n) place (ap (λ n. n - 1) counted ∙ sym lessened) in
-    ap (λ b. cond {A = Answered} b (x, reply_words Empty) (popped lines x, words_of 3 (item_at x (head_in x)))) test ∙ ap₂ both image (ap (λ h. words_of 3 (item_at x h)) headed ∙ sym told)
+    ap (λ b. cond {A = Answered} b (x, reply_words Empty) (popped lines x, words_of_item 3 (item_at x (queue_head x)))) test ∙ ap₂ both image (ap (λ h. words_of_item 3 (item_at x h)) headed ∙ sym told)
 
 -- ---- the front
 
-pub none_front : (x reply : List ℕ) (count : ℕ) → count_in x ≡ count → count ≡ 0 → reply ≡ words_of 4 no_item → reply ≡ front_words x
+pub none_front : (x reply : List ℕ) (count : ℕ) → count_in x ≡ count → count ≡ 0 → reply ≡ words_of_item 4 no_item → reply ≡ front_words x
 unfolding front_words
 none_front x reply count counted none told =
-    told ∙ ap (λ b. cond b (reply_words Empty) (words_of 3 (item_at x (head_in x)))) (sym (eq-eqb (count_in x) 0 (counted ∙ none)))
+    told ∙ ap (λ b. cond b (reply_words Empty) (words_of_item 3 (item_at x (queue_head x)))) (sym (eq-eqb (count_in x) 0 (counted ∙ none)))
 
-pub some_front : (x reply : List ℕ) (head count : ℕ) → head_in x ≡ head → count_in x ≡ count → count ≢ 0 → reply ≡ words_of 3 (item_at x head) → reply ≡ front_words x
+pub some_front : (x reply : List ℕ) (head count : ℕ) → queue_head x ≡ head → count_in x ≡ count → count ≢ 0 → reply ≡ words_of_item 3 (item_at x head) → reply ≡ front_words x
 unfolding front_words
 some_front x reply head count headed counted some told =
-    told ∙ ap (λ h. words_of 3 (item_at x h)) (sym headed) ∙ ap (λ b. cond b (reply_words Empty) (words_of 3 (item_at x (head_in x)))) (sym (ne_eqb (count_in x) 0 (λ e. some (sym counted ∙ e))))
+    told ∙ ap (λ h. words_of_item 3 (item_at x h)) (sym headed) ∙ ap (λ b. cond b (reply_words Empty) (words_of_item 3 (item_at x (queue_head x)))) (sym (ne_eqb (count_in x) 0 (λ e. some (sym counted ∙ e))))
 
 -- the item that was loaded
 pub loaded_item : (x item : List ℕ) (place : ℕ) → length item ≡ 8 → AreAt (8 * (place + 1)) item x → item ≡ item_at x place
@@ -114,9 +114,9 @@ module _ (lines : ℕ) (x y op reply : List ℕ) where
   unfolding fifo_step
   peek_is kind same told = ap (λ k. step_by k lines (item_in op) x) kind ∙ ap₂ both (sym same) (ap front_words (sym same) ∙ sym told)
 
-  pub len_is : kind_in op ≡ 4 → y ≡ x → reply ≡ words_of 5 (number_item (count_in y)) → fifo_step lines x op ≡ both y reply
+  pub len_is : kind_in op ≡ 4 → y ≡ x → reply ≡ words_of_item 5 (number_item (count_in y)) → fifo_step lines x op ≡ both y reply
   unfolding fifo_step
-  len_is kind same told = ap (λ k. step_by k lines (item_in op) x) kind ∙ ap₂ both (sym same) (ap (λ w. words_of 5 (number_item (count_in w))) (sym same) ∙ sym told)
+  len_is kind same told = ap (λ k. step_by k lines (item_in op) x) kind ∙ ap₂ both (sym same) (ap (λ w. words_of_item 5 (number_item (count_in w))) (sym same) ∙ sym told)
 
   pub none_is : kind_in op ≢ 1 → kind_in op ≢ 2 → kind_in op ≢ 3 → kind_in op ≢ 4 → y ≡ x → reply ≡ replicate 144 0 → fifo_step lines x op ≡ both y reply
   unfolding fifo_step

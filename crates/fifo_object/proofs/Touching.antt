@@ -4,11 +4,11 @@ use Rattle.std.proofs.lemmas.Bool.{eqb-true}
 use Rattle.std.proofs.lemmas.List.{get_or-set_other}
 use Rattle.cx_base.specs.Memory.{overwritten}
 use Rattle.cx_base.proofs.WordLemmas.{overwritten_before, overwritten_behind}
-use Rattle.fifo_model.specs.Words.{item_in, kind_in, reply_words, words_of}
-use Rattle.fifo_model.specs.WordLaws.{item_is_asked}
-use Rattle.fifo_model.specs.declared.operations.FifoReply.TheVariants.{Empty, Full, Length, Pushed}
-use Rattle.fifo_object.specs.Fifo.{IsSameAt, IsSameBeside, TouchesTwoLines, count_in, fifo_step, front_words, head_in, item_at, len_step, peek_step, place_of, pop_step, popped, push_step, pushed}
-use Rattle.fifo_object.specs.FifoLaws.{chosen, item_fits}
+use Rattle.fifo_object.specs.Words.{item_in, kind_in, reply_words, words_of_item}
+use Rattle.fifo_object.specs.WordLaws.{item_is_asked}
+use Rattle.fifo_object.specs.declared.operations.FifoReply.TheVariants.{Empty, Full, Length, Pushed}
+use Rattle.fifo_object.specs.Fifo.{IsSameAt, IsSameBeside, TouchesTwoLines, count_in, fifo_step, front_words, queue_head, item_at, len_step, peek_step, item_place, pop_step, popped, push_step, pushed}
+use Rattle.fifo_object.specs.FifoLaws.{holds_of_choice, item_fits}
 
 -- a word of the header put otherwise, and an item at the place
 set_beside : (place j v : ℕ) (image : List ℕ) → j < 8 → IsSameBeside place (slice_set image j v) image
@@ -24,20 +24,20 @@ second true x y = refl
 second false x y = refl
 
 -- the reply that is the item at the front, of two images that are the same there
-front_same : (image other : List ℕ) → IsSameAt (head_in image) other image →
-    cond (count_in other == 0) (reply_words Empty) (words_of 3 (item_at other (head_in other))) ≡ cond (count_in image == 0) (reply_words Empty) (words_of 3 (item_at image (head_in image)))
+front_same : (image other : List ℕ) → IsSameAt (queue_head image) other image →
+    cond (count_in other == 0) (reply_words Empty) (words_of_item 3 (item_at other (queue_head other))) ≡ cond (count_in image == 0) (reply_words Empty) (words_of_item 3 (item_at image (queue_head image)))
 front_same image other same =
-    ap (λ n. cond (n == 0) (reply_words Empty) (words_of 3 (item_at other (head_in other)))) (same.header 2 (omega arith))
-    ∙ ap (λ item. cond (count_in image == 0) (reply_words Empty) (words_of 3 item)) (ap (item_at other) (same.header 1 (omega arith)) ∙ same.item)
+    ap (λ n. cond (n == 0) (reply_words Empty) (words_of_item 3 (item_at other (queue_head other)))) (same.header 2 (omega arith))
+    ∙ ap (λ item. cond (count_in image == 0) (reply_words Empty) (words_of_item 3 item)) (ap (item_at other) (same.header 1 (omega arith)) ∙ same.item)
 
 module _ (lines : ℕ) (image : List ℕ) where
   push_touches : (item : List ℕ) → length item ≡ 8 → TouchesTwoLines (push_step lines item) image
   unfolding push_step pushed
   push_touches item long =
-      let place = place_of lines image (count_in image) in
+      let place = item_place lines image (count_in image) in
       record {
         place = place;
-        changes = chosen (λ (p : List ℕ × List ℕ). IsSameBeside place p.0 image) (nat_le (lines - 1) (count_in image)) (image, reply_words Full) (pushed lines item image, reply_words Pushed) (λ _ at from apart. refl)
+        changes = holds_of_choice (λ (p : List ℕ × List ℕ). IsSameBeside place p.0 image) (nat_le (lines - 1) (count_in image)) (image, reply_words Full) (pushed lines item image, reply_words Pushed) (λ _ at from apart. refl)
             (λ _ at from apart. set_beside place 2 (count_in image + 1) (overwritten (8 * (place + 1)) item image) (omega arith) at from apart ∙ put_beside place item image long at from apart);
         reply = λ other same.
             second (nat_le (lines - 1) (count_in other)) (other, reply_words Full) (pushed lines item other, reply_words Pushed)
@@ -48,20 +48,20 @@ module _ (lines : ℕ) (image : List ℕ) where
   pop_touches : TouchesTwoLines (pop_step lines) image
   unfolding pop_step popped
   pop_touches =
-      let place = head_in image in
+      let place = queue_head image in
       record {
         place = place;
-        changes = chosen (λ (p : List ℕ × List ℕ). IsSameBeside place p.0 image) (count_in image == 0) (image, reply_words Empty) (popped lines image, words_of 3 (item_at image (head_in image))) (λ _ at from apart. refl)
-            (λ _ at from apart. set_beside place 2 (count_in image - 1) (slice_set image 1 (place_of lines image 1)) (omega arith) at from apart ∙ set_beside place 1 (place_of lines image 1) image (omega arith) at from apart);
+        changes = holds_of_choice (λ (p : List ℕ × List ℕ). IsSameBeside place p.0 image) (count_in image == 0) (image, reply_words Empty) (popped lines image, words_of_item 3 (item_at image (queue_head image))) (λ _ at from apart. refl)
+            (λ _ at from apart. set_beside place 2 (count_in image - 1) (slice_set image 1 (item_place lines image 1)) (omega arith) at from apart ∙ set_beside place 1 (item_place lines image 1) image (omega arith) at from apart);
         reply = λ other same.
-            second (count_in other == 0) (other, reply_words Empty) (popped lines other, words_of 3 (item_at other (head_in other)))
+            second (count_in other == 0) (other, reply_words Empty) (popped lines other, words_of_item 3 (item_at other (queue_head other)))
             ∙ front_same image other same
-            ∙ sym (second (count_in image == 0) (image, reply_words Empty) (popped lines image, words_of 3 (item_at image (head_in image))));
+            ∙ sym (second (count_in image == 0) (image, reply_words Empty) (popped lines image, words_of_item 3 (item_at image (queue_head image))));
       }
 
   peek_touches : TouchesTwoLines peek_step image
   unfolding front_words
-  peek_touches = record { place = head_in image; changes = λ at from apart. refl; reply = front_same image }
+  peek_touches = record { place = queue_head image; changes = λ at from apart. refl; reply = front_same image }
 
   len_touches : TouchesTwoLines len_step image
   len_touches = record { place = 0; changes = λ at from apart. refl; reply = λ other same. ap (λ n. reply_words (Length n)) (same.header 2 (omega arith)) }

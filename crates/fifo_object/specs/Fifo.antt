@@ -4,43 +4,43 @@ use Rattle.std.specs.Prelude.{◌≡◌, ◌==◌, ◌||◌, ◌⊎◌, ◌+◌,
 use Rattle.std.specs.List.{range_with_len}
 use Rattle.cx_base.specs.Memory.{Always, Words, overwritten}
 use Rattle.cx_base.specs.declared.memory.Memory.{Ghosts}
-use Rattle.fifo_model.specs.Words.{is_item, item_in, kind_in, op_words, reply_words, words_of}
-use Rattle.fifo_model.specs.declared.operations.FifoOp.TheVariants.{Len, Peek}
-use Rattle.fifo_model.specs.declared.operations.FifoReply.TheVariants.{Empty, Full, Length, Pushed}
+use Rattle.fifo_object.specs.Words.{is_item, item_in, kind_in, op_words, reply_words, words_of_item}
+use Rattle.fifo_object.specs.declared.operations.FifoOp.TheVariants.{Len, Peek}
+use Rattle.fifo_object.specs.declared.operations.FifoReply.TheVariants.{Empty, Full, Length, Pushed}
 
 -- the header's words
-abbrev pub head_in : List ℕ → ℕ
-head_in image = slice_index image 1
+abbrev pub queue_head : List ℕ → ℕ
+queue_head image = slice_index image 1
 
 abbrev pub count_in : List ℕ → ℕ
 count_in image = slice_index image 2
 
 -- the place of an item, counted from the head
-abbrev pub place_of : ℕ → List ℕ → ℕ → ℕ
-place_of lines image i = (head_in image + i) % (lines - 1)
+abbrev pub item_place : ℕ → List ℕ → ℕ → ℕ
+item_place lines image i = (queue_head image + i) % (lines - 1)
 
 -- the eight words of a place
 abbrev pub item_at : List ℕ → ℕ → List ℕ
 item_at image place = map (λ k. slice_index image (8 * (place + 1) + k)) (range_with_len 0 8)
 
 -- a header: the version, a head that is a place, at most as many items as places, and zeros
-pub record IsHeader (lines : ℕ) (image : List ℕ) : Type 0 where
+pub record IsQueueHeader (lines : ℕ) (image : List ℕ) : Type 0 where
   pub version : slice_index image 0 ≡ 16
-  pub head : head_in image < lines - 1
+  pub head : queue_head image < lines - 1
   pub count : count_in image ≤ lines - 1
   pub zeros : (slice_index image 3 ≡ 0) × (slice_index image 4 ≡ 0) × (slice_index image 5 ≡ 0) × (slice_index image 6 ≡ 0) × (slice_index image 7 ≡ 0)
 
 -- what stands at the places of the items are texts
 abbrev pub HasItems : ℕ → List ℕ → Type 0
-HasItems lines image = (i : ℕ) → i < count_in image → is_item (item_at image (place_of lines image i)) ≡ true
+HasItems lines image = (i : ℕ) → i < count_in image → is_item (item_at image (item_place lines image i)) ≡ true
 
--- A lawful image of so many lines. What stands at other places is not looked at.
+-- A lawful image of the given number of lines. What stands at other places is not looked at.
 pub record IsFifo (lines : ℕ) (image : List ℕ) : Type 0 where
   pub words : Words (8 * lines) image
-  pub header : IsHeader lines image
+  pub header : IsQueueHeader lines image
   pub items : HasItems lines image
 
--- a memory whose words stand for a queue of so many lines
+-- a memory whose words stand for a queue of the given number of lines
 pub record HoldsFifo {Memory : Type 0} (m : Ghosts Memory) (lines : ℕ) (mem : Memory) : Type 0 where
   pub size : m.size mem ≡ 8 * lines
   pub lawful : Always (m.stands mem) (IsFifo lines)
@@ -51,14 +51,14 @@ fifo_opening lines = 16 ∷ replicate (8 * lines - 1) 0
 
 -- the image after an item is put behind the last, and after the one at the front is taken
 unfoldable pub pushed : ℕ → List ℕ → List ℕ → List ℕ
-pushed lines item image = slice_set (overwritten (8 * (place_of lines image (count_in image) + 1)) item image) 2 (count_in image + 1)
+pushed lines item image = slice_set (overwritten (8 * (item_place lines image (count_in image) + 1)) item image) 2 (count_in image + 1)
 
 unfoldable pub popped : ℕ → List ℕ → List ℕ
-popped lines image = slice_set (slice_set image 1 (place_of lines image 1)) 2 (count_in image - 1)
+popped lines image = slice_set (slice_set image 1 (item_place lines image 1)) 2 (count_in image - 1)
 
 -- the reply that is the item at the front
 unfoldable pub front_words : List ℕ → List ℕ
-front_words image = if count_in image == 0 then reply_words Empty else words_of 3 (item_at image (head_in image))
+front_words image = if count_in image == 0 then reply_words Empty else words_of_item 3 (item_at image (queue_head image))
 
 -- the image after each operation, and the words of its reply
 unfoldable pub push_step : ℕ → List ℕ → List ℕ → List ℕ × List ℕ
@@ -66,7 +66,7 @@ push_step lines item image =
     if nat_le (lines - 1) (count_in image) then (image, reply_words Full) else (pushed lines item image, reply_words Pushed)
 
 unfoldable pub pop_step : ℕ → List ℕ → List ℕ × List ℕ
-pop_step lines image = if count_in image == 0 then (image, reply_words Empty) else (popped lines image, words_of 3 (item_at image (head_in image)))
+pop_step lines image = if count_in image == 0 then (image, reply_words Empty) else (popped lines image, words_of_item 3 (item_at image (queue_head image)))
 
 abbrev pub peek_step : List ℕ → List ℕ × List ℕ
 peek_step image = (image, front_words image)

@@ -1,7 +1,10 @@
-pub mod Ring
-pub mod RingLaws
 pub mod Fifo
-pub mod Places
 pub mod FifoLaws
 pub mod FifoMeaning
 pub mod MeaningLaws
+pub mod Places
+pub mod Queue
+pub mod Ring
+pub mod RingLaws
+pub mod WordLaws
+pub mod Words

@@ -7,7 +7,7 @@ use Rattle.std.proofs.lemmas.List.{get_or-set_other, get_or-set_same, length-set
 use Rattle.std.proofs.lemmas.List.FromFn.{fill_by_all, get_or-map-range_with_len, length-map-range_with_len}
 use Rattle.cx_base.specs.Memory.{Words, overwritten}
 use Rattle.cx_base.proofs.WordLemmas.{length-overwritten, overwritten_before, overwritten_behind, overwritten_within}
-use Rattle.fifo_object.specs.Fifo.{count_in, head_in, item_at, place_of, popped, pushed}
+use Rattle.fifo_object.specs.Fifo.{count_in, queue_head, item_at, item_place, popped, pushed}
 
 -- the word of an item
 pub word_at : (image : List ℕ) (p k : ℕ) → k < 8 → slice_index (item_at image p) k ≡ slice_index image (8 * (p + 1) + k)
@@ -45,10 +45,10 @@ put_apart image item p q long apart = item_same (overwritten (8 * (p + 1)) item 
 module _ (lines : ℕ) (image item : List ℕ) (w : Words (8 * lines) image) (some : 2 ≤ lines) (long : length item ≡ 8) where
   -- where a push puts its item
   abbrev behind_last : ℕ
-  behind_last = place_of lines image (count_in image)
+  behind_last = item_place lines image (count_in image)
 
   place_below : behind_last < lines - 1
-  place_below = mod-lt (head_in image + count_in image) (omega (arith, some))
+  place_below = mod-lt (queue_head image + count_in image) (omega (arith, some))
 
   room : 8 * (behind_last + 1) + 8 ≤ length image
   room = omega (arith, place_below, w.long)
@@ -76,20 +76,20 @@ module _ (lines : ℕ) (image item : List ℕ) (w : Words (8 * lines) image) (so
 
 module _ (lines : ℕ) (image : List ℕ) (w : Words (8 * lines) image) (some : 2 ≤ lines) where
   abbrev with_head : List ℕ
-  with_head = slice_set image 1 (place_of lines image 1)
+  with_head = slice_set image 1 (item_place lines image 1)
 
   long_enough : 2 < length with_head
-  long_enough = omega (arith, length-set image 1 (place_of lines image 1), w.long, some)
+  long_enough = omega (arith, length-set image 1 (item_place lines image 1), w.long, some)
 
   -- a word of the header that a pop leaves
   pub popped_header : (j : ℕ) → j ≢ 1 → j ≢ 2 → slice_index (popped lines image) j ≡ slice_index image j
   unfolding popped
-  popped_header j one two = get_or-set_other with_head 2 j (count_in image - 1) 0 two ∙ get_or-set_other image 1 j (place_of lines image 1) 0 one
+  popped_header j one two = get_or-set_other with_head 2 j (count_in image - 1) 0 two ∙ get_or-set_other image 1 j (item_place lines image 1) 0 one
 
-  pub popped_head : head_in (popped lines image) ≡ place_of lines image 1
+  pub popped_head : queue_head (popped lines image) ≡ item_place lines image 1
   unfolding popped
   popped_head =
-      get_or-set_other with_head 2 1 (count_in image - 1) 0 (λ e. omega (arith, e)) ∙ get_or-set_same image 1 (place_of lines image 1) 0 (omega (arith, w.long, some))
+      get_or-set_other with_head 2 1 (count_in image - 1) 0 (λ e. omega (arith, e)) ∙ get_or-set_same image 1 (item_place lines image 1) 0 (omega (arith, w.long, some))
 
   pub popped_count : count_in (popped lines image) ≡ count_in image - 1
   unfolding popped
@@ -97,4 +97,4 @@ module _ (lines : ℕ) (image : List ℕ) (w : Words (8 * lines) image) (some : 
 
   pub popped_items : (q : ℕ) → item_at (popped lines image) q ≡ item_at image q
   unfolding popped
-  popped_items q = header_apart with_head 2 (count_in image - 1) q (omega arith) ∙ header_apart image 1 (place_of lines image 1) q (omega arith)
+  popped_items q = header_apart with_head 2 (count_in image - 1) q (omega arith) ∙ header_apart image 1 (item_place lines image 1) q (omega arith)

@@ -4,8 +4,8 @@ use Rattle.std.proofs.Math.Nat.{mod-add-mod, mod-eq_of_lt, mod-lt}
 use Rattle.std.proofs.lemmas.Bool.{eq-eqb, ne_eqb}
 use Rattle.std.proofs.lemmas.Option.{same_Some, none-some, slice_get_within}
 use Rattle.atomic_table.proofs.Lists.{one_turn}
-use Rattle.fifo_model.specs.Queue.{Queue}
-use Rattle.fifo_object.specs.Ring.{InRing, put_at}
+use Rattle.fifo_object.specs.Queue.{Queue}
+use Rattle.fifo_object.specs.Ring.{IsQueueInRing, put_at}
 
 -- an item of a list with one more
 last_or : (queue : Queue) (text : List ℕ) (i : ℕ) (t : List ℕ) → slice_get (queue ++ text ∷ []) i ≡ Some t → (slice_get queue i ≡ Some t) ⊎ ((i ≡ length queue) × (text ≡ t))
@@ -21,8 +21,8 @@ last_or (x ∷ queue) text (suc i) t at = elim (last_or queue text i t at) [
 pub apart : (places head count i : ℕ) → i < count → count < places → (head + i) % places ≢ (head + count) % places
 apart places head count i less room same = (let one = one_turn (head + i) (head + count) places (omega (arith, less)) (omega (arith, room)) same in omega (arith, one, less))
 
-module _ (places head count : ℕ) (at : ℕ → List ℕ) (queue : Queue) (r : InRing places head count at queue) where
-  pub ring_pushed : (text : List ℕ) → count < places → InRing places head (count + 1) (put_at ((head + count) % places) text at) (queue ++ text ∷ [])
+module _ (places head count : ℕ) (at : ℕ → List ℕ) (queue : Queue) (r : IsQueueInRing places head count at queue) where
+  pub ring_pushed : (text : List ℕ) → count < places → IsQueueInRing places head (count + 1) (put_at ((head + count) % places) text at) (queue ++ text ∷ [])
   ring_pushed text room = record {
     long = omega (arith, length-append queue (text ∷ []), r.long);
     start = r.start;
@@ -38,7 +38,7 @@ module _ (places head count : ℕ) (at : ℕ → List ℕ) (queue : Queue) (r : 
   }
 
   -- the same with what stands at each place told otherwise
-  pub ring_same : (head' count' : ℕ) (at' : ℕ → List ℕ) → head' ≡ head → count' ≡ count → ((p : ℕ) → at' p ≡ at p) → InRing places head' count' at' queue
+  pub ring_same : (head' count' : ℕ) (at' : ℕ → List ℕ) → head' ≡ head → count' ≡ count → ((p : ℕ) → at' p ≡ at p) → IsQueueInRing places head' count' at' queue
   ring_same head' count' at' h c same = record {
     long = r.long ∙ sym c;
     start = (let s = r.start in omega (arith, h, s));
@@ -47,12 +47,12 @@ module _ (places head count : ℕ) (at : ℕ → List ℕ) (queue : Queue) (r : 
   }
 
 -- the first item stands at the head
-pub ring_front : (places head count : ℕ) (at : ℕ → List ℕ) (text : List ℕ) (queue : Queue) → InRing places head count at (text ∷ queue) → at head ≡ text
+pub ring_front : (places head count : ℕ) (at : ℕ → List ℕ) (text : List ℕ) (queue : Queue) → IsQueueInRing places head count at (text ∷ queue) → at head ≡ text
 ring_front places head count at text queue r =
     let first : (head + 0) % places ≡ head = ap (λ k. k % places) (let e : head + 0 ≡ head = omega arith in e) ∙ mod-eq_of_lt r.start in
     ap at (sym first) ∙ r.items 0 text refl
 
-pub ring_popped : (places head count : ℕ) (at : ℕ → List ℕ) (text : List ℕ) (queue : Queue) → InRing places head (suc count) at (text ∷ queue) → InRing places ((head + 1) % places) count at queue
+pub ring_popped : (places head count : ℕ) (at : ℕ → List ℕ) (text : List ℕ) (queue : Queue) → IsQueueInRing places head (suc count) at (text ∷ queue) → IsQueueInRing places ((head + 1) % places) count at queue
 ring_popped places head count at text queue r = record {
   long = (let l = r.long in omega (arith, l));
   start = mod-lt (head + 1) (let s = r.start in omega (arith, s));

@@ -3,12 +3,12 @@
 ghost use Rattle.std.specs.Prelude.{◌≡◌, ◌+◌, ◌-◌, ◌*◌, ◌^◌, ◌<◌, ◌≤◌, ◌↔◌, IsTrue, IfOk, length, replicate};
 ghost use Rattle.cx_base.specs.Calls.{Changes, Finds};
 ghost use Rattle.cx_base.specs.OldFormat.{no_old_format, takes_over_nothing};
-ghost use Rattle.fifo_model.specs.Words as spec;
-ghost use Rattle.fifo_object.specs.Fifo.{HasItems, HoldsFifo, IsFifo, IsHeader, count_in, fifo_opening, fifo_reads, fifo_step, front_words, head_in, item_at, pop_step, push_step};
+ghost use Rattle.fifo_object.specs.Words as spec;
+ghost use Rattle.fifo_object.specs.Fifo.{HasItems, HoldsFifo, IsFifo, IsQueueHeader, count_in, fifo_opening, fifo_reads, fifo_step, front_words, queue_head, item_at, pop_step, push_step};
 ghost use Rattle.fifo_object.specs.FifoLaws as laws;
 
-use cx_base::{Halt, Memory, Object, store_words};
-use fifo_model::{is_item, item_of_number, kind_in};
+use crate::words::{is_item, item_of_number, kind_in};
+use cx_base::{Halt, Memory, OP_WORDS, Object, OpWords, store_words};
 use std::alloc::{AllocError, Global};
 
 const VERSION: u64 = 16;
@@ -50,7 +50,7 @@ impl Fifo {
     /// Loads the header's words.
     fn ends<M: Memory>(&self, mem: &mut M) -> Result<Ends, Halt>
         requires { HoldsFifo M.Memory self.now.lines mem.old }
-        ensures finds { Finds M.Memory mem.old mem.new result (λ ends now. (head_in now ≡ ends.head) × (count_in now ≡ ends.count)) }
+        ensures finds { Finds M.Memory mem.old mem.new result (λ ends now. (queue_head now ≡ ends.head) × (count_in now ≡ ends.count)) }
         ensures bounds { IfOk result (λ ends. (ends.head < self.now.lines - 1) × (ends.count ≤ self.now.lines - 1)) }
     {
         let head = mem.load(HEAD_AT)?;
@@ -59,11 +59,11 @@ impl Fifo {
     }
 
     /// Puts an item behind the last.
-    fn push<M: Memory>(&self, mem: &mut M, item: &[u64], reply: &mut [u64; 144]) -> Result<(), Halt>
+    fn push<M: Memory>(&self, mem: &mut M, item: &[u64], reply: &mut OpWords) -> Result<(), Halt>
         requires holds { HoldsFifo M.Memory self.now.lines mem.old }
         requires writable { IsTrue (M.writable mem.old) }
         requires item { length item.now ≡ 8 }
-        requires zero { reply.old ≡ replicate 144 0 }
+        requires zero { reply.old ≡ replicate OP_WORDS 0 }
         ensures { Changes M.Memory mem.old mem.new result (λ _ before now. push_step self.now.lines item.now before ≡ (now, reply.new)) }
     {
         let ends = self.ends(mem)?;
@@ -79,10 +79,10 @@ impl Fifo {
     }
 
     /// Takes the item at the front.
-    fn pop<M: Memory>(&self, mem: &mut M, reply: &mut [u64; 144]) -> Result<(), Halt>
+    fn pop<M: Memory>(&self, mem: &mut M, reply: &mut OpWords) -> Result<(), Halt>
         requires holds { HoldsFifo M.Memory self.now.lines mem.old }
         requires writable { IsTrue (M.writable mem.old) }
-        requires zero { reply.old ≡ replicate 144 0 }
+        requires zero { reply.old ≡ replicate OP_WORDS 0 }
         ensures { Changes M.Memory mem.old mem.new result (λ _ before now. pop_step self.now.lines before ≡ (now, reply.new)) }
     {
         let ends = self.ends(mem)?;
@@ -97,9 +97,9 @@ impl Fifo {
     }
 
     /// Tells the item at the front.
-    fn peek<M: Memory>(&self, mem: &mut M, reply: &mut [u64; 144]) -> Result<(), Halt>
+    fn peek<M: Memory>(&self, mem: &mut M, reply: &mut OpWords) -> Result<(), Halt>
         requires holds { HoldsFifo M.Memory self.now.lines mem.old }
-        requires zero { reply.old ≡ replicate 144 0 }
+        requires zero { reply.old ≡ replicate OP_WORDS 0 }
         ensures { Finds M.Memory mem.old mem.new result (λ _ now. reply.new ≡ front_words now) }
     {
         let ends = self.ends(mem)?;
@@ -115,12 +115,12 @@ impl Fifo {
         &self,
         mem: &mut M,
         place: u64,
-        reply: &mut [u64; 144],
+        reply: &mut OpWords,
     ) -> Result<(), Halt>
         requires size { M.size mem.old ≡ 8 * self.now.lines }
         requires place { place < self.now.lines - 1 }
-        requires zero { reply.old ≡ replicate 144 0 }
-        ensures { Finds M.Memory mem.old mem.new result (λ _ now. reply.new ≡ spec.words_of 3 (item_at now place)) }
+        requires zero { reply.old ≡ replicate OP_WORDS 0 }
+        ensures { Finds M.Memory mem.old mem.new result (λ _ now. reply.new ≡ spec.words_of_item 3 (item_at now place)) }
     {
         let mut item = [0; 8];
         mem.load_words(8 * (place + 1), &mut item)?;
@@ -129,10 +129,10 @@ impl Fifo {
     }
 
     /// Tells the number of items.
-    fn len<M: Memory>(&self, mem: &mut M, reply: &mut [u64; 144]) -> Result<(), Halt>
+    fn len<M: Memory>(&self, mem: &mut M, reply: &mut OpWords) -> Result<(), Halt>
         requires size { M.size mem.old ≡ 8 * self.now.lines }
-        requires zero { reply.old ≡ replicate 144 0 }
-        ensures { Finds M.Memory mem.old mem.new result (λ _ now. reply.new ≡ spec.words_of 5 (spec.number_item (count_in now))) }
+        requires zero { reply.old ≡ replicate OP_WORDS 0 }
+        ensures { Finds M.Memory mem.old mem.new result (λ _ now. reply.new ≡ spec.words_of_item 5 (spec.number_item (count_in now))) }
     {
         let count = mem.load(COUNT_AT)?;
         put_words(5, &item_of_number(count), reply);
@@ -140,15 +140,10 @@ impl Fifo {
     }
 
     /// Answers an operation that only reads.
-    fn answer<M: Memory>(
-        &self,
-        mem: &mut M,
-        op: &[u64; 144],
-        reply: &mut [u64; 144],
-    ) -> Result<(), Halt>
+    fn answer<M: Memory>(&self, mem: &mut M, op: &OpWords, reply: &mut OpWords) -> Result<(), Halt>
         requires holds { HoldsFifo M.Memory self.now.lines mem.old }
         requires reads { IsTrue (fifo_reads op.now) }
-        requires zero { reply.old ≡ replicate 144 0 }
+        requires zero { reply.old ≡ replicate OP_WORDS 0 }
         ensures { Finds M.Memory mem.old mem.new result (λ _ now. fifo_step self.now.lines now op.now ≡ (now, reply.new)) }
     {
         match kind_in(op) {
@@ -160,7 +155,7 @@ impl Fifo {
     /// Whether words have a header.
     fn has_header(&self, words: &[u64]) -> bool
         requires { length words.now ≡ 8 * self.now.lines }
-        ensures { IsTrue result ↔ IsHeader self.now.lines words.now }
+        ensures { IsTrue result ↔ IsQueueHeader self.now.lines words.now }
     {
         words[0] == VERSION
             && words[1] < self.lines - 1
@@ -175,7 +170,7 @@ impl Fifo {
     /// Whether what stands at the places of the items are texts.
     fn has_items(&self, words: &[u64]) -> bool
         requires size { length words.now ≡ 8 * self.now.lines }
-        requires header { IsHeader self.now.lines words.now }
+        requires header { IsQueueHeader self.now.lines words.now }
         ensures { IsTrue result ↔ HasItems self.now.lines words.now }
     {
         for i in 0..words[2] {
@@ -195,10 +190,10 @@ impl Fifo {
 }
 
 /// Puts the words of a kind and an item where the reply is made, in words that are 0: to move such words costs as much as the step.
-fn put_words(kind: u64, item: &[u64], reply: &mut [u64; 144])
+fn put_words(kind: u64, item: &[u64], reply: &mut OpWords)
     requires item { length item.now ≡ 8 }
-    requires zero { reply.old ≡ replicate 144 0 }
-    ensures { reply.new ≡ spec.words_of kind item.now }
+    requires zero { reply.old ≡ replicate OP_WORDS 0 }
+    ensures { reply.new ≡ spec.words_of_item kind item.now }
 {
     reply[0] = kind;
     reply[1..9].copy_from_slice(item);
@@ -256,24 +251,18 @@ impl Object for Fifo {
         Ok(())
     }
 
-    fn reads(&self, op: &[u64; 144]) -> bool {
+    fn reads(&self, op: &OpWords) -> bool {
         let kind = kind_in(op);
         kind == 3 || kind == 4
-    }
-
-    fn run<M: Memory>(&self, mem: &mut M, op: &[u64; 144]) -> Result<[u64; 144], Halt> {
-        let mut reply = [0; 144];
-        self.run_into(mem, op, &mut reply)?;
-        Ok(reply)
     }
 
     fn run_into<M: Memory>(
         &self,
         mem: &mut M,
-        op: &[u64; 144],
-        reply: &mut [u64; 144],
+        op: &OpWords,
+        reply: &mut OpWords,
     ) -> Result<(), Halt> {
-        *reply = [0; 144];
+        *reply = [0; OP_WORDS];
         match kind_in(op) {
             1 => self.push(mem, &op[1..9], reply),
             2 => self.pop(mem, reply),
@@ -283,19 +272,13 @@ impl Object for Fifo {
         }
     }
 
-    fn query<M: Memory>(&self, mem: &mut M, op: &[u64; 144]) -> Result<[u64; 144], Halt> {
-        let mut reply = [0; 144];
-        self.query_into(mem, op, &mut reply)?;
-        Ok(reply)
-    }
-
     fn query_into<M: Memory>(
         &self,
         mem: &mut M,
-        op: &[u64; 144],
-        reply: &mut [u64; 144],
+        op: &OpWords,
+        reply: &mut OpWords,
     ) -> Result<(), Halt> {
-        *reply = [0; 144];
+        *reply = [0; OP_WORDS];
         self.answer(mem, op, reply)
     }
 

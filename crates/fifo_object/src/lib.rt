@@ -1,4 +1,18 @@
-//! A durable bounded queue of texts, as an object: a ring of lines.
+//! Producers and consumers that share a bounded queue want each text popped once and in order, across crashes too. The construction gives that to an
+//! object that is sequential code over words; this is a queue of texts as such an object.
+//!
+//! It is a ring buffer: a header with the place of the first item and the number of items, and a line for each item. Unlike a ring buffer between
+//! threads it has no atomic words of its own, since threads and crashes are the construction's matter; what counts is that a change touches two lines
+//! only. What the operations mean is said over a list of texts.
+//!
+//! Operations and replies:
+//!
+//! - The words of an operation and of a reply are their definitions: `fifo_words`, `fifo_reply_words`.
+//! - An operation, or a reply, is read from words exactly where they are words of one within the limits: `fifo_of`, `fifo_reply_of` (`found`,
+//!   `bad`). Two with the same words are one: `fifo_words_are_one_to_one`.
+//! - What was in a queue and what is pushed into it comes out in that order: `queues_keep_their_order`.
+//!
+//! The object:
 //!
 //! - It is an object: its calls do its step, its format and its check over any memory, and its laws hold: `Fifo` (`impl Object`).
 //! - A push and a pop touch the header's line and one more: `steps_touch_two_lines`.
@@ -9,12 +23,18 @@
 
 mod fifo;
 mod laws;
+mod operations;
+mod queue_laws;
 mod typed_fifo;
+mod words;
 
 pub use fifo::Fifo;
-pub use fifo_model::{
-    FifoFault, FifoOp, FifoReply, fifo_of, fifo_reply_of, fifo_reply_words, fifo_words,
-};
 pub use laws::{
     readings_are_peek_and_len, steps_touch_two_lines, words_of_no_operation_change_nothing,
+};
+pub use operations::{FifoOp, FifoReply};
+pub use queue_laws::{fifo_words_are_one_to_one, queues_keep_their_order};
+pub use words::{
+    FifoFault, fifo_of, fifo_reply_of, fifo_reply_words, fifo_words, is_item, is_text,
+    item_of_number, kind_in, words_of,
 };

@@ -1,13 +1,14 @@
 //! The queue as an object whose operations and replies are values of types.
 
 ghost use Rattle.std.specs.Prelude.{◌^◌, ◌<◌, All};
-ghost use Rattle.fifo_model.specs.Queue.{Queue};
+ghost use Rattle.fifo_object.specs.Queue.{Queue};
 ghost use Rattle.fifo_object.specs.FifoMeaning.{fifo_meaning};
 ghost use Rattle.fifo_object.specs.MeaningLaws.{fifo_has_meaning};
 
 use crate::fifo::Fifo;
-use cx_base::Object;
-use fifo_model::{FifoFault, FifoOp, FifoReply, fifo_reply_of, fifo_words};
+use crate::operations::{FifoOp, FifoReply};
+use crate::words::{FifoFault, fifo_reply_of, fifo_words};
+use cx_base::{Object, OpWords};
 use std::alloc::{AllocError, Global};
 use typed_object::TypedObject;
 
@@ -26,7 +27,7 @@ impl TypedObject for Fifo {
         Fifo::of(self.lines())
     }
 
-    fn words_of(&self, op: &FifoOp) -> [u64; 144] {
+    fn words_of(&self, op: &FifoOp) -> OpWords {
         fifo_words(op)
     }
 
@@ -34,7 +35,7 @@ impl TypedObject for Fifo {
         op.only_reads()
     }
 
-    fn reply_of(&self, alloc: Global, words: &[u64; 144]) -> Result<Option<FifoReply>, AllocError> {
+    fn reply_of(&self, alloc: Global, words: &OpWords) -> Result<Option<FifoReply>, AllocError> {
         match fifo_reply_of(alloc, words) {
             Ok(reply) => Ok(Some(reply)),
             Err(FifoFault::Memory) => Err(AllocError),

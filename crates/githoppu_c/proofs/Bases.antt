@@ -3,7 +3,7 @@ use Rattle.std.proofs.Common.{◌≡◌, inl, inr, ℕ, ℤ, List, Result, Ok, E
 use Rattle.std.specs.Prelude.{MatchResult}
 use Rattle.cx_core.specs.declared.entry.Base.{Base}
 use Rattle.recovery.specs.declared.recovering.ImageFault.TheVariants.{Body, Memory}
-use Rattle.c_images.specs.Words.{IsHeaded, kind_in}
+use Rattle.c_images.specs.Words.{IsHeaded, object_kind_in}
 use Rattle.c_images.specs.declared.reading.WordsFault.{WordsFault}
 use Rattle.c_images.specs.declared.reading.WordsFault.TheVariants.{Image}
 use Rattle.githoppu_c.specs.Objects.{IsBaseWith, IsFaultOr, IsNoneWith, IsSameWith, IsStoreFault, IsStoreIn}
@@ -17,7 +17,7 @@ taken is takes faulty base (Err code) took memory (inl told) = (Image Body, inr 
 taken is takes faulty base (Err code) took memory (inr told) = (Image Memory, inl memory, told)
 
 -- what is taken up of a store, or is not, is the base that the words say, or is not
-pub store_base : (words : List ℕ) (answer : Result Base ℤ) → IsHeaded words → kind_in words ≡ 1 → MatchResult answer (IsStoreIn words) (IsRefusal (IsStoreFault words))
+pub store_base : (words : List ℕ) (answer : Result Base ℤ) → IsHeaded words → object_kind_in words ≡ 1 → MatchResult answer (IsStoreIn words) (IsRefusal (IsStoreFault words))
     → MatchResult answer (IsBaseIn words) (RefusesBase words)
 store_base words (Ok base) headed kind told = (headed, inl (kind, told))
 store_base words (Err code) headed kind told = (told.0, inr (headed, inl (kind, told.1)), told.2)

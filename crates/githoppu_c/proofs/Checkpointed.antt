@@ -1,5 +1,5 @@
 -- What a session took is a lawful base.
-use Rattle.std.proofs.Common.{◌≡◌, ◌+◌, ◌≤◌, ◌++◌, ◌∙◌, ℕ, List, Option, IfSome, ap, arith, drop, length, subst, sym, take}
+use Rattle.std.proofs.Common.{◌≡◌, ◌+◌, ◌≤◌, ◌++◌, ◌∙◌, ℕ, ℤ, List, Option, IfSome, ap, arith, drop, inl, inr, length, pos, subst, sym, take}
 use Rattle.std.proofs.Math.Seq.{drop-append_seam, take-append_seam}
 use Rattle.std.proofs.lemmas.List.{length-take-le}
 use Rattle.std.specs.Arc.{arc_value}
@@ -11,9 +11,13 @@ use Rattle.cx_rule.specs.Running.{Running}
 use Rattle.cx_service.specs.declared.close.Handed.{Handed}
 use Rattle.cx_service.specs.declared.close.Handed.TheVariants.{Idle, Linked, Stopped}
 use Rattle.c_sessions.specs.Images.{TakesFrom}
-use Rattle.c_sessions.specs.Sessions.{IsReady, TakesIn}
+use Rattle.c_sessions.specs.Sessions.{IsSessionReady, TakesIn}
 use Rattle.c_sessions.specs.declared.session.Session.{Session}
-use Rattle.c_sessions.specs.declared.taking.Taken.TheVariants.{At, OutOfTurn}
+use Rattle.c_sessions.specs.declared.taking.Taken.{Taken}
+use Rattle.c_sessions.specs.declared.taking.Taken.TheVariants.{At, Again, Stopped as TakenStopped, OutOfTurn}
+use Rattle.githoppu_c.specs.Again.{IsRegionIn}
+use Rattle.githoppu_c.specs.Checkpoints.{IsWrittenAs, TakesAs, taken_code}
+use Rattle.githoppu_c.proofs.TakenUp.{no_other}
 
 in_turn : (place : ℕ) → At place ≡ OutOfTurn → ⊥
 in_turn place same = cc
@@ -29,7 +33,7 @@ module _ {O : Type 0} (o : Ghosts O) (words : List ℕ) (tries place : ℕ) wher
   base_from r (Linked u) after told = absurd (in_turn place told.0)
   base_from r (Stopped u) after told = absurd (in_turn place told.0)
 
-  pub taken_base : (before after : Session O) → IsReady before → IsReady after → TakesIn o words tries before (At place) after → is_base (arc_value before.service)
+  pub taken_base : (before after : Session O) → IsSessionReady before → IsSessionReady after → TakesIn o words tries before (At place) after → is_base (arc_value before.service)
   taken_base before after ready then takes =
       let r = arc_value before.service in
       let told = subst (λ (x : Option Handed). IfSome x (λ b. IfSome after.handed (λ a. TakesFrom o r words tries b (At place) a))) ready.is takes.told in
@@ -48,3 +52,19 @@ written_of kind callers lines place rc rl n before part post words c l long size
     subst (λ m. IsWrittenOf kind rc m place part words) l
     (subst (λ m. IsWrittenOf kind m lines place part words) c
     (subst (λ (ws : List ℕ). IsWrittenOf kind callers lines place ws words) (part_there before part post (region_words lines) (omega (arith, long)) (size ∙ ap region_words (sym l))) written))
+
+-- ---- where an image was taken, its region is in the words
+
+module _ {O : Type 0} (o : Ghosts O) (kind : ℕ) (before after : Session O) (words : List ℕ) (ready : IsSessionReady before) (then : IsSessionReady after) where
+  of_taken : (region : List ℕ) (taken : Taken) → TakesIn o region 16 before taken after → IsWrittenAs kind (arc_value before.service) region taken words → pos 0 ≡ taken_code taken
+      → IsRegionIn o kind (arc_value before.service) words
+  of_taken region (At place) takes written done = record { place = place; region = region; base = taken_base o region 16 place before after ready then takes; written = written }
+  of_taken region Again takes written done = absurd cc
+  of_taken region TakenStopped takes written done = absurd cc
+  of_taken region OutOfTurn takes written done = absurd cc
+
+  pub region_in : (words_before : List ℕ) (needed : ℕ) (code : ℤ) → TakesAs o kind before after words_before words needed code → code ≡ pos 0 → IsRegionIn o kind (arc_value before.service) words
+  region_in words_before needed code takes done = elim takes.took [
+    | inl t ↦ of_taken t.1.region t.1.taken t.1.takes t.1.written (sym done ∙ t.1.is)
+    | inr bad ↦ absurd (no_other code done bad.1)
+  ]

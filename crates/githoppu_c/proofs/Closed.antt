@@ -9,11 +9,11 @@ use Rattle.c_sessions.specs.declared.closing.Closing.TheVariants.{Others, Again,
 use Rattle.c_sessions.specs.declared.session.Session.{Session}
 use Rattle.doc_store.specs.declared.store.DocStore.{DocStore}
 use Rattle.fifo_object.specs.declared.fifo.Fifo.{Fifo}
-use Rattle.githoppu_c.specs.Closings.{queue_left, store_left}
+use Rattle.githoppu_c.specs.Closings.{queue_left, content_left}
 use Rattle.githoppu_c.specs.Contents.{IsCallable}
 use Rattle.githoppu_c.specs.Objects.{ClosesQueue, ClosesQueueTo, ClosesStore, ClosesStoreTo, KeepsDocumentReplies, KeepsQueueReplies}
 
-pub store_callable : (session : Session DocStore) (closing : Closing DocStore) → KeepsDocumentReplies (arc_value session.service) → ClosesStore session closing → IsCallable (store_left closing)
+pub store_callable : (session : Session DocStore) (closing : Closing DocStore) → KeepsDocumentReplies (arc_value session.service) → ClosesStore session closing → IsCallable (content_left closing)
 store_callable session Others keeps is = tt
 store_callable session (Again other) keeps is = (is.0, subst KeepsDocumentReplies (sym is.1) keeps)
 store_callable session (Closed remains) keeps is = (arc_value session.service, is, keeps)
@@ -30,7 +30,7 @@ queue_callable session (Missing rest) keeps is = (arc_value session.service, is.
 queue_callable session (Shared rest) keeps is = (arc_value session.service, is, keeps)
 
 -- and so is what is left of the rest
-pub store_rest_callable : (r : Running DocStore) (closing : Closing DocStore) → KeepsDocumentReplies r → ClosesStoreTo r closing → IsCallable (store_left closing)
+pub store_rest_callable : (r : Running DocStore) (closing : Closing DocStore) → KeepsDocumentReplies r → ClosesStoreTo r closing → IsCallable (content_left closing)
 store_rest_callable r Others keeps is = tt
 store_rest_callable r (Again other) keeps is = absurd is
 store_rest_callable r (Closed remains) keeps is = (r, is, keeps)

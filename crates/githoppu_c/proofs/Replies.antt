@@ -6,17 +6,17 @@ use Rattle.cx_core.specs.Region.{slot_number}
 use Rattle.c_images.specs.Replies.{GivesReplies, HoldsReplies, IsDocumentReply, IsKeptReply, IsQueueReply}
 use Rattle.doc_model.specs.Words.{reply_words}
 use Rattle.doc_model.specs.Meaning.{reply_to}
-use Rattle.doc_store.specs.ExactStep.{IsImage, is_op_in, op_in, store_step}
+use Rattle.doc_store.specs.ExactStep.{IsImageOfStore, is_op_in, op_in, store_step}
 use Rattle.doc_store.specs.StoreLaws.{image_reply_fits, step_none, step_of}
-use Rattle.fifo_model.specs.Words.{is_op_in as is_queue_op_in, item_in, op_in as queue_op_in}
-use Rattle.fifo_model.specs.WordLaws.{no_op, none_has_no_kind, op_is_there}
-use Rattle.fifo_model.specs.Queue.{reply_to as queue_reply_to}
+use Rattle.fifo_object.specs.Words.{is_op_in as is_queue_op_in, item_in, op_in as queue_op_in}
+use Rattle.fifo_object.specs.WordLaws.{no_op, none_has_no_kind, op_is_there}
+use Rattle.fifo_object.specs.Queue.{reply_to as queue_reply_to}
 use Rattle.fifo_object.specs.Fifo.{IsFifo, fifo_step, step_by}
 use Rattle.fifo_object.specs.MeaningLaws.{fifo_has_meaning}
 
 -- ---- a store
 
-document_reply : (lines : ℕ) (image op : List ℕ) (b : Bool) → is_op_in op ≡ b → IsImage lines image → IsKeptReply IsDocumentReply (store_step lines image op).1
+document_reply : (lines : ℕ) (image op : List ℕ) (b : Bool) → is_op_in op ≡ b → IsImageOfStore lines image → IsKeptReply IsDocumentReply (store_step lines image op).1
 document_reply lines image op true passes i =
     let reply = reply_to lines i.store (op_in op) in
     let fits = image_reply_fits lines image (op_in op) i in
@@ -25,7 +25,7 @@ document_reply lines image op true passes i =
     inr (λ none. none reply fits.0 fits.1 (sym is))
 document_reply lines image op false fails i = inl (ap (λ (p : List ℕ × List ℕ). p.1) (step_none lines image op fails))
 
-pub stores_give_replies : (lines : ℕ) → GivesReplies IsDocumentReply (IsImage lines) (store_step lines)
+pub stores_give_replies : (lines : ℕ) → GivesReplies IsDocumentReply (IsImageOfStore lines) (store_step lines)
 stores_give_replies lines image op i fits = document_reply lines image op (is_op_in op) refl i
 
 -- ---- a queue

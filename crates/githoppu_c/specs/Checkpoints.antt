@@ -15,7 +15,7 @@ use Rattle.githoppu_c.specs.Contents.{IsCallable}
 use Rattle.githoppu_c.specs.declared.content.Content.{Content}
 use Rattle.githoppu_c.specs.declared.content.Content.TheVariants.{Documents, Queue}
 
--- the number of what taking an image came to
+-- the number of the result of taking an image
 abbrev pub taken_code : Taken → ℤ
 taken_code (At place) = pos 0
 taken_code Again = pos 2
@@ -23,8 +23,8 @@ taken_code Stopped = pos 5
 taken_code OutOfTurn = pos 6
 
 -- how many words an image of a running service has
-abbrev pub words_of : {O : Type 0} → Running O → ℕ
-words_of r = image_size r.callers r.lines + 8
+abbrev pub checkpoint_words : {O : Type 0} → Running O → ℕ
+checkpoint_words r = image_size r.callers r.lines + 8
 
 -- where an image was taken the words are one of an object of this kind, of which each replica is what was taken
 abbrev pub IsWrittenAs : {O : Type 0} → ℕ → Running O → List ℕ → Taken → List ℕ → Type 0
@@ -32,29 +32,29 @@ IsWrittenAs kind r region (At place) words = IsWrittenOf kind r.callers r.lines 
 IsWrittenAs kind r region taken words = Unit {0}
 
 -- a session took an image in 16 tries, or this was met
-pub record Took {O : Type 0} (o : Ghosts O) (kind : ℕ) (before after : Session O) (words : List ℕ) (code : ℤ) : Type 0 where
+pub record TookImage {O : Type 0} (o : Ghosts O) (kind : ℕ) (before after : Session O) (words : List ℕ) (code : ℤ) : Type 0 where
   pub region : List ℕ
   pub taken : Taken
   pub takes : TakesIn o region 16 before taken after
   pub written : IsWrittenAs kind (arc_value before.service) region taken words
   pub is : code ≡ taken_code taken
 
--- so it was where there are as many words as it takes, which are told; else nothing is changed
+-- so it was where there are as many words as it takes, which is the number that is told; else nothing is changed
 pub record TakesAs {O : Type 0} (o : Ghosts O) (kind : ℕ) (before after : Session O) (words_before words : List ℕ) (needed : ℕ) (code : ℤ) : Type 0 where
-  pub told : needed ≡ words_of (arc_value before.service)
-  pub took : ((length words_before ≡ words_of (arc_value before.service)) × Took o kind before after words code)
-      ⊎ ((length words_before ≢ words_of (arc_value before.service)) × (code ≡ pos 7) × (words ≡ words_before) × (after ≡ before))
+  pub told : needed ≡ checkpoint_words (arc_value before.service)
+  pub took : ((length words_before ≡ checkpoint_words (arc_value before.service)) × TookImage o kind before after words code)
+      ⊎ ((length words_before ≢ checkpoint_words (arc_value before.service)) × (code ≡ pos 7) × (words ≡ words_before) × (after ≡ before))
 
 -- of a store or a queue; what is no session was called out of turn, and nothing is changed
-abbrev pub Checkpoints : Content → Content → List ℕ → List ℕ → ℕ → ℤ → Type 0
-Checkpoints (Documents before) (Documents after) words_before words needed code = TakesAs store_ghosts 1 before after words_before words needed code
-Checkpoints (Documents before) after words_before words needed code = ⊥
-Checkpoints (Queue before) (Queue after) words_before words needed code = TakesAs queue_ghosts 2 before after words_before words needed code
-Checkpoints (Queue before) after words_before words needed code = ⊥
-Checkpoints before after words_before words needed code = (after ≡ before) × (words ≡ words_before) × (needed ≡ 0) × (code ≡ pos 6)
+abbrev pub CheckpointsSession : Content → Content → List ℕ → List ℕ → ℕ → ℤ → Type 0
+CheckpointsSession (Documents before) (Documents after) words_before words needed code = TakesAs store_ghosts 1 before after words_before words needed code
+CheckpointsSession (Documents before) after words_before words needed code = ⊥
+CheckpointsSession (Queue before) (Queue after) words_before words needed code = TakesAs queue_ghosts 2 before after words_before words needed code
+CheckpointsSession (Queue before) after words_before words needed code = ⊥
+CheckpointsSession before after words_before words needed code = (after ≡ before) × (words ≡ words_before) × (needed ≡ 0) × (code ≡ pos 6)
 
 -- what C is answered, which left what may be called
 pub record AnswersCheckpoint (before : Content) (words_before words : List ℕ) (needed : ℕ) (code : ℤ) : Type 0 where
   pub after : Content
   pub callable : IsCallable after
-  pub comes_to : Checkpoints before after words_before words needed code
+  pub comes_to : CheckpointsSession before after words_before words needed code

@@ -11,7 +11,7 @@ use Rattle.c_sessions.specs.declared.steps.Called.TheVariants.{Done, Pending, Ag
 use Rattle.recovery.specs.declared.recovering.ImageFault.{ImageFault}
 use Rattle.recovery.specs.declared.recovering.ImageFault.TheVariants.{Size, Root, Version, Place, Body, Memory}
 
--- the number of what a call came to
+-- the number of a call's result
 abbrev pub code_of : Called → ℤ
 code_of (Done place) = pos 0
 code_of Pending = pos 1
@@ -21,7 +21,7 @@ code_of Worn = pos 4
 code_of Stopped = pos 5
 code_of OutOfTurn = pos 6
 
--- the number of what closing a session came to
+-- the number of the result of closing a session
 abbrev pub closing_code : {O : Type 0} → Closing O → ℤ
 closing_code (Closed remains) = pos 0
 closing_code (ClosingAgain session) = pos 2

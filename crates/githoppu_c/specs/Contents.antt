@@ -10,8 +10,8 @@ use Rattle.cx_service.specs.Closes.{seats_of}
 use Rattle.cx_table.specs.Remains.{AreSeats}
 use Rattle.doc_store.specs.declared.store.DocStore.{DocStore}
 use Rattle.fifo_object.specs.declared.fifo.Fifo.{Fifo}
-use Rattle.c_sessions.specs.Handing.{IsRestOf}
-use Rattle.c_sessions.specs.Sessions.{CallsIn, FinishesIn, IsReady, IsReadyOf}
+use Rattle.c_sessions.specs.Handing.{IsSessionRestOf}
+use Rattle.c_sessions.specs.Sessions.{CallsIn, FinishesIn, IsSessionReady, IsReadyOf}
 use Rattle.c_sessions.specs.declared.steps.Called.{Called}
 use Rattle.c_sessions.specs.declared.steps.Called.TheVariants.{OutOfTurn}
 use Rattle.githoppu_c.specs.Codes.{IsOpenCode, code_of}
@@ -22,12 +22,12 @@ use Rattle.githoppu_c.specs.declared.content.Content.TheVariants.{Documents, Que
 -- What C may call: a session that is ready, a service with all its callers that is still to be closed, or with those that the last session found, and what a closed one left. The service was opened
 -- with results that keep replies.
 abbrev pub IsCallable : Content → Type 0
-IsCallable (Documents session) = IsReady session × KeepsDocumentReplies (arc_value session.service)
-IsCallable (Queue session) = IsReady session × KeepsQueueReplies (arc_value session.service)
+IsCallable (Documents session) = IsSessionReady session × KeepsDocumentReplies (arc_value session.service)
+IsCallable (Queue session) = IsSessionReady session × KeepsQueueReplies (arc_value session.service)
 IsCallable (KeptDocuments kept) = AreSeats kept.service (seats_of kept.callers.items) × KeepsDocumentReplies kept.service
 IsCallable (KeptQueue kept) = AreSeats kept.service (seats_of kept.callers.items) × KeepsQueueReplies kept.service
-IsCallable (RestDocuments rest) = (r : Running DocStore) × IsRestOf r rest × KeepsDocumentReplies r
-IsCallable (RestQueue rest) = (r : Running Fifo) × IsRestOf r rest × KeepsQueueReplies r
+IsCallable (RestDocuments rest) = (r : Running DocStore) × IsSessionRestOf r rest × KeepsDocumentReplies r
+IsCallable (RestQueue rest) = (r : Running Fifo) × IsSessionRestOf r rest × KeepsQueueReplies r
 IsCallable (ClosedDocuments remains) = (r : Running DocStore) × IsClosedStore r remains × KeepsDocumentReplies r
 IsCallable (ClosedQueue remains) = (r : Running Fifo) × IsClosedQueue r remains × KeepsQueueReplies r
 IsCallable Gone = Unit {0}
@@ -41,7 +41,7 @@ abbrev pub IsQueueOf : Running Fifo → Content → Type 0
 IsQueueOf r (Queue session) = IsReadyOf r session
 IsQueueOf r content = ⊥
 
--- so many boxes, with this in each, which C may call
+-- this many boxes, with this in each, which C may call
 pub record AreBoxes (is : Content → Type 0) (count : ℕ) (boxes : List (Box Content Global)) : Type 0 where
   pub all : length boxes ≡ count
   pub each : All (λ (b : Box Content Global). is b.value × IsCallable b.value) boxes
@@ -53,15 +53,15 @@ pub record MayOpen (lines count : ℕ) : Type 0 where
   pub some : 1 ≤ count
   pub few : count ≤ 8
 
--- why it is not opened, as a number: the sizes are wrong, or they are right and there is no memory, or the sessions' new queue did not take its first entry
+-- why it is not opened, as a number: the sizes are wrong, or they are right and memory ran out, or the sessions' new queue did not take its first entry
 abbrev pub Refuses : ℕ → ℕ → ℤ → Type 0
 Refuses lines count code = ((¬ MayOpen lines count) × (code ≡ pos 7)) ⊎ (MayOpen lines count × IsOpenCode code)
 
 -- what C is answered
-abbrev pub Opens : ℕ → ℕ → ℤ → Type 0
-Opens lines count code = (MayOpen lines count × (code ≡ pos 0)) ⊎ Refuses lines count code
+abbrev pub AnswersOpening : ℕ → ℕ → ℤ → Type 0
+AnswersOpening lines count code = (MayOpen lines count × (code ≡ pos 0)) ⊎ Refuses lines count code
 
--- so many boxes of sessions of one service of an object in so many lines that may be opened
+-- this many boxes of sessions of one service of an object in this many lines that may be opened
 pub record AreOpened {O : Type 0} (is : Running O → Content → Type 0) (lines count : ℕ) (boxes : List (Box Content Global)) : Type 0 where
   pub may : MayOpen lines count
   pub service : Running O
@@ -73,21 +73,21 @@ pub record AreOpened {O : Type 0} (is : Running O → Content → Type 0) (lines
 abbrev pub IsNoTurn : Content → Called → Content → Type 0
 IsNoTurn before called after = (called ≡ OutOfTurn) × (after ≡ before)
 
--- a call of this operation, in so many tries, came to this
-abbrev pub Calls : List ℕ → ℕ → Content → Called → Content → List ℕ → Type 0
-Calls op tries (Documents before) called (Documents after) reply = CallsIn (λ _. reads_in) op tries before called after reply
-Calls op tries (Documents before) called after reply = ⊥
-Calls op tries (Queue before) called (Queue after) reply = CallsIn (λ _. fifo_reads) op tries before called after reply
-Calls op tries (Queue before) called after reply = ⊥
-Calls op tries before called after reply = IsNoTurn before called after
+-- a call of this operation, in this many tries, had this result
+abbrev pub CallHasResult : List ℕ → ℕ → Content → Called → Content → List ℕ → Type 0
+CallHasResult op tries (Documents before) called (Documents after) reply = CallsIn (λ _. reads_in) op tries before called after reply
+CallHasResult op tries (Documents before) called after reply = ⊥
+CallHasResult op tries (Queue before) called (Queue after) reply = CallsIn (λ _. fifo_reads) op tries before called after reply
+CallHasResult op tries (Queue before) called after reply = ⊥
+CallHasResult op tries before called after reply = IsNoTurn before called after
 
--- and so did finishing, in so many turns
-abbrev pub Finishes : ℕ → Content → Called → Content → List ℕ → Type 0
-Finishes tries (Documents before) called (Documents after) reply = FinishesIn tries before called after reply
-Finishes tries (Documents before) called after reply = ⊥
-Finishes tries (Queue before) called (Queue after) reply = FinishesIn tries before called after reply
-Finishes tries (Queue before) called after reply = ⊥
-Finishes tries before called after reply = IsNoTurn before called after
+-- the same of finishing, in this many turns
+abbrev pub FinishesSession : ℕ → Content → Called → Content → List ℕ → Type 0
+FinishesSession tries (Documents before) called (Documents after) reply = FinishesIn tries before called after reply
+FinishesSession tries (Documents before) called after reply = ⊥
+FinishesSession tries (Queue before) called (Queue after) reply = FinishesIn tries before called after reply
+FinishesSession tries (Queue before) called after reply = ⊥
+FinishesSession tries before called after reply = IsNoTurn before called after
 
 -- as many tries as are asked for, but at least 1 and at most 2^20
 pub record IsTriesFor (asked tries : ℕ) : Type 0 where
@@ -96,8 +96,8 @@ pub record IsTriesFor (asked tries : ℕ) : Type 0 where
   pub few : (tries ≤ asked) ⊎ (tries ≡ 1)
   pub all : (asked ≤ tries) ⊎ (tries ≡ 2 ^ 20)
 
--- what C is answered: the number of what these tries came to, which left what may be called
-pub record Answers (asked : ℕ) (come_to : ℕ → Called → Content → Type 0) (code : ℤ) : Type 0 where
+-- what C is answered: the number of the result of these tries, which left what may be called
+pub record AnswersTries (asked : ℕ) (come_to : ℕ → Called → Content → Type 0) (code : ℤ) : Type 0 where
   pub tries : ℕ
   pub asked_for : IsTriesFor asked tries
   pub called : Called

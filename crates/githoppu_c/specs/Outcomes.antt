@@ -4,19 +4,19 @@ use Rattle.cx_core.specs.declared.entry.Base.{Base}
 use Rattle.recovery.specs.Outcomes.{outcome_of}
 use Rattle.recovery.specs.declared.applied.Outcome.{Outcome}
 use Rattle.recovery.specs.declared.applied.Outcome.TheVariants.{Applied, Never}
-use Rattle.c_images.specs.Words.{IsHeadFault, IsHeaded, kind_in}
+use Rattle.c_images.specs.Words.{IsHeadFault, IsHeaded, object_kind_in}
 use Rattle.c_images.specs.declared.reading.WordsFault.{WordsFault}
 use Rattle.githoppu_c.specs.Codes.{fault_code}
 use Rattle.githoppu_c.specs.Objects.{IsQueueFault, IsQueueIn, IsStoreFault, IsStoreIn}
 
 -- the base that words say, of a store or of a queue, as their head has it
 abbrev pub IsBaseIn : List ℕ → Base → Type 0
-IsBaseIn words base = IsHeaded words × (((kind_in words ≡ 1) × IsStoreIn words base) ⊎ ((kind_in words ≡ 2) × IsQueueIn words base))
+IsBaseIn words base = IsHeaded words × (((object_kind_in words ≡ 1) × IsStoreIn words base) ⊎ ((object_kind_in words ≡ 2) × IsQueueIn words base))
 
 -- why there is none: they begin with no head, or are refused as those of their kind
 abbrev pub IsBaseFault : List ℕ → WordsFault → Type 0
 IsBaseFault words fault =
-    IsHeadFault (kind_in words) words fault ⊎ (IsHeaded words × (((kind_in words ≡ 1) × IsStoreFault words fault) ⊎ ((kind_in words ≡ 2) × IsQueueFault words fault)))
+    IsHeadFault (object_kind_in words) words fault ⊎ (IsHeaded words × (((object_kind_in words ≡ 1) × IsStoreFault words fault) ⊎ ((object_kind_in words ≡ 2) × IsQueueFault words fault)))
 
 -- what this base says of the session
 abbrev pub IsOutcomeIn : List ℕ → ℕ → Outcome → Type 0
@@ -36,7 +36,7 @@ AreOf Never number reply = (number ≡ 0) × (reply ≡ replicate 144 0)
 AreOf (Applied last answer) number reply = (number ≡ last) × (reply ≡ answer)
 
 -- the answer: the outcome is written, or what was there is left
-abbrev pub TellsOutcome : List ℕ → ℕ → ℕ → ℕ → List ℕ → List ℕ → ℤ → Type 0
-TellsOutcome words session number_before number reply_before reply code =
+abbrev pub WritesOutcome : List ℕ → ℕ → ℕ → ℕ → List ℕ → List ℕ → ℤ → Type 0
+WritesOutcome words session number_before number reply_before reply code =
     ((outcome : Outcome) × IsOutcomeIn words session outcome × AreOf outcome number reply × (code ≡ pos 0))
     ⊎ (RefusesOutcome words session code × (number ≡ number_before) × (reply ≡ reply_before))

@@ -7,7 +7,7 @@ use Rattle.githoppu_c.specs.Contents.{IsCallable}
 use Rattle.githoppu_c.specs.declared.content.Content.{Content}
 use Rattle.githoppu_c.specs.declared.content.Content.TheVariants.{Documents, Queue}
 
--- the number of what catching up came to
+-- the number of the result of catching up
 abbrev pub sight_code : Sight → ℤ
 sight_code Caught = pos 0
 sight_code (Behind found) = pos 23
@@ -21,11 +21,11 @@ TellsPlace (Queue session) place code = (place ≡ session.place) × (code ≡ p
 TellsPlace content place code = (place ≡ 0) × (code ≡ pos 6)
 
 -- so it is there, or there is none
-abbrev pub HasPlace : Content → Option ℕ → Type 0
-HasPlace content (Some place) = TellsPlace content place (pos 0)
-HasPlace content None = TellsPlace content 0 (pos 6)
+abbrev pub MayHavePlace : Content → Option ℕ → Type 0
+MayHavePlace content (Some place) = TellsPlace content place (pos 0)
+MayHavePlace content None = TellsPlace content 0 (pos 6)
 
--- catching up with a place came to this; what is no session was called out of turn, and is as it was
+-- catching up with a place had this result; what is no session was called out of turn, and is as it was
 abbrev pub Sees : ℕ → Content → Sight → Content → Type 0
 Sees place (Documents before) sight (Documents after) = SeesIn place before sight after
 Sees place (Documents before) sight after = ⊥
@@ -33,7 +33,7 @@ Sees place (Queue before) sight (Queue after) = SeesIn place before sight after
 Sees place (Queue before) sight after = ⊥
 Sees place before sight after = (sight ≡ OutOfTurn) × (after ≡ before)
 
--- what C is answered: the number of what it came to, which left what may be called
+-- what C is answered: the number of its result, which left what may be called
 pub record AnswersSight (place : ℕ) (before : Content) (code : ℤ) : Type 0 where
   pub sight : Sight
   pub after : Content

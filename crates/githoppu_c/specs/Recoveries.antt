@@ -15,8 +15,8 @@ pub record AreFew (count : ℕ) : Type 0 where
   pub some : 1 ≤ count
   pub few : count ≤ 8
 
--- the words are refused, with the number of their fault: of their head, or of what stands behind it
-pub record IsRefusedBy (kind : ℕ) (faulty : WordsFault → Type 0) (words : List ℕ) (code : ℤ) : Type 0 where
+-- the words are refused, with the number of their fault: of their head, or of what stands after it
+pub record AreWordsRefusedBy (kind : ℕ) (faulty : WordsFault → Type 0) (words : List ℕ) (code : ℤ) : Type 0 where
   pub fault : WordsFault
   pub because : IsHeadFault kind words fault ⊎ faulty fault
   pub is : code ≡ fault_code fault
@@ -25,12 +25,12 @@ pub record IsRefusedBy (kind : ℕ) (faulty : WordsFault → Type 0) (words : Li
 abbrev pub IsRefusal : (WordsFault → Type 0) → ℤ → Type 0
 IsRefusal faulty code = (fault : WordsFault) × faulty fault × (code ≡ fault_code fault)
 
--- why nothing is recovered: there would be no sessions or too many, the words are refused, there is no memory, or the sessions' new queue did not take its
+-- why nothing is recovered: there would be no sessions or too many, the words are refused, memory ran out, or the sessions' new queue did not take its
 -- first entry
 abbrev pub RefusesWords : ℕ → (WordsFault → Type 0) → List ℕ → ℕ → ℤ → Type 0
-RefusesWords kind faulty words count code = ((¬ AreFew count) × (code ≡ pos 7)) ⊎ (AreFew count × (IsRefusedBy kind faulty words code ⊎ IsOpenCode code))
+RefusesWords kind faulty words count code = ((¬ AreFew count) × (code ≡ pos 7)) ⊎ (AreFew count × (AreWordsRefusedBy kind faulty words code ⊎ IsOpenCode code))
 
--- so many boxes of sessions of one service that opens from a base that these words say
+-- this many boxes of sessions of one service that opens from a base that these words say
 pub record AreRecovered {O : Type 0} (is : Running O → Content → Type 0) (taken : Base → Type 0) (count : ℕ) (boxes : List (Box Content Global)) : Type 0 where
   pub few : AreFew count
   pub service : Running O

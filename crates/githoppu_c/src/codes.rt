@@ -18,13 +18,13 @@ pub const AGAIN: i32 = 2;
 pub const FULL: i32 = 3;
 /// There is no further ticket.
 pub const WORN: i32 = 4;
-/// The session has come to its limit of steps.
+/// The session has reached its step limit.
 pub const STOPPED: i32 = 5;
 /// A call that the state of what C holds does not take.
 pub const OUT_OF_TURN: i32 = 6;
 /// The lines, the sessions or the words are not as many as there may be.
 pub const BAD_SIZE: i32 = 7;
-/// There is no memory.
+/// Out of memory.
 pub const NO_MEMORY: i32 = 8;
 /// Other sessions are not closed.
 pub const OTHERS: i32 = 11;
@@ -47,7 +47,7 @@ pub const IMAGE_BODY: i32 = 19;
 /// A result has a number above the place.
 pub const IMAGE_NUMBERS: i32 = 20;
 
-/// The number of what a call came to.
+/// The number of a call's result.
 pub fn code_of(called: Called) -> i32
     ensures { result ≡ spec.code_of called }
 {
@@ -75,7 +75,7 @@ pub fn open_code(fault: OpenFault) -> i32
 /// The current place is below the one that a session was to catch up with.
 pub const BEHIND: i32 = 23;
 
-/// The number of what catching up came to.
+/// The number of the result of catching up.
 pub fn sight_code(sight: Sight) -> i32
     ensures { result ≡ places.sight_code sight }
 {

@@ -1,18 +1,22 @@
 //! What C holds.
 
 ghost use Rattle.std.specs.Prelude.{◌≡◌};
-ghost use Rattle.githoppu_c.specs.Again.{ComesBack};
-ghost use Rattle.githoppu_c.specs.Closings.{ClosesAs, Images, queue_left, store_left};
-ghost use Rattle.githoppu_c.specs.Checkpoints.{Checkpoints};
+ghost use Rattle.githoppu_c.specs.Again.{ComesBack, TakenComesBack};
+ghost use Rattle.githoppu_c.specs.Closings.{ClosesAs, Images, queue_left, content_left};
+ghost use Rattle.githoppu_c.specs.Checkpoints.{CheckpointsSession};
 ghost use Rattle.githoppu_c.specs.Codes.{closing_code};
-ghost use Rattle.githoppu_c.specs.Contents.{Calls, Finishes, IsCallable};
-ghost use Rattle.githoppu_c.specs.Places.{HasPlace, Sees};
+ghost use Rattle.githoppu_c.specs.Contents.{CallHasResult, FinishesSession, IsCallable};
+ghost use Rattle.githoppu_c.specs.Places.{MayHavePlace, Sees};
 
-use crate::again::{queues_are_taken_up_again, stores_are_taken_up_again};
+use crate::again::{
+    queues_are_taken_up_again, stores_are_taken_up_again, taken_queues_are_taken_up_again,
+    taken_stores_are_taken_up_again,
+};
 use crate::codes::{AGAIN, DONE, LOST, NO_MEMORY, OTHERS, OUT_OF_TURN};
 use crate::images::{DOCUMENTS, QUEUE, write_to};
 use crate::taking::take_to;
 use c_sessions::{Called, Closing, Rest, Session, Sight, Tries, close_kept, close_rest};
+use cx_base::OpWords;
 use cx_service::Kept;
 use cx_table::Remains;
 use doc_store::DocStore;
@@ -35,11 +39,11 @@ pub enum Content {
 }
 
 impl Content {
-    /// Does an operation, in so many tries.
-    pub fn call(&mut self, op: &[u64; 144], reply: &mut [u64; 144], tries: Tries) -> Called
+    /// Does an operation, in at most the given number of tries.
+    pub fn call(&mut self, op: &OpWords, reply: &mut OpWords, tries: Tries) -> Called
         requires callable { IsCallable self.old }
         ensures callable { IsCallable self.new }
-        ensures calls { Calls op.now tries.count self.old result self.new reply.new }
+        ensures calls { CallHasResult op.now tries.count self.old result self.new reply.new }
     {
         match self {
             Content::Documents(session) => session.call(op, reply, tries),
@@ -48,11 +52,11 @@ impl Content {
         }
     }
 
-    /// Drives the linked entry to its answer, in so many turns.
-    pub fn finish(&mut self, reply: &mut [u64; 144], tries: Tries) -> Called
+    /// Drives the linked entry to its answer, in at most the given number of turns.
+    pub fn finish(&mut self, reply: &mut OpWords, tries: Tries) -> Called
         requires callable { IsCallable self.old }
         ensures callable { IsCallable self.new }
-        ensures finishes { Finishes tries.count self.old result self.new reply.new }
+        ensures finishes { FinishesSession tries.count self.old result self.new reply.new }
     {
         match self {
             Content::Documents(session) => session.finish(reply, tries),
@@ -63,7 +67,7 @@ impl Content {
 
     /// The place that a session tells; of what is no session none.
     pub fn place(&self) -> Option<u64>
-        ensures { HasPlace self.now result }
+        ensures { MayHavePlace self.now result }
     {
         match self {
             Content::Documents(session) => Some(session.place()),
@@ -85,15 +89,23 @@ impl Content {
         }
     }
 
-    /// Has a session take an image while others go on, where there are as many words as it takes, which are told.
+    /// Has a session take an image while others go on, where the buffer has as many words as an image, which is `needed`. What is taken is taken up
+    /// again where its results keep replies. What is no session is called out of turn, and `needed` is 0.
     pub fn checkpoint(&mut self, words: &mut [u64], needed: &mut u64) -> i32
         requires callable { IsCallable self.old }
         ensures callable { IsCallable self.new }
-        ensures checkpoints { Checkpoints self.old self.new words.old words.new needed.new result }
+        ensures checkpoints { CheckpointsSession self.old self.new words.old words.new needed.new result }
+        ensures back { TakenComesBack self.old words.new result }
     {
         match self {
-            Content::Documents(session) => take_to(session, DOCUMENTS, words, needed),
-            Content::Queue(session) => take_to(session, QUEUE, words, needed),
+            Content::Documents(session) => {
+                taken_stores_are_taken_up_again();
+                take_to(session, DOCUMENTS, words, needed)
+            }
+            Content::Queue(session) => {
+                taken_queues_are_taken_up_again();
+                take_to(session, QUEUE, words, needed)
+            }
             _ => {
                 *needed = 0;
                 OUT_OF_TURN
@@ -124,7 +136,8 @@ impl Content {
         }
     }
 
-    /// Writes what a loss of power leaves, by choice, where there are as many words as it takes, which are told. What is written is taken up again.
+    /// Writes what a crash leaves, by choice, where the buffer has as many words as an image, which is `needed`. What is written is taken up again. What is not
+    /// closed is called out of turn, and `needed` is 0.
     pub fn image(&self, choice: u64, words: &mut [u64], needed: &mut u64) -> i32
         requires callable { IsCallable self.now }
         ensures images { Images self.now choice words.old words.new needed.new result }
@@ -149,7 +162,7 @@ impl Content {
 
 /// What closing a session of a store left.
 fn store_closed(closing: Closing<DocStore>) -> (Content, i32)
-    ensures { (result.0 ≡ store_left closing) × (result.1 ≡ closing_code closing) }
+    ensures { (result.0 ≡ content_left closing) × (result.1 ≡ closing_code closing) }
 {
     match closing {
         Closing::Others => (Content::Gone, OTHERS),

@@ -1,7 +1,7 @@
 //! What a closed service left, as words of C's.
 
-ghost use Rattle.recovery.specs.Crashes.{IsWhole};
-ghost use Rattle.githoppu_c.specs.Closings.{Writes};
+ghost use Rattle.recovery.specs.Crashes.{AreRemainsWhole};
+ghost use Rattle.githoppu_c.specs.Closings.{WritesRemains};
 
 use crate::codes::{BAD_SIZE, DONE};
 use c_images::{image_words, write_image};
@@ -12,7 +12,7 @@ pub const DOCUMENTS: u64 = 1;
 
 pub const QUEUE: u64 = 2;
 
-/// Writes what a loss of power leaves, by choice, where there are as many words as it takes, which are told.
+/// Writes what a crash leaves, by choice, where the buffer has as many words as an image, which is `needed`; else nothing is written.
 pub fn write_to(
     remains: &Remains,
     kind: u64,
@@ -20,8 +20,8 @@ pub fn write_to(
     words: &mut [u64],
     needed: &mut u64,
 ) -> i32
-    requires { IsWhole remains.now }
-    ensures { Writes kind remains.now choice words.old words.new needed.new result }
+    requires { AreRemainsWhole remains.now }
+    ensures { WritesRemains kind remains.now choice words.old words.new needed.new result }
 {
     let count = image_words(remains);
     *needed = count;

@@ -1,15 +1,21 @@
+//! The problem: programs in C, and in whatever calls C, want the proved store and the proved queue, though nothing is proved of such programs.
+//!
+//! The idea: a call takes a handle, answers a number, and gives the handle back, so each call owns its session while it runs. All that these
+//! contracts ask of C is that handles and buffers are what the header says; whatever order the calls come in, one out of turn is refused and changes
+//! nothing. The bodies are thin: `c_sessions` has what a call does, `c_images` has images.
+//!
 //! The document store and the queue for C: `include/githoppu.h` says how each is called. A session is a caller with its share of a
 //! service, and C gives each to one call at a time.
 #![tactic(auto)]
 
 ghost use Rattle.std.specs.Prelude.{◌≡◌, length};
-ghost use Rattle.githoppu_c.specs.Again.{ComesBack};
+ghost use Rattle.githoppu_c.specs.Again.{ComesBack, TakenComesBack};
 ghost use Rattle.githoppu_c.specs.Checkpoints.{AnswersCheckpoint};
 ghost use Rattle.githoppu_c.specs.Closings.{ClosesAs, Images};
-ghost use Rattle.githoppu_c.specs.Contents.{Answers, Calls, Finishes, IsCallable, IsTriesFor, Opens};
+ghost use Rattle.githoppu_c.specs.Contents.{AnswersTries, CallHasResult, FinishesSession, IsCallable, IsTriesFor, AnswersOpening};
 ghost use Rattle.githoppu_c.specs.Places.{AnswersSight, TellsPlace};
 ghost use Rattle.githoppu_c.specs.Objects.{IsQueueFault, IsQueueIn, IsStoreFault, IsStoreIn};
-ghost use Rattle.githoppu_c.specs.Outcomes.{TellsOutcome};
+ghost use Rattle.githoppu_c.specs.Outcomes.{WritesOutcome};
 ghost use Rattle.githoppu_c.specs.Recoveries.{Recovers};
 ghost use Rattle.githoppu_c.specs.declared.content.Content as content_type;
 
@@ -31,6 +37,7 @@ use crate::opening::{hand_out, open_documents, open_queue};
 use crate::outcomes::outcome_in;
 use crate::recovering::{recover_documents, recover_queue};
 use c_sessions::Tries;
+use cx_base::{OP_WORDS, OpWords};
 use recovery::Outcome;
 use std::alloc::Global;
 use std::{mem, ptr};
@@ -50,10 +57,10 @@ fn tries_of(asked: u64) -> Tries
     }
 }
 
-/// Opens an empty document store in so many lines, and puts a session into each slot. Where it is refused, no slot is written.
+/// Opens an empty document store in `lines` lines, and puts a session into each slot. Where it is refused, no slot is written.
 #[unsafe(no_mangle)]
 pub extern "C" fn githoppu_open(alloc: Global, lines: u64, sessions: &mut [*mut u8]) -> i32
-    ensures { Opens lines (length sessions.old) result }
+    ensures { AnswersOpening lines (length sessions.old) result }
 {
     match open_documents(alloc, lines, sessions.len()) {
         Ok(made) => {
@@ -64,10 +71,10 @@ pub extern "C" fn githoppu_open(alloc: Global, lines: u64, sessions: &mut [*mut 
     }
 }
 
-/// Opens an empty queue in so many lines, and puts a session into each slot. Where it is refused, no slot is written.
+/// Opens an empty queue in `lines` lines, and puts a session into each slot. Where it is refused, no slot is written.
 #[unsafe(no_mangle)]
 pub extern "C" fn githoppu_open_queue(alloc: Global, lines: u64, sessions: &mut [*mut u8]) -> i32
-    ensures { Opens lines (length sessions.old) result }
+    ensures { AnswersOpening lines (length sessions.old) result }
 {
     match open_queue(alloc, lines, sessions.len()) {
         Ok(made) => {
@@ -78,17 +85,17 @@ pub extern "C" fn githoppu_open_queue(alloc: Global, lines: u64, sessions: &mut 
     }
 }
 
-/// Does an operation, in so many tries. The reply is written where it is done. The session stands at `out` afterwards.
+/// Does an operation, in at most `tries` tries, which counts as 1 to 2^20. The reply is written where it is done. The session stands at `out` afterwards.
 #[unsafe(no_mangle)]
 pub extern "C" fn githoppu_call(
     session: Handle,
-    op: &[u64; 144],
-    reply: &mut [u64; 144],
+    op: &OpWords,
+    reply: &mut OpWords,
     tries: u64,
     out: &mut *mut u8,
 ) -> i32
     requires { IsCallable session.content }
-    ensures { Answers tries (λ n called after. Calls op.now n session.content called after reply.new) result }
+    ensures { AnswersTries tries (λ n called after. CallHasResult op.now n session.content called after reply.new) result }
 {
     let mut content = session.into_box();
     let called = content.call(op, reply, tries_of(tries));
@@ -96,16 +103,16 @@ pub extern "C" fn githoppu_call(
     code_of(called)
 }
 
-/// Drives the linked entry to its answer, in so many turns. The session stands at `out` afterwards.
+/// Drives the linked entry to its answer, in at most `tries` turns, which counts as 1 to 2^20. The session stands at `out` afterwards.
 #[unsafe(no_mangle)]
 pub extern "C" fn githoppu_finish(
     session: Handle,
-    reply: &mut [u64; 144],
+    reply: &mut OpWords,
     tries: u64,
     out: &mut *mut u8,
 ) -> i32
     requires { IsCallable session.content }
-    ensures { Answers tries (λ n called after. Finishes n session.content called after reply.new) result }
+    ensures { AnswersTries tries (λ n called after. FinishesSession n session.content called after reply.new) result }
 {
     let mut content = session.into_box();
     let called = content.finish(reply, tries_of(tries));
@@ -132,8 +139,9 @@ pub extern "C" fn githoppu_close(alloc: Global, session: Handle, out: &mut *mut 
     code
 }
 
-/// Writes what a loss of power leaves of a closed store or queue, by choice, where there are as many words as it takes, which are told. From what is
-/// written the store or the queue is recovered, and what became of each session is told, unless there is no memory.
+/// Writes what a crash leaves of a closed store or queue, by choice, where the buffer has as many words as an image, which is `needed`. Where it is
+/// done, a recovery of the words with 1 to 8 sessions answers DONE, or NO_MEMORY (`GITHOPPU_NO_MEMORY`) where memory runs out, or AGAIN where the new
+/// sessions' queue did not take its first entry; and what became of each session is told, or the answer is NO_MEMORY.
 #[unsafe(no_mangle)]
 pub extern "C" fn githoppu_image(
     closed: Handle,
@@ -152,8 +160,10 @@ pub extern "C" fn githoppu_image(
     code
 }
 
-/// Has a session take an image of its store or queue while others go on, where there are as many words as it takes, which are told: the image after all
-/// that was answered before. The session stands at `out` afterwards.
+/// Has a session take an image of its store or queue while others go on, where the buffer has as many words as an image, which is `needed`: the image
+/// after all that was answered before. Where each result in the words keeps a reply, a recovery of them with 1 to 8 sessions answers DONE, or
+/// NO_MEMORY (`GITHOPPU_NO_MEMORY`) where memory runs out, or AGAIN where the new sessions' queue did not take its first entry. The session stands at `out`
+/// afterwards.
 #[unsafe(no_mangle)]
 pub extern "C" fn githoppu_checkpoint(
     session: Handle,
@@ -162,7 +172,8 @@ pub extern "C" fn githoppu_checkpoint(
     out: &mut *mut u8,
 ) -> i32
     requires { IsCallable session.content }
-    ensures { AnswersCheckpoint session.content words.old words.new needed.new result }
+    ensures answers { AnswersCheckpoint session.content words.old words.new needed.new result }
+    ensures back { TakenComesBack session.content words.new result }
 {
     let mut content = session.into_box();
     let code = content.checkpoint(words, needed);
@@ -210,14 +221,14 @@ pub extern "C" fn githoppu_outcome(
     words: &[u64],
     session: u64,
     number: &mut u64,
-    reply: &mut [u64; 144],
+    reply: &mut OpWords,
 ) -> i32
-    ensures { TellsOutcome words.now session number.old number.new reply.old reply.new result }
+    ensures { WritesOutcome words.now session number.old number.new reply.old reply.new result }
 {
     match outcome_in(alloc, words, session) {
         Ok(Outcome::Never) => {
             *number = 0;
-            *reply = [0; 144];
+            *reply = [0; OP_WORDS];
             DONE
         }
         Ok(
@@ -274,7 +285,7 @@ pub extern "C" fn githoppu_see_place(session: Handle, place: u64, out: &mut *mut
     sight_code(sight)
 }
 
-/// Gives up what C holds. The last session of a store or a queue gives that up.
+/// Releases what C holds. The last session of a store or a queue releases that too.
 #[unsafe(no_mangle)]
 pub extern "C" fn githoppu_drop(session: Handle) {
     drop(session.into_box());

@@ -15,7 +15,8 @@ use doc_store::DocStore;
 use fifo_object::Fifo;
 use std::alloc::{AllocError, Global};
 
-/// So many sessions of an empty document store in so many lines.
+/// `count` sessions of an empty document store in `lines` lines. `Err` is the code of the refusal: BAD_SIZE where the lines are not 64 to 16,384 or the
+/// sessions not 1 to 8, else NO_MEMORY, or AGAIN where the sessions' new queue did not take its first entry.
 pub fn open_documents(alloc: Global, lines: u64, count: usize) -> Result<Vec<Box<Content>>, i32>
     ensures { MatchResult result (λ boxes. AreOpened IsStoreOf lines count boxes.items) (Refuses lines count) }
 {
@@ -33,7 +34,7 @@ pub fn open_documents(alloc: Global, lines: u64, count: usize) -> Result<Vec<Box
     }
 }
 
-/// So many sessions of an empty queue in so many lines.
+/// `count` sessions of an empty queue in `lines` lines. `Err` is the code of the refusal, as for a document store.
 pub fn open_queue(alloc: Global, lines: u64, count: usize) -> Result<Vec<Box<Content>>, i32>
     ensures { MatchResult result (λ boxes. AreOpened IsQueueOf lines count boxes.items) (Refuses lines count) }
 {
@@ -62,7 +63,7 @@ pub fn hand_out(sessions: Vec<Box<Content>>, slots: &mut [*mut u8]) {
     }
 }
 
-/// Whether there may be an object of so many lines with so many sessions.
+/// Whether there may be an object of this many lines with this many sessions.
 fn may_open(lines: u64, count: usize) -> bool
     ensures { IsTrue result ↔ MayOpen lines count }
 {

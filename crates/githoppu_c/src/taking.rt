@@ -2,7 +2,8 @@
 
 ghost use Rattle.std.specs.Prelude.{◌≡◌};
 ghost use Rattle.std.specs.Arc.{arc_value};
-ghost use Rattle.c_sessions.specs.Sessions.{IsReady};
+ghost use Rattle.cx_rule.specs.Running.{IsRunning};
+ghost use Rattle.c_sessions.specs.Sessions.{IsSessionReady};
 ghost use Rattle.githoppu_c.specs.Checkpoints.{TakesAs};
 
 use crate::codes::{AGAIN, BAD_SIZE, DONE, OUT_OF_TURN, STOPPED};
@@ -10,17 +11,18 @@ use c_images::{base_words, image_words_of, write_base};
 use c_sessions::{Session, Taken, Tries};
 use cx_base::Object;
 
-/// Has a session take an image, where there are as many words as it takes, which are told. The region is loaded into the first replica of the words, and
-/// copied over the others.
+/// Has a session take an image, where the buffer has as many words as one, which is `needed`; else nothing is changed. The region is loaded into the first
+/// replica of the words, and copied over the others.
 pub fn take_to<O: Object>(
     session: &mut Session<O>,
     kind: u64,
     words: &mut [u64],
     needed: &mut u64,
 ) -> i32
-    requires ready { IsReady session.old }
-    ensures ready { IsReady session.new }
+    requires ready { IsSessionReady session.old }
+    ensures ready { IsSessionReady session.new }
     ensures same { arc_value session.new.service ≡ arc_value session.old.service }
+    ensures running { IsRunning O.line_count O.lawful (arc_value session.old.service) }
     ensures takes { TakesAs O.Object kind session.old session.new words.old words.new needed.new result }
 {
     let lines = session.lines();

@@ -4,8 +4,8 @@ use Rattle.std.proofs.lemmas.Bool.{ltb-true, lt-ltb}
 use Rattle.std.proofs.lemmas.List.Elements.{All-nil, All-push}
 use Rattle.cx_core.specs.declared.entry.Image.{Image}
 use Rattle.recovery.specs.Images.{IsReadable, RiseFrom}
-use Rattle.image_text.specs.Judging.{head_is, pair_is}
-use Rattle.image_text.specs.Reading.{head_of, is_above, last_pair, pair_of, with_pair, with_root}
+use Rattle.image_text.specs.Judging.{image_head_is, pair_is}
+use Rattle.image_text.specs.Reading.{image_head_of, is_above, last_pair, pair_of, image_with_pair, with_root}
 use Rattle.image_text.specs.declared.lines.ImageHead.{ImageHead}
 
 -- the last pair is at the last place
@@ -34,13 +34,13 @@ above_added (q ∷ r ∷ pairs) p at apart = above_added (r ∷ pairs) p at apar
 
 -- ---- what the lines so far keep to
 
-pub head_keeps : (line : List ℕ) (head : ImageHead) → head_of line ≡ Some head → (root : ℕ) → IsReadable head.lines (with_root head root)
+pub head_keeps : (line : List ℕ) (head : ImageHead) → image_head_of line ≡ Some head → (root : ℕ) → IsReadable head.lines (with_root head root)
 head_keeps line head e root =
-    let is = head_is line head e in
+    let is = image_head_is line head e in
     record { some = is.some; few = is.few; of = refl; enough = is.enough; small = is.small; rising = tt; below = All-nil (λ (p : ℕ × ℕ). p.0 < head.count) }
 
 pub pair_keeps : (image : Image) (line : List ℕ) (pair : ℕ × ℕ) → pair_of image.pairs image.count line ≡ Some pair → IsReadable image.lines image
-    → IsReadable image.lines (with_pair image pair)
+    → IsReadable image.lines (image_with_pair image pair)
 pair_keeps image line pair e r =
     let is = pair_is image line pair e in
     record {

@@ -4,7 +4,7 @@ use Rattle.plain_text.specs.LineGrammar.{AddsAll, AreLinesOf, IsTextOf}
 use Rattle.plain_text.specs.Lines.{text_lines}
 use Rattle.cx_core.specs.declared.entry.Image.{Image}
 use Rattle.image_text.specs.ImageTexts.{IsMissing, image_grammar}
-use Rattle.image_text.specs.Reading.{with_pair, with_root}
+use Rattle.image_text.specs.Reading.{image_with_pair, with_root}
 use Rattle.image_text.specs.declared.lines.ImageHead.{ImageHead}
 use Rattle.image_text.specs.declared.lines.ImageLines.{ImageLines}
 use Rattle.image_text.specs.declared.lines.ImageLines.TheVariants.{Nothing, Begun, Whole}
@@ -14,7 +14,7 @@ whole_stays : (image : Image) (lines : List (List ℕ)) (after : ImageLines) →
     → (found : Image) × (after ≡ Whole found)
 whole_stays image [] after same = (image, same)
 whole_stays image (line ∷ lines) after (between, (pair, is, same), more) =
-    whole_stays (with_pair image pair) lines after (subst (λ (s : ImageLines). AddsAll image_grammar s lines after) same more)
+    whole_stays (image_with_pair image pair) lines after (subst (λ (s : ImageLines). AddsAll image_grammar s lines after) same more)
 
 begun_says : (head : ImageHead) (lines : List (List ℕ)) (after : ImageLines) → AddsAll image_grammar (Begun head) lines after
     → ((lines ≡ []) × (after ≡ Begun head)) ⊎ ((found : Image) × (after ≡ Whole found))

@@ -10,8 +10,8 @@ use Rattle.plain_text.specs.Lines.{text_lines}
 use Rattle.cx_core.specs.declared.entry.Image.{Image}
 use Rattle.recovery.specs.Images.{IsReadable, RiseFrom, image_word}
 use Rattle.image_text.specs.ImageTexts.{IsImageText, image_grammar, spaced}
-use Rattle.image_text.specs.Printing.{Fits, head_line, is_written, pairs_text, root_line, text_of, without_zeros}
-use Rattle.image_text.specs.Reading.{is_above, with_pair, with_root}
+use Rattle.image_text.specs.Printing.{FitsImage, head_line, is_written, pairs_text, root_line_text, text_of, without_zeros}
+use Rattle.image_text.specs.Reading.{is_above, image_with_pair, with_root}
 use Rattle.image_text.specs.declared.lines.ImageHead.{ImageHead}
 use Rattle.image_text.specs.declared.lines.ImageLines.TheVariants.{Nothing, Begun, Whole}
 use Rattle.image_text.proofs.LastPairs.{above_added}
@@ -62,19 +62,19 @@ words_read image from (p ∷ pairs) fits above (first, rest) below values =
     let address : p.0 < 2 ^ 64 = omega (arith, here, fits) in
     elim (cases_Bool (ltb 0 p.1)) [
       | inl some ↦
-          let more = words_read (with_pair image p) (p.0 + 1) pairs fits (λ at low. above_added image.pairs p at (omega (arith, low))) rest later_below later_values in
+          let more = words_read (image_with_pair image p) (p.0 + 1) pairs fits (λ at low. above_added image.pairs p at (omega (arith, low))) rest later_below later_values in
           let joined_up : (image.pairs ++ p ∷ []) ++ filter is_written pairs ≡ image.pairs ++ p ∷ filter is_written pairs =
           append_assoc image.pairs (p ∷ []) (filter is_written pairs) in
           rw (some, line_first (spaced p) (pairs_text pairs) (spaced_inside p address value)) (
-            Whole (with_pair image p),
+            Whole (image_with_pair image p),
             (p, record { spelled = refl; address = address; rises = above p.0 first; below = here; some = ltb-true 0 p.1 some; value = value }, refl),
-            subst (λ (ps : List (ℕ × ℕ)). AddsAll image_grammar (Whole (with_pair image p)) (text_lines (pairs_text pairs)) (Whole (record image { pairs = ps }))) joined_up more,
+            subst (λ (ps : List (ℕ × ℕ)). AddsAll image_grammar (Whole (image_with_pair image p)) (text_lines (pairs_text pairs)) (Whole (record image { pairs = ps }))) joined_up more,
           )
       | inr none ↦
           rw none (words_read image (p.0 + 1) pairs fits (λ at low. above at (omega (arith, low, first))) rest later_below later_values)
     ]
 
-pub text_read : (image : Image) → IsReadable image.lines image → Fits image → IsImageText (text_of image) (without_zeros image)
+pub text_read : (image : Image) → IsReadable image.lines image → FitsImage image → IsImageText (text_of image) (without_zeros image)
 text_read image r f =
     let head : ImageHead = record { callers = image.callers; lines = image.lines; count = image.count } in
     let head_text = codes "image " ++ (decimal image.callers ++ (codes " " ++ spaced (image.lines, image.count))) in
@@ -86,8 +86,8 @@ text_read image r f =
     (spaced_inside (image.lines, image.count) lines_fit f.count)) in
     let second = joined (codes "root ") (decimal image.root) refl (number_inside image.root f.root) in
     let lines_are : text_lines (text_of image) ≡ head_text ∷ root_text ∷ text_lines (pairs_text image.pairs) =
-    ap text_lines (append_assoc (head_line image) (root_line image) (pairs_text image.pairs))
-    ∙ line_first head_text (root_line image ++ pairs_text image.pairs) first
+    ap text_lines (append_assoc (head_line image) (root_line_text image) (pairs_text image.pairs))
+    ∙ line_first head_text (root_line_text image ++ pairs_text image.pairs) first
     ∙ ap (λ (lines : List (List ℕ)). head_text ∷ lines) (line_first root_text (pairs_text image.pairs) second) in
     subst (λ (lines : List (List ℕ)). AddsAll image_grammar Nothing lines (Whole (without_zeros image))) (sym lines_are) (
       Begun head,

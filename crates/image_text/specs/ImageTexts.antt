@@ -12,15 +12,15 @@ use Rattle.image_text.specs.declared.lines.ImageHead.{ImageHead}
 use Rattle.image_text.specs.declared.lines.ImageLines.{ImageLines}
 use Rattle.image_text.specs.declared.lines.ImageLines.TheVariants.{Nothing, Begun, Whole}
 use Rattle.image_text.specs.declared.lines.ImageReason.{ImageReason}
-use Rattle.image_text.specs.Reading.{is_above, with_pair, with_root}
-use Rattle.image_text.specs.Reasons.{reason_for}
+use Rattle.image_text.specs.Reading.{is_above, image_with_pair, with_root}
+use Rattle.image_text.specs.Reasons.{image_reason_for}
 
 -- two numbers with a space between them
 abbrev pub spaced : ℕ × ℕ → List ℕ
 spaced pair = decimal pair.0 ++ (codes " " ++ decimal pair.1)
 
 -- `image N L W`: N callers, an object of L lines, W words in all replicas
-pub record IsHeadLine (head : ImageHead) (line : List ℕ) : Type 0 where
+pub record IsImageHeadLine (head : ImageHead) (line : List ℕ) : Type 0 where
   pub spelled : line ≡ codes "image " ++ (decimal head.callers ++ (codes " " ++ spaced (head.lines, head.count)))
   pub some : 1 ≤ head.callers
   pub few : head.callers ≤ 8
@@ -43,19 +43,19 @@ pub record IsWordLine (image : Image) (pair : ℕ × ℕ) (line : List ℕ) : Ty
   pub value : pair.1 < 2 ^ 64
 
 -- what is said with one more line
-abbrev pub Adds : ImageLines → List ℕ → ImageLines → Type 0
-Adds Nothing line after = (head : ImageHead) × IsHeadLine head line × (after ≡ Begun head)
-Adds (Begun head) line after = (root : ℕ) × IsRootLine root line × (after ≡ Whole (with_root head root))
-Adds (Whole image) line after = (pair : ℕ × ℕ) × IsWordLine image pair line × (after ≡ Whole (with_pair image pair))
+abbrev pub AddsImageLine : ImageLines → List ℕ → ImageLines → Type 0
+AddsImageLine Nothing line after = (head : ImageHead) × IsImageHeadLine head line × (after ≡ Begun head)
+AddsImageLine (Begun head) line after = (root : ℕ) × IsRootLine root line × (after ≡ Whole (with_root head root))
+AddsImageLine (Whole image) line after = (pair : ℕ × ℕ) × IsWordLine image pair line × (after ≡ Whole (image_with_pair image pair))
 
 -- Why a line is refused: it is not of the kind that should stand there, or may not stand there, and the reason is the kind's.
-pub record IsReason (before : ImageLines) (line : List ℕ) (reason : ImageReason) : Type 0 where
-  pub none : (after : ImageLines) → Adds before line after → ⊥
-  pub because : reason ≡ reason_for before
+pub record IsImageReason (before : ImageLines) (line : List ℕ) (reason : ImageReason) : Type 0 where
+  pub none : (after : ImageLines) → AddsImageLine before line after → ⊥
+  pub because : reason ≡ image_reason_for before
 
 -- the language of image texts
 abbrev pub image_grammar : LineGrammar ImageLines ImageReason
-image_grammar = record { nothing = Nothing; Adds = Adds; IsReason = IsReason }
+image_grammar = record { nothing = Nothing; Adds = AddsImageLine; IsReason = IsImageReason }
 
 -- a text says an image: it has the first two lines, and its lines are all in their places
 abbrev pub IsImageText : List ℕ → Image → Type 0
@@ -67,7 +67,7 @@ pub record IsMissing (text : List ℕ) (line : ℕ) (reason : ImageReason) : Typ
   pub are : IsTextOf image_grammar text said
   pub next : line ≡ length (text_lines text) + 1
   pub early : line ≤ 2
-  pub because : reason ≡ reason_for said
+  pub because : reason ≡ image_reason_for said
 
 -- what is told of a text that is no image text: the first line with which the lines so far are none, or the missing one
 abbrev pub IsImageFault : List ℕ → TextFault ImageReason → Type 0
@@ -75,7 +75,7 @@ IsImageFault text (Refused line reason) = IsFault image_grammar text (Refused li
 IsImageFault text Memory = Unit {0}
 
 -- what the lines so far keep to: the limits of the numbers, and addresses that rise below the number of words
-abbrev pub Keeps : ImageLines → Type 0
-Keeps Nothing = Unit {0}
-Keeps (Begun head) = (root : ℕ) → IsReadable head.lines (with_root head root)
-Keeps (Whole image) = IsReadable image.lines image
+abbrev pub KeepsImageLimits : ImageLines → Type 0
+KeepsImageLimits Nothing = Unit {0}
+KeepsImageLimits (Begun head) = (root : ℕ) → IsReadable head.lines (with_root head root)
+KeepsImageLimits (Whole image) = IsReadable image.lines image

@@ -8,8 +8,8 @@ abbrev pub head_line : Image → List ℕ
 head_line image =
     (codes "image " ++ (decimal image.callers ++ (codes " " ++ spaced (image.lines, image.count)))) ++ codes "\n"
 
-abbrev pub root_line : Image → List ℕ
-root_line image = (codes "root " ++ decimal image.root) ++ codes "\n"
+abbrev pub root_line_text : Image → List ℕ
+root_line_text image = (codes "root " ++ decimal image.root) ++ codes "\n"
 
 -- whether a pair gives a word that is not 0
 abbrev pub is_written : ℕ × ℕ → Bool
@@ -23,14 +23,14 @@ abbrev pub pairs_text : List (ℕ × ℕ) → List ℕ
 pairs_text pairs = flat_map pair_text pairs
 
 abbrev pub text_of : Image → List ℕ
-text_of image = head_line image ++ root_line image ++ pairs_text image.pairs
+text_of image = head_line image ++ root_line_text image ++ pairs_text image.pairs
 
 -- the image with the pairs alone that give words that are not 0
 abbrev pub without_zeros : Image → Image
 without_zeros image = record image { pairs = filter is_written image.pairs }
 
 -- the numbers of an image are of 64 bits
-pub record Fits (image : Image) : Type 0 where
+pub record FitsImage (image : Image) : Type 0 where
   pub count : image.count < 2 ^ 64
   pub root : image.root < 2 ^ 64
   pub words : All (λ (p : ℕ × ℕ). p.1 < 2 ^ 64) image.pairs

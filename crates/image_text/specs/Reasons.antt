@@ -5,12 +5,12 @@ use Rattle.image_text.specs.declared.lines.ImageLines.TheVariants.{Nothing, Begu
 use Rattle.image_text.specs.declared.lines.ImageReason.{ImageReason}
 use Rattle.image_text.specs.declared.lines.ImageReason.TheVariants as reasons
 
-abbrev pub reason_for : ImageLines → ImageReason
-reason_for Nothing = reasons.Image
-reason_for (Begun head) = reasons.Root
-reason_for (Whole image) = reasons.Word
+abbrev pub image_reason_for : ImageLines → ImageReason
+image_reason_for Nothing = reasons.Image
+image_reason_for (Begun head) = reasons.Root
+image_reason_for (Whole image) = reasons.Word
 
-abbrev pub reason_text : ImageReason → List ℕ
-reason_text reasons.Image = codes "image"
-reason_text reasons.Root = codes "root"
-reason_text reasons.Word = codes "word"
+abbrev pub image_reason_text : ImageReason → List ℕ
+image_reason_text reasons.Image = codes "image"
+image_reason_text reasons.Root = codes "root"
+image_reason_text reasons.Word = codes "word"

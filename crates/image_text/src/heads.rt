@@ -1,7 +1,7 @@
 //! The three kinds of line.
 
 ghost use Rattle.std.specs.Prelude.{◌≡◌};
-ghost use Rattle.image_text.specs.Reading.{fitting, head_behind, head_of, head_within, is_above, last_pair, numbers_of, pair_of, root_of};
+ghost use Rattle.image_text.specs.Reading.{fitting, image_head_behind, image_head_of, image_head_within, is_above, last_pair, two_numbers_of, pair_of, root_of};
 ghost use Rattle.std.specs.Option.{option_copied};
 
 use crate::lines::ImageHead;
@@ -16,9 +16,9 @@ const MIN_LINES: u64 = 64;
 const MAX_LINES: u64 = 16_384;
 
 /// The first line: `image N L W`.
-#[tactic(auto, unfolding(crate::specs::Reading::head_of))]
+#[tactic(auto, unfolding(crate::specs::Reading::image_head_of))]
 pub(crate) fn read_head(line: &[u8]) -> Option<ImageHead>
-    ensures { result ≡ head_of line.now }
+    ensures { result ≡ image_head_of line.now }
 {
     let (word, numbers) = split_word(line);
     if !is_word(b"image", word) {
@@ -28,9 +28,9 @@ pub(crate) fn read_head(line: &[u8]) -> Option<ImageHead>
 }
 
 /// The same, from the number of callers on.
-#[tactic(auto, unfolding(crate::specs::Reading::head_behind))]
+#[tactic(auto, unfolding(crate::specs::Reading::image_head_behind))]
 fn read_head_behind(text: &[u8]) -> Option<ImageHead>
-    ensures { result ≡ head_behind text.now }
+    ensures { result ≡ image_head_behind text.now }
 {
     let (callers, sizes) = split_word(text);
     let callers = number_of(callers)?;
@@ -40,7 +40,7 @@ fn read_head_behind(text: &[u8]) -> Option<ImageHead>
 
 /// The numbers of a first line, where they are within their limits.
 fn head_within(callers: u64, lines: u64, count: u64) -> Option<ImageHead>
-    ensures { result ≡ head_within callers lines count }
+    ensures { result ≡ image_head_within callers lines count }
 {
     if 1 <= callers && callers <= MOST_CALLERS && MIN_LINES <= lines && lines <= MAX_LINES {
         Some(ImageHead {
@@ -54,9 +54,9 @@ fn head_within(callers: u64, lines: u64, count: u64) -> Option<ImageHead>
 }
 
 /// Two numbers with a space between them.
-#[tactic(auto, unfolding(crate::specs::Reading::numbers_of))]
+#[tactic(auto, unfolding(crate::specs::Reading::two_numbers_of))]
 fn read_numbers(text: &[u8]) -> Option<(u64, u64)>
-    ensures { result ≡ numbers_of text.now }
+    ensures { result ≡ two_numbers_of text.now }
 {
     let (first, second) = split_word(text);
     let first = number_of(first)?;
@@ -76,7 +76,7 @@ pub(crate) fn read_root(line: &[u8]) -> Option<u64>
     number_of(root?)
 }
 
-/// A further line: `AT V`, where it may stand behind these pairs of an image of so many words.
+/// A further line: `AT V`, where it may stand behind these pairs of an image of `count` words.
 #[tactic(auto, unfolding(crate::specs::Reading::pair_of))]
 pub(crate) fn read_pair(pairs: &[(u64, u64)], count: u64, line: &[u8]) -> Option<(u64, u64)>
     ensures { result ≡ pair_of pairs.now count line.now }

@@ -39,11 +39,11 @@ pub enum ImageReason {
 }
 
 impl ImageReason {
-    ghost use Rattle.image_text.specs.Reasons.{reason_text};
+    ghost use Rattle.image_text.specs.Reasons.{image_reason_text};
 
     /// The reason as a word.
     pub fn word(self) -> &'static str
-        ensures { result.now ≡ reason_text self }
+        ensures { result.now ≡ image_reason_text self }
     {
         match self {
             ImageReason::Image => "image",
@@ -55,9 +55,9 @@ impl ImageReason {
 
 impl fmt::Display for ImageReason {
     ghost use Rattle.std.specs.Prelude.{Some};
-    ghost use Rattle.image_text.specs.Reasons.{reason_text};
+    ghost use Rattle.image_text.specs.Reasons.{image_reason_text};
 
-    ghost output = { λ reason. Some (reason_text reason) };
+    ghost output = { λ reason. Some (image_reason_text reason) };
 
     fn fmt<W: fmt::Write>(&self, f: &mut fmt::Formatter<W>) -> fmt::Result {
         f.write_str(self.word())

@@ -3,13 +3,13 @@
 ghost use Rattle.std.specs.Prelude.{◌≡◌, ◌++◌, ◌<◌, ℕ, IfOk, OnOk};
 ghost use Rattle.recovery.specs.Images.{IsReadable, image_word};
 ghost use Rattle.image_text.specs.ImageTexts.{IsImageText};
-ghost use Rattle.image_text.specs.Printing.{Fits, head_line, pair_text, pairs_text, text_of, without_zeros};
+ghost use Rattle.image_text.specs.Printing.{FitsImage, head_line, pair_text, pairs_text, text_of, without_zeros};
 
 use cx_core::Image;
 use plain_text::{write_labelled, write_number};
 use std::alloc::{AllocError, Global};
 
-/// The text of an image: its numbers, its root, and the words that are not 0. `Err` is want of memory.
+/// The text of an image: its numbers, its root, and the words that are not 0. `Err` means out of memory.
 pub fn image_text(alloc: Global, image: &Image) -> Result<Vec<u8>, AllocError>
     ensures { IfOk result (λ text. text.items ≡ text_of image.now) }
 {
@@ -56,7 +56,7 @@ fn write_pair(out: &mut Vec<u8>, pair: (u64, u64)) -> Result<(), AllocError>
 /// What is written of an image is read as an image with the same numbers and the same words: the one without the pairs of words that
 /// are 0.
 pub fn image_texts_are_read()
-    ensures read { (image : Image) → IsReadable image.lines image → Fits image → IsImageText (text_of image) (without_zeros image) }
+    ensures read { (image : Image) → IsReadable image.lines image → FitsImage image → IsImageText (text_of image) (without_zeros image) }
     ensures words { (image : Image) → IsReadable image.lines image → (at : ℕ) →
         image_word (without_zeros image).pairs at ≡ image_word image.pairs at }
 {}

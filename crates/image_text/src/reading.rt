@@ -13,7 +13,7 @@ use cx_core::Image;
 use plain_text::{LineReader, read_lines};
 use std::alloc::{AllocError, Global};
 
-/// Reads an image. It is Ok exactly for image texts, unless memory is wanting. Other texts are refused by the first line with
+/// Reads an image. It is Ok exactly for image texts, unless memory runs out. Other texts are refused by the first line with
 /// which the lines so far are none, or by the missing one where they end before the second.
 pub fn read_image(alloc: Global, bytes: &[u8]) -> Result<Image, TextFault>
     // What is read is what the text says.
@@ -39,17 +39,17 @@ pub fn read_image(alloc: Global, bytes: &[u8]) -> Result<Image, TextFault>
 }
 
 impl LineReader for ImageLines {
-    ghost use Rattle.image_text.specs.ImageTexts.{image_grammar, Keeps};
-    ghost use Rattle.image_text.specs.Reading.{judged};
+    ghost use Rattle.image_text.specs.ImageTexts.{image_grammar, KeepsImageLimits};
+    ghost use Rattle.image_text.specs.Reading.{judged_image};
     ghost use Rattle.image_text.specs.Judging.{reads_images};
 
     type Reason = ImageReason;
 
     ghost grammar = { image_grammar };
 
-    ghost judged = { judged };
+    ghost judged = { judged_image };
 
-    ghost Keeps = { Keeps };
+    ghost Keeps = { KeepsImageLimits };
 
     /// Adds a line, or gives the reason for which it is refused.
     fn add_line(&mut self, alloc: Global, line: &[u8]) -> Result<Option<ImageReason>, AllocError> {

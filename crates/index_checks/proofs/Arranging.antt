@@ -7,11 +7,11 @@ use Rattle.avl_words.specs.Tree.{Tree, Empty, Node, size, items}
 use Rattle.avl_words.proofs.Depth.{depth_bound}
 use Rattle.avl_words.specs.Lines.{word_of}
 use Rattle.avl_words.specs.Words.{times, IsTree}
-use Rattle.index_checks.specs.Order.{in_order}
+use Rattle.index_checks.specs.Order.{nodes_in_order}
 use Rattle.index_checks.specs.Shape.{HasShape}
 use Rattle.index_checks.proofs.Orders.{items_count, in_order_is}
 use Rattle.index_checks.specs.Lawful.{count_of}
-use Rattle.index_checks.specs.Layout.{Place, lines_at, nodes_of, Head, Arranged}
+use Rattle.index_checks.specs.Layout.{Place, lines_at, nodes_of, RevisionHead, Arranged}
 use Rattle.index_checks.proofs.Counts.{count_append, count_cons}
 use Rattle.index_checks.proofs.OneStore.{placed_count}
 use Rattle.index_checks.proofs.Totals.{all_lines}
@@ -41,13 +41,13 @@ at_most_one : (line end : ℕ) → cond {A = ℕ} (leb 1 line && ltb line end) 1
 at_most_one line end = grind (arith, nat_tests)
 
 -- fewer nodes than lines
-pub tree_few : (ws : List ℕ) (head : Head) (store : Store) (tree : Tree ℕ) (places : List Place) (given loose : List ℕ) → Arranged ws head store tree places given loose → size tree < word_of ws 0 3
+pub tree_few : (ws : List ℕ) (head : RevisionHead) (store : Store) (tree : Tree ℕ) (places : List Place) (given loose : List ℕ) → Arranged ws head store tree places given loose → size tree < word_of ws 0 3
 tree_few ws head store tree places given loose a =
     let total = all_lines ws head store tree places given loose a in
     let nodes = ap length a.nodes.in_order in
     omega (arith, total, nodes, nodes_few places, items_count tree)
 
-pub arranged_tree : (ws : List ℕ) (head : Head) (store : Store) (tree : Tree ℕ) (places : List Place) (given loose : List ℕ) → Arranged ws head store tree places given loose → IsTree ws tree
+pub arranged_tree : (ws : List ℕ) (head : RevisionHead) (store : Store) (tree : Tree ℕ) (places : List Place) (given loose : List ℕ) → Arranged ws head store tree places given loose → IsTree ws tree
 arranged_tree ws head store tree places given loose a =
     let lines = flat_map lines_at places in
     let few = tree_few ws head store tree places given loose a in
@@ -61,20 +61,20 @@ arranged_tree ws head store tree places given loose a =
       few = (let to = a.end_to in let sized = a.sized.few in omega arith);
     }
 
-pub arranged_count : (ws : List ℕ) (head : Head) (store : Store) (tree : Tree ℕ) (places : List Place) (given loose : List ℕ) → Arranged ws head store tree places given loose → size tree ≡ word_of ws 0 5
+pub arranged_count : (ws : List ℕ) (head : RevisionHead) (store : Store) (tree : Tree ℕ) (places : List Place) (given loose : List ℕ) → Arranged ws head store tree places given loose → size tree ≡ word_of ws 0 5
 arranged_count ws head store tree places given loose a =
     let nodes = ap length a.nodes.in_order in
     let pairs = a.pair_count in
     omega (arith, nodes, pairs, items_count tree, placed_count ws places store a.nodes.pairs)
 
 -- its nodes in order
-pub arranged_nodes : (ws : List ℕ) (head : Head) (store : Store) (tree : Tree ℕ) (places : List Place) (given loose : List ℕ) → Arranged ws head store tree places given loose →
-    nodes_of places ≡ in_order (word_of ws 0 1) ws
+pub arranged_nodes : (ws : List ℕ) (head : RevisionHead) (store : Store) (tree : Tree ℕ) (places : List Place) (given loose : List ℕ) → Arranged ws head store tree places given loose →
+    nodes_of places ≡ nodes_in_order (word_of ws 0 1) ws
 arranged_nodes ws head store tree places given loose a =
     let t = arranged_tree ws head store tree places given loose a in
     sym (in_order_is ws tree (word_of ws 0 1) a.nodes.shape (sym a.nodes.root_is) (depth_bound tree a.nodes.balanced t.few) ∙ a.nodes.in_order)
 
-pub arranged_shape : (ws : List ℕ) (head : Head) (store : Store) (tree : Tree ℕ) (places : List Place) (given loose : List ℕ) → Arranged ws head store tree places given loose →
+pub arranged_shape : (ws : List ℕ) (head : RevisionHead) (store : Store) (tree : Tree ℕ) (places : List Place) (given loose : List ℕ) → Arranged ws head store tree places given loose →
     HasShape ws (word_of ws 0 1) (word_of ws 0 5)
 arranged_shape ws head store tree places given loose a =
     record { tree = tree; stands = a.nodes.shape; balanced = a.nodes.balanced; root_is = sym a.nodes.root_is; counted = arranged_count ws head store tree places given loose a }

@@ -5,7 +5,7 @@ use Rattle.std.proofs.lemmas.List.{get_or_past, get_or-set_same, get_or-set_othe
 use Rattle.std.proofs.lemmas.List.FromFn.{fill_by_all}
 use Rattle.cx_base.specs.Packing.{packed_at, packed}
 use Rattle.avl_words.specs.Lines.{IsWithin, word_of}
-use Rattle.index_checks.specs.Blocks.{HasWords}
+use Rattle.index_checks.specs.Blocks.{HasChainWords}
 use Rattle.index_checks.specs.Layout.{IsChain, Holds}
 
 -- the lines of a chain, place by place
@@ -40,7 +40,7 @@ word_within i count bytes lines l c e = omega arith
 pub line_within : (i lines : ℕ) → i < 7 * lines → i / 7 < lines
 line_within i lines l = omega arith
 
-pub next_within : (ws : List ℕ) (first count i line : ℕ) (into : List ℕ) → i < count → HasWords ws first count → ReadSoFar first count i line into ws → IsWithin ws line
+pub next_within : (ws : List ℕ) (first count i line : ℕ) (into : List ℕ) → i < count → HasChainWords ws first count → ReadSoFar first count i line into ws → IsWithin ws line
 next_within ws first count i line into l h r =
     let so = r h.lines h.bytes h.holds h.counted in
     let inside = line_within i (length h.lines) (word_within i count (length h.bytes) (length h.lines) l h.counted h.holds.enough) in

@@ -2,7 +2,7 @@
 use Rattle.std.proofs.Common.{◌≡◌, ◌≢◌, ◌+◌, ◌<◌, ◌≤◌, ℕ, Bool, List, [], ◌∷◌, ◌++◌, length, length-append, refl, sym, ap, subst, ◌∙◌, arith}
 use Rattle.avl_words.specs.Lines.{word_of}
 use Rattle.index_checks.specs.Layout.{IsChain}
-use Rattle.index_checks.specs.Lawful.{count_of, Marks, CanMark, IsMarked, HasChain, NoChain}
+use Rattle.index_checks.specs.Lawful.{count_of, Marks, CanMark, IsLineMarked, HasChain, NoChain}
 use Rattle.avl_words.proofs.Frames.{times_self}
 use Rattle.index_checks.proofs.Counts.{count_cons}
 use Rattle.index_checks.proofs.Marking.{marks_none, marks_then, can_mark_rest}
@@ -38,7 +38,7 @@ path_front ws (x ∷ front) (y ∷ lines) first line p c l =
       chain = b.chain;
     }
 
--- so many lines are marked
+-- the first n lines are marked
 pub record MarkedSoFar (ws : List ℕ) (first n line : ℕ) (old now : List Bool) : Type 0 where
   pub front : List ℕ
   pub path : IsPath ws first front line
@@ -70,7 +70,7 @@ starts_with : (ws rest : List ℕ) (line : ℕ) → IsChain ws line rest → 1 �
 starts_with ws [] line c l = absurd (omega arith)
 starts_with ws (x ∷ rest) line c l = subst (λ y. 1 ≤ count_of y (x ∷ rest)) (sym c.0) (omega (arith, count_cons x x rest, times_self x))
 
-pub no_chain_taken : (ws : List ℕ) (first n count line : ℕ) (old now : List Bool) → MarkedSoFar ws first n line old now → n < count → IsMarked now line → NoChain ws first count old
+pub no_chain_taken : (ws : List ℕ) (first n count line : ℕ) (old now : List Bool) → MarkedSoFar ws first n line old now → n < count → IsLineMarked now line → NoChain ws first count old
 no_chain_taken ws first n count line old now s l taken lines c counted can =
     let b = path_front ws s.front lines first line s.path c (omega (arith, s.counted)) in
     let rest = can_mark_rest old now s.front b.rest s.marks (subst (CanMark old) b.lines_are can) in
@@ -78,7 +78,7 @@ no_chain_taken ws first n count line old now s l taken lines c counted can =
     let some = starts_with ws b.rest line b.chain (omega (arith, long, length-append s.front b.rest, s.counted)) in
     omega (arith, some, taken b.rest rest)
 
--- a chain that goes on behind so many lines
+-- a chain ends where no line is left, and goes on where one is
 ends_here : (ws rest : List ℕ) (line : ℕ) → IsChain ws line rest → length rest ≡ 0 → line ≡ 0
 ends_here ws [] line c l = c
 ends_here ws (x ∷ rest) line c l = absurd (omega arith)

@@ -9,7 +9,7 @@ use Rattle.std.proofs.lemmas.List.Sums.{get_or-le-sum_by}
 use Rattle.cx_base.specs.Store.{Store}
 use Rattle.avl_words.specs.Tree.{Tree}
 use Rattle.avl_words.specs.Lines.{IsWithin, word_of}
-use Rattle.index_checks.specs.Layout.{Place, lines_at, Head, Arranged}
+use Rattle.index_checks.specs.Layout.{Place, lines_at, RevisionHead, Arranged}
 
 -- parts of a list
 pub all_left : {X : Type 0} (P : X → Type 0) (xs ys : List X) → All P (xs ++ ys) → All P xs
@@ -25,7 +25,7 @@ all_middle P xs ys y h = All-head P y ys (all_right P xs (y ∷ ys) h)
 counted_once : (line end n : ℕ) → cond (eqb line line) 1 0 ≤ n → n ≡ cond (leb 1 line && ltb line end) 1 0 → (1 ≤ line) × (line < end)
 counted_once line end n least e = (grind (arith, nat_tests), grind (arith, nat_tests))
 
-pub lines_there : (ws : List ℕ) (head : Head) (store : Store) (tree : Tree ℕ) (places : List Place) (given loose : List ℕ) → Arranged ws head store tree places given loose →
+pub lines_there : (ws : List ℕ) (head : RevisionHead) (store : Store) (tree : Tree ℕ) (places : List Place) (given loose : List ℕ) → Arranged ws head store tree places given loose →
     All (λ line. (1 ≤ line) × (line < word_of ws 0 3)) (flat_map lines_at places ++ given ++ loose)
 lines_there ws head store tree places given loose a k d l =
     let lines = flat_map lines_at places ++ given ++ loose in
@@ -35,7 +35,7 @@ lines_there ws head store tree places given loose a k d l =
 below_end : (n end line : ℕ) → n ≡ 8 * (n / 8) → end ≤ n / 8 → line < end → 8 * line + 8 ≤ n
 below_end n end line whole e l = omega arith
 
-pub lines_within : (ws : List ℕ) (head : Head) (store : Store) (tree : Tree ℕ) (places : List Place) (given loose : List ℕ) → Arranged ws head store tree places given loose →
+pub lines_within : (ws : List ℕ) (head : RevisionHead) (store : Store) (tree : Tree ℕ) (places : List Place) (given loose : List ℕ) → Arranged ws head store tree places given loose →
     All (IsWithin ws) (flat_map lines_at places ++ given ++ loose)
 lines_within ws head store tree places given loose a =
     All-weaker (λ line. (1 ≤ line) × (line < word_of ws 0 3)) (IsWithin ws) (λ line h. below_end (length ws) (word_of ws 0 3) line a.sized.whole a.end_to h.1) _ (lines_there ws head store tree places given loose a)

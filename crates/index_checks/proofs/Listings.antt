@@ -11,7 +11,7 @@ use Rattle.cx_base.specs.Store.{Store, IsKey, IsDocument}
 use Rattle.cx_base.proofs.PackingLemmas.{unpacked-packed}
 use Rattle.avl_words.specs.Tree.{size}
 use Rattle.avl_words.specs.Lines.{word_of, IsWithin}
-use Rattle.index_checks.specs.Order.{in_order, HasTree}
+use Rattle.index_checks.specs.Order.{nodes_in_order, HasTree}
 use Rattle.index_checks.proofs.Orders.{tree_of, in_order_root}
 use Rattle.index_checks.specs.Lawful.{HasBlocks, IsContent}
 use Rattle.index_checks.specs.Layout.{head_of, IsChain, Place, lines_at, Placed, nodes_of, IsIndex}
@@ -96,7 +96,7 @@ names_pairs ws (p ∷ places) (q ∷ store) n within keys documents =
     })
     (names_pairs ws places store n.1 (all_right (IsWithin ws) (lines_at p) (flat_map lines_at places) within) (All-tail (λ p. IsKey p.0) q store keys) (All-tail (λ p. IsDocument p.1) q store documents))
 
-nodes_name_pairs : (ws : List ℕ) → IsIndex ws → All (NamesPair ws) (in_order (word_of ws 0 1) ws)
+nodes_name_pairs : (ws : List ℕ) → IsIndex ws → All (NamesPair ws) (nodes_in_order (word_of ws 0 1) ws)
 nodes_name_pairs ws i =
     let s = i.stands in
     let a = s.arranged in
@@ -108,7 +108,7 @@ pub record ListedSoFar (ws more : List ℕ) (pairs : List ((List ℕ × List ℕ
   pub all : pairs ++ map (triple_at ws) more ≡ (revised_in ws).triples
   pub left : All (NamesPair ws) more
 
-pub list_begins : (ws more : List ℕ) → IsIndex ws → more ≡ in_order (word_of ws 0 1) ws → ListedSoFar ws more []
+pub list_begins : (ws more : List ℕ) → IsIndex ws → more ≡ nodes_in_order (word_of ws 0 1) ws → ListedSoFar ws more []
 unfolding revised_in
 list_begins ws more i e = record { all = ap (map (triple_at ws)) (e ∙ in_order_root ws); left = subst (All (NamesPair ws)) (sym e) (nodes_name_pairs ws i) }
 
@@ -131,7 +131,7 @@ index_tree ws i =
     let t = arranged_tree ws (head_of 2 s.last) i.store s.tree s.places s.given [] a in
     tree_of ws (word_of ws 0 1) (size s.tree) (record { tree = s.tree; stands = t.stands; balanced = t.balanced; root_is = sym t.root_is; counted = refl }) t.few
 
-pub index_count : (ws : List ℕ) → IsIndex ws → length (in_order (word_of ws 0 1) ws) ≡ word_of ws 0 5
+pub index_count : (ws : List ℕ) → IsIndex ws → length (nodes_in_order (word_of ws 0 1) ws) ≡ word_of ws 0 5
 index_count ws i =
     let s = i.stands in
     let a = s.arranged in

@@ -6,7 +6,7 @@ use Rattle.std.proofs.lemmas.Bool.{cases_eq, cases_lt, false≢true}
 use Rattle.std.proofs.lemmas.Bool.Decides.{nat_tests}
 use Rattle.std.proofs.lemmas.List.{get_or_past, get_or-set_same, get_or-set_other, length-set}
 use Rattle.std.proofs.lemmas.List.Sums.{get_or-le-sum_by}
-use Rattle.index_checks.specs.Lawful.{count_of, mark_of, Marks, CanMark, IsMarked}
+use Rattle.index_checks.specs.Lawful.{count_of, mark_of, Marks, CanMark, IsLineMarked}
 use Rattle.avl_words.proofs.Frames.{times_self, times_other}
 use Rattle.index_checks.proofs.Counts.{count_append, count_cons}
 
@@ -55,10 +55,10 @@ one_mark old line x l free =
 pub marks_line : (old : List Bool) (line : ℕ) → line < length old → get_or old line false ≡ false → Marks old (line ∷ []) (set old line true)
 marks_line old line l free = record { long = length-set old line true; are = λ x. one_mark old line x l free }
 
-pub taken_past : (marks : List Bool) (line : ℕ) → length marks ≤ line → IsMarked marks line
+pub taken_past : (marks : List Bool) (line : ℕ) → length marks ≤ line → IsLineMarked marks line
 taken_past marks line l lines can = omega (arith, can.once line, past_line line (length marks) l)
 
-pub taken_marked : (marks : List Bool) (line : ℕ) → get_or marks line false ≡ true → IsMarked marks line
+pub taken_marked : (marks : List Bool) (line : ℕ) → get_or marks line false ≡ true → IsLineMarked marks line
 taken_marked marks line is lines can =
     let one : mark_of marks line ≡ 1 = ap (λ b. cond b 1 0) is in
     omega (arith, can.once line, one, bit_most (ltb line (length marks)))

@@ -8,7 +8,7 @@ use Rattle.std.proofs.lemmas.List.Elements.{All-nil, All-cons, All-head, All-tai
 use Rattle.cx_base.specs.Store.{Store, IsStore, IsKey, IsDocument, KeysRise, key_cmp}
 use Rattle.doc_model.proofs.Order.{below_both}
 use Rattle.avl_words.specs.Lines.{word_of}
-use Rattle.index_checks.specs.Order.{in_order}
+use Rattle.index_checks.specs.Order.{nodes_in_order}
 use Rattle.index_checks.specs.Layout.{Place, lines_at, Placed, nodes_of, IsRevision, AreRevisions}
 use Rattle.index_checks.specs.Lawful.{head_in, Marks, CanMark, HasPair, NoPair, HasNodes, NoNodes}
 use Rattle.index_checks.proofs.Lines.{all_middle}
@@ -52,13 +52,13 @@ pub record FoundSoFar (ws more : List ℕ) (last : List ℕ) (old now : List Boo
   pub front : List Place
   pub lower : Store
   pub placed : Placed ws front lower
-  pub nodes : nodes_of front ++ more ≡ in_order (word_of ws 0 1) ws
+  pub nodes : nodes_of front ++ more ≡ nodes_in_order (word_of ws 0 1) ws
   pub lawful : IsStore lower
   pub revisions : AreRevisions (head_in ws) front
   pub is_last : IsLast last lower
   pub marks : Marks old (flat_map lines_at front) now
 
-pub found_none : (ws more : List ℕ) (marks : List Bool) → more ≡ in_order (word_of ws 0 1) ws → FoundSoFar ws more [] marks marks
+pub found_none : (ws more : List ℕ) (marks : List Bool) → more ≡ nodes_in_order (word_of ws 0 1) ws → FoundSoFar ws more [] marks marks
 found_none ws more marks e = record {
   front = [];
   lower = [];

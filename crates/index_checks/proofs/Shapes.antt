@@ -14,7 +14,7 @@ abbrev pub pending : ℕ → List ℕ → List ℕ
 pending zero stack = []
 pending (suc depth) stack = get_or stack depth 0 ∷ pending depth stack
 
--- trees below these lines, with so many nodes in all
+-- trees below these lines, with the given number of nodes in all
 abbrev pub Forest : List ℕ → List ℕ → ℕ → Type 0
 Forest words [] count = count ≡ 0
 Forest words (line ∷ lines) count = (n : ℕ) × (m : ℕ) × (n + m ≡ count) × HasShape words line n × Forest words lines m

@@ -9,7 +9,7 @@ use Rattle.cx_base.proofs.PackingLemmas.{packed_byte}
 use Rattle.cx_base.specs.Packing.{byte_at, packed_at, packed, unpacked}
 use Rattle.avl_words.specs.Lines.{IsWithin, word_of}
 use Rattle.index_checks.specs.Layout.{IsChain, Holds}
-use Rattle.index_checks.specs.Lawful.{HasChain, NoChain, HasBlocks, IsContent, IsBetween, IsFilled, ReadsText, NoText}
+use Rattle.index_checks.specs.Lawful.{HasChain, NoChain, HasBlocks, IsContent, AreBytesBetween, IsFilled, ReadsText, NoText}
 use Rattle.index_checks.proofs.BlockReads.{chain_first, next_line, line_within, word_at_past}
 use Rattle.index_checks.proofs.Marking.{marked_there}
 
@@ -88,7 +88,7 @@ cleared_all ws first count content i s e lines c counted = record {
 }
 
 -- the first bytes and the others
-pub filled : (bytes : List ℕ) (len least most : ℕ) → All (IsBetween least most) (take len bytes) → All (λ b. b ≡ 0) (drop len bytes) → IsFilled bytes len least most
+pub filled : (bytes : List ℕ) (len least most : ℕ) → All (AreBytesBetween least most) (take len bytes) → All (λ b. b ≡ 0) (drop len bytes) → IsFilled bytes len least most
 filled bytes len least most front behind = record {
   front = front;
   behind = λ i l. (
@@ -151,7 +151,7 @@ text_there ws first count len least most content bytes old now h r f =
     }
 
 -- a text that is there is read
-small_text : (text : List ℕ) (least most : ℕ) → All (IsBetween least most) text → most < 256 → (i : ℕ) → get_or text i 0 < 256
+small_text : (text : List ℕ) (least most : ℕ) → All (AreBytesBetween least most) text → most < 256 → (i : ℕ) → get_or text i 0 < 256
 small_text text least most limits l i =
     elim (cases_lt i (length text)) [
       | inl lt ↦ (let h = limits i 0 lt in omega (arith, h.1))
@@ -187,9 +187,9 @@ no_text ws first count len least most content bytes old r below none lines text 
     let counted : length lines ≡ count = h.enough ∙ ap (λ n. (n + 55) / 56) long ∙ sym r.counted in
     let same = read_byte ws first count len content bytes lines text r h long counted (small_text text least most limits below) in
     none (record {
-      front = All-from_get_or (IsBetween least most) (take len bytes) 0 (λ i l. (
+      front = All-from_get_or (AreBytesBetween least most) (take len bytes) 0 (λ i l. (
           let within : i < len = omega (arith, length-take len bytes) in
-          subst (IsBetween least most) (sym (get_or-take len bytes i 0 within ∙ same i)) (limits i 0 (omega (arith, long)))));
+          subst (AreBytesBetween least most) (sym (get_or-take len bytes i 0 within ∙ same i)) (limits i 0 (omega (arith, long)))));
       behind = λ i l. same i ∙ get_or_past text i 0 (omega (arith, long));
     })
 

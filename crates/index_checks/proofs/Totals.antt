@@ -7,7 +7,7 @@ use Rattle.std.proofs.lemmas.List.Elements.{All-head, All-tail, All-weaker}
 use Rattle.cx_base.specs.Store.{Store}
 use Rattle.avl_words.specs.Tree.{Tree}
 use Rattle.avl_words.specs.Lines.{word_of}
-use Rattle.index_checks.specs.Layout.{Place, lines_at, Head, Arranged}
+use Rattle.index_checks.specs.Layout.{Place, lines_at, RevisionHead, Arranged}
 use Rattle.avl_words.proofs.Frames.{times_other}
 use Rattle.index_checks.specs.Lawful.{count_of}
 use Rattle.index_checks.proofs.Counts.{count_cons}
@@ -79,7 +79,7 @@ lines_total (suc n) lines some below once =
     omega (arith, a, b, c)
 
 -- all lines that were given are in use, given back or loose
-pub all_lines : (ws : List ℕ) (head : Head) (store : Store) (tree : Tree ℕ) (places : List Place) (given loose : List ℕ) → Arranged ws head store tree places given loose →
+pub all_lines : (ws : List ℕ) (head : RevisionHead) (store : Store) (tree : Tree ℕ) (places : List Place) (given loose : List ℕ) → Arranged ws head store tree places given loose →
     length (flat_map lines_at places) + length given + length loose + 1 ≡ word_of ws 0 3
 all_lines ws head store tree places given loose a =
     let used = flat_map lines_at places in
@@ -87,5 +87,5 @@ all_lines ws head store tree places given loose a =
     let total = lines_total (word_of ws 0 3) (used ++ given ++ loose) a.end_from below a.once in
     omega (arith, total, length-append (used ++ given) loose, length-append used given)
 
-pub few_given : (ws : List ℕ) (head : Head) (store : Store) (tree : Tree ℕ) (places : List Place) (given loose : List ℕ) → Arranged ws head store tree places given loose → word_of ws 0 4 ≤ 2 ^ 32
+pub few_given : (ws : List ℕ) (head : RevisionHead) (store : Store) (tree : Tree ℕ) (places : List Place) (given loose : List ℕ) → Arranged ws head store tree places given loose → word_of ws 0 4 ≤ 2 ^ 32
 few_given ws head store tree places given loose a = omega (arith, all_lines ws head store tree places given loose a, a.given_count, a.end_to, a.sized.few)

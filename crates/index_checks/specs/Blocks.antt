@@ -3,8 +3,8 @@ use Rattle.std.specs.Prelude.{◌≡◌, ◌+◌, ◌*◌, ◌/◌, ◌≤◌, �
 use Rattle.avl_words.specs.Lines.{word_of, IsWithin}
 use Rattle.index_checks.specs.Layout.{Holds}
 
--- a chain that holds some bytes, in so many words of which some byte is used
-pub record HasWords (words : List ℕ) (first count : ℕ) : Type 0 where
+-- a chain that holds some bytes, in `count` words with some byte in use
+pub record HasChainWords (words : List ℕ) (first count : ℕ) : Type 0 where
   pub lines : List ℕ
   pub bytes : List ℕ
   pub holds : Holds words first lines bytes
@@ -12,7 +12,7 @@ pub record HasWords (words : List ℕ) (first count : ℕ) : Type 0 where
   pub counted : count ≡ (length bytes + 7) / 8
 
 -- a node names these bytes by two of its words: the first block line, and the length
-pub record IsText (words : List ℕ) (node at : ℕ) (lines bytes : List ℕ) : Type 0 where
+pub record IsTextAt (words : List ℕ) (node at : ℕ) (lines bytes : List ℕ) : Type 0 where
   pub holds : Holds words (word_of words node at) lines bytes
   pub long : word_of words node (at + 1) ≡ length bytes
   pub node_within : IsWithin words node
@@ -22,5 +22,5 @@ pub record IsText (words : List ℕ) (node at : ℕ) (lines bytes : List ℕ) : 
 pub record HasText (words : List ℕ) (node at n : ℕ) : Type 0 where
   pub lines : List ℕ
   pub bytes : List ℕ
-  pub text : IsText words node at lines bytes
+  pub text : IsTextAt words node at lines bytes
   pub short : length bytes ≤ 8 * n

@@ -1,15 +1,15 @@
--- What a check of words finds that may be anything: each line that it comes to is marked, so that none is used twice.
+-- What a check finds in words that may be anything: each line that it reaches is marked, so that none is used twice.
 use Rattle.std.specs.Prelude.{◌≡◌, ◌+◌, ◌*◌, ◌/◌, ◌%◌, ◌<◌, ◌≤◌, ◌==◌, nat_lt, ℕ, Bool, false, List, ◌++◌, length, slice_index, take, count_by, slice_index_or, if◌then◌else◌, All}
 use Rattle.std.specs.List.{flat_map}
 use Rattle.std.specs.declared.cmp.Ordering.TheVariants.{Less}
 use Rattle.cx_base.specs.Store.{Store, IsStore, IsKey, IsDocument, key_cmp}
-use Rattle.index_checks.specs.Order.{in_order}
+use Rattle.index_checks.specs.Order.{nodes_in_order}
 use Rattle.index_checks.specs.Shape.{HasShape}
 use Rattle.avl_words.specs.Lines.{word_of, line_count, IsPartLength, IsWithin}
-use Rattle.index_checks.specs.Layout.{IsChain, Holds, Place, lines_at, IsAt, Placed, nodes_of, Head, head_of, IsHead, IsRevision, AreRevisions, StandsFor}
+use Rattle.index_checks.specs.Layout.{IsChain, Holds, Place, lines_at, IsAt, Placed, nodes_of, RevisionHead, head_of, IsHead, IsRevision, AreRevisions, StandsFor}
 
 -- what the header says of revisions, whatever the words are
-abbrev pub head_in : List ℕ → Head
+abbrev pub head_in : List ℕ → RevisionHead
 head_in words = head_of (word_of words 0 0) (word_of words 0 6)
 
 -- words stand for some store with this version
@@ -41,10 +41,10 @@ pub record CanMark (marks : List Bool) (lines : List ℕ) : Type 0 where
   pub once : (line : ℕ) → count_of line lines + mark_of marks line ≤ (if nat_lt line (length marks) then 1 else 0)
 
 -- a line is marked, or none of the lines that can be marked
-abbrev pub IsMarked : List Bool → ℕ → Type 0
-IsMarked marks line = (lines : List ℕ) → CanMark marks lines → count_of line lines ≡ 0
+abbrev pub IsLineMarked : List Bool → ℕ → Type 0
+IsLineMarked marks line = (lines : List ℕ) → CanMark marks lines → count_of line lines ≡ 0
 
--- a chain of so many lines, which are marked
+-- a chain of `count` lines, which are marked
 pub record HasChain (words : List ℕ) (first count : ℕ) (old now : List Bool) : Type 0 where
   pub lines : List ℕ
   pub chain : IsChain words first lines
@@ -54,7 +54,7 @@ pub record HasChain (words : List ℕ) (first count : ℕ) (old now : List Bool)
 abbrev pub NoChain : List ℕ → ℕ → ℕ → List Bool → Type 0
 NoChain words first count old = (lines : List ℕ) → IsChain words first lines → length lines ≡ count → CanMark old lines → ⊥
 
--- a chain of so many lines, all of them there
+-- a chain of `count` lines, all of them there
 pub record HasBlocks (words : List ℕ) (first count : ℕ) : Type 0 where
   pub lines : List ℕ
   pub chain : IsChain words first lines
@@ -67,12 +67,12 @@ pub record IsContent (words : List ℕ) (lines content : List ℕ) : Type 0 wher
   pub behind : (i : ℕ) → 7 * length lines ≤ i → slice_index content i ≡ 0
 
 -- bytes from one number to another
-abbrev pub IsBetween : ℕ → ℕ → ℕ → Type 0
-IsBetween least most byte = (least ≤ byte) × (byte ≤ most)
+abbrev pub AreBytesBetween : ℕ → ℕ → ℕ → Type 0
+AreBytesBetween least most byte = (least ≤ byte) × (byte ≤ most)
 
 -- the first bytes are within these limits, and the others are 0
 pub record IsFilled (bytes : List ℕ) (len least most : ℕ) : Type 0 where
-  pub front : All (IsBetween least most) (take len bytes)
+  pub front : All (AreBytesBetween least most) (take len bytes)
   pub behind : (i : ℕ) → len ≤ i → slice_index bytes i ≡ 0
 
 -- a text in a chain of blocks, which are marked
@@ -80,12 +80,12 @@ pub record ReadsText (words : List ℕ) (first len least most : ℕ) (old now : 
   pub lines : List ℕ
   pub holds : Holds words first lines text
   pub long : length text ≡ len
-  pub limits : All (IsBetween least most) text
+  pub limits : All (AreBytesBetween least most) text
   pub marks : Marks old lines now
 
 abbrev pub NoText : List ℕ → ℕ → ℕ → ℕ → ℕ → List Bool → Type 0
 NoText words first len least most old =
-    (lines text : List ℕ) → Holds words first lines text → length text ≡ len → All (IsBetween least most) text → CanMark old lines → ⊥
+    (lines text : List ℕ) → Holds words first lines text → length text ≡ len → All (AreBytesBetween least most) text → CanMark old lines → ⊥
 
 -- the key of a node, and its document
 pub record HasKey (words : List ℕ) (node : ℕ) (old now : List Bool) (key : List ℕ) : Type 0 where
@@ -130,14 +130,14 @@ pub record HasNodes (words : List ℕ) (old now : List Bool) : Type 0 where
   pub places : List Place
   pub store : Store
   pub placed : Placed words places store
-  pub nodes : nodes_of places ≡ in_order (word_of words 0 1) words
+  pub nodes : nodes_of places ≡ nodes_in_order (word_of words 0 1) words
   pub lawful : IsStore store
   pub revisions : AreRevisions (head_in words) places
   pub marks : Marks old (flat_map lines_at places) now
 
 abbrev pub NoNodes : List ℕ → List Bool → Type 0
 NoNodes words old =
-    (places : List Place) (store : Store) → Placed words places store → nodes_of places ≡ in_order (word_of words 0 1) words → IsStore store → AreRevisions (head_in words) places → CanMark old (flat_map lines_at places) → ⊥
+    (places : List Place) (store : Store) → Placed words places store → nodes_of places ≡ nodes_in_order (word_of words 0 1) words → IsStore store → AreRevisions (head_in words) places → CanMark old (flat_map lines_at places) → ⊥
 
 -- the words of a header that name no line
 pub record IsHeader (words : List ℕ) (version : ℕ) : Type 0 where
@@ -167,7 +167,7 @@ pub record AreLinesLawful (words : List ℕ) (marks : List Bool) : Type 0 where
   pub store : Store
   pub given : List ℕ
   pub placed : Placed words places store
-  pub nodes : nodes_of places ≡ in_order (word_of words 0 1) words
+  pub nodes : nodes_of places ≡ nodes_in_order (word_of words 0 1) words
   pub lawful : IsStore store
   pub revisions : AreRevisions (head_in words) places
   pub given_back : IsChain words (word_of words 0 2) given

@@ -58,26 +58,26 @@ pub record Nodes (words : List ℕ) (from : ℕ) (tree : Tree ℕ) (places : Lis
   pub pairs : Placed words places store
 
 -- what a header says of the pairs' revisions: the version of the format, and the last revision that was given
-pub record Head : Type 0 where
+pub record RevisionHead : Type 0 where
   pub version : ℕ
   pub last : ℕ
 
-abbrev pub head_of : ℕ → ℕ → Head
+abbrev pub head_of : ℕ → ℕ → RevisionHead
 head_of version last = record { version = version; last = last }
 
 -- A header that may be: in version 1 no revision was given, and there is no version but 1 and 2.
-abbrev pub IsHead : Head → Type 0
+abbrev pub IsHead : RevisionHead → Type 0
 IsHead head = ((head.version ≡ 1) × (head.last ≡ 0)) ⊎ (head.version ≡ 2)
 
 -- a revision that a pair may have: in version 1 it is 0, and in version 2 it is from 1 to the last one given
-abbrev pub IsRevision : Head → ℕ → Type 0
+abbrev pub IsRevision : RevisionHead → ℕ → Type 0
 IsRevision head revision = (head.version ≤ revision + 1) × (revision ≤ head.last)
 
-abbrev pub AreRevisions : Head → List Place → Type 0
+abbrev pub AreRevisions : RevisionHead → List Place → Type 0
 AreRevisions head places = All (λ place. IsRevision head place.revision) places
 
 -- Words in which the pairs of a store stand in a tree at places, and lines are given back. While a change is made, some lines are loose: neither in use nor given back.
-pub record Arranged (words : List ℕ) (head : Head) (store : Store) (tree : Tree ℕ) (places : List Place) (given loose : List ℕ) : Type 0 where
+pub record Arranged (words : List ℕ) (head : RevisionHead) (store : Store) (tree : Tree ℕ) (places : List Place) (given loose : List ℕ) : Type 0 where
   pub sized : IsPartLength (length words)
   pub version_word : word_of words 0 0 ≡ head.version
   pub nodes : Nodes words (word_of words 0 1) tree places store

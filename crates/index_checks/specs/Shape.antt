@@ -1,4 +1,4 @@
--- Whether any words have the shape of a balanced tree of so many nodes.
+-- Whether any words have the shape of a balanced tree of the given number of nodes.
 use Rattle.std.specs.Prelude.{◌≡◌, ◌+◌, ◌≤◌, max, ℕ, List}
 use Rattle.avl_words.specs.Tree.{Tree, size, IsLevel, Balanced}
 use Rattle.avl_words.specs.Lines.{word_of, IsWithin}

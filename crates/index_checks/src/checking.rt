@@ -11,7 +11,7 @@ use std::alloc::{AllocError, Global};
 
 /// Whether words stand for some store, with this version, of which there are two. They may be anything: the tree's shape is told in one turn for
 /// each pair counted, of which there are fewer than lines, and then each line is looked at a bounded number of times, with
-/// a mark of a byte for each line in use. Nothing recurses. `Err` is want of memory.
+/// a mark of a byte for each line in use. Nothing recurses. `Err` means out of memory.
 pub fn lawful(alloc: Global, words: &[u64], version: u64) -> Result<bool, AllocError>
     ensures { IfOk result (λ yes. IsTrue yes ↔ IsLawful words.now version) }
 {
@@ -25,7 +25,7 @@ pub fn lawful(alloc: Global, words: &[u64], version: u64) -> Result<bool, AllocE
     Ok(lines_are_lawful(words, &mut marks))
 }
 
-/// Whether so many words are the words of an index.
+/// Whether an index may have `n` words: whole lines, from 1 to 2^32 of them.
 fn is_part_length(n: usize) -> bool
     ensures { IsTrue result ↔ IsPartLength n }
 {
@@ -75,7 +75,7 @@ fn are_all_marked(marks: &[bool]) -> bool
     marks.iter().all(|marked| *marked)
 }
 
-/// Marks for so many lines, of which only the header's has one.
+/// Marks for `count` lines, of which only the header's is set.
 fn first_marks(alloc: Global, count: usize) -> Result<Vec<bool>, AllocError>
     requires { 1 ≤ count }
     ensures { IfOk result (λ marks. marks.items ≡ slice_set (replicate count false) 0 true) }

@@ -1,7 +1,7 @@
 //! A walk over the nodes of a tree in order.
 
 ghost use Rattle.std.specs.Prelude.{◌≡◌, ◌≤◌, ◌∷◌, ◌++◌};
-ghost use Rattle.index_checks.specs.Order.{in_order, to_come, HasTree, AreNoted};
+ghost use Rattle.index_checks.specs.Order.{nodes_in_order, to_come, HasTree, AreNoted};
 ghost use Rattle.avl_words.specs.Lines.{IsWithin};
 
 use crate::words::word_at;
@@ -18,7 +18,7 @@ impl InOrder {
     pub fn of(words: &[u64], root: u64) -> InOrder
         requires { HasTree words.now root 0 }
         ensures noted { AreNoted words.now result.nodes result.depth }
-        ensures all { to_come words.now result.nodes result.depth ≡ in_order root words.now }
+        ensures all { to_come words.now result.nodes result.depth ≡ nodes_in_order root words.now }
     {
         let mut nodes = [0; 64];
         let depth = descend(words, &mut nodes, 0, root);
@@ -45,7 +45,7 @@ fn descend(words: &[u64], nodes: &mut [u64; 64], depth: usize, from: u64) -> usi
     requires noted { AreNoted words.now nodes.old depth }
     requires tree { HasTree words.now from depth }
     ensures noted { AreNoted words.now nodes.new result }
-    ensures next { to_come words.now nodes.new result ≡ in_order from words.now ++ to_come words.now nodes.old depth }
+    ensures next { to_come words.now nodes.new result ≡ nodes_in_order from words.now ++ to_come words.now nodes.old depth }
 {
     let mut depth = depth;
     let mut node = from;

@@ -1,8 +1,11 @@
-//! How the words of an index stand for a store, a check of words that may be anything, and the pairs that words stand
-//! for. Below them: whether words have the shape of a balanced tree, and a walk over its nodes in order. Neither
-//! recurses, so the stack that they take is the same whatever the words are.
+//! The words of a crash image may be anything: links in a ring, a line that is used twice, keys out of order, lengths behind the end. Before the
+//! index in them is used they are checked, and no words may make the check run on for ever or use up its stack.
 //!
-//! - Whatever the words are, it is told exactly whether a balanced tree of so many nodes stands below a line: `is_balanced`; a walk gives each
+//! The shape comes first: heights have to fall on each way down, so that every walk ends. Then the nodes are visited in order, and each line in use
+//! gets a mark; one that has its mark already is used twice. Nothing recurses, so the stack that this takes is the same whatever the words are. Here
+//! is also the definition of how words represent a store, and the list of the pairs of words that passed.
+//!
+//! - Whatever the words are, it is told exactly whether a balanced tree with a given number of nodes stands below a line: `is_balanced`; a walk gives each
 //!   node of such a tree once, in order: `InOrder`.
 //! - Whatever the words are, true exactly where a tree stands in them for some store with this version, of which there are two, and then for
 //!   one only, which is read off them: `lawful`; `lawful_words_have_one_store`, `words_stand_for_one_store`, `words_tell_their_store`;

@@ -49,7 +49,7 @@ fn pair_of(alloc: Global, words: &[u64], node: u64) -> Result<Pair, AllocError>
     Ok(Pair { key, doc, revision })
 }
 
-/// The pairs that words stand for, each with its revision, in the order of their keys. `Err` is want of memory.
+/// The pairs that words stand for, each with its revision, in the order of their keys. `Err` means out of memory.
 pub fn pairs_of(alloc: Global, words: &[u64]) -> Result<Vec<Pair>, AllocError>
     requires { IsIndex words.now }
     ensures { IfOk result (λ pairs. pairs.items ≡ (revised_in words.now).triples) }

@@ -1,12 +1,12 @@
-//! Lines that a check of words has come to are marked, so that none is used twice.
+//! Lines that a check of words has reached are marked, so that none is used twice.
 
 ghost use Rattle.std.specs.Prelude.{◌*◌, ◌<◌, ◌≤◌, ◌∷◌, [], length};
 ghost use Rattle.std.specs.Bool.{MatchBool};
-ghost use Rattle.index_checks.specs.Lawful.{Marks, IsMarked, HasChain, NoChain};
+ghost use Rattle.index_checks.specs.Lawful.{Marks, IsLineMarked, HasChain, NoChain};
 
 /// Marks a line: false where it has its mark already, or there is none for it.
 pub fn mark(marks: &mut [bool], line: u64) -> bool
-    ensures { MatchBool result ((line < length marks.old) × Marks marks.old (line ∷ []) marks.new) (IsMarked marks.old line) }
+    ensures { MatchBool result ((line < length marks.old) × Marks marks.old (line ∷ []) marks.new) (IsLineMarked marks.old line) }
 {
     let at = line as usize;
     if at >= marks.len() || marks[at] {
@@ -16,7 +16,7 @@ pub fn mark(marks: &mut [bool], line: u64) -> bool
     true
 }
 
-/// Marks the lines of a chain of so many lines: false where there is no such chain of lines without a mark. Each line
+/// Marks the lines of a chain of `count` lines: false where there is no such chain of lines without a mark. Each line
 /// is looked at once.
 pub fn mark_chain(words: &[u64], marks: &mut [bool], first: u64, count: u64) -> bool
     requires { 8 * length marks.old ≤ length words.now }

@@ -35,7 +35,7 @@ fn push(stack: &mut [u64; 66], depth: usize, line: u64) -> usize
     depth + 1
 }
 
-/// Whether a balanced tree of so many nodes stands below a line whose height is at most 64. Each turn looks at one
+/// Whether a balanced tree of `count` nodes stands below a line whose height is at most 64. Each turn looks at one
 /// node, and its children wait on the stack. Heights fall on each way down, so no way is a ring.
 fn shape_at(words: &[u64], root: u64, count: u64) -> bool
     requires { high_of root words.now ≤ 64 }
@@ -58,7 +58,7 @@ fn shape_at(words: &[u64], root: u64, count: u64) -> bool
     depth == 0
 }
 
-/// Whether a balanced tree of so many nodes stands below a line, whatever the words are. It looks at that many nodes at
+/// Whether a balanced tree of `count` nodes stands below a line, whatever the words are. It looks at that many nodes at
 /// most. A line may stand in the tree more than once.
 pub fn is_balanced(words: &[u64], root: u64, count: u64) -> bool
     requires { count < 2 ^ 32 }

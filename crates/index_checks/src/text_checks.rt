@@ -4,7 +4,7 @@ ghost use Rattle.std.specs.Prelude.{◌≡◌, ◌≢◌, ◌+◌, ◌*◌, ◌/
 ghost use Rattle.std.specs.Bool.{MatchBool};
 ghost use Rattle.avl_words.specs.Lines.{word_of, IsWithin};
 ghost use Rattle.index_checks.specs.Layout.{IsChain};
-ghost use Rattle.index_checks.specs.Lawful.{IsContent, IsBetween, IsFilled, HasBlocks, ReadsText, NoText};
+ghost use Rattle.index_checks.specs.Lawful.{IsContent, AreBytesBetween, IsFilled, HasBlocks, ReadsText, NoText};
 
 use crate::marks::mark_chain;
 use cx_base::{unpack, unpacked_packs};
@@ -22,7 +22,7 @@ fn block_behind(words: &[u64], line: u64, i: usize) -> u64
     }
 }
 
-/// Reads the seven words of each block of a chain of so many blocks, and zeros behind them.
+/// Reads the seven words of each block of a chain of `count` blocks, and zeros behind them.
 pub fn read_content(words: &[u64], first: u64, count: usize, content: &mut [u64])
     requires chain { HasBlocks words.now first count }
     requires room { 7 * count ≤ length content.old }
@@ -40,7 +40,7 @@ pub fn read_content(words: &[u64], first: u64, count: usize, content: &mut [u64]
 
 /// Whether all bytes are from one number to another.
 fn are_between(bytes: &[u8], least: u8, most: u8) -> bool
-    ensures { IsTrue result ↔ All (IsBetween least most) bytes.now }
+    ensures { IsTrue result ↔ All (AreBytesBetween least most) bytes.now }
 {
     bytes.iter().all(|byte| least <= *byte && *byte <= most)
 }
@@ -68,7 +68,7 @@ fn is_filled(bytes: &[u8], len: usize, least: u8, most: u8) -> bool
     are_between(&bytes[..len], least, most) && are_zero(behind(bytes, len))
 }
 
-/// Marks the blocks of a text of so many bytes and reads them, with zeros behind: false where there is no such text
+/// Marks the blocks of a text of `len` bytes and reads them, with zeros behind: false where there is no such text
 /// within these limits in blocks without a mark. `content` is room for the words of the blocks.
 pub fn text_at(
     words: &[u64],

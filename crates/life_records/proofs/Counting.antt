@@ -6,11 +6,11 @@ use Rattle.std.specs.Option.{option_map}
 use Rattle.std.proofs.lemmas.Bool.{and_parts, cases_Bool, eqb-true}
 use Rattle.std.proofs.lemmas.List.Sums.{length-filter, sum_by-append}
 use Rattle.life_records.specs.Records.{JournalLine, ReadLine}
-use Rattle.life_records.specs.Lives.{Answer, answers_of, count_to, journal_answer, read_answer}
-use Rattle.life_records.specs.Works.{by_entry, by_read, lines_of}
+use Rattle.life_records.specs.Lives.{ClientAnswer, answers_of, count_to, journal_answer, read_answer}
+use Rattle.life_records.specs.Works.{by_entry, by_read, client_lines}
 use Rattle.life_records.proofs.Lists.{Each}
 
-abbrev answers_to : ℕ → ℕ → Answer → Bool
+abbrev answers_to : ℕ → ℕ → ClientAnswer → Bool
 answers_to client command a = (a.client == client) && (a.command == command)
 
 abbrev entry_of : {Reply : Type 0} → ℕ → JournalLine Reply → Bool
@@ -51,7 +51,7 @@ module _ {Reply : Type 0} where
       → (reply : Option Reply) → line.reply ≡ reply → Replies client command line
       → length (filter (answers_to client command) (filter_map journal_answer (line ∷ journal))) ≡ length (filter (entry_of command) (filter (by_entry client) (line ∷ journal)))
   entry_one client command line journal rest None is some =
-      let a : Answer = record { client = line.client; command = line.command; at = line.ticket; next = line.ticket + 1 } in
+      let a : ClientAnswer = record { client = line.client; command = line.command; at = line.ticket; next = line.ticket + 1 } in
       let front : filter_map journal_answer (line ∷ journal) ≡ filter_map journal_answer journal =
       ap (λ (o : Option Reply). cons_option (option_map (λ _. a) o) (filter_map journal_answer journal)) is in
       let off : by_entry client line && entry_of command line ≡ false =
@@ -66,7 +66,7 @@ module _ {Reply : Type 0} where
       ∙ rest
       ∙ sym (neither (by_entry client) (entry_of command) line journal off)
   entry_one client command line journal rest (Some reply) is some =
-      let a : Answer = record { client = line.client; command = line.command; at = line.ticket; next = line.ticket + 1 } in
+      let a : ClientAnswer = record { client = line.client; command = line.command; at = line.ticket; next = line.ticket + 1 } in
       let front : filter_map journal_answer (line ∷ journal) ≡ a ∷ filter_map journal_answer journal =
       ap (λ (o : Option Reply). cons_option (option_map (λ _. a) o) (filter_map journal_answer journal)) is in
       ap (λ as'. length (filter (answers_to client command) as')) front
@@ -85,12 +85,12 @@ read_counts client command (line ∷ reads) =
 
 -- a command whose entries have replies has as many answers as lines
 pub answers_counted : {Reply : Type 0} → (client command : ℕ) (journal : List (JournalLine Reply)) (reads : List (ReadLine Reply)) → Each (Replies client command) journal
-    → count_to client command (answers_of journal reads) ≡ lines_of command (filter (by_entry client) journal) (filter (by_read client) reads)
+    → count_to client command (answers_of journal reads) ≡ client_lines command (filter (by_entry client) journal) (filter (by_read client) reads)
 answers_counted client command journal reads each =
     let p = answers_to client command in
     omega (
       arith,
-      sum_by-append (λ (a : Answer). cond (p a) 1 0) (filter_map journal_answer journal) (map read_answer reads),
+      sum_by-append (λ (a : ClientAnswer). cond (p a) 1 0) (filter_map journal_answer journal) (map read_answer reads),
       length-filter p (filter_map journal_answer journal),
       length-filter p (map read_answer reads),
       entry_counts client command journal each,

@@ -15,7 +15,7 @@ use Rattle.life_records.specs.Lives.{HasEnded, IsEndedEntry, IsLegalFull, IsLega
 use Rattle.life_records.specs.Scripts.{own_ops}
 use Rattle.life_records.specs.Ended.{IsEnded, IsSameButKept, IsSameStop}
 use Rattle.life_records.specs.Told.{IsTold, IsToldFull, IsToldStop}
-use Rattle.life_records.specs.Works.{AreReadLines, HasWords, IsLineOf, IsLineReply, IsStoppedRead, IsUnderWay, by_read, stop_of, stops_in}
+use Rattle.life_records.specs.Works.{AreReadLines, HasCommandWords, IsLineOf, IsLineReply, IsStoppedRead, IsUnderWay, by_read, stop_of, stops_in}
 use Rattle.life_records.proofs.Lists.{all_each, each_all, pairs_rise, rises_pairs, zip_each, zip_rises}
 
 pub same_stops : (stops : List StopLine) → AllZip IsSameStop stops stops
@@ -80,7 +80,7 @@ stopped_flagged encoding life client None b x same is = absurd (none-some is.lin
 stopped_flagged encoding life client (Some a) None x same is = absurd same
 stopped_flagged encoding life client (Some a) (Some b) x same is =
     let command : is.line.command ≡ b.command = ap (λ (s : StopLine). s.command) (sym (same_Some a is.line is.is)) ∙ sym same.command in
-    record { line = b; is = refl; op = subst (λ k. HasWords encoding life client k x.op) command is.op }
+    record { line = b; is = refl; op = subst (λ k. HasCommandWords encoding life client k x.op) command is.op }
 
 reads_flagged : {Op Reply : Type 0} → (encoding : Encoding Op Reply) → (life : Life Op) (client : ℕ) (a b : Option StopLine) (seen : List SeenRead) (lines : List (ReadLine Reply)) → SameStopOf a b → AreReadLines encoding life client a seen lines → AreReadLines encoding life client b seen lines
 reads_flagged encoding life client a b seen lines same are = record {

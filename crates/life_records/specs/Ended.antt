@@ -1,4 +1,4 @@
--- What clients came to in a life, as far as it speaks of commands alone, and a record whose stop lines got their kept flags.
+-- How clients ended in a life, as far as it speaks of commands alone, and a record whose stop lines got their kept flags.
 use Rattle.std.specs.Prelude.{◌≡◌, ◌↔◌, ◌+◌, ◌<◌, ℕ, true, List, All, AllPairs, slice_get, Some}
 use Rattle.std.specs.List.{AllZip}
 use Rattle.life_records.specs.Records.{JournalLine, Life, LifeRecord, StopLine}

@@ -17,7 +17,7 @@ pub record IsCutOf {Op : Type 0} (life : Life Op) (cut : Cut) : Type 0 where
 abbrev pub AreOfTwo : Cut → Cut → Type 0
 AreOfTwo a b = a.client ≡ b.client → ⊥
 
--- at least one client and no more than so many, whose cuts and commands are theirs, one cut a client at the most
+-- at least one client and no more than this many, whose cuts and commands are theirs, one cut a client at the most
 pub record IsLifeInLimits {Op : Type 0} (is_op : Op → Type 0) (most : ℕ) (life : Life Op) : Type 0 where
   pub some : 1 ≤ life.clients
   pub few : life.clients ≤ most

@@ -37,25 +37,25 @@ pub record Interleaves {Op Reply : Type 0} (life : Life Op) (journal : List (Jou
 
 -- An answer that a client was given: to which command, the place where it holds, and the place that no later answer to
 -- this client may lie below.
-pub record Answer : Type 0 where
+pub record ClientAnswer : Type 0 where
   pub client : ℕ
   pub command : ℕ
   pub at : ℕ
   pub next : ℕ
 
 -- the answers in the history, and those beside it
-abbrev pub journal_answer : {Reply : Type 0} → JournalLine Reply → Option Answer
+abbrev pub journal_answer : {Reply : Type 0} → JournalLine Reply → Option ClientAnswer
 journal_answer line =
     option_map (λ _. record { client = line.client; command = line.command; at = line.ticket; next = line.ticket + 1 }) line.reply
 
-abbrev pub read_answer : {Reply : Type 0} → ReadLine Reply → Answer
+abbrev pub read_answer : {Reply : Type 0} → ReadLine Reply → ClientAnswer
 read_answer line = record { client = line.client; command = line.command; at = line.place; next = line.place }
 
-abbrev pub answers_of : {Reply : Type 0} → List (JournalLine Reply) → List (ReadLine Reply) → List Answer
+abbrev pub answers_of : {Reply : Type 0} → List (JournalLine Reply) → List (ReadLine Reply) → List ClientAnswer
 answers_of journal reads = filter_map journal_answer journal ++ map read_answer reads
 
 -- the answers to one command
-abbrev pub count_to : ℕ → ℕ → List Answer → ℕ
+abbrev pub count_to : ℕ → ℕ → List ClientAnswer → ℕ
 count_to client command answers = count_by (λ a. (a.client == client) && (a.command == command)) answers
 
 -- reads stand by client, and those of one client by command
@@ -69,7 +69,7 @@ IsStopBefore a b = a.client < b.client
 abbrev pub IsFullBefore : FullLine → FullLine → Type 0
 IsFullBefore a b = a.client < b.client
 
--- whether a client was stopped in a command, or gave up in it
+-- whether a client was stopped in a command, or ended Full in it
 abbrev pub is_stop_in : ℕ → ℕ → StopLine → Bool
 is_stop_in client command line = (line.client == client) && (line.command == command)
 
@@ -99,15 +99,15 @@ pub record IsLegalRead {Op Reply Store : Type 0} (m : Meaning Op Reply Store) (p
   pub to : line.place ≤ place + length journal
   pub reply : HasReply m (store_at m store life journal (line.place - place)) (named_op life line.client line.command) line.reply
 
--- an entry of a client that was answered so many commands: it is one of them and has a reply; or it is the next one, which was
+-- an entry of a client that was answered this many commands: it is one of them and has a reply; or it is the next one, which was
 -- stopped, and has none
 abbrev pub IsEndedEntry : {Reply : Type 0} → ℕ → ℕ → List StopLine → JournalLine Reply → Type 0
 IsEndedEntry client answered stops line =
     ((1 ≤ line.command) × (line.command ≤ answered) × IsSome line.reply)
     ⊎ ((line.command ≡ answered + 1) × (line.reply ≡ None) × (has_stop client (answered + 1) stops ≡ true))
 
--- What a client came to. Each of its commands up to a number has exactly one answer, in the history or beside it. They are all
--- that it has, or it was stopped in the next one or gave up in it. No other command has a line.
+-- How a client ended. Each of its commands up to a number has exactly one answer, in the history or beside it. They are all
+-- that it has, or it was stopped in the next one or ended Full in it. No other command has a line.
 pub record HasEnded {Op Reply : Type 0} (life : Life Op) (told : LifeRecord Reply) (client : ℕ) : Type 0 where
   pub answered : ℕ
   pub within : answered ≤ length (own_ops client life.commands)
@@ -128,7 +128,7 @@ pub record IsLegalStop {Op : Type 0} (life : Life Op) (line : StopLine) : Type 0
 abbrev pub is_answered_from : {Reply : Type 0} → ℕ → ℕ → JournalLine Reply → Bool
 is_answered_from client ticket line = (line.client == client) && (is_some line.reply && nat_le ticket line.ticket)
 
--- A client gave up in a command that it has. Another client, which was stopped, needs a ticket at or below the one named, and all 16
+-- A client ended Full in a command that it has. Another client, which was stopped, needs a ticket at or below the one named, and all 16
 -- cells of the client hold answered entries from that ticket on, one of them at it.
 pub record IsLegalFull {Op Reply : Type 0} (life : Life Op) (told : LifeRecord Reply) (line : FullLine) : Type 0 where
   pub named : Names life line.client line.command
@@ -160,7 +160,7 @@ pub record IsLegal {Op Reply Store : Type 0} (m : Meaning Op Reply Store) (place
       IfSome line.reply (HasReply m (store_at m store life told.journal i) (named_op life line.client line.command))
   pub legal_reads : All (IsLegalRead m place store life told.journal) told.reads
   -- no answer to a client lies below what the client was told before
-  pub in_turn : (a b : Answer) → Contains (answers_of told.journal told.reads) a → Contains (answers_of told.journal told.reads) b →
+  pub in_turn : (a b : ClientAnswer) → Contains (answers_of told.journal told.reads) a → Contains (answers_of told.journal told.reads) b →
       a.client ≡ b.client → a.command < b.command → a.next ≤ b.at
 
 -- the command in which a client was stopped has an entry that is kept
@@ -171,12 +171,12 @@ pub record IsKeptStop {Reply : Type 0} (place kept : ℕ) (journal : List (Journ
   pub command : entry.command ≡ line.command
   pub below : entry.ticket < place + kept
 
--- What outlives the loss of power: a prefix of the history that holds everything answered.
-pub record IsKept {Op Reply Store : Type 0} (m : Meaning Op Reply Store) (place : ℕ) (store : Store) (life : Life Op) (told : LifeRecord Reply) : Type 0 where
+-- What survives the crash: a prefix of the history that holds everything answered.
+pub record IsPrefixKept {Op Reply Store : Type 0} (m : Meaning Op Reply Store) (place : ℕ) (store : Store) (life : Life Op) (told : LifeRecord Reply) : Type 0 where
   pub prefix : told.kept ≤ length told.journal
   pub answered : All (λ a. a.next ≤ place + told.kept) (answers_of told.journal told.reads)
   pub stops : All (λ line. (line.kept ≡ true) ↔ IsKeptStop place told.kept told.journal line) told.stops
-  pub items : told.documents ≡ m.items (store_at m store life told.journal told.kept)
+  pub items : told.items ≡ m.items (store_at m store life told.journal told.kept)
 
 -- a record of a life that begins at a place with a store
 pub record IsLegalLife {Op Reply Store : Type 0} (m : Meaning Op Reply Store) (place : ℕ) (store : Store) (life : Life Op) (told : LifeRecord Reply) : Type 0 where
@@ -184,7 +184,7 @@ pub record IsLegalLife {Op Reply Store : Type 0} (m : Meaning Op Reply Store) (p
   pub choice : told.choice ≡ life.choice
   pub from : told.from ≡ place
   pub legal : IsLegal m place store life told
-  pub kept : IsKept m place store life told
+  pub kept : IsPrefixKept m place store life told
 
 -- records of lives, the first of which begins at a place with a store, and each next one with what was kept
 abbrev pub AreLivesFrom : {Op Reply Store : Type 0} → Meaning Op Reply Store → ℕ → Store → List (Life Op) → List (LifeRecord Reply) → Type 0
@@ -210,21 +210,21 @@ NameCommands (life ∷ lives) (told ∷ records) = NamesCommands life told × Na
 NameCommands _ _ = ⊥
 
 -- a number of 64 bits, as each is in a value of the type
-abbrev pub Fits : ℕ → Type 0
-Fits n = n < 2 ^ 64
+abbrev pub FitsWord : ℕ → Type 0
+FitsWord n = n < 2 ^ 64
 
 -- the numbers of a record are within 64 bits, as they are in each value of the type
 pub record HasNumbers {Reply : Type 0} (told : LifeRecord Reply) : Type 0 where
-  pub clients : Fits told.clients
-  pub from : Fits told.from
-  pub choice : Fits told.choice
-  pub kept : Fits told.kept
-  pub documents : Fits told.documents
-  pub entries : Fits (length told.journal)
-  pub journal : All (λ line. Fits line.ticket × Fits line.client × Fits line.command) told.journal
-  pub reads : All (λ line. Fits line.client × Fits line.command × Fits line.place) told.reads
-  pub stops : All (λ line. Fits line.client × Fits line.command × Fits line.steps) told.stops
-  pub fulls : All (λ line. Fits line.client × Fits line.command × Fits line.note.holder × Fits line.note.need × Fits line.note.ticket) told.fulls
+  pub clients : FitsWord told.clients
+  pub from : FitsWord told.from
+  pub choice : FitsWord told.choice
+  pub kept : FitsWord told.kept
+  pub items : FitsWord told.items
+  pub entries : FitsWord (length told.journal)
+  pub journal : All (λ line. FitsWord line.ticket × FitsWord line.client × FitsWord line.command) told.journal
+  pub reads : All (λ line. FitsWord line.client × FitsWord line.command × FitsWord line.place) told.reads
+  pub stops : All (λ line. FitsWord line.client × FitsWord line.command × FitsWord line.steps) told.stops
+  pub fulls : All (λ line. FitsWord line.client × FitsWord line.command × FitsWord line.note.holder × FitsWord line.note.need × FitsWord line.note.ticket) told.fulls
 
 abbrev pub AreNumbers : {Reply : Type 0} → List (LifeRecord Reply) → Type 0
 AreNumbers records = All HasNumbers records

@@ -8,7 +8,7 @@ use Rattle.life_records.specs.declared.script.Command as command
 use Rattle.life_records.specs.declared.script.Cut as cut
 use Rattle.life_records.specs.declared.script.Life as life
 use Rattle.life_records.specs.declared.script.Script as script
-pub use Rattle.typed_object.specs.Meaning.{AreOfNoReply, Encoding, HasMeaning, IsOpOf, IsReadAs, Meaning}
+pub use Rattle.typed_object.specs.Meaning.{AreOfNoReply, Encoding, HasMeaning, OpHasWords, IsReadAs, Meaning}
 
 abbrev pub FullLine : Type 0
 FullLine = full_line.FullLine

@@ -5,7 +5,7 @@ use Rattle.cx_core.specs.declared.local.Local.{Local}
 use Rattle.life_records.specs.Records.{Encoding, FullLine, JournalLine, Life, LifeRecord, StopLine}
 use Rattle.life_records.specs.Lives.{is_stopped}
 use Rattle.life_records.specs.Scripts.{limit_in}
-use Rattle.life_records.specs.Works.{AreReadLines, HoldsFrom, IsLineOf, IsUnderWay, by_read, stop_of}
+use Rattle.life_records.specs.Works.{AreReadLines, HoldsCellsFrom, IsLineOf, IsUnderWay, by_read, stop_of}
 
 -- a client's stop line: its caller's steps equal its limit, and a further step of its command is to be made
 pub record IsToldStop (locals : List Local) (line : StopLine) : Type 0 where
@@ -20,7 +20,7 @@ pub record IsToldFull (locals : List Local) (stops : List StopLine) (line : Full
   pub local : Local
   pub of_client : slice_get locals line.client ≡ Some local
   pub need : local.seen_need ≡ Some (record { need = line.note.need; caller = line.note.holder })
-  pub cells : HoldsFrom local line.note.ticket
+  pub cells : HoldsCellsFrom local line.note.ticket
   pub stopped : is_stopped line.note.holder stops ≡ true
 
 -- The record of a life is told by a history that began at a place, and by these local states.

@@ -12,7 +12,7 @@ use Rattle.life_records.specs.Lives.{IsFullBefore, IsReadBefore, IsStopBefore}
 use Rattle.life_records.specs.Scripts.{named_op, own_ops}
 
 -- the client's command of this number has these words
-pub record HasWords {Op Reply : Type 0} (encoding : Encoding Op Reply) (life : Life Op) (client command : ℕ) (words : List ℕ) : Type 0 where
+pub record HasCommandWords {Op Reply : Type 0} (encoding : Encoding Op Reply) (life : Life Op) (client command : ℕ) (words : List ℕ) : Type 0 where
   pub op : Op
   pub named : named_op life client command ≡ Some op
   pub words_are : encoding.op_words op ≡ words
@@ -41,23 +41,23 @@ pub record IsLineOf {Op Reply : Type 0} (encoding : Encoding Op Reply) (life : L
   pub ticket : line.ticket ≡ x.ticket
   pub by : x.entry.caller ≡ client
   pub client_is : line.client ≡ client
-  pub op : HasWords encoding life client line.command x.entry.op
+  pub op : HasCommandWords encoding life client line.command x.entry.op
   pub reply : IsLineReply encoding (stops_in stop line.command) answered line.ticket line.reply
 
 -- the line of a read
 pub record IsReadLine {Op Reply : Type 0} (encoding : Encoding Op Reply) (life : Life Op) (client : ℕ) (x : SeenRead) (line : ReadLine Reply) : Type 0 where
   pub place : line.place ≡ x.place
   pub client_is : line.client ≡ client
-  pub op : HasWords encoding life client line.command x.op
+  pub op : HasCommandWords encoding life client line.command x.op
   pub reply : encoding.reply_words line.reply ≡ x.reply
 
 -- a read of the command in which the client was stopped
 pub record IsStoppedRead {Op Reply : Type 0} (encoding : Encoding Op Reply) (life : Life Op) (client : ℕ) (stop : Option StopLine) (x : SeenRead) : Type 0 where
   pub line : StopLine
   pub is : stop ≡ Some line
-  pub op : HasWords encoding life client line.command x.op
+  pub op : HasCommandWords encoding life client line.command x.op
 
--- The lines are those of the caller's reads, but for one at the most, behind them, whose command was stopped.
+-- The lines are those of the caller's reads, but for one at the most, after them, whose command was stopped.
 pub record AreReadLines {Op Reply : Type 0} (encoding : Encoding Op Reply) (life : Life Op) (client : ℕ) (stop : Option StopLine) (seen : List SeenRead) (lines : List (ReadLine Reply)) : Type 0 where
   pub told : List SeenRead
   pub left : List SeenRead
@@ -66,7 +66,7 @@ pub record AreReadLines {Op Reply : Type 0} (encoding : Encoding Op Reply) (life
   pub few : length left ≤ 1
   pub stopped : All (IsStoppedRead encoding life client stop) left
 
--- Of a read the count of entries before it: those entries' commands come before the read's, and all others behind it.
+-- Of a read the count of entries before it: those entries' commands come before the read's, and all others after it.
 module _ {Reply : Type 0} where
   abbrev pub StandsBetween : List (JournalLine Reply) → SeenRead → ReadLine Reply → Type 0
   StandsBetween entries x line =
@@ -82,10 +82,10 @@ IsSeenBefore a b = a.command < b.command
 
 -- how many lines a command has
 module _ {Reply : Type 0} where
-  abbrev pub lines_of : ℕ → List (JournalLine Reply) → List (ReadLine Reply) → ℕ
-  lines_of command entries reads = count_by (λ (l : JournalLine Reply). l.command == command) entries + count_by (λ (r : ReadLine Reply). r.command == command) reads
+  abbrev pub client_lines : ℕ → List (JournalLine Reply) → List (ReadLine Reply) → ℕ
+  client_lines command entries reads = count_by (λ (l : JournalLine Reply). l.command == command) entries + count_by (λ (r : ReadLine Reply). r.command == command) reads
 
--- an entry of a client that was answered so many commands
+-- an entry of a client that was answered this many commands
 abbrev pub IsDoneEntry : {Reply : Type 0} → ℕ → Option StopLine → JournalLine Reply → Type 0
 IsDoneEntry done stop line =
     ((1 ≤ line.command) × (line.command ≤ done) × IsSome line.reply)
@@ -108,11 +108,11 @@ pub record IsStopOf {Op : Type 0} (life : Life Op) (client done : ℕ) (l : Loca
   pub kept : line.kept ≡ false
 
 -- all 16 cells of a caller hold tickets, and this is the least
-pub record HoldsFrom (l : Local) (ticket : ℕ) : Type 0 where
+pub record HoldsCellsFrom (l : Local) (ticket : ℕ) : Type 0 where
   pub each : (j : ℕ) → j < 16 → (t : ℕ) × ((cell_of l j).ticket ≡ Some t) × (ticket ≤ t)
   pub here : (j : ℕ) × (j < 16) × ((cell_of l j).ticket ≡ Some ticket)
 
--- A client that gave up in the command behind those that it was answered: another caller, the one that its last scan found to need the
+-- A client that ended Full in the command after those that it was answered: another caller, the one that its last scan found to need the
 -- least, keeps its cells, which hold entries of its own from the least ticket on. No two of them hold the same.
 pub record IsFullOf {Op : Type 0} (life : Life Op) (client done : ℕ) (l : Local) (line : FullLine) : Type 0 where
   pub client_is : line.client ≡ client
@@ -121,11 +121,11 @@ pub record IsFullOf {Op : Type 0} (life : Life Op) (client done : ℕ) (l : Loca
   pub other : line.note.holder ≢ client
   pub need : line.note.need ≤ line.note.ticket
   pub seen : l.seen_need ≡ Some (record { need = line.note.need; caller = line.note.holder })
-  pub cells : HoldsFrom l line.note.ticket
+  pub cells : HoldsCellsFrom l line.note.ticket
   pub own : (j t : ℕ) → (cell_of l j).ticket ≡ Some t → (i : ℕ) × (x : Linked) × (slice_get l.own i ≡ Some x) × (x.ticket ≡ t)
   pub apart : (j k t : ℕ) → (cell_of l j).ticket ≡ Some t → (cell_of l k).ticket ≡ Some t → j ≡ k
 
--- how a client ended: all its commands are answered, or it was stopped, or it gave up
+-- how a client ended: all its commands are answered, or it was stopped, or it ended Full
 abbrev pub IsEnd : {Op : Type 0} → Life Op → ℕ → ℕ → Local → Option StopLine → Option FullLine → Type 0
 IsEnd life client done l None None = done ≡ length (own_ops client life.commands)
 IsEnd life client done l (Some line) None = IsStopOf life client done l line
@@ -143,7 +143,7 @@ pub record IsWork {Op Reply : Type 0} (encoding : Encoding Op Reply) (life : Lif
   pub reads_in_turn : AllPairs IsSeenBefore reads
   pub done : ℕ
   pub within : done ≤ length (own_ops client life.commands)
-  pub once : (command : ℕ) → 1 ≤ command → command ≤ done → lines_of command entries reads ≡ 1
+  pub once : (command : ℕ) → 1 ≤ command → command ≤ done → client_lines command entries reads ≡ 1
   pub entries_done : All (IsDoneEntry done stop) entries
   pub reads_done : All (λ (line : ReadLine Reply). (1 ≤ line.command) × (line.command ≤ done)) reads
   pub ends : IsEnd life client done l stop full

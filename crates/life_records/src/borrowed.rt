@@ -47,7 +47,7 @@ impl<'a, Op> BorrowedLife<'a, Op> {
         self.clients
     }
 
-    /// The choice that the loss of power makes.
+    /// The choice that the crash makes.
     pub fn choice(&self) -> u64
         ensures { result ≡ self.now.choice }
     {

@@ -1,4 +1,4 @@
-//! Which stopped commands' entries outlive the loss of power.
+//! Which stopped commands' entries survive the crash.
 
 ghost use Rattle.std.specs.Prelude.{◌≡◌, ◌+◌, ◌<◌, ◌↔◌, true};
 ghost use Rattle.life_records.specs.declared.record.StopLine.{StopLine};
@@ -31,7 +31,7 @@ fn is_below(ticket: u64, place: u64, kept: u64) -> bool
     ticket < place || ticket - place < kept
 }
 
-/// Sets the kept flag of each stop line of a life that began at `place`, where the first `kept` entries outlive the loss of power.
+/// Sets the kept flag of each stop line of a life that began at `place`, where the first `kept` entries survive the crash.
 pub fn flag_stops<Reply>(
     journal: &[JournalLine<Reply>],
     place: u64,

@@ -1,4 +1,4 @@
-//! The laws of clients' lines: how they are put together, what a closed table tells of them, and what they come to.
+//! The laws of clients' lines: how they are put together, what a closed table tells of them, and how the clients end.
 
 ghost use Rattle.std.specs.Prelude.{◌≡◌, List, [], ◌∷◌, ◌++◌, ℕ, All, Some, true, length, slice_get};
 ghost use Rattle.std.specs.Option.{option_to_list};
@@ -26,7 +26,7 @@ pub fn works_go_on<Op, Reply>()
 {}
 
 /// Put by ticket, the lines are still those of the clients, and a record of them is told by the history that merges their callers'
-/// own lists, where each client that gave up names one that was stopped.
+/// own lists, where each client that ended Full names one that was stopped.
 pub fn journals_are_told<Op, Reply>()
     ensures works { (encoding : Encoding Op Reply) (life : Life Op) (place : ℕ) (history locals entries journal reads stops fulls : _) →
         AreWorks encoding life locals entries reads stops fulls → IsHistory place history locals → IsByTicket entries journal →
@@ -40,14 +40,14 @@ pub fn journals_are_told<Op, Reply>()
 {}
 
 /// Clients whose lines a history tells have ended: each command is answered once, in order, up to a stop at the client's limit or to
-/// one in which the client gave up, since a client that was stopped kept its cells.
+/// one in which the client ended Full, since a client that was stopped kept its cells.
 pub fn told_lives_have_ended<Op, Reply>()
     ensures { (encoding : Encoding Op Reply) (life : Life Op) (place : ℕ) (history : List Entry) (locals : List Local) (told : LifeRecord Reply) →
         AreWorks encoding life locals told.journal told.reads told.stops told.fulls →
         IsTold encoding life place history locals told → IsEnded life told }
 {}
 
-/// What a closed table tells of a record, and what its clients came to, stays when stop lines get their kept flags and the
+/// What a closed table tells of a record, and how its clients ended, stays when stop lines get their kept flags and the
 /// numbers of entries kept and of items are filled in.
 pub fn flags_may_be_set<Op, Reply>()
     ensures told { (encoding : Encoding Op Reply) (life : Life Op) (told flagged : LifeRecord Reply) → IsSameButKept told flagged →

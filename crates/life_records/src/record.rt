@@ -4,7 +4,7 @@ use cx_base::Items;
 use cx_core::FullNote;
 
 /// A life as it went: the entries of its history by ticket; the reads that were answered beside it, the clients that were
-/// stopped and those that gave up, each by client; and how many of the entries the loss of power kept.
+/// stopped and those that ended Full, each by client; and how many of the entries the crash kept.
 #[derive(Drop)]
 pub struct LifeRecord<Reply> {
     pub clients: u32,
@@ -15,10 +15,10 @@ pub struct LifeRecord<Reply> {
     pub stops: Items<StopLine>,
     pub fulls: Items<FullLine>,
     pub choice: u64,
-    /// The first so many entries outlive the loss of power.
+    /// How many entries survive the crash: the first ones.
     pub kept: u64,
     /// The items of the store that the next life begins with, which are the documents of a document store.
-    pub documents: u64,
+    pub items: u64,
 }
 
 /// An entry of the history: which command of which client it is, and its reply where the client was answered. A
@@ -40,7 +40,7 @@ pub struct ReadLine<Reply> {
     pub reply: Reply,
 }
 
-/// A client that was stopped in a command, at its limit of steps, and whether the command's entry outlives the loss of power.
+/// A client that was stopped in a command, at its limit of steps, and whether the command's entry survives the crash.
 #[derive(Clone, Copy, Debug, PartialEq, Eq, Drop)]
 pub struct StopLine {
     pub client: u32,
@@ -49,7 +49,7 @@ pub struct StopLine {
     pub kept: bool,
 }
 
-/// A client that gave up in a command, since another that was stopped kept its cells.
+/// A client that ended Full in a command: another that was stopped kept its cells.
 #[derive(Clone, Copy, Debug, PartialEq, Eq, Drop)]
 pub struct FullLine {
     pub client: u32,

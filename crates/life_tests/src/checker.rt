@@ -34,7 +34,7 @@ pub(crate) fn are_legal(
             return Ok(false);
         }
         push_kept(&mut past, &own, told)?;
-        if told.documents != store_after(alloc, script.lines, &past)?.len() as u64 {
+        if told.items != store_after(alloc, script.lines, &past)?.len() as u64 {
             return Ok(false);
         }
         place = place.saturating_add(told.kept);
@@ -130,7 +130,7 @@ fn has_stop(told: &LifeRecord, client: u32, command: u64) -> bool {
     stops.any(|l| l.client == client && l.command == command)
 }
 
-// Whether a client gave up in a command.
+// Whether a client ran out of free cells in a command.
 fn has_full(told: &LifeRecord, client: u32, command: u64) -> bool {
     let mut fulls = told.fulls.as_slice().iter();
     fulls.any(|l| l.client == client && l.command == command)
@@ -151,7 +151,7 @@ fn answered_in_turn(client: u32, answers: &[Answer]) -> Option<u64> {
 }
 
 // Each of a client's commands up to a number has exactly one answer, and no other command has a line but for the next one, in which the
-// client was stopped or gave up. Else the client has no more commands.
+// client was stopped or ran out of free cells. Else the client has no more commands.
 fn has_ended(commands: u64, told: &LifeRecord, client: u32, answers: &[Answer]) -> bool {
     let Some(answered) = answered_in_turn(client, answers) else {
         return false;
@@ -199,7 +199,7 @@ fn is_legal_stop(own: &[Vec<&Op>], life: &Life, told: &LifeRecord, line: &StopLi
         && line.kept == is_entry_kept
 }
 
-// A client gave up in a command of its own. Another, which was stopped, needs a ticket at or below the one named, and 16 of the
+// A client ran out of free cells in a command of its own. Another, which was stopped, needs a ticket at or below the one named, and 16 of the
 // client's entries are answered from that one on, which is answered too.
 fn is_legal_full(own: &[Vec<&Op>], told: &LifeRecord, line: &FullLine) -> bool {
     let entries = told.journal.as_slice();
@@ -266,7 +266,7 @@ fn is_in_turn(answers: &[Answer]) -> bool {
     true
 }
 
-// What is kept is a front of the history that holds each answer.
+// What is kept is a prefix of the history that holds each answer.
 fn is_kept(told: &LifeRecord, answers: &[Answer]) -> bool {
     let end = told.from.saturating_add(told.kept);
     told.kept <= told.journal.len() as u64 && answers.iter().all(|a| a.next <= end)
@@ -332,7 +332,7 @@ fn reads_by_place(alloc: Global, told: &LifeRecord) -> Result<Vec<&ReadLine>, Al
     Ok(reads)
 }
 
-// How many reads were seen: so many before, and those behind them that are at this place and have the reply of the store.
+// How many reads were seen: those counted before, and those behind them that are at this place and have the reply of the store.
 fn reads_seen(
     alloc: Global,
     lines: u64,

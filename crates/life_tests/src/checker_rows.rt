@@ -33,7 +33,7 @@ const FAULTS: [Row; 12] = [
 ];
 
 fn record(alloc: Global, row: Row) -> Result<LifeRecord, AllocError> {
-    let (_, _, _, _, _, _, kept, documents) = row;
+    let (_, _, _, _, _, _, kept, items) = row;
     Ok(LifeRecord {
         clients: 1,
         from: 0,
@@ -43,7 +43,7 @@ fn record(alloc: Global, row: Row) -> Result<LifeRecord, AllocError> {
         fulls: Items::of(Vec::new(alloc)),
         choice: 0,
         kept,
-        documents,
+        items,
     })
 }
 

@@ -11,7 +11,7 @@ use std::thread::Threads;
 // The client is stopped after each number of steps below this one. Alone it is answered within fewer.
 const STEPS: u64 = 1200;
 
-// The script: client 1 is stopped in its update after so many steps, and the next life reads what was left.
+// The script: client 1 is stopped in its update after `steps` steps, and the next life reads what was left.
 fn script(alloc: Global, choice: u64, steps: u64) -> Result<String, AllocError> {
     let mut text = format!(in alloc;
         "lines 64\nlife 2 power {choice}\ncut 1 {steps}\n1 put a 1\n"

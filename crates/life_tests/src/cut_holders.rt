@@ -1,5 +1,5 @@
-//! A client is stopped in an update, maybe while it needs the others' entries, and two others make so many that their cells are given again,
-//! or give up.
+//! A client is stopped in an update, maybe while it needs the others' entries, and two others make enough of them to use their cells again,
+//! or run out of free ones.
 
 use crate::holds::holds;
 use crate::runs::{Outcome, lived};
@@ -9,12 +9,12 @@ use std::sync::Wait;
 use std::test::Fail;
 use std::thread::Threads;
 
-// The client is stopped after numbers of steps below this one, so many apart. Alone it is answered within fewer.
+// The client is stopped after numbers of steps below this one, each `APART` above the one before. Alone it is answered within fewer.
 const STEPS: u64 = 1200;
 
 const APART: usize = 7;
 
-// The script: client 1 is stopped in its update after so many steps, beside 48 updates of each other, and the next life reads what was left.
+// The script: client 1 is stopped in its update after `steps` steps, beside 48 updates of each other, and the next life reads what was left.
 fn script(alloc: Global, steps: u64) -> Result<String, AllocError> {
     let mut text = format!(in alloc; "lines 64\nlife 3 power 1\ncut 1 {steps}\n1 put a 1\n")?;
     for number in 0..48u32 {
@@ -25,7 +25,7 @@ fn script(alloc: Global, steps: u64) -> Result<String, AllocError> {
     Ok(text)
 }
 
-// Whether the lives are legal for each number of steps, each other is answered where none gave up, and for some of them another gave up.
+// Whether the lives are legal for each number of steps, each other is answered where none ran out of free cells, and for some of them another did.
 fn all_tried<R: Threads + Wait + Sync>(rt: &R, alloc: Global) -> Result<bool, AllocError> {
     let mut gave_up = 0usize;
     for steps in (0..STEPS).step_by(APART) {

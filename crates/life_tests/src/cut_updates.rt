@@ -44,7 +44,7 @@ fn form_of(alloc: Global, report: &str, choice: u64, steps: u64) -> Result<usize
     )
 }
 
-// Stops a client in its update after so many steps.
+// Stops a client in its update after `steps` steps.
 fn stopped_in_update<R: Threads + Wait + Sync>(
     rt: &R,
     alloc: Global,
@@ -96,7 +96,7 @@ fn an_update_is_stopped(rt: HostRuntime) -> Result<(), Fail> {
     Ok(())
 }
 
-// Stops a client in a read after so many steps.
+// Stops a client in a read after `steps` steps.
 fn stopped_in_read<R: Threads + Wait + Sync>(
     rt: &R,
     alloc: Global,

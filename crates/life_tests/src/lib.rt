@@ -1,10 +1,21 @@
-//! Tests of whole lives against the one-thread store, each judged by a plain checker. It has tests alone.
+//! Here whole lives run: clients on threads, a stop in the middle of an update, a crash, and the next life, which begins with what was kept. A plain
+//! checker that knows nothing of the construction judges the records of documents by the one-thread store.
+//!
+//! The lives are those of documents, of counters and of a queue. Then clients share the callers of a service: one after another, on threads of their
+//! own, with a caller that is stopped, as a server has them, and where one catches up with another. The objects that are there to be copied are
+//! called, images are read, refused, written and told as documents, and traces are read, refused and judged. The crate has tests alone.
 #![tactic(auto)]
 
+#[cfg(test)]
+mod accounts;
+#[cfg(test)]
+mod answered_images;
 #[cfg(test)]
 mod checker;
 #[cfg(test)]
 mod checker_rows;
+#[cfg(test)]
+mod counter_lives;
 #[cfg(test)]
 mod cut_beside;
 #[cfg(test)]
@@ -12,7 +23,13 @@ mod cut_holders;
 #[cfg(test)]
 mod cut_updates;
 #[cfg(test)]
+mod following;
+#[cfg(test)]
+mod highest;
+#[cfg(test)]
 mod holds;
+#[cfg(test)]
+mod image_texts;
 #[cfg(test)]
 mod long_life;
 #[cfg(test)]
@@ -20,8 +37,32 @@ mod many_clients;
 #[cfg(test)]
 mod numbers;
 #[cfg(test)]
+mod objects;
+#[cfg(test)]
+mod opening;
+#[cfg(test)]
+mod queue_lives;
+#[cfg(test)]
+mod queue_ring;
+#[cfg(test)]
+mod queue_service;
+#[cfg(test)]
+mod queue_words;
+#[cfg(test)]
+mod recorded_traces;
+#[cfg(test)]
 mod runs;
 #[cfg(test)]
+mod serving;
+#[cfg(test)]
+mod sharing;
+#[cfg(test)]
+mod trace_texts;
+#[cfg(test)]
+mod trace_verdicts;
+#[cfg(test)]
 mod worked_lives;
+#[cfg(test)]
+mod working;
 #[cfg(test)]
 mod written_scripts;

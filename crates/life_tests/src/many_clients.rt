@@ -13,7 +13,7 @@ const ROUNDS: u32 = 1200;
 
 const LONG_ROUNDS: u32 = 24;
 
-// The script of eight clients that update and read one key, with so many commands each.
+// The script of eight clients that update and read one key, with `commands` commands each.
 fn over_one_key(alloc: Global, commands: u32) -> Result<String, AllocError> {
     let mut text = String::from_str(alloc, "lines 64\nlife 8 power 0\n")?;
     for command in 0..commands {
@@ -30,7 +30,7 @@ fn over_one_key(alloc: Global, commands: u32) -> Result<String, AllocError> {
     Ok(text)
 }
 
-// Whether a script's life is legal each time, and so many commands are answered.
+// Whether a script's life is legal each time, and `answers` commands are answered.
 fn are_answered<R: Threads + Wait + Sync>(
     rt: &R,
     alloc: Global,

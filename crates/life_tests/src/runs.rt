@@ -5,14 +5,14 @@ ghost use Rattle.life_records.specs.Limits.{KeepsLimits};
 
 use crate::checker::are_legal;
 use cx_base::Gate;
-use doc_lives::run_lives;
+use doc_commands::run_lives;
 use doc_text::{Script, read_script, report};
 use std::alloc::{AllocError, Global};
 use std::sync::Wait;
 use std::thread::Threads;
 
 /// What came of the lives of a script: the report, whether they are legal by the plain checker, how many commands were
-/// answered, how many clients were stopped, and how many gave up.
+/// answered, how many clients were stopped, and how many ran out of free cells.
 #[derive(Drop)]
 pub(crate) struct Outcome {
     report: Vec<u8>,

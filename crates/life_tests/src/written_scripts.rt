@@ -9,7 +9,7 @@ use std::sync::Wait;
 use std::test::Fail;
 use std::thread::Threads;
 
-// So many scripts of a seed.
+// How many scripts are made of a seed.
 const SCRIPTS: u64 = 50;
 
 static KEYS: [&str; 5] = ["a", "b", "b:1", "c", "d"];
@@ -101,7 +101,7 @@ fn script(alloc: Global, numbers: &mut Numbers) -> Result<String, AllocError> {
     Ok(text)
 }
 
-// Whether the lives of so many scripts of a seed are legal, and some client was stopped.
+// Whether the lives of all scripts of a seed are legal, and some client was stopped.
 fn all_tried<R: Threads + Wait + Sync>(
     rt: &R,
     alloc: Global,

@@ -47,7 +47,7 @@ gathered_differ xs ys long = (
   λ d. elim (cases_eq (gathered 0 xs ys) 0) [ inl none ↦ absurd (d.1 ((same_lanes 0 xs ys long none).1 d.0)) | inr some ↦ ap not (ne_eqb _ _ some) ],
 )
 
--- a lane of so many words of a list
+-- a lane among the first n words of a list
 lane_of : (n : ℕ) (xs : List ℕ) (i lane at : ℕ) → i + lane ≡ at → lane < n → get_or xs at 0 ≡ get_or (chunk i n xs) lane 0
 lane_of n xs i lane at back within = ap (λ k. get_or xs k 0) (sym back) ∙ sym (get_or-chunk i n xs lane 0 within)
 

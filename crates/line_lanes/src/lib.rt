@@ -1,4 +1,8 @@
-//! Kernels over the lines of a region: which lines differ, from which word on, and which lines a list of addresses touches.
+//! Which lines of 64 bytes of two copies differ, and which a list of addresses touches, is asked each time that a replica is copied or flushed. The
+//! answer goes over every word or address, so it has to be cheap for each.
+//!
+//! These loops take 8 words at a time, as one vector; their contracts speak of words alone, as those of plain loops would. There is no source in
+//! the literature.
 //!
 //! Each is the clause of its call, for every length; none takes memory.
 //!

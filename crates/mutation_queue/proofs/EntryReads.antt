@@ -27,7 +27,7 @@ ended (suc n) s limit e h =
     let before : steps_after n s + 1 ≡ limit = omega (arith, e) in
     omega (arith, ended n s (steps_after n s) refl (omega arith))
 
--- a limit that is come to is one that so many further steps come to
+-- a limit that n further steps reach, one by one, is n above the steps
 pub ends : (n : ℕ) (l : Local) → (steps_after n l.steps ≡ l.limit) × (l.limit < max_word) → EndsAfter n l
 ends n l at = (ended n l.steps l.limit at.0 at.1, at.1)
 
@@ -66,7 +66,7 @@ read_one instance ticket cell ws v i s now after is at step =
     ∙ ap (with_steps s (one_more (steps_after (length ws) s.known.local.steps))) (append_assoc s.known.noted (notes_of c ticket 0 ws) (note c ticket (0 + length ws) v ∷ []) ∙ ap (λ ns. s.known.noted ++ ns) (sym (notes_more c ticket 0 ws v)))
     ∙ ap (λ k. with_steps s k (s.known.noted ++ notes_of c ticket 0 (ws ++ v ∷ []))) (sym (ap (λ k. steps_after k s.known.local.steps) long))
 
--- the limit was come to among the words
+-- the limit was reached among the words
 pub halts_among : (caller ticket : ℕ) (ws : List ℕ) (s now after : Seated) → length ws < 145 → now ≡ with_read caller ticket ws s → after ≡ now → IsAtLimit now.known.local → HaltsAmong caller ticket s after
 halts_among caller ticket ws s now after fewer is same limit = record {
   words = ws;
@@ -75,7 +75,7 @@ halts_among caller ticket ws s now after fewer is same limit = record {
   limit = ends (length ws) s.known.local (subst (λ (x : Seated). IsAtLimit x.known.local) is limit);
 }
 
--- no step so far came to the limit, and neither did this one
+-- no step so far reached the limit, and neither did this one
 pub none_ends : (caller ticket : ℕ) (ws : List ℕ) (i : ℕ) (s now : Seated) → now ≡ with_read caller ticket ws s → i ≡ length ws → ((n : ℕ) → n < i → EndsAfter n s.known.local → ⊥) → (IsAtLimit now.known.local → ⊥) →
     (n : ℕ) → n < i + 1 → EndsAfter n s.known.local → ⊥
 none_ends caller ticket ws i s now is at before here =
@@ -101,7 +101,7 @@ run_read r step reads lawful ticket cell words before after (one_more_step _ _ _
 
 -- ---- the entry
 
--- a limit that is come to later by one step than from the seat after the look
+-- a limit that is reached one step later than from the seat after the look
 ends_after_look : (s looked : Seated) (n : ℕ) → looked ≡ with_look looked.known.local.seen_slot s → EndsAfter (suc n) s.known.local → EndsAfter n looked.known.local
 ends_after_look s looked n is e =
     let steps : looked.known.local.steps ≡ one_more s.known.local.steps = ap (λ (x : Seated). x.known.local.steps) is in

@@ -16,7 +16,7 @@ use Rattle.cx_rule.specs.declared.rule.Times.{Times}
 use Rattle.cx_table.specs.Running.{IsSeatOf, Running}
 use Rattle.cx_table.specs.Seats.{IsAtLimit, Seated, shown_next, stepped, unseen}
 use Rattle.cx_table.specs.Told.{LinkTold, LookTold}
-use Rattle.mutation_queue.specs.Leaves.{Leaves, number_of}
+use Rattle.mutation_queue.specs.Leaves.{LeavesSeatPart, seat_number}
 use Rattle.mutation_queue.specs.Links.{FindsLink, FindsOpen, LinksAt, LinksNone, LinksPast, MayLink, WinsTry, but_front, but_linked, with_front, with_loss, with_win}
 
 -- a raised front, by the word found
@@ -216,12 +216,12 @@ won_at instance s found found2 cell stays e =
     })
 
 -- what a seat shows but for its front, slot, steps, linked entries and cells tells whose it is
-pub leaves_linked : {O : Type 0} (r : Running O) (n : ℕ) (s t : Seated) → IsSeatOf r s → t.known.local.steps ≤ s.known.local.steps + n → but_linked t ≡ but_linked s → Leaves r number_of n s t
+pub leaves_linked : {O : Type 0} (r : Running O) (n : ℕ) (s t : Seated) → IsSeatOf r s → t.known.local.steps ≤ s.known.local.steps + n → but_linked t ≡ but_linked s → LeavesSeatPart r seat_number n s t
 leaves_linked r n s t of most same =
     let now : IsSeatOf r (but_linked t) = subst (IsSeatOf r) (sym same) (record { table = of.table; caller = of.caller; before = of.before; region = of.region }) in
-    record { of = record { table = now.table; caller = now.caller; before = now.before; region = now.region }; rest = ap number_of same; steps = most }
+    record { of = record { table = now.table; caller = now.caller; before = now.before; region = now.region }; rest = ap seat_number same; steps = most }
 
-pub leaves_none : {O : Type 0} (r : Running O) (n : ℕ) (s t : Seated) → IsSeatOf r s → t.known.local.steps ≤ s.known.local.steps + n → LinksNone s t → Leaves r number_of n s t
+pub leaves_none : {O : Type 0} (r : Running O) (n : ℕ) (s t : Seated) → IsSeatOf r s → t.known.local.steps ≤ s.known.local.steps + n → LinksNone s t → LeavesSeatPart r seat_number n s t
 leaves_none r n s t of most none = leaves_linked r n s t of most (ap but_linked none.same)
 
 -- an entry that may be linked still may, where a try linked nothing

@@ -106,7 +106,7 @@ first_one instance s j v cells' c =
     ap (λ x. wrote s x (one_more s.known.local.steps) (s.known.noted ++ [])) c
     ∙ ap (wrote s cells' (one_more s.known.local.steps)) (append-nil s.known.noted)
 
--- the first word and so many others are in the cell
+-- the first word and n others are in the cell
 pub record HasTo (j : ℕ) (ws : List ℕ) (n : ℕ) (s t : Seated) : Type 0 where
   pub is : t ≡ wrote s (set s.known.local.cells j (cell_with s.known.local j ws (suc n))) t.known.local.steps s.known.noted
   pub count : t.known.local.steps ≡ min (s.known.local.steps + (1 + differing (take n (drop 1 (cell_of s.known.local j).words)) (take n (drop 1 ws)))) max_word
@@ -228,6 +228,7 @@ module _ (s : Seated) (j : ℕ) (ws : List ℕ) (cells : HasCells s.known.local)
         let at = limit.0 in
         let few = limit.1 in
         omega (arith, more, first, kept, count, at, few));
+    since = (let count = to.count in omega (arith, count));
     none = λ at. absurd (to.allowed at);
     idle = still_idle n t to;
     cell = λ i. (
@@ -269,6 +270,7 @@ pub halts_before : (s t : Seated) (j : ℕ) (ws : List ℕ) → IsIdle s.known.l
 halts_before s t j ws idle same limit = subst (HaltsIn j ws s) (sym same) (record {
   limit = limit;
   short = (let at = limit.0 in omega arith);
+  since = omega arith;
   none = λ at. refl;
   idle = idle;
   cell = λ i. inl refl;

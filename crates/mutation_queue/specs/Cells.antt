@@ -32,11 +32,12 @@ differing (x ∷ xs) (y ∷ ys) = (if x == y then 0 else 1) + differing xs ys
 abbrev pub writes : Local → ℕ → List ℕ → ℕ
 writes l j words = 1 + differing (drop 1 (cell_of l j).words) (drop 1 words)
 
--- The seat is at its limit, which is less than what all the steps need. Some words were written into the cell, which stays
--- idle, and nothing else is changed but that what was loaded from CUR is then not fresh any more.
+-- The seat is at its limit, which is less than what all the steps need, and none is taken back. Some words were written into the cell, which
+-- stays idle, and nothing else is changed but that what was loaded from CUR is then not fresh any more.
 pub record HaltsIn (j : ℕ) (words : List ℕ) (before after : Seated) : Type 0 where
   pub limit : IsAtLimit after.known.local
   pub short : before.known.local.limit < before.known.local.steps + writes before.known.local j words
+  pub since : min before.known.local.steps max_word ≤ after.known.local.steps
   pub none : IsAtLimit before.known.local → after ≡ before
   pub idle : IsIdle after.known.local j
   pub cell : (i : ℕ) →

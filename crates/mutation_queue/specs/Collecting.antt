@@ -1,4 +1,4 @@
--- What collecting cells comes to.
+-- The outcome of collecting cells.
 use Rattle.std.specs.Prelude.{◌≡◌, ◌+◌, ◌<◌, ◌≤◌, ◌⊎◌, false, ℕ, min, Option, Some, None, Result, Ok, Err}
 use Rattle.cx_base.specs.Codes.{root_place_of}
 use Rattle.cx_core.specs.declared.local.Scan.{Scan}
@@ -46,7 +46,7 @@ abbrev pub FindsLeast : ℕ → ℕ → ℕ → ℕ → ℕ → Option SeenNeed 
 FindsLeast target d number own bound None = (d ≡ 0) × (bound ≡ target)
 FindsLeast target d number own bound (Some least) = (least.caller < d) × (bound ≡ min target least.need) × (least.caller ≡ number → least.need ≡ own)
 
--- a scan that has come to a caller
+-- a scan that has reached a caller
 abbrev pub ScansTo : ℕ → ℕ → ℕ → ℕ → Option Scan → Type 0
 ScansTo target d number own None = ⊥
 ScansTo target d number own (Some s) = (s.next ≡ d) × FindsLeast target d number own s.bound s.least

@@ -19,7 +19,7 @@ abbrev pub notes_of : ℕ → ℕ → ℕ → List ℕ → List Noted
 notes_of caller ticket i [] = []
 notes_of caller ticket i (w ∷ words) = record { ticket = ticket; caller = caller; index = i; word = w } ∷ notes_of caller ticket (i + 1) words
 
--- a count of steps after so many more; it stays at 2^64 - 1
+-- a count of steps after this number of further ones; it stays at 2^64 - 1
 abbrev pub steps_after : ℕ → ℕ → ℕ
 steps_after zero steps = steps
 steps_after (suc n) steps = one_more (steps_after n steps)
@@ -37,7 +37,7 @@ with_read caller ticket words s = record s {
 abbrev pub with_look : Option SeenSlot → Seated → Seated
 with_look seen s = record s { known = record s.known { local = record s.known.local { seen_slot = seen; steps = one_more s.known.local.steps } } }
 
--- the limit is come to by so many further steps; 2^64 - 1 is no limit
+-- the limit is reached after this number of further steps; 2^64 - 1 is no limit
 abbrev pub EndsAfter : ℕ → Local → Type 0
 EndsAfter n l = (l.steps + n ≡ l.limit) × (l.limit < max_word)
 
@@ -62,7 +62,7 @@ pub record ReadsWords {O : Type 0} (o : Ghosts O) (r : Running O) (caller ticket
   pub fits : Fitting r.lines (o.lawful r.object) r.base (o.step r.object) after.known
   pub within : (n : ℕ) → n < 145 → EndsAfter n before.known.local → ⊥
 
--- the limit was come to before all words were read
+-- the limit was reached before all words were read
 pub record HaltsAmong (caller ticket : ℕ) (before after : Seated) : Type 0 where
   pub words : List ℕ
   pub fewer : length words < 145
@@ -87,7 +87,7 @@ pub record NotesEntry {O : Type 0} (o : Ghosts O) (r : Running O) (caller ticket
   pub each : (entry : Entry) → entry.caller ≡ caller → entry.number ∷ entry.op ≡ words → IsNotedEntry ticket seat entry
   pub fits : Fitting r.lines (o.lawful r.object) r.base (o.step r.object) seat.known
 
--- The limit was come to before the entry was read: at the look, or among the words, of which those read are noted.
+-- The limit was reached before the entry was read: at the look, or among the words, of which those read are noted.
 pub record HaltsReading (ticket : ℕ) (before after : Seated) : Type 0 where
   pub made : ℕ
   pub fewer : made < 146

@@ -1,4 +1,4 @@
--- What tries to link an entry come to.
+-- The outcomes of tries to link an entry.
 use Rattle.std.specs.Prelude.{◌≡◌, ◌+◌, ◌%◌, ◌^◌, ◌<◌, ◌≤◌, ◌⊎◌, ℕ, zero, suc, min, [], ◌∷◌, ◌++◌, length, slice_set, Option, Some, None}
 use Rattle.cx_base.specs.Codes.{link_ticket_of, root_place_of}
 use Rattle.cx_core.specs.Layout.{cell_count, max_word}
@@ -81,7 +81,7 @@ LosesTry callers before after =
     FindsLink callers (with_front callers) before after
     ⊎ ((mid : Seated) × FindsOpen callers before mid × FindsLink callers (with_loss callers) mid after)
 
--- so many tries were lost, one after another
+-- this number of tries was lost, one after another
 abbrev pub LosesTries : ℕ → ℕ → Seated → Seated → Type 0
 LosesTries callers zero before after = after ≡ before
 LosesTries callers (suc n) before after = (mid : Seated) × LosesTries callers n before mid × LosesTry callers mid after
@@ -97,7 +97,7 @@ pub record WinsTry (callers cell : ℕ) (before after : Seated) : Type 0 where
 abbrev pub HaltsTry : ℕ → Seated → Seated → Type 0
 HaltsTry callers before after = (after ≡ before) ⊎ FindsOpen callers before after
 
--- Fewer tries than so many were lost, where tickets were left, and then came a last one that was neither.
+-- Fewer tries than this number were lost, where tickets were left, and then came a last one, of the given kind.
 pub record EndsBy (callers tries : ℕ) (try : Seated → Seated → Type 0) (before after : Seated) : Type 0 where
   pub count : ℕ
   pub fewer : count < tries
@@ -106,17 +106,17 @@ pub record EndsBy (callers tries : ℕ) (try : Seated → Seated → Type 0) (be
   pub left : mid.known.local.front < 2 ^ 40
   pub last : try mid after
 
--- what tries come to, try by try
+-- the outcome of tries, try by try
 abbrev pub MakesTries : ℕ → ℕ → ℕ → Seated → Seated → LinkTried → Type 0
 MakesTries callers cell tries before after (Linked ticket) = EndsBy callers tries (WinsTry callers cell) before after
 MakesTries callers cell tries before after Again = LosesTries callers tries before after
 MakesTries callers cell tries before after Worn = (count : ℕ) × (count ≤ tries) × LosesTries callers count before after
 
--- The limit ended a further try: nothing was linked, fewer tries than so many were lost, and tickets are left.
+-- The limit ended a further try: nothing was linked, fewer tries than this number were lost, and tickets are left.
 abbrev pub HaltsTries : ℕ → ℕ → Seated → Seated → Type 0
 HaltsTries callers tries before after = LinksNone before after × IsAtLimit after.known.local × EndsBy callers tries (HaltsTry callers) before after
 
--- each of so many tries found another's link, and tickets are left
+-- each of the tries found another's link, and tickets are left
 pub record LinksAgain (callers tries : ℕ) (before after : Seated) : Type 0 where
   pub lost : LosesTries callers tries before after
   pub none : LinksNone before after

@@ -1,4 +1,4 @@
--- What protecting tickets comes to.
+-- The outcome of protecting tickets.
 use Rattle.std.specs.Prelude.{◌≡◌, ◌+◌, ◌^◌, ◌<◌, ◌≤◌, ◌⊎◌, true, false, ℕ, min, Result, Ok, Err}
 use Rattle.cx_base.specs.Codes.{root_place_of}
 use Rattle.cx_core.specs.declared.local.Local.{Local}
@@ -22,8 +22,8 @@ pub record MayProtect {O : Type 0} (r : Running O) (place : ℕ) (seat : Seated)
   pub none : IsUnprotected seat.known.local.protection
 
 -- the code last loaded from CUR is in use, and its place is at most this one: a LOW above it shows that the code is outdated
-abbrev pub ShowsOutdated : ℕ → ℕ → Local → Type 0
-ShowsOutdated callers place l = (root_place_of callers l.seen_cur ≤ place) × (l.fresh ≡ true)
+abbrev pub ShowsRootOutdated : ℕ → ℕ → Local → Type 0
+ShowsRootOutdated callers place l = (root_place_of callers l.seen_cur ≤ place) × (l.fresh ≡ true)
 
 -- what was seen of CUR is in use as before, and no refusal was met
 pub record MeetsNone (before after : Seated) : Type 0 where
@@ -44,11 +44,11 @@ pub record FallsBehind (callers place low : ℕ) (before after : Seated) : Type 
   pub protection : after.known.local.protection ≡ Unprotected
   pub above : place < low
   pub seen : after.known.local.seen_low ≡ low
-  pub outdated : ShowsOutdated callers place before.known.local → (after.known.local.met ≡ one_more before.known.local.met) × (after.known.local.fresh ≡ false)
-  pub current : (ShowsOutdated callers place before.known.local → ⊥) → MeetsNone before after
+  pub outdated : ShowsRootOutdated callers place before.known.local → (after.known.local.met ≡ one_more before.known.local.met) × (after.known.local.fresh ≡ false)
+  pub current : (ShowsRootOutdated callers place before.known.local → ⊥) → MeetsNone before after
   pub count : after.known.local.steps ≡ min (before.known.local.steps + 3) max_word
 
--- what protecting the tickets from a place on comes to
+-- the outcome of protecting the tickets from a place on
 abbrev pub TriesProtect : ℕ → ℕ → Seated → Seated → Protected → Type 0
 TriesProtect callers place before after Kept = KeepsFrom place before after
 TriesProtect callers place before after (Behind low) = FallsBehind callers place low before after
@@ -73,6 +73,6 @@ abbrev pub EndsProtecting : {E : Type 0} → ℕ → ℕ → Seated → Seated �
 EndsProtecting callers place before after (Ok x) = TriesProtect callers place before after x
 EndsProtecting callers place before after (Err e) = HaltsProtecting callers place before after
 
--- the protection is given up by one step
+-- the protection is released by one step
 abbrev pub unprotected : Seated → Seated
 unprotected s = record s { known = record s.known { local = record s.known.local { protection = Unprotected; steps = one_more s.known.local.steps } } }

@@ -39,11 +39,11 @@ HasTried seat op Again = seat.known.local.own ≡ []
 HasTried seat op Worn = seat.known.local.own ≡ []
 
 -- a history from a place on has these two entries, in this order, and no others
-pub record InOrder (place : ℕ) (history : List Entry) (a b : Linked) : Type 0 where
+pub record AreInOrder (place : ℕ) (history : List Entry) (a b : Linked) : Type 0 where
   pub entries : history ≡ a.entry ∷ b.entry ∷ []
   pub first : a.ticket ≡ place
   pub next : b.ticket ≡ place + 1
 
 -- a history from a place on has each of these entries once, at the first two tickets, and no others
 abbrev pub OneOfEach : ℕ → List Entry → Linked → Linked → Type 0
-OneOfEach place history a b = InOrder place history a b ⊎ InOrder place history b a
+OneOfEach place history a b = AreInOrder place history a b ⊎ AreInOrder place history b a

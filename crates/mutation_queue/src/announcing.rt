@@ -5,7 +5,7 @@ ghost use Rattle.cx_core.specs.QueueEvents.{next_number};
 ghost use Rattle.cx_table.specs.Running.{IsSeatOf};
 ghost use Rattle.mutation_queue.specs.Cells.{Announces, HaltsIn, IsAnnounced, MayAnnounce};
 
-use cx_base::{Halt, Object};
+use cx_base::{Halt, OP_WORDS, Object, OpWords};
 use cx_table::{CallerSeat, Shared};
 
 /// Writes the caller's next number and the operation into an idle cell of the caller: the number, by which the cell's ticket
@@ -15,7 +15,7 @@ pub fn announce<O: Object>(
     shared: &Shared<O>,
     seat: &mut CallerSeat,
     cell: u32,
-    op: &[u64; 144],
+    op: &OpWords,
 ) -> Result<(), Halt>
     requires may { MayAnnounce shared.now cell seat.old }
     ensures announced { OnOk result (Announces cell (next_number shared.now.base seat.old.known.local ∷ op.now) seat.old seat.new) }
@@ -28,7 +28,7 @@ pub fn announce<O: Object>(
     let number = seat.next_number();
     shared.write_cell(seat, j, 0, number)?;
     let mut at = seat.cell_apart(j, op, 0);
-    while at < 144 {
+    while at < OP_WORDS {
         shared.write_cell(seat, j, at as u64 + 1, op[at])?;
         at = seat.cell_apart(j, op, at + 1);
     }

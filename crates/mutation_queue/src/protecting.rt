@@ -4,23 +4,23 @@ ghost use Rattle.std.specs.Prelude.{◌≡◌, ◌≤◌, OnErr, OnOk};
 ghost use Rattle.cx_core.specs.RingEvents.{IsProtected};
 ghost use Rattle.cx_table.specs.Running.{IsSeatOf};
 ghost use Rattle.cx_table.specs.Seats.{IsAtLimit};
-ghost use Rattle.mutation_queue.specs.Leaves.{Leaves};
+ghost use Rattle.mutation_queue.specs.Leaves.{LeavesSeatPart};
 ghost use Rattle.mutation_queue.specs.Protections.{EndsProtecting, MayProtect, but_protected, unprotected};
 
 use cx_base::{Halt, Object};
 use cx_table::{CallerSeat, Shared};
 
-/// What protecting tickets came to.
+/// The outcome of protecting tickets.
 #[derive(Clone, Copy, Debug, PartialEq, Eq, Drop)]
 pub enum Protected {
-    /// No cell of a ticket from the place on is given again before the protection is given up.
+    /// No cell of a ticket from the place on is written again before the protection is released.
     Kept,
     /// The greatest LOW found is above the place, and no protection stands.
     Behind { low: u64 },
 }
 
 /// Protects the tickets from a place on: the place is stated, and LOW, below which tickets are closed, is loaded. Where LOW is at
-/// most the place, the protection is kept, in two steps; where LOW is above it, the protection is given up again, in a third. `Halt`
+/// most the place, the protection is kept, in two steps; where LOW is above it, the protection is released again, in a third. `Halt`
 /// comes exactly where a further step is to be made and the seat's steps equal its limit: the protection is then not confirmed.
 pub fn protect<O: Object>(
     shared: &Shared<O>,
@@ -31,7 +31,7 @@ pub fn protect<O: Object>(
     ensures allowed { OnOk result (¬ IsAtLimit seat.old.known.local) }
     ensures protected { EndsProtecting shared.now.callers place seat.old seat.new result }
     ensures low { seat.old.known.local.seen_low ≤ seat.new.known.local.seen_low }
-    ensures leaves { Leaves shared.now but_protected 3 seat.old seat.new }
+    ensures leaves { LeavesSeatPart shared.now but_protected 3 seat.old seat.new }
 {
     shared.protect(seat, place)?;
     let low = shared.confirm(seat)?;
@@ -42,14 +42,14 @@ pub fn protect<O: Object>(
     Ok(Protected::Kept)
 }
 
-/// Gives the protection up, which stands, in one step. `Halt` comes exactly where the seat's steps equal its limit.
+/// Releases the protection that stands, in one step. `Halt` comes exactly where the seat's steps equal its limit.
 pub fn unprotect<O: Object>(shared: &Shared<O>, seat: &mut CallerSeat) -> Result<(), Halt>
     requires seat { IsSeatOf shared.now seat.old }
     requires stands { IsProtected seat.old.known.local.protection }
     ensures allowed { OnOk result (¬ IsAtLimit seat.old.known.local) }
     ensures given_up { OnOk result (seat.new ≡ unprotected seat.old) }
     ensures halted { OnErr result (IsAtLimit seat.new.known.local) }
-    ensures leaves { Leaves shared.now but_protected 1 seat.old seat.new }
+    ensures leaves { LeavesSeatPart shared.now but_protected 1 seat.old seat.new }
 {
     shared.unprotect(seat)
 }

@@ -6,19 +6,19 @@ ghost use Rattle.cx_table.specs.Calls.{MakesStep};
 ghost use Rattle.cx_table.specs.Running.{IsSeatOf};
 ghost use Rattle.mutation_queue.specs.Entries.{HaltsAmong, HaltsReading, Looked, MayRead, NotesEntry, ReadsEntry, ReadsWords};
 
-use cx_base::{Halt, Object, link_cell};
+use cx_base::{ENTRY_WORDS, Halt, Object, link_cell};
 use cx_core::layout::cell_count;
 use cx_table::{CallerSeat, Shared};
 
 /// Reads the entry with a ticket, which is linked and which a confirmed protection of the caller keeps: its number and its
 /// operation, in 146 steps. It gives the entry's caller. Each word is noted with the ticket, and a noted word is the history's:
-/// so the entry is one that may come there, and what is noted fits what is there. `Halt` comes exactly where a further step is to be made and the seat's steps equal
-/// its limit.
+/// so the entry is one that may come there, and what is noted fits what is there. `Halt` comes exactly where a further step is to
+/// be made and the seat's steps equal its limit.
 pub fn entry<O: Object>(
     shared: &Shared<O>,
     seat: &mut CallerSeat,
     ticket: u64,
-    into: &mut [u64; 145],
+    into: &mut [u64; ENTRY_WORDS],
 ) -> Result<u32, Halt>
     requires may { MayRead shared.now ticket seat.old }
     requires later { shared.now.base.place ≤ ticket }
@@ -50,7 +50,7 @@ fn read_words<O: Object>(
     seat: &mut CallerSeat,
     ticket: u64,
     cell: u64,
-    into: &mut [u64; 145],
+    into: &mut [u64; ENTRY_WORDS],
 ) -> Result<(), Halt>
     requires may { MayRead shared.now ticket seat.old }
     requires shows { ShowsTicket shared.now.callers seat.old.known.local.seen_slot ticket cell }
@@ -64,13 +64,13 @@ fn read_words<O: Object>(
     read_each(shared, seat, ticket, cell, into)
 }
 
-/// The same by a call for each word, where the limit may leave fewer steps than there are words.
+/// Reads the words by a call for each, where the limit may leave fewer steps than there are words.
 fn read_each<O: Object>(
     shared: &Shared<O>,
     seat: &mut CallerSeat,
     ticket: u64,
     cell: u64,
-    into: &mut [u64; 145],
+    into: &mut [u64; ENTRY_WORDS],
 ) -> Result<(), Halt>
     requires may { MayRead shared.now ticket seat.old }
     requires shows { ShowsTicket shared.now.callers seat.old.known.local.seen_slot ticket cell }

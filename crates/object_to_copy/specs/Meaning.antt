@@ -7,7 +7,7 @@ use Rattle.object_to_copy.specs.declared.operations.Op.TheVariants.{Raise, Read,
 use Rattle.object_to_copy.specs.declared.operations.Reply.{Reply}
 use Rattle.object_to_copy.specs.declared.operations.Reply.TheVariants.{Value, NoOperation}
 
--- an image of so many lines: the version, and behind it any words, the first of which is the number
+-- an image of this many lines: the version, and behind it any words, the first of which is the number
 pub record IsImage (lines : ℕ) (image : List ℕ) : Type 0 where
   pub words : Words (8 * lines) image
   pub version : slice_index image 0 ≡ 1

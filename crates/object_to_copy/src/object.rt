@@ -9,7 +9,7 @@ ghost use Rattle.object_to_copy.specs.Laws as laws;
 ghost use Rattle.object_to_copy.specs.declared.operations.Op.TheVariants.{Raise, Read};
 
 use crate::operations::{Op, Reply};
-use cx_base::{Halt, Memory, Object};
+use cx_base::{Halt, Memory, Object, OpWords};
 use std::alloc::{AllocError, Global};
 
 /// The first word of each image.
@@ -28,7 +28,7 @@ pub struct Highest {
 }
 
 impl Highest {
-    /// In so many lines of 8 words; a service takes 64 at least.
+    /// In `lines` lines of 8 words; a service takes 64 at least.
     pub fn of(lines: u64) -> Highest
         requires some { 1 ≤ lines }
         requires few { lines ≤ 2 ^ 32 }
@@ -126,20 +126,31 @@ impl Object for Highest {
         Ok(())
     }
 
-    fn reads(&self, op: &[u64; 144]) -> bool {
+    fn reads(&self, op: &OpWords) -> bool {
         Op::of(op).only_reads()
     }
 
-    fn run<M: Memory>(&self, mem: &mut M, op: &[u64; 144]) -> Result<[u64; 144], Halt> {
-        let reply = self.answer(mem, Op::of(op))?;
-        Ok(reply.words())
+    fn run_into<M: Memory>(
+        &self,
+        mem: &mut M,
+        op: &OpWords,
+        reply: &mut OpWords,
+    ) -> Result<(), Halt> {
+        *reply = self.answer(mem, Op::of(op))?.words();
+        Ok(())
     }
 
-    fn query<M: Memory>(&self, mem: &mut M, op: &[u64; 144]) -> Result<[u64; 144], Halt> {
-        match Op::of(op) {
-            Op::Read => Ok(self.read(mem)?.words()),
+    fn query_into<M: Memory>(
+        &self,
+        mem: &mut M,
+        op: &OpWords,
+        reply: &mut OpWords,
+    ) -> Result<(), Halt> {
+        *reply = match Op::of(op) {
+            Op::Read => self.read(mem)?.words(),
             _ => unreachable!(),
-        }
+        };
+        Ok(())
     }
 
     fn check(&self, _alloc: Global, words: &[u64]) -> Result<bool, AllocError> {

@@ -4,6 +4,8 @@ ghost use Rattle.std.specs.Prelude.{◌≡◌};
 ghost use Rattle.object_to_copy.specs.Meaning.{is_reading};
 ghost use Rattle.object_to_copy.specs.Operations as spec;
 
+use cx_base::{OP_WORDS, OpWords};
+
 /// What 144 words ask for.
 #[derive(Clone, Copy, Debug, PartialEq, Eq)]
 pub enum Op {
@@ -26,7 +28,7 @@ pub enum Reply {
 
 impl Op {
     /// The operation as words.
-    pub fn words(self) -> [u64; 144]
+    pub fn words(self) -> OpWords
         ensures { result ≡ spec.op_words self }
     {
         match self {
@@ -37,7 +39,7 @@ impl Op {
     }
 
     /// The operation that words stand for.
-    pub fn of(words: &[u64; 144]) -> Op
+    pub fn of(words: &OpWords) -> Op
         ensures { result ≡ spec.op_in words.now }
     {
         match words[0] {
@@ -60,7 +62,7 @@ impl Op {
 
 impl Reply {
     /// The reply as words.
-    pub fn words(self) -> [u64; 144]
+    pub fn words(self) -> OpWords
         ensures { result ≡ spec.reply_words self }
     {
         match self {
@@ -70,7 +72,7 @@ impl Reply {
     }
 
     /// What the words of a reply tell.
-    pub fn of(words: &[u64; 144]) -> Reply
+    pub fn of(words: &OpWords) -> Reply
         ensures { result ≡ spec.reply_in words.now }
     {
         match words[0] {
@@ -89,10 +91,10 @@ pub fn words_are_read()
 
 /// The words of a kind and two numbers.
 #[tactic(auto, unfolding(crate::specs::Operations::words_with))]
-fn words_with(kind: u64, first: u64, second: u64) -> [u64; 144]
+fn words_with(kind: u64, first: u64, second: u64) -> OpWords
     ensures { result ≡ spec.words_with kind first second }
 {
-    let mut words = [0; 144];
+    let mut words = [0; OP_WORDS];
     words[0] = kind;
     words[1] = first;
     words[2] = second;

@@ -5,12 +5,12 @@ use Rattle.std.specs.Borrow.{Bor}
 use Rattle.std.specs.List.{position_or_len, before_first, after_first}
 use Rattle.std.proofs.lemmas.Bool.{cases_Bool, cases_lt, and_right, cond-false, eqb-true, lt-ltb, le-ltb, true≢false}
 use Rattle.plain_text.specs.Lines.{onto, is_at_end, text_lines, without_return}
-use Rattle.plain_text.specs.Words.{has, is_byte}
+use Rattle.plain_text.specs.Words.{has_byte, is_byte}
 
 -- ---- the first byte that passes
 
 pub cut_here : (p : ℕ → Bool) (b : ℕ) (bs : List ℕ) → p b ≡ true
-    → (has p (b ∷ bs) ≡ true) × (before_first p (b ∷ bs) ≡ []) × (after_first p (b ∷ bs) ≡ bs)
+    → (has_byte p (b ∷ bs) ≡ true) × (before_first p (b ∷ bs) ≡ []) × (after_first p (b ∷ bs) ≡ bs)
 cut_here p b bs hit = (rw hit (lt-ltb 0 (suc (length bs)) (omega arith)), rw hit refl, rw hit refl)
 
 ltb-suc : (m n : ℕ) → ltb (suc m) (suc n) ≡ ltb m n
@@ -21,7 +21,7 @@ ltb-suc m n =
     ]
 
 pub cut_later : (p : ℕ → Bool) (b : ℕ) (bs : List ℕ) → p b ≡ false
-    → (has p (b ∷ bs) ≡ has p bs) × (before_first p (b ∷ bs) ≡ b ∷ before_first p bs) × (after_first p (b ∷ bs) ≡ after_first p bs)
+    → (has_byte p (b ∷ bs) ≡ has_byte p bs) × (before_first p (b ∷ bs) ≡ b ∷ before_first p bs) × (after_first p (b ∷ bs) ≡ after_first p bs)
 cut_later p b bs miss =
     let at = position_or_len p bs in
     let one : 1 + at ≡ suc at = omega arith in
@@ -54,7 +54,7 @@ is_without_return line (Some x) h d e = sym (ap without_return h ∙ without_ret
 -- ---- the first line of a text
 
 -- a byte that is no line feed, before the first line feed
-before_feed : (b : ℕ) (bs : List ℕ) → has (is_byte 10) bs ≡ true → text_lines bs ≡ without_return (before_first (is_byte 10) bs) ∷ text_lines (after_first (is_byte 10) bs)
+before_feed : (b : ℕ) (bs : List ℕ) → has_byte (is_byte 10) bs ≡ true → text_lines bs ≡ without_return (before_first (is_byte 10) bs) ∷ text_lines (after_first (is_byte 10) bs)
     → cond (eqb b 13 && is_at_end bs) (text_lines bs) (onto b (text_lines bs)) ≡ without_return (b ∷ before_first (is_byte 10) bs) ∷ text_lines (after_first (is_byte 10) bs)
 before_feed b [] there first = absurd cc
 before_feed b (c ∷ cs) there first =
@@ -71,19 +71,19 @@ before_feed b (c ∷ cs) there first =
           (cond-false (eqb b 13 && eqb c 10) _ _ (and_right (eqb b 13) (eqb c 10) miss) ∙ ap (onto b) rest)
     ]
 
-pub text_lines-cut : (bytes : List ℕ) → has (is_byte 10) bytes ≡ true → text_lines bytes ≡ without_return (before_first (is_byte 10) bytes) ∷ text_lines (after_first (is_byte 10) bytes)
+pub text_lines-cut : (bytes : List ℕ) → has_byte (is_byte 10) bytes ≡ true → text_lines bytes ≡ without_return (before_first (is_byte 10) bytes) ∷ text_lines (after_first (is_byte 10) bytes)
 text_lines-cut [] there = absurd cc
 text_lines-cut (b ∷ bs) there =
     elim (cases_Bool (eqb b 10)) [
       | inl hit ↦ let here = cut_here (is_byte 10) b bs hit in rw (here.1, here.2, hit) refl
       | inr miss ↦
           let later = cut_later (is_byte 10) b bs miss in
-          let more : has (is_byte 10) bs ≡ true = sym later.0 ∙ there in
+          let more : has_byte (is_byte 10) bs ≡ true = sym later.0 ∙ there in
           rw (later.1, later.2, miss) (before_feed b bs more (text_lines-cut bs more))
     ]
 
 -- a byte that is no line feed, where no line feed comes after it
-last_byte : (b : ℕ) (bs : List ℕ) → has (is_byte 10) bs ≡ false → (0 < length bs → text_lines bs ≡ bs ∷ [])
+last_byte : (b : ℕ) (bs : List ℕ) → has_byte (is_byte 10) bs ≡ false → (0 < length bs → text_lines bs ≡ bs ∷ [])
     → cond (eqb b 13 && is_at_end bs) (text_lines bs) (onto b (text_lines bs)) ≡ (b ∷ bs) ∷ []
 last_byte b [] none rest = cond-false (eqb b 13 && false) _ _ (and_right (eqb b 13) false refl)
 last_byte b (c ∷ cs) none rest =
@@ -92,11 +92,11 @@ last_byte b (c ∷ cs) none rest =
       | inr miss ↦ cond-false (eqb b 13 && eqb c 10) _ _ (and_right (eqb b 13) (eqb c 10) miss) ∙ ap (onto b) (rest (omega arith))
     ]
 
-pub text_lines-last : (bytes : List ℕ) → has (is_byte 10) bytes ≡ false → 0 < length bytes → text_lines bytes ≡ bytes ∷ []
+pub text_lines-last : (bytes : List ℕ) → has_byte (is_byte 10) bytes ≡ false → 0 < length bytes → text_lines bytes ≡ bytes ∷ []
 text_lines-last [] none some = absurd (omega arith)
 text_lines-last (b ∷ bs) none some =
     elim (cases_Bool (eqb b 10)) [
       | inl hit ↦ absurd (true≢false (sym (cut_here (is_byte 10) b bs hit).0 ∙ none))
-      | inr miss ↦ let none_later : has (is_byte 10) bs ≡ false = sym (cut_later (is_byte 10) b bs miss).0 ∙ none in
+      | inr miss ↦ let none_later : has_byte (is_byte 10) bs ≡ false = sym (cut_later (is_byte 10) b bs miss).0 ∙ none in
           rw miss (last_byte b bs none_later (text_lines-last bs none_later))
     ]

@@ -10,13 +10,13 @@ use Rattle.std.proofs.lemmas.List.Sums.{passes_at_first, list_all-from_AllPass}
 use Rattle.std.proofs.lemmas.Str.{IsUtf8-drop, IsCharBoundary-after_ascii}
 use Rattle.std.proofs.lemmas.Fmt.{decimal_is_IsNumeral}
 use Rattle.std.proofs.lemmas.Slice.Eq.{bytes_eq-Decides}
-use Rattle.plain_text.specs.Words.{has, is_byte, first_word, rest_of, is_word}
+use Rattle.plain_text.specs.Words.{has_byte, is_byte, first_word, rest_of, is_word}
 use Rattle.plain_text.specs.Number.{is_i64}
 use Rattle.plain_text.proofs.Cuts.{cut_here, cut_later}
 
 -- ---- words as a search finds them
 
-pub words_cut : (text : List ℕ) → has (is_byte 32) text ≡ true
+pub words_cut : (text : List ℕ) → has_byte (is_byte 32) text ≡ true
     → (before_first (is_byte 32) text ≡ first_word text) × (Some (after_first (is_byte 32) text) ≡ rest_of text)
 words_cut [] there = absurd cc
 words_cut (b ∷ text) there =
@@ -28,7 +28,7 @@ words_cut (b ∷ text) there =
           rw (later.1, later.2, miss) (ap (λ (word : List ℕ). b ∷ word) more.0, more.1)
     ]
 
-pub words_whole : (text : List ℕ) → has (is_byte 32) text ≡ false → (text ≡ first_word text) × (None ≡ rest_of text)
+pub words_whole : (text : List ℕ) → has_byte (is_byte 32) text ≡ false → (text ≡ first_word text) × (None ≡ rest_of text)
 words_whole [] none = (refl, refl)
 words_whole (b ∷ text) none =
     elim (cases_Bool (eqb b 32)) [
@@ -39,7 +39,7 @@ words_whole (b ∷ text) none =
     ]
 
 -- what stands behind a space in UTF-8 is UTF-8
-pub rest_is_utf8 : (text : List ℕ) → has (is_byte 32) text ≡ true → IsUtf8 text → IsUtf8 (after_first (is_byte 32) text)
+pub rest_is_utf8 : (text : List ℕ) → has_byte (is_byte 32) text ≡ true → IsUtf8 text → IsUtf8 (after_first (is_byte 32) text)
 rest_is_utf8 text there utf8 =
     let at = position_or_len (is_byte 32) text in
     let within : at < length text = ltb-true at (length text) there in

@@ -22,5 +22,5 @@ abbrev pub is_byte : ℕ → ℕ → Bool
 is_byte byte b = b == byte
 
 -- whether there is a byte that passes
-abbrev pub has : (ℕ → Bool) → List ℕ → Bool
-has p bytes = nat_lt (position_or_len p bytes) (length bytes)
+abbrev pub has_byte : (ℕ → Bool) → List ℕ → Bool
+has_byte p bytes = nat_lt (position_or_len p bytes) (length bytes)

@@ -1,5 +1,9 @@
-//! Plain text: numbers in decimal, the words of a line, and texts that are read line by line up to the first line that may not
-//! stand where it does.
+//! Scripts, reports, images and traces are texts that people and other programs write. That a reader takes more than its format says, or names the
+//! wrong line, is easily missed by tests.
+//!
+//! A format is a relation between a text and what it says. It gives how one further line changes what was said so far (`LineReader`), and one loop
+//! reads every format, up to the first line that no text of the format can have there. A number has one spelling, so that text and value are one to
+//! one.
 //!
 //! - A text is read as a number, or an integer, exactly where it is one of 64 bits in decimal, without leading zeros and without -0:
 //!   `number_of`, `integer_of` (`some`, `none`).

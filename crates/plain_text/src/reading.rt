@@ -12,7 +12,7 @@ use std::alloc::{AllocError, AllocFailed, Global};
 pub enum TextFault<Reason> {
     /// The line, counted from 1, is the first with which the lines so far say nothing together.
     Refused { line: u64, reason: Reason },
-    /// Memory is wanting.
+    /// Memory ran out.
     Memory,
 }
 
@@ -46,7 +46,7 @@ pub trait LineReader: Drop {
     /// What each text keeps to that is read.
     ghost Keeps: { Self → Type 0 };
 
-    /// Adds a line, or gives the reason for which it is refused. `Err` is want of memory, and then what was said is of no use.
+    /// Adds a line, or gives the reason for which it is refused. `Err` says that memory ran out, and then what was said is of no use.
     fn add_line(&mut self, alloc: Global, line: &[u8]) -> Result<Option<Self::Reason>, AllocError>
         ensures value { IfOk result (λ refused. judged self.old line.now ≡ outcome refused self.new) }
         ensures keeps { OnOk result (Keeps self.old → Keeps self.new) };
@@ -55,7 +55,7 @@ pub trait LineReader: Drop {
     ghost reads: { ReadsLines grammar judged };
 }
 
-/// Reads a text. It is Ok exactly for the texts of the language, unless memory is wanting. Other texts are refused by the first
+/// Reads a text. It is Ok exactly for the texts of the language, unless memory runs out. Other texts are refused by the first
 /// line with which the lines so far say nothing together.
 pub fn read_lines<R: LineReader>(
     alloc: Global,

@@ -3,12 +3,12 @@
 ghost use Rattle.std.specs.Prelude.{◌≡◌, ◌<◌, IfSome, IfNone, IsUtf8, is_none, length, true, false};
 ghost use Rattle.std.specs.Option.{option_copied};
 ghost use Rattle.std.specs.List.{position, before_first, after_first};
-ghost use Rattle.plain_text.specs.Words.{first_word, has, is_byte, is_word, rest_of};
+ghost use Rattle.plain_text.specs.Words.{first_word, has_byte, is_byte, is_word, rest_of};
 
 /// What stands before the first such byte, and what stands after it.
 pub(crate) fn cut_at(bytes: &[u8], byte: u8) -> Option<(&[u8], &[u8])>
-    ensures none { IfNone result (has (is_byte byte) bytes.now ≡ false) }
-    ensures some { IfSome result (λ parts. (has (is_byte byte) bytes.now ≡ true)
+    ensures none { IfNone result (has_byte (is_byte byte) bytes.now ≡ false) }
+    ensures some { IfSome result (λ parts. (has_byte (is_byte byte) bytes.now ≡ true)
         × (parts.0.now ≡ before_first (is_byte byte) bytes.now)
         × (parts.1.now ≡ after_first (is_byte byte) bytes.now)) }
 {

@@ -8,7 +8,7 @@ use std::alloc::AllocError;
 
 // After an `Err` what is written is of no use.
 
-/// Appends a number.
+/// Appends a number. `Err` says that memory ran out.
 pub fn write_number(out: &mut Vec<u8>, number: u64) -> Result<(), AllocError>
     ensures { OnOk result (out.new.items ≡ out.old.items ++ decimal number) }
 {
@@ -16,7 +16,7 @@ pub fn write_number(out: &mut Vec<u8>, number: u64) -> Result<(), AllocError>
     out.extend_from_slice(digits.format(number).as_bytes())
 }
 
-/// Appends a text and a number.
+/// Appends a text and a number. `Err` says that memory ran out.
 pub fn write_labelled(out: &mut Vec<u8>, label: &[u8], number: u64) -> Result<(), AllocError>
     ensures { OnOk result (out.new.items ≡ out.old.items ++ (label.now ++ decimal number)) }
 {
@@ -24,7 +24,7 @@ pub fn write_labelled(out: &mut Vec<u8>, label: &[u8], number: u64) -> Result<()
     write_number(out, number)
 }
 
-/// Appends an integer.
+/// Appends an integer. `Err` says that memory ran out.
 pub fn write_signed(out: &mut Vec<u8>, number: i64) -> Result<(), AllocError>
     ensures { OnOk result (out.new.items ≡ out.old.items ++ signed_decimal number) }
 {

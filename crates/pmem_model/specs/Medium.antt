@@ -1,4 +1,4 @@
--- What a medium holds, what its calls do to a word, and what a loss of power may leave of it.
+-- What a medium holds, what its calls do to a word, and what a crash may leave of it.
 use Rattle.std.specs.Prelude.{◌≡◌, ◌+◌, ◌*◌, ◌/◌, ◌%◌, ◌^◌, ◌-◌, ◌<◌, ◌≤◌, ◌⊎◌, ◌==◌, ℕ, List, length, map, min, slice_index, slice_index_or, slice_set, if◌then◌else◌}
 use Rattle.std.specs.List.{range_with_len}
 use Rattle.pmem_model.specs.declared.medium.Mark.{Mark}
@@ -6,7 +6,7 @@ use Rattle.pmem_model.specs.declared.medium.Mark.TheVariants.{Durable, Dirty, Pe
 use Rattle.pmem_model.specs.declared.medium.Word.{Word}
 
 -- what a medium holds: its words, and for each line of 8 words how often it was stored to
-pub record Held : Type 0 where
+pub record MediumState : Type 0 where
   pub words : List Word
   pub stores : List ℕ
 
@@ -18,22 +18,22 @@ durable_word v = record { value = v; durable = v; mark = Durable }
 abbrev pub word_in : List Word → ℕ → Word
 word_in words at = slice_index_or words at (durable_word 0)
 
-abbrev pub word_of : Held → ℕ → Word
-word_of m at = word_in m.words at
+abbrev pub medium_word : MediumState → ℕ → Word
+medium_word m at = word_in m.words at
 
 -- a count that stays at its type's end
-abbrev pub one_more : ℕ → ℕ
-one_more n = min (n + 1) (2 ^ 64 - 1)
+abbrev pub counted_up : ℕ → ℕ
+counted_up n = min (n + 1) (2 ^ 64 - 1)
 
 -- a word after a store: it is dirty, also where it was being written back
-abbrev pub stored : Word → ℕ → Word
-stored w v = record w { value = v; mark = Dirty }
+abbrev pub word_stored : Word → ℕ → Word
+word_stored w v = record w { value = v; mark = Dirty }
 
 -- what a medium holds after a store
-abbrev pub after_store : Held → ℕ → ℕ → Held
+abbrev pub after_store : MediumState → ℕ → ℕ → MediumState
 after_store m at v = record {
-  words = slice_set m.words at (stored (word_of m at) v);
-  stores = slice_set m.stores (at / 8) (one_more (slice_index m.stores (at / 8)));
+  words = slice_set m.words at (word_stored (medium_word m at) v);
+  stores = slice_set m.stores (at / 8) (counted_up (slice_index m.stores (at / 8)));
 }
 
 -- a word after a write-back of its line: what was dirty is on its way
@@ -66,22 +66,22 @@ IsDirtyMark Durable = ⊥
 IsDirtyMark Dirty = Unit {0}
 IsDirtyMark Pending = Unit {0}
 
--- what a dirty word may hold after a loss of power: its last durable value, its present value, or any other
+-- what a dirty word may hold after a crash: its last durable value, its present value, or any other
 abbrev pub any_value : ℕ → ℕ → Word → ℕ
 any_value choice at w = if choice == 0 then w.durable else (if choice == 1 then w.value else choice * (at + 1) % 2 ^ 64)
 
--- what a loss of power leaves of a word, by choice
+-- what a crash leaves of a word, by choice
 abbrev pub left_at : Mark → ℕ → ℕ → Word → ℕ
 left_at Durable choice at w = w.value
 left_at Dirty choice at w = any_value choice at w
 left_at Pending choice at w = any_value choice at w
 
-abbrev pub left_of : ℕ → Held → ℕ → ℕ
-left_of choice m at = left_at (word_of m at).mark choice at (word_of m at)
+abbrev pub left_in_medium : ℕ → MediumState → ℕ → ℕ
+left_in_medium choice m at = left_at (medium_word m at).mark choice at (medium_word m at)
 
 -- a crash image
-abbrev pub image_of : ℕ → Held → List ℕ
-image_of choice m = map (left_of choice m) (range_with_len 0 (length m.words))
+abbrev pub image_of : ℕ → MediumState → List ℕ
+image_of choice m = map (left_in_medium choice m) (range_with_len 0 (length m.words))
 
 -- a word that is not dirty is durable with its value
 abbrev pub IsSettledAt : Mark → Word → Type 0

@@ -2,7 +2,7 @@
 //! for cache lines. A line is 8 words.
 
 ghost use Rattle.std.specs.Prelude.{◌≡◌, ◌+◌, ◌*◌, ◌/◌, ◌%◌, ◌^◌, ◌<◌, ◌↔◌, IsTrue, IfOk, length, map, replicate, slice_index};
-ghost use Rattle.pmem_model.specs.Medium.{IsDirtyMark, WritesBack, after_store, any_value, durable_word, fenced, image_of, left_at, mark_written_back, one_more, stored, word_of, written_back};
+ghost use Rattle.pmem_model.specs.Medium.{IsDirtyMark, WritesBack, after_store, any_value, durable_word, fenced, image_of, left_at, mark_written_back, counted_up, word_stored, medium_word, written_back};
 
 use std::alloc::{AllocError, Global};
 use std::marker::Model;
@@ -41,7 +41,7 @@ impl Word {
     }
 
     fn store(&mut self, v: u64)
-        ensures { self.new ≡ stored self.old v }
+        ensures { self.new ≡ word_stored self.old v }
     {
         self.value = v;
         self.mark = Mark::Dirty;
@@ -73,7 +73,7 @@ impl Word {
         }
     }
 
-    /// What a loss of power leaves of this word, which stands at that place.
+    /// What a crash leaves of this word, which stands at that place.
     fn left(&self, choice: u64, at: u64) -> u64
         requires { at < 2 ^ 63 }
         ensures { result ≡ left_at self.now.mark choice at self.now }
@@ -98,9 +98,9 @@ pub struct Medium {
 
 impl Model for Medium {
     ghost use Rattle.std.specs.Prelude.{◌≡◌, ◌*◌, length, All};
-    ghost use Rattle.pmem_model.specs.Medium.{Held, IsSettled};
+    ghost use Rattle.pmem_model.specs.Medium.{MediumState, IsSettled};
 
-    ghost Value = { Held };
+    ghost Value = { MediumState };
 
     ghost view = { λ m. record { words = m.words.items; stores = m.stores.items } };
 
@@ -108,7 +108,7 @@ impl Model for Medium {
 }
 
 impl Medium {
-    /// A medium of these words, each of them durable, whose lines were never stored to. `Err` is want of memory.
+    /// A medium of these words, each of them durable, whose lines were never stored to. `Err` says that memory ran out.
     pub fn of(alloc: Global, words: Vec<u64>) -> Result<Medium, AllocError>
         requires { length words.items % 8 ≡ 0 }
         ensures words { IfOk result (λ m. m.words ≡ map durable_word words.items) }
@@ -118,7 +118,8 @@ impl Medium {
         Medium::with_stores(alloc, words, stores)
     }
 
-    /// The same of lines that were stored to so often; 2^64 - 1 says that often or more.
+    /// A medium of these words, each of them durable, whose lines were stored to as often as `stores` says; 2^64 - 1 is that often or more.
+    /// `Err` says that memory ran out.
     pub fn with_stores(
         alloc: Global,
         words: Vec<u64>,
@@ -135,7 +136,7 @@ impl Medium {
     /// Gives the present value of a word.
     pub fn load(&self, at: u64) -> u64
         requires { at < length self.now.words }
-        ensures { result ≡ (word_of self.now at).value }
+        ensures { result ≡ (medium_word self.now at).value }
     {
         self.words[at as usize].value
     }
@@ -176,7 +177,7 @@ impl Medium {
     /// Whether a word was stored to since it was last durable.
     pub fn is_dirty(&self, at: u64) -> bool
         requires { at < length self.now.words }
-        ensures { IsTrue result ↔ IsDirtyMark (word_of self.now at).mark }
+        ensures { IsTrue result ↔ IsDirtyMark (medium_word self.now at).mark }
     {
         self.words[at as usize].is_dirty()
     }
@@ -189,7 +190,7 @@ impl Medium {
         self.stores[line as usize]
     }
 
-    /// Writes what a loss of power may leave: a word that is not dirty keeps its value. A dirty one has its last durable
+    /// Writes what a crash may leave: a word that is not dirty keeps its value. A dirty one has its last durable
     /// value by choice 0, its present value by choice 1, and by each other choice some number of its own: the product
     /// of the choice and the word's place plus 1, which wraps.
     pub fn image(&self, choice: u64, into: &mut [u64])

@@ -5,13 +5,13 @@ use Rattle.std.specs.List.{cons_option, filter_map}
 use Rattle.std.proofs.lemmas.Bool.{eqb-true}
 use Rattle.std.proofs.lemmas.List.Elements.{Contains-append_cases, Contains-append_left, Contains-append_right, Contains-get_or, filter_passes}
 use Rattle.std.proofs.lemmas.List.Sorted.{IsPermutation-sym}
-use Rattle.life_laws.proofs.Lists.{Contains-item, filter_map_item, map_item, some_made}
+use Rattle.life_records.proofs.ItemLists.{Contains-item, filter_map_item, map_item, some_made}
 use Rattle.life_records.proofs.Lists.{Has, Rises, contains_has, filter_has, has_contains, has_get, has_map, has_moved, pairs_rise}
-use Rattle.life_records.specs.Lives.{Answer, answers_of, journal_answer, read_answer}
+use Rattle.life_records.specs.Lives.{ClientAnswer, answers_of, journal_answer, read_answer}
 use Rattle.life_records.specs.Records.{Encoding, JournalLine, Life, ReadLine}
 use Rattle.life_records.specs.Works.{AreWorks, IsDoneEntry, IsEntryBefore, IsWork, by_entry, stop_of}
 use Rattle.cx_core.specs.declared.local.Local.{Local}
-use Rattle.pool_lives.specs.Recorded.{AreInTurn}
+use Rattle.pool_lives.specs.Recorded.{AreAnswersInTurn}
 
 kept_later : {Y : Type 0} (o : Option Y) (ys : List Y) (y : Y) → Has ys y → Has (cons_option o ys) y
 kept_later None ys y h = h
@@ -25,7 +25,7 @@ has_made f (z ∷ xs) x y (inr h) e = kept_later (f z) (filter_map f xs) y (has_
 
 module _ {Reply : Type 0} where
   -- the answer that an entry's line tells
-  abbrev pub told_by : JournalLine Reply → Answer
+  abbrev pub told_by : JournalLine Reply → ClientAnswer
   told_by line = record { client = line.client; command = line.command; at = line.ticket; next = line.ticket + 1 }
 
   journal_told : (line : JournalLine Reply) (reply : Option Reply) → line.reply ≡ reply → IsSome reply → journal_answer line ≡ Some (told_by line)
@@ -38,7 +38,7 @@ module _ {Reply : Type 0} where
       (has_contains (filter_map journal_answer entries) (told_by line) (has_made journal_answer entries line (told_by line) has (journal_told line line.reply refl some)))
 
   -- an answer is that of an entry's line with a reply, or of a read's line
-  pub line_behind : (entries : List (JournalLine Reply)) (reads : List (ReadLine Reply)) (a : Answer) → Contains (answers_of entries reads) a
+  pub line_behind : (entries : List (JournalLine Reply)) (reads : List (ReadLine Reply)) (a : ClientAnswer) → Contains (answers_of entries reads) a
       → ((line : JournalLine Reply) × Has entries line × IsSome line.reply × (a ≡ told_by line)) ⊎ ((line : ReadLine Reply) × Has reads line × (a ≡ read_answer line))
   line_behind entries reads a there = elim (Contains-append_cases (filter_map journal_answer entries) (map read_answer reads) a there) [
     | inl front ↦ (
@@ -63,7 +63,7 @@ module _ {Reply : Type 0} where
       has_mapped (r ∷ rs) (inr h) = inr (has_mapped rs h)
 
   -- in another order the entries' lines tell the same answers
-  pub answers_moved : (entries journal : List (JournalLine Reply)) (reads : List (ReadLine Reply)) (a : Answer) → IsPermutation entries journal → Contains (answers_of journal reads) a → Contains (answers_of entries reads) a
+  pub answers_moved : (entries journal : List (JournalLine Reply)) (reads : List (ReadLine Reply)) (a : ClientAnswer) → IsPermutation entries journal → Contains (answers_of journal reads) a → Contains (answers_of entries reads) a
   answers_moved entries journal reads a moved there = elim (line_behind journal reads a there) [
     | inl e ↦ subst (Contains (answers_of entries reads)) (sym e.3) (entry_answers entries reads e.0 (has_moved journal entries e.0 (IsPermutation-sym entries journal moved) e.1) e.2)
     | inr r ↦ subst (Contains (answers_of entries reads)) (sym r.2) (read_answers entries reads r.0 r.1)
@@ -74,7 +74,7 @@ module _ {Reply : Type 0} where
   replied done line (inr last) = cc
 
 module _ {Op Reply : Type 0} (encoding : Encoding Op Reply) (life : Life Op) (clients : List Local) (entries : List (JournalLine Reply)) (reads : List (ReadLine Reply))
-    (works : AreWorks encoding life clients entries reads [] []) (turns : AreInTurn (answers_of entries reads)) where
+    (works : AreWorks encoding life clients entries reads [] []) (turns : AreAnswersInTurn (answers_of entries reads)) where
   -- each line of a client has a reply
   pub has_reply : (i : ℕ) (l : Local) → slice_get clients i ≡ Some l → (k : ℕ) (d : JournalLine Reply) → k < length (filter (by_entry i) entries) → IsSome (get_or (filter (by_entry i) entries) k d).reply
   has_reply i l at k d below =

@@ -3,8 +3,8 @@ use Rattle.std.proofs.Common.{◌≡◌, ◌+◌, ◌-◌, ◌<◌, ◌≤◌, �
 use Rattle.std.specs.Prelude.{◌↔◌, All, Contains}
 use Rattle.std.proofs.lemmas.List.Elements.{All-nil, Contains-get_or}
 use Rattle.std.proofs.lemmas.Option.{same_Some, slice_get_within}
-use Rattle.core_answers.proofs.BaseLaws.{kept_lawful}
-use Rattle.core_answers.proofs.Places.{durable_within}
+use Rattle.core_replica.proofs.BaseLaws.{kept_lawful}
+use Rattle.core_replica.proofs.Places.{durable_within}
 use Rattle.core_runs.proofs.Keeps.{bounds_of}
 use Rattle.core_runs.proofs.WholeLaws.{entries_of}
 use Rattle.cx_core.specs.Base.{LawfulBase}
@@ -20,16 +20,16 @@ use Rattle.cx_core.specs.declared.local.Answer.{Answer as GivenAnswer}
 use Rattle.cx_core.specs.declared.local.Local.{Local}
 use Rattle.cx_core.specs.declared.local.SeenRead.{SeenRead}
 use Rattle.cx_core.proofs.ListLemmas.{item_below}
-use Rattle.life_laws.specs.Meanings.{object_instance}
-use Rattle.life_laws.specs.Recorded.{IsKeptIn}
-use Rattle.life_laws.proofs.Lists.{All-item, Contains-item}
-use Rattle.life_laws.proofs.Steps.{image_stands, op_is}
-use Rattle.life_laws.proofs.TypedSteps.{TypedSteps}
+use Rattle.life_records.specs.Meanings.{object_instance}
+use Rattle.life_records.specs.Recorded.{IsKeptIn}
+use Rattle.life_records.proofs.ItemLists.{All-item, Contains-item}
+use Rattle.life_records.proofs.Steps.{image_stands, op_is}
+use Rattle.life_records.proofs.TypedSteps.{TypedSteps}
 use Rattle.life_records.proofs.Lists.{all_each, each_get, get_has}
-use Rattle.life_records.specs.Lives.{Answer, HasReply, IsKept, IsKeptStop, IsLegal, IsLegalLife, IsLegalRead, answers_of, read_answer, store_at}
-use Rattle.life_records.specs.Records.{IsOpOf, JournalLine, Life, LifeRecord, ReadLine, StopLine}
+use Rattle.life_records.specs.Lives.{ClientAnswer, HasReply, IsPrefixKept, IsKeptStop, IsLegal, IsLegalLife, IsLegalRead, answers_of, read_answer, store_at}
+use Rattle.life_records.specs.Records.{OpHasWords, JournalLine, Life, LifeRecord, ReadLine, StopLine}
 use Rattle.life_records.specs.Scripts.{named_op}
-use Rattle.life_records.specs.Works.{HasWords, IsReadLine}
+use Rattle.life_records.specs.Works.{HasCommandWords, IsReadLine}
 use Rattle.pool_lives.specs.PoolLives.{AreToldIn, IsPoolEntry, IsPoolRead}
 use Rattle.pool_lives.specs.Recorded.{IsPoolRecorded}
 use Rattle.pool_lives.proofs.InTurn.{answers_moved, line_behind, told_by}
@@ -126,7 +126,7 @@ module _ {Op Reply Store : Type 0} (t : TypedSteps Op Reply Store) (callers : �
         reply = subst (λ o. HasReply t.meaning (store_at t.meaning store life told.journal (line.place - base.place)) o line.reply) (sym op.named) (reply_told (line.place - base.place) op.op line.reply op_of.limits op_of.value to value same);
       }
 
-  in_turn : (a b : Answer) → Contains (answers_of told.journal told.reads) a → Contains (answers_of told.journal told.reads) b → a.client ≡ b.client → a.command < b.command → a.next ≤ b.at
+  in_turn : (a b : ClientAnswer) → Contains (answers_of told.journal told.reads) a → Contains (answers_of told.journal told.reads) b → a.client ≡ b.client → a.command < b.command → a.next ≤ b.at
   in_turn a b at_a at_b same order =
       is.in_turn a b (answers_moved is.entries told.journal told.reads a is.sorted.moved at_a) (answers_moved is.entries told.journal told.reads b is.sorted.moved at_b) same order
 
@@ -223,22 +223,22 @@ module _ {Op Reply Store : Type 0} (t : TypedSteps Op Reply Store) (callers : �
         let k = Contains-item a.local.answered _ a.there in
         kept.image.answered a.caller w.0 w.1 k.0 _ (ap (λ (l : Local). slice_get l.answered k.0) w.2 ∙ k.1)
 
-    answer_kept : (a : Answer) → Contains (answers_of told.journal told.reads) a → a.next ≤ base.place + told.kept
+    answer_kept : (a : ClientAnswer) → Contains (answers_of told.journal told.reads) a → a.next ≤ base.place + told.kept
     answer_kept a among = elim (line_behind told.journal told.reads a among) [
       | inl e ↦ (
           let k = get_has told.journal e.0 e.1 in
           let below = entry_kept e.0 k.0 k.1 e.0.reply refl e.2 in
-          let next_is = ap (λ (z : Answer). z.next) e.3 in
+          let next_is = ap (λ (z : ClientAnswer). z.next) e.3 in
           omega (arith, below, next_is, at_place))
       | inr r ↦ (
           let k = get_has told.reads r.0 r.1 in
           let x = seen_at k.0 r.0 k.1 in
           let below = kept.image.reads x.caller x.local x.of_caller x.index x.read x.there in
-          let next_is = ap (λ (z : Answer). z.next) r.2 in
+          let next_is = ap (λ (z : ClientAnswer). z.next) r.2 in
           omega (arith, below, next_is, x.is_line.place, at_place))
     ]
 
-    pub kept_is : IsKept t.meaning base.place store life told
+    pub kept_is : IsPrefixKept t.meaning base.place store life told
     kept_is = record {
       prefix = (let long = long_journal t callers base s store life told base_law law is in omega (arith, within, long));
       answered = λ k d below. answer_kept _ (Contains-get_or (answers_of told.journal told.reads) k d below);

@@ -1,5 +1,14 @@
+mod Asking
+mod Ending
+mod Ghosts
 pub mod InOrder
 pub mod InTurn
-pub mod Lines
+mod Joining
 pub mod Kept
 pub mod Legal
+pub mod Lines
+mod Living
+mod Making
+mod Never
+mod Opening
+mod Recording

@@ -19,18 +19,18 @@ use Rattle.cx_core.specs.declared.local.Local.{Local}
 use Rattle.cx_core.specs.declared.local.SeenRead.{SeenRead}
 use Rattle.cx_core.proofs.ListLemmas.{item_below}
 use Rattle.cx_core.proofs.MergeLemmas.{own_at, own_mine, own_other}
-use Rattle.life_laws.specs.Meanings.{AreLinesOf, MeanStores, object_instance}
-use Rattle.life_laws.proofs.Lists.{All-item, Contains-item}
-use Rattle.life_laws.proofs.Steps.{mean_stores}
-use Rattle.life_laws.proofs.TypedSteps.{TypedSteps}
+use Rattle.life_records.specs.Meanings.{HaveWordsOfLines, MeanStores, object_instance}
+use Rattle.life_records.proofs.ItemLists.{All-item, Contains-item}
+use Rattle.life_records.proofs.Steps.{mean_stores}
+use Rattle.life_records.proofs.TypedSteps.{TypedSteps}
 use Rattle.life_records.proofs.Endings.{has_ended, interleaves}
 use Rattle.pool_lives.proofs.InOrder.{works_in_order}
 use Rattle.life_records.proofs.Lists.{Each, Has, climbs_from, contains_has, each_has, has_contains, has_filter, has_get, has_map, has_moved, length_map, ranged, rises_from, zip_back}
 use Rattle.life_records.specs.Ended.{IsEnded}
 use Rattle.life_records.specs.Lives.{IsFullBefore, IsLegalFull, IsLegalStop, IsStopBefore}
 use Rattle.life_records.specs.Records.{FullLine, JournalLine, Life, LifeRecord, ReadLine, StopLine}
-use Rattle.life_records.specs.Works.{AreWorks, HasWords, IsLineOf, IsReadLine, IsReplyAt, by_entry, by_read}
-use Rattle.pool_lives.specs.Recorded.{AreOfCallers, IsCallersAnswer, IsCallersEntry, IsCallersRead, IsPoolRecorded}
+use Rattle.life_records.specs.Works.{AreWorks, HasCommandWords, IsLineOf, IsReadLine, IsReplyAt, by_entry, by_read}
+use Rattle.pool_lives.specs.Recorded.{AreOfCallers, IsCallersAnswer, IsEntryOfSomeCaller, IsReadOfSomeCaller, IsPoolRecorded}
 use Rattle.pool_lives.proofs.InTurn.{tickets_rise}
 
 -- the local state behind what a seat shows of it
@@ -95,7 +95,7 @@ module _ {Op Reply Store : Type 0} (t : TypedSteps Op Reply Store) (callers : �
     pub of_client : slice_get is.clients line.client ≡ Some local
     pub own : Linked
     pub is_line : IsLineOf t.meaning.encoding life line.client local.answered None own line
-    pub entry : IsCallersEntry is.locals own
+    pub entry : IsEntryOfSomeCaller is.locals own
 
   pub behind : (i : ℕ) (line : JournalLine Reply) → slice_get told.journal i ≡ Some line → Behind line
   behind i line at =
@@ -108,7 +108,7 @@ module _ {Op Reply Store : Type 0} (t : TypedSteps Op Reply Store) (callers : �
         of_client = l.1;
         own = x.0;
         is_line = x.2;
-        entry = All-contains (IsCallersEntry is.locals) l.0.own x.0 (is.calls c l.0 l.1).entries (has_contains l.0.own x.0 x.1);
+        entry = All-contains (IsEntryOfSomeCaller is.locals) l.0.own x.0 (is.calls c l.0 l.1).entries (has_contains l.0.own x.0 x.1);
       }
 
   -- the caller behind what a seat shows of it
@@ -141,13 +141,13 @@ module _ {Op Reply Store : Type 0} (t : TypedSteps Op Reply Store) (callers : �
       let index : e.entry.ticket - base.place ≡ i = omega (arith, e.ticket, b.is_line.ticket, ticket) in
       same_Some e.entry.entry entry (sym p.1 ∙ ap (slice_get law.history) index ∙ there)
 
-  pub words_are : (i : ℕ) (line : JournalLine Reply) (entry : Entry) → slice_get told.journal i ≡ Some line → slice_get law.history i ≡ Some entry → HasWords t.meaning.encoding life line.client line.command entry.op
+  pub words_are : (i : ℕ) (line : JournalLine Reply) (entry : Entry) → slice_get told.journal i ≡ Some line → slice_get law.history i ≡ Some entry → HasCommandWords t.meaning.encoding life line.client line.command entry.op
   words_are i line entry at there =
       let b = behind i line at in
       let same : b.own.entry.op ≡ entry.op = sym b.entry.op ∙ ap (λ (x : Entry). x.op) (entry_is i line entry at there) in
-      subst (HasWords t.meaning.encoding life line.client line.command) same b.is_line.op
+      subst (HasCommandWords t.meaning.encoding life line.client line.command) same b.is_line.op
 
-  pub lines_are : AreLinesOf t.meaning.encoding life law.history told.journal
+  pub lines_are : HaveWordsOfLines t.meaning.encoding life law.history told.journal
   lines_are = record { long = long_journal; words = λ i line entry at there. words_are i line entry at there }
 
   pub means : MeanStores t.meaning t.step t.reads life base law.history told.journal store
@@ -167,7 +167,7 @@ module _ {Op Reply Store : Type 0} (t : TypedSteps Op Reply Store) (callers : �
     pub client : Local
     pub of_client : slice_get is.clients line.client ≡ Some client
     pub seen : SeenRead
-    pub read : IsCallersRead is.locals seen
+    pub read : IsReadOfSomeCaller is.locals seen
     pub is_line : IsReadLine t.meaning.encoding life line.client read.read line
 
   pub read_behind : (k : ℕ) (line : ReadLine Reply) → slice_get told.reads k ≡ Some line → ReadBehind line
@@ -178,7 +178,7 @@ module _ {Op Reply Store : Type 0} (t : TypedSteps Op Reply Store) (callers : �
       let reads = (works.each c l.0 l.1).read_lines in
       let x = zip_back (IsReadLine t.meaning.encoding life c) reads.told (filter (by_read c) told.reads) line reads.lines_are mine in
       let there : Contains l.0.seen_reads x.0 = subst (λ (xs : List SeenRead). Contains xs x.0) (sym reads.are) (Contains-append_left reads.told reads.left x.0 (has_contains reads.told x.0 x.1)) in
-      let read = All-contains (IsCallersRead is.locals) l.0.seen_reads x.0 (is.calls c l.0 l.1).reads there in
+      let read = All-contains (IsReadOfSomeCaller is.locals) l.0.seen_reads x.0 (is.calls c l.0 l.1).reads there in
       record {
         client = l.0;
         of_client = l.1;
@@ -187,7 +187,7 @@ module _ {Op Reply Store : Type 0} (t : TypedSteps Op Reply Store) (callers : �
         is_line = record {
           place = x.2.place ∙ sym read.place;
           client_is = x.2.client_is;
-          op = subst (HasWords t.meaning.encoding life line.client line.command) (sym read.op) x.2.op;
+          op = subst (HasCommandWords t.meaning.encoding life line.client line.command) (sym read.op) x.2.op;
           reply = x.2.reply ∙ sym read.reply;
         };
       }

@@ -7,10 +7,10 @@ use Rattle.cx_core.specs.declared.local.SeenRead.{SeenRead}
 use Rattle.cx_rule.specs.Ending.{Ending}
 use Rattle.life_records.specs.Lives.{IsLegalLife}
 use Rattle.life_records.specs.Records.{Encoding, JournalLine, Life, LifeRecord, Meaning, ReadLine}
-use Rattle.life_records.specs.Works.{HasWords, IsReadLine}
+use Rattle.life_records.specs.Works.{HasCommandWords, IsReadLine}
 
--- A record of such a life, from place 0 and the opening store on: one of a legal life in which nobody was stopped and nobody gave up, so that
--- each command of each client is answered once.
+-- A record of such a life, from place 0 and the opening store on: one of a legal life in which nobody was stopped and nobody ended Full, so
+-- that each command of each client is answered once.
 pub record IsPoolLife {Op Reply Store : Type 0} (m : Meaning Op Reply Store) (life : Life Op) (told : LifeRecord Reply) : Type 0 where
   pub legal : IsLegalLife m 0 m.opening life told
   pub stops : told.stops ≡ []
@@ -18,7 +18,7 @@ pub record IsPoolLife {Op Reply Store : Type 0} (m : Meaning Op Reply Store) (li
 
 -- the line of an entry: its command has the entry's operation, and its reply is the one that the entry's caller was answered at its ticket
 pub record IsPoolEntry {Op Reply : Type 0} (encoding : Encoding Op Reply) (life : Life Op) (locals : List Local) (entry : Entry) (line : JournalLine Reply) : Type 0 where
-  pub words : HasWords encoding life line.client line.command entry.op
+  pub words : HasCommandWords encoding life line.client line.command entry.op
   pub local : Local
   pub of_caller : slice_get locals entry.caller ≡ Some local
   pub reply : IfSome line.reply (λ reply. Contains local.answered (record { ticket = line.ticket; reply = encoding.reply_words reply }))
@@ -40,8 +40,8 @@ pub record AreToldIn {Op Reply : Type 0} (encoding : Encoding Op Reply) (life : 
       (line.ticket ≡ place + i) × IsPoolEntry encoding life locals entry line
   pub reads : All (IsPoolRead encoding life locals) told.reads
 
--- A record is told by the trail of a service of so many callers. The life's choice takes the code whose place ends what was kept, from the codes with which
--- the service ended.
+-- A record is witnessed by the execution log of a service of this many callers. The life's choice takes the code whose place ends what was kept, from the
+-- codes with which the service ended.
 pub record IsPoolTold {Op Reply : Type 0} (encoding : Encoding Op Reply) (life : Life Op) (seats : ℕ) (trail : Ending) (told : LifeRecord Reply) : Type 0 where
   pub callers : length trail.locals ≡ seats
   pub is_told : AreToldIn encoding life trail.base.place trail.history trail.locals told

@@ -8,15 +8,15 @@ use Rattle.cx_core.specs.declared.local.Answer.{Answer as GivenAnswer}
 use Rattle.cx_core.specs.declared.local.Linked.{Linked}
 use Rattle.cx_core.specs.declared.local.Local.{Local}
 use Rattle.cx_core.specs.declared.local.SeenRead.{SeenRead}
-use Rattle.life_laws.specs.Replies.{HasOpValues, HasReplyValues}
+use Rattle.life_records.specs.Replies.{HasOpValues, HasReplyValues}
 use Rattle.life_records.specs.Journal.{IsByTicket}
 use Rattle.life_records.specs.Limits.{IsLifeInLimits}
-use Rattle.life_records.specs.Lives.{Answer, answers_of}
+use Rattle.life_records.specs.Lives.{ClientAnswer, answers_of}
 use Rattle.life_records.specs.Records.{JournalLine, Life, LifeRecord, Meaning}
 use Rattle.life_records.specs.Works.{AreWorks}
 
 -- an entry that a client was answered is one of a caller: of the same ticket and operation
-pub record IsCallersEntry (locals : List Local) (x : Linked) : Type 0 where
+pub record IsEntryOfSomeCaller (locals : List Local) (x : Linked) : Type 0 where
   pub caller : ℕ
   pub local : Local
   pub of_caller : slice_get locals caller ≡ Some local
@@ -36,7 +36,7 @@ pub record IsCallersAnswer (locals : List Local) (a : GivenAnswer) : Type 0 wher
   pub at : entry.ticket ≡ a.ticket
 
 -- a read that a client was answered is one of a caller, whatever that was answered before
-pub record IsCallersRead (locals : List Local) (x : SeenRead) : Type 0 where
+pub record IsReadOfSomeCaller (locals : List Local) (x : SeenRead) : Type 0 where
   pub caller : ℕ
   pub local : Local
   pub of_caller : slice_get locals caller ≡ Some local
@@ -48,15 +48,15 @@ pub record IsCallersRead (locals : List Local) (x : SeenRead) : Type 0 where
 
 -- What a client was answered, as the lists of one caller, is of callers of the service.
 pub record AreOfCallers (locals : List Local) (client : Local) : Type 0 where
-  pub entries : All (IsCallersEntry locals) client.own
+  pub entries : All (IsEntryOfSomeCaller locals) client.own
   pub answers : All (IsCallersAnswer locals) client.answered
-  pub reads : All (IsCallersRead locals) client.seen_reads
+  pub reads : All (IsReadOfSomeCaller locals) client.seen_reads
 
 -- no answer to a client lies below what the client was told before
-abbrev pub AreInTurn : List Answer → Type 0
-AreInTurn answers = (a b : Answer) → Contains answers a → Contains answers b → a.client ≡ b.client → a.command < b.command → a.next ≤ b.at
+abbrev pub AreAnswersInTurn : List ClientAnswer → Type 0
+AreAnswersInTurn answers = (a b : ClientAnswer) → Contains answers a → Contains answers b → a.client ≡ b.client → a.command < b.command → a.next ≤ b.at
 
--- each ticket of a history of so many entries has a line
+-- each ticket of a history of this many entries has a line
 abbrev pub HaveTickets : {Reply : Type 0} → ℕ → ℕ → List (JournalLine Reply) → Type 0
 HaveTickets {Reply} place count entries = (i : ℕ) → i < count → (line : JournalLine Reply) × Contains entries line × (line.ticket ≡ place + i)
 
@@ -74,7 +74,7 @@ pub record IsPoolRecorded {Op Reply Store : Type 0} (m : Meaning Op Reply Store)
   pub long : length entries ≡ length history
   pub tickets : HaveTickets instance.base.place (length history) entries
   pub calls : (client : ℕ) (l : Local) → slice_get clients client ≡ Some l → AreOfCallers locals l
-  pub in_turn : AreInTurn (answers_of entries told.reads)
+  pub in_turn : AreAnswersInTurn (answers_of entries told.reads)
   pub clients_are : told.clients ≡ life.clients
   pub choice : told.choice ≡ life.choice
   pub from : told.from ≡ instance.base.place

@@ -5,15 +5,15 @@ ghost use Rattle.cx_core.specs.Base.{LawfulBase};
 ghost use Rattle.cx_core.specs.Lawful.{Lawful};
 ghost use Rattle.cx_core.specs.State.{State};
 ghost use Rattle.cx_core.specs.declared.entry.Base as entry_base;
-ghost use Rattle.life_laws.specs.Meanings.{object_instance};
-ghost use Rattle.life_laws.specs.Recorded.{IsKeptIn};
+ghost use Rattle.life_records.specs.Meanings.{object_instance};
+ghost use Rattle.life_records.specs.Recorded.{IsKeptIn};
 ghost use Rattle.life_records.specs.Lives.{IsLegalLife};
 ghost use Rattle.life_records.specs.Records.{Life, LifeRecord};
 ghost use Rattle.pool_lives.specs.PoolLives.{AreToldIn};
 ghost use Rattle.pool_lives.specs.Recorded.{IsPoolRecorded};
 
 use cx_core::Base;
-use life_laws::steps_are_meant;
+use life_records::steps_are_meant;
 use typed_object::TypedObject;
 
 /// Where a record is told by a lawful state of a service whose callers clients shared, each line is one of an entry or a read of a caller; and with a base that

@@ -56,7 +56,7 @@ fn is_right<R: Threads + Wait + Sync + AllocGlobal>(
     Ok(got == code && sink.written() == written(code, call).as_bytes())
 }
 
-/// The first row, and its first call, whose run comes to something else.
+/// The first row, and its first call, whose run ends otherwise.
 fn first_wrong<R: Threads + Wait + Sync + AllocGlobal>(
     rt: &R,
     rows: &[Row],

@@ -11,10 +11,10 @@ use std::thread::Threads;
 /// A source or a sink: the most bytes of a call, at least 1, and the call that fails, counted from 1; 0 is none.
 pub(crate) type End = (usize, u64);
 
-/// What a run comes to: its exit code, how many trails it leaves, and what it writes.
+/// The result of a run: its exit code, how many trails it leaves, and what it writes.
 type Came<'a> = (u8, usize, &'a str);
 
-/// A run: its words, its source, its sink with the room that it has, and what it comes to.
+/// A run: its words, its source, its sink with the room that it has, and its result.
 type Row = (&'static [&'static str], End, End, usize, Came<'static>);
 
 const RUN: &[&str] = &["run"];
@@ -54,7 +54,7 @@ pub(crate) fn sink(alloc: Global, end: End, room: usize) -> Result<VecSink, Allo
     Ok(VecSink::new(bytes, end.0.max(1), fails))
 }
 
-/// Whether a run over such ends comes to this.
+/// Whether a run over such ends has this result.
 fn comes_to<R: Threads + Wait + Sync + AllocGlobal>(
     rt: &R,
     words: &[String],
@@ -66,7 +66,7 @@ fn comes_to<R: Threads + Wait + Sync + AllocGlobal>(
     code == want.0 && trails == want.1 && sink.written() == want.2.as_bytes()
 }
 
-/// The first run that comes to something else.
+/// The first run with another result.
 fn first_wrong<R: Threads + Wait + Sync + AllocGlobal>(
     rt: &R,
     rows: &[Row],

@@ -39,7 +39,7 @@ impl Gate for ComparingGate {
     }
 }
 
-/// What a run of the script past a gate writes by these words, of at most so many bytes. `None` where it ends with another status than 0.
+/// What a run of the script past a gate writes by these words, of at most `room` bytes. `None` where it ends with another status than 0.
 pub(crate) fn written_past<R: Threads + Wait + Sync + AllocGlobal, G: Gate + Sync>(
     rt: &R,
     words: &[&str],

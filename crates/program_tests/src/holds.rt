@@ -2,7 +2,7 @@
 
 use std::process::Abort;
 
-/// Asserts what a case came to.
+/// Asserts that a case is right.
 pub(crate) fn holds(rt: &impl Abort, is_right: bool) {
     assert!(rt; is_right);
 }

@@ -110,7 +110,7 @@ const ROWS: [Row; 16] = [
     ),
 ];
 
-/// What a run with these words over an input comes to: its exit code, how many trails it leaves, and the sink behind it.
+/// The result of a run with these words over an input: its exit code, how many trails it leaves, and the sink behind it.
 fn ran<R: Threads + Wait + Sync + AllocGlobal>(
     rt: &R,
     asked: &str,
@@ -125,7 +125,7 @@ fn ran<R: Threads + Wait + Sync + AllocGlobal>(
     Ok((code, trails, sink))
 }
 
-/// The first run that comes to something else.
+/// The first run with another result.
 pub(crate) fn first_wrong<R: Threads + Wait + Sync + AllocGlobal>(
     rt: &R,
     rows: &[Row],

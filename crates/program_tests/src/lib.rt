@@ -1,4 +1,8 @@
-//! Tests of the program behind its `main`: its words, its gate, its images, its queue, its pool, its traces, its standard ends and their faults. It has tests alone.
+//! What the program answers is proved of the call behind its `main`, over any source and any sink. Here it is called with the words that a user
+//! types, over ends that take or give a few bytes a call, fail at some call, or have no room.
+//!
+//! Each command is called: on scripts, images, queues, pools and traces, past gates, one of which holds a client back, and on the standard ends.
+//! The crate has tests alone.
 #![tactic(auto)]
 
 #[cfg(test)]

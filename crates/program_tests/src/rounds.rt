@@ -48,7 +48,7 @@ impl Count {
         self.is_worn.store(true, Ordering::SeqCst);
     }
 
-    /// Whether it came to this, and nobody waited in vain.
+    /// Whether it reached this, and nobody waited in vain.
     fn has_come_to(&self, all: u64) -> bool {
         self.count.load(Ordering::SeqCst) == all && !self.is_worn.load(Ordering::SeqCst)
     }
@@ -104,7 +104,7 @@ fn name_of(line: &str) -> Option<(u8, u8)> {
     }
 }
 
-/// Whether so many lines are of this command, one of each client.
+/// Whether just one of these lines is of this command, for each client.
 fn are_of_each(lines: &[&str], command: u8) -> bool {
     for client in *b"01234567" {
         let found = lines

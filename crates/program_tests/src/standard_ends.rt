@@ -14,7 +14,7 @@ use std::thread::Threads;
 /// What a call does. Behind the last of a list, calls do all that they can.
 #[derive(Clone, Copy)]
 enum Does {
-    /// So many bytes at most.
+    /// This many bytes at most.
     Bytes(usize),
     Fails(ErrorKind),
 }
@@ -121,7 +121,7 @@ fn is_given(read: Result<usize, Failed>, buffer: &[u8], want: Option<&[u8]>) -> 
     }
 }
 
-/// The first read that comes to something else.
+/// The first read with another result.
 fn first_wrong_read(does: &[Does], rows: &[(Option<&[u8]>, u64)]) -> Option<usize> {
     let mut source = source(does);
     for (i, (want, faults)) in rows.iter().enumerate() {
@@ -153,7 +153,7 @@ const TAKEN: [(Option<usize>, u64, &[u8]); 6] = [
     (Some(4), 3, b"abcaabcd"),
 ];
 
-/// The first write that comes to something else.
+/// The first write with another result.
 fn first_wrong_write(
     alloc: Global,
     does: &[Does],

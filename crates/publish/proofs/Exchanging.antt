@@ -1,10 +1,11 @@
 -- What an exchange of CUR, and the release of a downgraded right, leave of the seat.
-use Rattle.std.proofs.Common.{◌≡◌, ◌≢◌, ◌==◌, ◌+◌, ◌<◌, ◌≤◌, ◌*◌, ◌^◌, inl, inr, ℕ, Bool, true, false, cond, ap, sym, subst, ◌∙◌, refl, arith, eq-eqb, List, ◌++◌, [], append-nil, Option, Some, None, Result, Ok, Err}
+use Rattle.std.proofs.Common.{◌≡◌, ◌≢◌, ◌==◌, ◌+◌, ◌<◌, ◌≤◌, ◌*◌, ◌^◌, inl, inr, ℕ, Bool, true, false, cond, min, ap, sym, subst, ◌∙◌, refl, arith, eq-eqb, List, ◌++◌, [], append-nil, Option, Some, None, Result, Ok, Err}
 use Rattle.std.proofs.lemmas.Bool.{cases_Bool, eqb-true}
 use Rattle.std.proofs.Math.Nat.{div-lt_iff_lt-mul, le-max_left}
 use Rattle.cx_base.specs.Codes.{root_place_of}
 use Rattle.cx_core.specs.declared.kinds.Kind.TheVariants.{Publish}
 use Rattle.cx_core.specs.declared.local.HeldDowngraded.{HeldDowngraded}
+use Rattle.cx_core.specs.Layout.{max_word}
 use Rattle.cx_core.specs.RootEvents.{IsAbove, code_in, outrun, published}
 use Rattle.cx_core.specs.State.{one_more}
 use Rattle.cx_rule.specs.Running.{Running}
@@ -95,6 +96,13 @@ module _ {O : Type 0} (r : Running O) (step : O → List ℕ → List ℕ → Li
   one_step : after.known.local.steps ≤ before.known.local.steps + 1
   one_step = subst (λ (t : Seated). t.known.local.steps ≤ before.known.local.steps + 1) (sym s.made) (step_by (found == before.known.local.seen_cur))
 
+  since_by : (won : Bool) → min before.known.local.steps max_word ≤ (by won).known.local.steps
+  since_by true = omega arith
+  since_by false = omega arith
+
+  exchange_since : min before.known.local.steps max_word ≤ after.known.local.steps
+  exchange_since = subst (λ (t : Seated). min before.known.local.steps max_word ≤ t.known.local.steps) (sym s.made) (since_by (found == before.known.local.seen_cur))
+
   -- the step found a later code, or put one there
   exchange_steps : (x : Result WonRight Right) → 1 ≤ r.callers → root_place_of r.callers before.known.local.seen_cur < place_in before.known.local.downgraded → Exchanges r.callers before after x →
       after.known.local.steps + before.known.local.seen_cur ≤ before.known.local.steps + after.known.local.seen_cur
@@ -110,6 +118,7 @@ module _ {O : Type 0} (r : Running O) (step : O → List ℕ → List ℕ → Li
     front = exchange_front;
     met = exchange_met;
     counted = exchange_counted small;
+    since = exchange_since;
     most = exchange_most;
     steps = (let most = exchange_steps x some below exchanged in omega (arith, most));
     rest = exchange_rest;
@@ -142,7 +151,7 @@ module _ {O : Type 0} (r : Running O) (step : O → List ℕ → List ℕ → Li
       rises : (x y : ℕ) → y ≤ x → x ≢ y → y < x
       rises x y least apart = elim (cases_Bool (y == x)) [ inl e ↦ absurd (apart (sym (eqb-true y x e))) | inr e ↦ omega (arith, least, e) ]
 
--- the right was given up
+-- the right was released
 pub passed : (callers found : ℕ) (before after : Seated) → but_downgraded after ≡ but_downgraded before → all_rights after ≡ record (all_rights before) { downgraded = None } → before.known.local.won ≡ None →
     before.known.local.seen_cur ≡ found → place_in before.known.local.downgraded ≤ root_place_of callers before.known.local.seen_cur → PassedBy callers found before after
 passed callers found before after rest rights none seen above = record {

@@ -1,7 +1,8 @@
--- What a publication comes to.
-use Rattle.std.specs.Prelude.{◌≡◌, ◌+◌, ◌<◌, ◌≤◌, ◌⊎◌, ℕ, false, Option, Some, None, Result, Ok, Err}
+-- The outcome of a publication.
+use Rattle.std.specs.Prelude.{◌≡◌, ◌+◌, ◌<◌, ◌≤◌, ◌⊎◌, ℕ, false, min, Option, Some, None, Result, Ok, Err}
 use Rattle.cx_base.specs.Codes.{root_place_of}
 use Rattle.cx_core.specs.declared.local.HeldDowngraded.{HeldDowngraded}
+use Rattle.cx_core.specs.Layout.{max_word}
 use Rattle.cx_core.specs.RootEvents.{code_in}
 use Rattle.cx_rule.specs.Running.{IsSeatOf, Running}
 use Rattle.cx_rule.specs.Seats.{IsAtLimit, Seated}
@@ -68,13 +69,14 @@ pub record MayPublish {O : Type 0} (r : Running O) (seat : Seated) (held : Right
   pub token : IsDowngradedOf r.callers seat held
   pub none : seat.known.local.won ≡ None
 
--- What exchanges of CUR, and the giving up of a right, leave of the seat: the front does not fall, at most one refusal is met and none
--- is taken back, and the rest is the same. Beside so many, no more steps were made than what was seen of CUR rose.
+-- What exchanges of CUR, and the release of a right, leave of the seat: the front does not fall, at most one refusal is met, no refusal and no
+-- step is taken back, and the rest is the same. Beside this number, no more steps were made than what was seen of CUR rose.
 pub record LeavesRest {O : Type 0} (r : Running O) (n : ℕ) (before after : Seated) : Type 0 where
   pub of : IsSeatOf r after
   pub front : before.known.local.front ≤ after.known.local.front
   pub met : KeepsMet before after
   pub counted : before.known.local.met ≤ after.known.local.met
+  pub since : min before.known.local.steps max_word ≤ after.known.local.steps
   pub most : after.known.local.met ≤ before.known.local.met + 1
   pub steps : after.known.local.steps + before.known.local.seen_cur ≤ before.known.local.steps + after.known.local.seen_cur + n
   pub rest : beside_publish after ≡ beside_publish before
@@ -88,7 +90,7 @@ pub record LosesAll {O : Type 0} (r : Running O) (first seat : Seated) (right : 
   pub one : MeetsOne first seat
   pub stands : IsAtLimit first.known.local → IsAtLimit seat.known.local
 
--- a code was found in CUR whose place is not below the caller's own: the caller gave its right up
+-- a code was found in CUR whose place is not below the caller's own: the caller released its right
 pub record PassedBy (callers found : ℕ) (before after : Seated) : Type 0 where
   pub seen : after.known.local.seen_cur ≡ found
   pub above : place_in before.known.local.downgraded ≤ root_place_of callers found

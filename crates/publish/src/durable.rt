@@ -4,7 +4,7 @@ ghost use Rattle.std.specs.Prelude.{◌≤◌, List};
 ghost use Rattle.cx_base.specs.Codes.{root_place_of};
 ghost use Rattle.cx_core.specs.declared.local.Answer.{Answer};
 ghost use Rattle.cx_core.specs.declared.kinds.Kind.TheVariants.{Raise, Retire};
-ghost use Rattle.cx_rule.specs.Raises.{Raises, TellsAnswers, TellsReads, op_in};
+ghost use Rattle.cx_rule.specs.Raises.{Raises, TellsAnswers, TellsReads, read_op_in};
 ghost use Rattle.cx_rule.specs.Running.{IsSeatOf};
 ghost use Rattle.cx_table.specs.Calls.{MakesStep, MayStep};
 ghost use Rattle.cx_table.specs.Tokens.{IsWonOf};
@@ -22,7 +22,7 @@ pub fn make_durable<O: Object>(
     code: u64,
     read: Option<AnsweredRead>,
 ) -> Result<(), Halt>
-    requires may { MayStep O.Object shared.now (Raise code (op_in read)) seat.old }
+    requires may { MayStep O.Object shared.now (Raise code (read_op_in read)) seat.old }
     requires told { (answers : List Answer) × TellsAnswers shared.now.lines (O.lawful shared.now.object) shared.now.base (O.step shared.now.object) seat.old.known (root_place_of shared.now.callers code) answers }
     requires reads { TellsReads shared.now.lines (O.lawful shared.now.object) shared.now.base (O.step shared.now.object) seat.old.known read }
     ensures { MakesStep shared.now seat.old seat.new result (λ _. (answers : List Answer) → TellsAnswers shared.now.lines (O.lawful shared.now.object) shared.now.base (O.step shared.now.object) seat.old.known (root_place_of shared.now.callers code) answers → Raises shared.now O.step O.only_reads code answers read.entry seat.old seat.new) }
@@ -31,7 +31,7 @@ pub fn make_durable<O: Object>(
     Ok(())
 }
 
-/// Gives a win up, in one step: the replica of the code before it is free then, once nobody else has a right on it. The caller has
+/// Retires a win, in one step: the replica of the code before it is free then, once nobody else has a right on it. The caller has
 /// raised DUR at least by the code that won. `Halt` comes exactly where the seat's steps equal its limit.
 pub fn retire<O: Object>(shared: &Shared<O>, seat: &mut CallerSeat, won: Won) -> Result<(), Halt>
     requires seat { IsSeatOf shared.now seat.old }

@@ -9,7 +9,7 @@ use cx_base::{Halt, Object, root_place};
 use cx_table::{CallerSeat, Downgraded, Shared, Won};
 use strong_trylock::release_downgraded;
 
-/// What a publication came to.
+/// The outcome of a publication.
 #[derive(Debug, Drop)]
 pub enum Published {
     /// The replica is the current one. The one before stays pinned until the win is retired.
@@ -19,7 +19,7 @@ pub enum Published {
 }
 
 /// Publishes a replica that the caller has downgraded: a compare-exchange of CUR, which turns again where it was lost to a smaller
-/// place. `Passed` comes exactly where a code found in CUR has a place not below the replica's; then the right was given up.
+/// place. `Passed` comes exactly where a code found in CUR has a place not below the replica's; then the right was released.
 /// Each exchange that is lost found a later code, so that there are no more steps than CUR rose, and one; and at most one refusal is
 /// met. `Halt` comes exactly where a further step is to be made and the seat's steps equal its limit: the right then stands.
 pub fn publish<O: Object>(
@@ -44,7 +44,7 @@ pub fn publish<O: Object>(
     pass(shared, seat, held)
 }
 
-/// Gives the right up where the code last found in CUR has a place not below the caller's own.
+/// Releases the right where the code last found in CUR has a place not below the caller's own.
 fn pass<O: Object>(
     shared: &Shared<O>,
     seat: &mut CallerSeat,

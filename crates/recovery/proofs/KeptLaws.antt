@@ -1,5 +1,5 @@
 -- What is recovered from what a loss of power leaves of a closed table.
-use Rattle.std.proofs.Common.{◌≡◌, ◌+◌, ◌*◌, ◌<◌, ◌≤◌, ◌↔◌, ℕ, List, drop, length, take, slice_index, refl, sym, ap, subst, ◌∙◌, arith, Bool, Result, Ok, Err, MatchResult, add-zero, inl}
+use Rattle.std.proofs.Common.{◌≡◌, ◌+◌, ◌*◌, ◌<◌, ◌≤◌, ◌↔◌, ℕ, List, drop, length, take, slice_index, refl, sym, ap, subst, ◌∙◌, arith, Bool, Result, Ok, Err, MatchResult, add-zero}
 use Rattle.std.proofs.lemmas.List.{ext_get_or, get_or-drop, get_or-take, length-drop, length-take-le}
 use Rattle.std.proofs.lemmas.List.FromFn.{get_or-map-range_with_len, length-map-range_with_len}
 use Rattle.std.proofs.lemmas.Nat.{mod_below}
@@ -15,24 +15,23 @@ use Rattle.cx_core.specs.Base.{LawfulBase}
 use Rattle.cx_core.specs.Crash.{IsKept, image_at, recovered}
 use Rattle.cx_core.specs.History.{full_image}
 use Rattle.cx_core.specs.Lawful.{Lawful}
-use Rattle.cx_core.specs.Recovered.{version_of}
-use Rattle.cx_core.specs.Region.{object_part, region_words}
+use Rattle.cx_core.specs.Region.{region_words}
 use Rattle.cx_core.specs.State.{Instance, State}
 use Rattle.cx_core.proofs.HistoryLemmas.{ObjectLaws}
 use Rattle.cx_core.proofs.LayoutLemmas.{replica_within}
-use Rattle.cx_core.proofs.Upgrading.{own_stays}
 use Rattle.cx_rule.specs.Running.{Running, instance_at}
 use Rattle.cx_rule.specs.Seats.{Seated}
 use Rattle.cx_table.specs.declared.remains.Remains.{Remains}
 use Rattle.cx_table.specs.Remains.{Leaves}
-use Rattle.core_answers.proofs.BaseLaws.{kept_lawful}
+use Rattle.core_replica.proofs.BaseLaws.{kept_lawful}
 use Rattle.core_runs.proofs.WholeLaws.{crash_kept, entries_of}
 use Rattle.recovery.specs.declared.recovering.ImageFault.{ImageFault}
-use Rattle.recovery.specs.declared.recovering.ImageFault.TheVariants.{Size, Root, Version, Place, Body, Memory}
+use Rattle.recovery.specs.declared.recovering.ImageFault.TheVariants.{Memory}
 use Rattle.recovery.specs.Crashes.{IsLeftOf}
 use Rattle.recovery.specs.Images.{image_word, region_of, region_start, words_from}
 use Rattle.recovery.specs.Kept.{IsKeptAt, IsKeptBy, IsOpened, MayBeLeftOf, crash_of}
-use Rattle.recovery.specs.Recovery.{IsAccepted, IsFaultOf, IsRecovered, place_in_root, recovered_from}
+use Rattle.recovery.specs.Recovery.{HasSize, IsFaultOf, IsRecovered, named_base, place_in_root}
+use Rattle.recovery.proofs.Accepting.{any_format, base_named}
 use Rattle.recovery.proofs.Leaving.{left_crash}
 use Rattle.recovery.proofs.Shown.{behind}
 
@@ -48,15 +47,6 @@ part_from pairs count from n within =
     ∙ get_or-drop from all i 0
     ∙ get_or-map-range_with_len (image_word pairs) 0 count (from + i) (from + i) 0 (omega (arith, inside, within)) (omega arith)
     ∙ sym (get_or-map-range_with_len (image_word pairs) from n i (from + i) 0 inside refl)))
-
--- an image that is accepted has no fault
-no_fault : (version : ℕ) (lawful : List ℕ → Type 0) (old : OldFormat) (image : Image) (fault : ImageFault) → IsAccepted version lawful old image → IsFaultOf version lawful old image fault → fault ≡ Memory
-no_fault version lawful old image (Size found) ok is = absurd (is.1 ok.size)
-no_fault version lawful old image (Root found) ok is = absurd (is.2 ok.root)
-no_fault version lawful old image (Version found) ok is = absurd (is.2.1 ok.region.format)
-no_fault version lawful old image (Place root found) ok is = absurd (is.2.3 ok.region.at_place)
-no_fault version lawful old image Body ok is = absurd (is.2.2 ok.region.body)
-no_fault version lawful old image Memory ok is = refl
 
 -- what a lawful state may leave
 module _ (lines : ℕ) (lawful : List ℕ → Type 0) (version : ℕ) (instance : Instance) (laws : ObjectLaws lines lawful instance.step)
@@ -92,40 +82,25 @@ module _ (lines : ℕ) (lawful : List ℕ → Type 0) (version : ℕ) (instance 
   same_place : root_place_of image.callers image.root ≡ root_place_of instance.callers image.root
   same_place = ap (λ c. root_place_of c image.root) left.callers
 
-  -- the region that the root names, as it is
-  abbrev left_base : Base
-  left_base = record { place = place_in_root image; words = region_of image }
-
-  kept : IsKept instance law.history s left_base
+  kept : IsKept instance law.history s (named_base image)
   kept = subst (IsKept instance law.history s) (λ i. record { place = sym same_place i; words = sym same_region i }) (crash_kept instance s law (crash_of image) left.crash)
 
-  again : LawfulBase lines lawful left_base × (left_base.words ≡ full_image instance.step instance.base law.history left_base.place)
-  again = kept_lawful lines lawful instance law.history s left_base laws base (entries_of instance s law base.numbers) law.tickets.below kept
+  again : LawfulBase lines lawful (named_base image) × (region_of image ≡ full_image instance.step instance.base law.history (place_in_root image))
+  again = kept_lawful lines lawful instance law.history s (named_base image) laws base (entries_of instance s law base.numbers) law.tickets.below kept
 
-  -- it is of the object's own version, so it is recovered as it is
-  own : version_of (region_of image) ≡ version
-  own = (shape (object_part (region_of image)) again.0.object).1
+  has_size : HasSize image
+  has_size = count_is ∙ ap (λ n. n * (2 * instance.callers)) (sym same_length) ∙ ap (λ c. region_words image.lines * (2 * c)) (sym left.callers)
 
-  as_it_is : recovered_from old image ≡ left_base
-  as_it_is = ap (λ (ws : List ℕ). record { place = place_in_root image; words = ws }) (own_stays lines version lawful old takes shape (region_of image) own)
-
-  accepted : (any : OldFormat) → IsAccepted version lawful any image
-  accepted any =
-      let next = again.0 in
-      record {
-        size = count_is ∙ ap (λ n. n * (2 * instance.callers)) (sym same_length) ∙ ap (λ c. region_words image.lines * (2 * c)) (sym left.callers);
-        root = next.place_within;
-        region = record { format = inl own; at_place = next.at_place; body = record { results = next.results; object = inl next.object } };
-      }
-
-  -- what recovery answers
+  -- what recovery answers: it is the base that the root names
   pub accepts : (answer : Result Base ImageFault) → MatchResult answer (IsRecovered version lawful old image) (IsFaultOf version lawful old image) →
       MatchResult answer (IsKeptAt lines lawful instance law.history s image.root) (λ fault. fault ≡ Memory)
-  accepts (Ok found) is = subst (IsKeptAt lines lawful instance law.history s image.root) (sym (is.is ∙ as_it_is)) (record { place = same_place; words = again.1; kept = kept; again = again.0 })
-  accepts (Err fault) is = no_fault version lawful old image fault (accepted old) is
+  accepts (Ok found) is =
+      subst (IsKeptAt lines lawful instance law.history s image.root) (sym (base_named lines lawful version shape old takes image has_size again.0 (Ok found) is))
+      (record { place = same_place; words = again.1; kept = kept; again = again.0 })
+  accepts (Err fault) is = base_named lines lawful version shape old takes image has_size again.0 (Err fault) is
 
   pub stays : (found : Base) → IsRecovered version lawful old image found ↔ IsRecovered version lawful no_old_format image found
-  stays found = (λ is. record { accepted = accepted no_old_format; is = is.is ∙ as_it_is }, λ is. record { accepted = accepted old; is = is.is ∙ sym as_it_is })
+  stays = any_format lines lawful version shape old takes image has_size again.0
 
 -- what a closed table leaves by choice
 module _ {O : Type 0} (line_count : O → ℕ) (lawful : O → List ℕ → Type 0) (step : O → List ℕ → List ℕ → List ℕ × List ℕ) (reads : O → List ℕ → Bool) (version : O → ℕ)

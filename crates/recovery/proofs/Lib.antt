@@ -1,3 +1,4 @@
+pub mod Accepting
 pub mod Copying
 pub mod Exact
 pub mod KeptLaws

@@ -9,7 +9,7 @@ use Rattle.cx_base.specs.Codes.{root_replica_of}
 use Rattle.cx_core.specs.declared.entry.Image.{Image}
 use Rattle.cx_core.specs.Region.{region_words}
 use Rattle.cx_core.proofs.LayoutLemmas.{replica_within}
-use Rattle.pmem_model.specs.Medium.{Held, IsDirtyMark, durable_word, word_in, word_of}
+use Rattle.pmem_model.specs.Medium.{MediumState, IsDirtyMark, durable_word, word_in, medium_word}
 use Rattle.pmem_model.specs.declared.medium.Word.{Word}
 use Rattle.recovery.specs.Images.{IsReadable, image_size, image_word, region_of, region_start, words_from}
 use Rattle.recovery.specs.Recovery.{HasSize}
@@ -40,7 +40,7 @@ module _ (image : Image) (readable : IsReadable image.lines image) (size : HasSi
   words_fit words is = eights (length words) (region_lines image.lines * (2 * image.callers)) (long_is words is)
 
   -- the medium of the words holds all replicas
-  pub has_replicas : (words : List ℕ) (m : Held) → words ≡ all → m.words ≡ map durable_word words → m.stores ≡ replicate (length words / 8) 0 → HasReplicas image.callers image.lines m
+  pub has_replicas : (words : List ℕ) (m : MediumState) → words ≡ all → m.words ≡ map durable_word words → m.stores ≡ replicate (length words / 8) 0 → HasReplicas image.callers image.lines m
   has_replicas words m is made counts = record {
     some = readable.some;
     few = readable.few;
@@ -50,9 +50,9 @@ module _ (image : Image) (readable : IsReadable image.lines image) (size : HasSi
     stores = ap length counts ∙ length-replicate (length words / 8) 0 ∙ eighth (length words) (region_lines image.lines * (2 * image.callers)) (long_is words is);
   }
 
-  module _ (words : List ℕ) (old new : Held) (is : words ≡ all) (made : old.words ≡ map durable_word words) (replicas : HasReplicas image.callers image.lines old)
+  module _ (words : List ℕ) (old new : MediumState) (is : words ≡ all) (made : old.words ≡ map durable_word words) (replicas : HasReplicas image.callers image.lines old)
       (done : IsReopened (region_lines image.lines) (2 * image.callers) (root_line image.callers image.lines image.root) old new) where
-    word_was : (at : ℕ) → word_of old at ≡ durable_word (slice_index all at)
+    word_was : (at : ℕ) → medium_word old at ≡ durable_word (slice_index all at)
     word_was at = ap (λ ws. word_in ws at) made ∙ get_or-map durable_word words at 0 ∙ ap (λ (ws : List ℕ). durable_word (slice_index ws at)) is
 
     value_is : (replica i : ℕ) → replica < 2 * image.callers → i < region_words image.lines → value_at new (region_words image.lines * replica + i) ≡ slice_index (region_of image) i

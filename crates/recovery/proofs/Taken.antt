@@ -17,7 +17,8 @@ use Rattle.cx_table.specs.Remains.{Leaves}
 use Rattle.recovery.specs.Taken.{IsCheckpoint}
 use Rattle.recovery.specs.Kept.{IsOpened}
 use Rattle.recovery.specs.Outcomes.{TellsOutcome}
-use Rattle.recovery.proofs.LastEntries.{full_tells}
+use Rattle.recovery.specs.Results.{HasResultsFrom}
+use Rattle.recovery.proofs.LastEntries.{full_results, full_tells}
 
 -- the entries behind a place lead from the full image there to the full images behind it
 behind_full : (instance : Instance) (history : List Entry) (words : List ℕ) (place : ℕ) → instance.base.place ≤ place_of words → words ≡ full_image instance.step instance.base history (place_of words) → place_of words ≤ place →
@@ -51,5 +52,7 @@ taken_of line_count lawful step reads table seats r laws opened leaves words ori
       base = image_base lines fits instance laws opened.base words (record { history = history; small = small; entries = numbered; origin = first });
       outcomes = λ caller few. subst (λ (ws : List ℕ). TellsOutcome (step table.object) table.base history (let b : Base = record { place = place_of words; words = ws } in b) caller) (sym full.full)
           (full_tells lines fits instance laws opened.base history small entries (place_of words) caller full.from full.to few);
+      results = subst (HasResultsFrom (lawful table.object) (step table.object) table.base.words) (sym full.full)
+          (full_results lines fits instance laws opened.base history small entries (place_of words) full.from full.to);
       behind = λ place later. behind_full instance history words place full.from full.full later;
     })

@@ -1,4 +1,4 @@
--- What a loss of power leaves of a closed table, by choice.
+-- What a crash leaves of a closed table, by choice.
 use Rattle.std.specs.Prelude.{◌≡◌, ◌%◌, ◌≤◌, ℕ, false, length, slice_index, slice_index_or, if◌then◌else◌}
 use Rattle.cx_core.specs.declared.entry.Image.{Image}
 use Rattle.cx_table.specs.declared.remains.Remains.{Remains}
@@ -7,7 +7,7 @@ use Rattle.pmem_model.specs.declared.medium.Mark.TheVariants.{Dirty}
 use Rattle.recovery.specs.Images.{Gives, image_size}
 
 -- what a closed table left is all there: 1 to 8 callers, 64 to 16,384 lines, some code, and each word of all replicas
-pub record IsWhole (r : Remains) : Type 0 where
+pub record AreRemainsWhole (r : Remains) : Type 0 where
   pub some : 1 ≤ r.callers
   pub few : r.callers ≤ 8
   pub enough : 64 ≤ r.lines

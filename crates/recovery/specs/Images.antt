@@ -5,7 +5,7 @@ use Rattle.cx_base.specs.Codes.{root_replica_of}
 use Rattle.cx_core.specs.declared.entry.Image.{Image}
 use Rattle.cx_core.specs.Region.{region_words}
 
--- the words of the replicas of so many callers, where the object has so many lines
+-- the words of the replicas of this many callers, where the object has this many lines
 abbrev pub image_size : ℕ → ℕ → ℕ
 image_size callers lines = region_words lines * (2 * callers)
 
@@ -26,7 +26,7 @@ pub record Gives (word : ℕ → ℕ) (end_ : ℕ) (pairs : List (ℕ × ℕ)) :
   pub some : All (λ (p : ℕ × ℕ). 0 < p.1) pairs
   pub words : (at : ℕ) → at < end_ → image_word pairs at ≡ word at
 
--- so many words from an address on
+-- this many words from an address on
 abbrev pub words_from : List (ℕ × ℕ) → ℕ → ℕ → List ℕ
 words_from pairs from count = map (image_word pairs) (range_with_len from count)
 
@@ -38,7 +38,7 @@ region_start image = region_words image.lines * root_replica_of image.callers im
 abbrev pub region_of : Image → List ℕ
 region_of image = words_from image.pairs (region_start image) (region_words image.lines)
 
--- An image that may be read for an object of so many lines: 1 to 8 callers, 64 to 16,384 lines, and pairs that rise below the
+-- An image that may be read for an object of this many lines: 1 to 8 callers, 64 to 16,384 lines, and pairs that rise below the
 -- number of words.
 pub record IsReadable (lines : ℕ) (image : Image) : Type 0 where
   pub some : 1 ≤ image.callers

@@ -1,4 +1,4 @@
--- What a loss of power keeps of a closed table.
+-- What a crash keeps of a closed table.
 use Rattle.std.specs.Prelude.{◌≡◌, ◌+◌, ◌<◌, ◌≤◌, ℕ, List, Some, length, slice_get}
 use Rattle.cx_base.specs.Codes.{root_place_of}
 use Rattle.cx_core.specs.declared.entry.Base.{Base}
@@ -21,13 +21,13 @@ use Rattle.recovery.specs.Images.{words_from}
 abbrev pub crash_of : Image → CrashImage
 crash_of image = record { root = image.root; words = words_from image.pairs 0 image.count }
 
--- an image may be what a loss of power leaves of a state: it is of as many callers, for an object of so many lines, and a crash image
+-- an image may be what a crash leaves of a state: it is of as many callers, for an object of this many lines, and a crash image
 pub record MayBeLeftOf (instance : Instance) (line_count : ℕ) (s : State) (image : Image) : Type 0 where
   pub callers : image.callers ≡ instance.callers
   pub lines : image.lines ≡ line_count
   pub crash : IsCrashImage instance s (crash_of image)
 
--- What is recovered after a loss of power of a state with this history, by the root that was left: the full image after the root's
+-- What is recovered after a crash of a state with this history, by the root that was left: the full image after the root's
 -- place, which is at or above DUR's and each answer's. It is a lawful base.
 pub record IsKeptAt (lines : ℕ) (lawful : List ℕ → Type 0) (instance : Instance) (history : List Entry) (s : State) (root : ℕ) (base : Base) : Type 0 where
   pub place : base.place ≡ root_place_of instance.callers root
@@ -42,7 +42,7 @@ pub record IsOpened {O : Type 0} (line_count : O → ℕ) (lawful : O → List �
   pub small : table.lines ≤ 16384
   pub base : LawfulBase (line_count table.object) (lawful table.object) table.base
 
--- What is recovered by choice after a loss of power: the full image of the table's history after the place of the root that was
+-- What is recovered by choice after a crash: the full image of the table's history after the place of the root that was
 -- left. Each entry that was answered is below that place, and each read that was is at or below it. It is a lawful base.
 pub record IsKeptBy {O : Type 0} (line_count : O → ℕ) (lawful : O → List ℕ → Type 0) (step : O → List ℕ → List ℕ → List ℕ × List ℕ)
     (table : Running O) (seats : List Seated) (r : Remains) (choice : ℕ) (base : Base) : Type 0 where

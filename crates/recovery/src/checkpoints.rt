@@ -10,7 +10,7 @@ ghost use Rattle.recovery.specs.Kept.{IsOpened};
 use cx_base::Object;
 
 /// The law that each image which a caller took is a base of the history that the table was closed with: a service may start from it, it tells each
-/// caller's last entry below its place, and the entries behind the place lead from it to what the whole history leads to.
+/// caller's last entry below its place, and the entries from the place on lead from it to what the whole history leads to.
 pub fn base_of_checkpoint<O: Object>()
     ensures { (table : Running O) (seats : List Seated) (r : _) → IsOpened O.line_count O.lawful table → Leaves table (instance_at table O.step O.only_reads) seats r →
         All (λ (s : Seated). (i : ℕ) (words : List ℕ) → slice_get s.known.images i ≡ Some words → IsCheckpoint O.line_count O.lawful O.step table r.trail.history words) seats }

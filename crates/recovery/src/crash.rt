@@ -1,9 +1,9 @@
-//! What a loss of power leaves of a closed table.
+//! What a crash leaves of a closed table.
 
 ghost use Rattle.std.specs.Prelude.{◌≡◌, ◌*◌, ◌^◌, ◌<◌, ◌≤◌, IfOk, length};
 ghost use Rattle.pmem_model.specs.Medium.{any_value};
 ghost use Rattle.pmem_model.specs.declared.medium.Mark.TheVariants.{Dirty};
-ghost use Rattle.recovery.specs.Crashes.{IsLeftOf, IsWhole, left_root, left_word};
+ghost use Rattle.recovery.specs.Crashes.{IsLeftOf, AreRemainsWhole, left_root, left_word};
 ghost use Rattle.recovery.specs.Images.{image_size};
 
 use crate::region::image_len;
@@ -12,12 +12,12 @@ use cx_core::Image;
 use cx_table::Remains;
 use std::alloc::{AllocError, Global};
 
-/// The image that a loss of power leaves of a closed table, one for each choice. The root is one of the codes published from the
+/// The image that a crash leaves of a closed table, one for each choice. The root is one of the codes published from the
 /// durable one on, the one at the choice modulo their number. A word that is not dirty has its durable value. A dirty one has its
 /// durable value by choice 0, its volatile value by choice 1, and by each other choice some number of its own. The image takes
-/// memory for the words that are not 0. `Err` is want of memory.
+/// memory for the words that are not 0. `Err` means out of memory.
 pub fn crash_image(alloc: Global, remains: &Remains, choice: u64) -> Result<Image, AllocError>
-    requires { IsWhole remains.now }
+    requires { AreRemainsWhole remains.now }
     ensures { IfOk result (IsLeftOf remains.now choice) }
 {
     let mut pairs = Vec::new(alloc);
@@ -47,7 +47,7 @@ fn root_left(remains: &Remains, choice: u64) -> u64
 
 /// What is left of a word.
 fn word_left(remains: &Remains, choice: u64, at: usize) -> u64
-    requires whole { IsWhole remains.now }
+    requires whole { AreRemainsWhole remains.now }
     requires at { at < image_size remains.now.callers remains.now.lines }
     ensures { result ≡ left_word remains.now choice at }
 {
@@ -58,7 +58,7 @@ fn word_left(remains: &Remains, choice: u64, at: usize) -> u64
     lost_word(choice, at as u64, remains.volatile[at], durable)
 }
 
-/// What a loss of power leaves of a dirty word.
+/// What a crash leaves of a dirty word.
 fn lost_word(choice: u64, at: u64, volatile: u64, durable: u64) -> u64
     requires { at < 2 ^ 63 }
     ensures { result ≡ any_value choice at (record { value = volatile; durable = durable; mark = Dirty }) }

@@ -7,7 +7,7 @@ ghost use Rattle.recovery.specs.declared.recovering.ImageFault.TheVariants.{Memo
 use cx_base::Object;
 
 /// The law that `recover` gives each refusal where its check is the first that an image does not pass, and accepts each image that passes
-/// all, want of memory aside. By what it ensures it does so only there.
+/// all, unless memory runs out. By what it ensures it does so only there.
 pub fn recovering_is_exact<O: Object>()
     ensures { (object : O) (image : _) (answer : _) →
         MatchResult answer

@@ -1,4 +1,4 @@
-//! What a loss of power leaves of a lawful state recovers, and so does what it leaves of a closed table, which is a crash image of the
+//! What a crash leaves of a lawful state recovers, and so does what it leaves of a closed table, which is a crash image of the
 //! state that was closed. Each law is the contract of a function that does nothing.
 
 ghost use Rattle.std.specs.Prelude.{◌≡◌, ◌↔◌, ℕ, List, MatchResult};
@@ -10,15 +10,15 @@ ghost use Rattle.cx_core.specs.State.{Instance, State};
 ghost use Rattle.cx_rule.specs.Running.{Running, instance_at};
 ghost use Rattle.cx_rule.specs.Seats.{Seated};
 ghost use Rattle.cx_table.specs.Remains.{Leaves};
-ghost use Rattle.recovery.specs.Crashes.{IsLeftOf, IsWhole};
+ghost use Rattle.recovery.specs.Crashes.{IsLeftOf, AreRemainsWhole};
 ghost use Rattle.recovery.specs.Images.{IsReadable};
 ghost use Rattle.recovery.specs.Kept.{IsKeptAt, IsKeptBy, IsOpened, MayBeLeftOf, crash_of};
-ghost use Rattle.recovery.specs.Recovery.{IsFaultOf, IsRecovered};
+ghost use Rattle.recovery.specs.Recovery.{HasSize, IsFaultOf, IsRecovered, named_base};
 ghost use Rattle.recovery.specs.declared.recovering.ImageFault.TheVariants.{Memory};
 
 use cx_base::Object;
 
-/// Whatever a loss of power leaves of a lawful state, recovery answers no refusal: with any code of the chain as root, and any number
+/// Whatever a crash leaves of a lawful state, recovery answers no refusal: with any code of the chain as root, and any number
 /// for each word that is dirty. What it gives is the full image of the history after the root's place, at or above DUR's and each
 /// answer's.
 pub fn crash_images_are_accepted<O: Object>()
@@ -32,10 +32,19 @@ pub fn crash_images_are_accepted<O: Object>()
         MatchResult answer (IsKeptAt (O.line_count object) (O.lawful object) instance law.history s image.root) (λ fault. fault ≡ Memory) }
 {}
 
+/// An image that has the words of all replicas, and whose root names a lawful base, is refused by no check, and what is recovered is that base.
+pub fn lawful_bases_are_accepted<O: Object>()
+    ensures { (object : O) (image : _) (answer : _) → HasSize image → LawfulBase (O.line_count object) (O.lawful object) (named_base image) →
+        MatchResult answer
+        (IsRecovered (O.version_number object) (O.lawful object) (O.old_format object) image)
+        (IsFaultOf (O.version_number object) (O.lawful object) (O.old_format object) image) →
+        MatchResult answer (λ base. base ≡ named_base image) (λ fault. fault ≡ Memory) }
+{}
+
 /// A closed table leaves all that a crash image is made of, and what is left of it may be read for its object.
 pub fn closed_tables_are_whole<O: Object>()
     ensures whole { (table : Running O) (seats : List Seated) (r : _) → IsOpened O.line_count O.lawful table →
-        Leaves table (instance_at table O.step O.only_reads) seats r → IsWhole r }
+        Leaves table (instance_at table O.step O.only_reads) seats r → AreRemainsWhole r }
     ensures readable { (table : Running O) (seats : List Seated) (r : _) (choice : ℕ) (image : _) →
         IsOpened O.line_count O.lawful table → Leaves table (instance_at table O.step O.only_reads) seats r → IsLeftOf r choice image →
         IsReadable (O.line_count table.object) image }

@@ -1,4 +1,4 @@
-//! What a caller's last command came to, as a base says.
+//! What became of a caller's last command, as a base says.
 
 ghost use Rattle.std.specs.Prelude.{◌≡◌, ◌+◌, ◌^◌, ◌<◌, ◌≤◌, ℕ, List, length};
 ghost use Rattle.cx_core.specs.Base.{LawfulBase};
@@ -13,13 +13,13 @@ ghost use Rattle.recovery.specs.Results.{HasResultsFrom};
 
 use crate::applied::Outcome;
 use crate::region::reply_words;
-use cx_base::Object;
-use cx_core::{Base, slot_start};
+use cx_base::{OP_WORDS, Object, OpWords};
+use cx_core::{Base, OBJECT_START, slot_start};
 
 /// What a base says of a caller: whether an entry of its was ever applied, and which was the last, with its reply.
 pub fn outcome(base: &Base, caller: u32) -> Outcome
     requires caller { caller < 8 }
-    requires words { 1168 ≤ length base.now.words }
+    requires words { OBJECT_START ≤ length base.now.words }
     ensures { result ≡ outcome_of caller base.now }
 {
     let words = base.words.as_slice();
@@ -32,12 +32,12 @@ pub fn outcome(base: &Base, caller: u32) -> Outcome
 }
 
 /// The reply in the slot of a caller.
-fn reply_of(words: &[u64], caller: u32) -> [u64; 144]
+fn reply_of(words: &[u64], caller: u32) -> OpWords
     requires caller { caller < 8 }
-    requires words { 1168 ≤ length words.now }
+    requires words { OBJECT_START ≤ length words.now }
     ensures { result ≡ slot_reply caller words.now }
 {
-    let mut reply = [0; 144];
+    let mut reply = [0; OP_WORDS];
     reply.copy_from_slice(reply_words(words, caller));
     reply
 }
@@ -51,7 +51,7 @@ pub fn full_images_tell_outcomes<O: Object>(object: &O, base: &Base)
         TellsOutcome (O.step object.now) base.now history (record { place = place; words = full_image (O.step object.now) base.now history place }) caller }
 {}
 
-/// So does what is recovered by choice after a loss of power of a closed table.
+/// So does what is recovered by choice after a crash of a closed table.
 pub fn kept_bases_tell_outcomes<O: Object>()
     ensures { (table : Running O) (seats : List Seated) (r : _) (choice caller : ℕ) (base : _) → IsOpened O.line_count O.lawful table →
         Leaves table (instance_at table O.step O.only_reads) seats r → IsKeptBy O.line_count O.lawful O.step table seats r choice base →

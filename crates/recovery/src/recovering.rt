@@ -4,7 +4,7 @@ ghost use Rattle.std.specs.Prelude.{◌≤◌, IfOk, MatchResult, length};
 ghost use Rattle.cx_base.specs.Memory.{Words};
 ghost use Rattle.cx_core.specs.Base.{LawfulBase};
 ghost use Rattle.recovery.specs.Images.{IsReadable};
-ghost use Rattle.recovery.specs.Recovery.{HasRegion, IsFaultOf, IsRecovered, IsRegionFault, NumbersWithin};
+ghost use Rattle.recovery.specs.Recovery.{HasLawfulRegion, IsFaultOf, IsRecovered, IsRegionFault, NumbersWithin};
 
 use crate::region::{has_lawful_results, image_len, object_words, read_region};
 use crate::versions::{is_known, is_lawful, upgraded};
@@ -15,7 +15,7 @@ use std::alloc::Global;
 /// A place is at most this number.
 const PLACE_MOST: u64 = 1 << 40;
 
-/// Why nothing is recovered from an image: the first check that it does not pass, or want of memory.
+/// Why nothing is recovered from an image: the first check that it does not pass, or out of memory.
 #[derive(Clone, Copy, Debug, PartialEq, Eq, Drop)]
 pub enum ImageFault {
     /// The image has not as many words as all replicas; the number that it has.
@@ -28,7 +28,7 @@ pub enum ImageFault {
     Place { root: u64, region: u64 },
     /// The results are not lawful, or the object part is not for its version.
     Body,
-    /// Want of memory, which may come in place of any of them.
+    /// Out of memory, which may come in place of any of them.
     Memory,
 }
 
@@ -70,7 +70,7 @@ fn check_region<O: Object>(
     requires { 1169 ≤ length words.now }
     ensures words { Words (length words.now) words.now }
     ensures checks { MatchResult result
-        (λ _. HasRegion (O.version_number object.now) (O.lawful object.now) (O.old_format object.now) place words.now)
+        (λ _. HasLawfulRegion (O.version_number object.now) (O.lawful object.now) (O.old_format object.now) place words.now)
         (IsRegionFault (O.version_number object.now) (O.lawful object.now) (O.old_format object.now) place words.now) }
 {
     let part = object_words(words);

@@ -5,11 +5,11 @@ ghost use Rattle.cx_core.specs.Region.{LawfulResults, object_part, region_words,
 ghost use Rattle.recovery.specs.Recovery.{IsLawfulSlot};
 ghost use Rattle.recovery.specs.Images.{IsReadable, RiseFrom, image_size, region_of, words_from};
 
-use cx_base::root_replica;
+use cx_base::{OP_WORDS, root_replica};
 use cx_core::{HEAD_LINES, Image, LINE_WORDS, OBJECT_START, slot_start};
 use std::alloc::{AllocError, Global};
 
-/// The words of a region whose object has so many lines.
+/// The words of a region whose object has this many lines.
 pub(crate) fn region_len(lines: u64) -> u64
     requires { lines ≤ 16384 }
     ensures { result ≡ region_words lines }
@@ -17,7 +17,7 @@ pub(crate) fn region_len(lines: u64) -> u64
     LINE_WORDS * (HEAD_LINES + lines)
 }
 
-/// The words of the replicas of so many callers.
+/// The words of the replicas of this many callers.
 pub(crate) fn image_len(callers: u32, lines: u64) -> u64
     requires callers { callers ≤ 8 }
     requires lines { lines ≤ 16384 }
@@ -26,7 +26,7 @@ pub(crate) fn image_len(callers: u32, lines: u64) -> u64
     region_len(lines) * (2 * u64::from(callers))
 }
 
-/// The region that the root names, read in one walk over the pairs. `Err` is want of memory.
+/// The region that the root names, read in one walk over the pairs. `Err` means out of memory.
 pub(crate) fn read_region(alloc: Global, image: &Image) -> Result<Vec<u64>, AllocError>
     requires { IsReadable image.now.lines image.now }
     ensures { IfOk result (λ words. words.items ≡ region_of image.now) }
@@ -36,7 +36,7 @@ pub(crate) fn read_region(alloc: Global, image: &Image) -> Result<Vec<u64>, Allo
     read_words(alloc, image.pairs.as_slice(), from, region as usize)
 }
 
-/// So many words from an address on, of pairs whose addresses rise.
+/// The given number of words from an address on, of pairs whose addresses rise.
 pub(crate) fn read_words(
     alloc: Global,
     pairs: &[(u64, u64)],
@@ -57,22 +57,22 @@ pub(crate) fn read_words(
 
 /// The object part of a region.
 pub(crate) fn object_words(words: &[u64]) -> &[u64]
-    requires { 1168 ≤ length words.now }
+    requires { OBJECT_START ≤ length words.now }
     ensures part { result.now ≡ object_part words.now }
-    ensures long { length result.now + 1168 ≡ length words.now }
+    ensures long { length result.now + OBJECT_START ≡ length words.now }
 {
     &words[OBJECT_START as usize..]
 }
 
 /// The reply in the slot of a caller.
 pub(crate) fn reply_words(words: &[u64], caller: u32) -> &[u64]
-    requires size { 1168 ≤ length words.now }
+    requires size { OBJECT_START ≤ length words.now }
     requires caller { caller < 8 }
     ensures reply { result.now ≡ slot_reply caller words.now }
-    ensures long { length result.now ≡ 144 }
+    ensures long { length result.now ≡ OP_WORDS }
 {
     let at = slot_start(caller) as usize + 1;
-    &words[at..at + 144]
+    &words[at..at + OP_WORDS]
 }
 
 /// Whether all words are 0.
@@ -84,7 +84,7 @@ fn is_blank(words: &[u64]) -> bool
 
 /// Whether a slot without a number has no reply.
 fn has_lawful_slot(words: &[u64], caller: u32) -> bool
-    requires size { 1168 ≤ length words.now }
+    requires size { OBJECT_START ≤ length words.now }
     requires caller { caller < 8 }
     ensures { IsTrue result ↔ IsLawfulSlot caller words.now }
 {
@@ -93,7 +93,7 @@ fn has_lawful_slot(words: &[u64], caller: u32) -> bool
 
 /// Whether words 1 to 7 are 0, and each slot without a number has no reply.
 pub(crate) fn has_lawful_results(words: &[u64]) -> bool
-    requires { 1168 ≤ length words.now }
+    requires { OBJECT_START ≤ length words.now }
     ensures { IsTrue result ↔ LawfulResults words.now }
 {
     if !is_blank(&words[1..8]) {

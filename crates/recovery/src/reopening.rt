@@ -26,7 +26,7 @@ pub fn reopen(medium: &mut Medium, callers: u32, lines: u64, root: u64)
     medium.fence();
 }
 
-/// The memory of an image, reopened: each region has the words of the one that the root names, and none is dirty. `Err` is want of memory.
+/// The memory of an image, reopened: each region has the words of the one that the root names, and none is dirty. `Err` means out of memory.
 pub fn reopen_image(alloc: Global, image: &Image) -> Result<Medium, AllocError>
     requires readable { IsReadable image.now.lines image.now }
     requires size { HasSize image.now }

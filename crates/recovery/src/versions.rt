@@ -23,7 +23,7 @@ fn is_old<O: Object>(object: &O, version: u64) -> bool
     object.old_version() == Some(version)
 }
 
-/// Whether an object part is lawful for the version that it begins with. `Err` is want of memory.
+/// Whether an object part is lawful for the version that it begins with. `Err` means out of memory.
 pub(crate) fn is_lawful<O: Object>(
     alloc: Global,
     object: &O,

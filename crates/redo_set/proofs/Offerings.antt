@@ -21,7 +21,7 @@ use Rattle.cx_rule.specs.declared.rule.Noted.{Noted}
 use Rattle.cx_rule.specs.Fitting.{Chain, FitsOn, HasEntry, entries_of, has_of, start, with_entry, with_set as by_set}
 use Rattle.cx_rule.specs.Offers.{TellsOffer, TellsSet}
 use Rattle.cx_rule.specs.Seats.{HasCells, Seated, stepped}
-use Rattle.redo_set.specs.Offering.{HasStill, OffersSet, WritesSet, with_set}
+use Rattle.redo_set.specs.Offering.{HasStill, OffersSet, WritesSet, seat_with_set}
 use Rattle.redo_set.proofs.SetLaws.{stored_same}
 
 abbrev pub no_cell : Cell
@@ -60,12 +60,12 @@ module _ (lines : ℕ) (lawful : List ℕ → Type 0) (base : Base) (step : List
 
 -- ---- the set of a cell
 
--- so many words of the set were written
+-- i words of the set were written
 pub record HasWritten (j : ℕ) (pairs : List ℕ) (i : ℕ) (s t : Seated) : Type 0 where
   pub words : List ℕ
   pub long : length words ≡ 513
   pub same : (n : ℕ) → n < i → slice_index words n ≡ slice_index pairs n
-  pub is : t ≡ with_set j words (cell_of s.known.local j).offer t.known.local.steps s
+  pub is : t ≡ seat_with_set j words (cell_of s.known.local j).offer t.known.local.steps s
 
 module _ (s : Seated) (j : ℕ) (can : CanWriteSet s.known.local j) (cells : HasCells s.known.local) where
   abbrev old : Cell
@@ -78,11 +78,11 @@ module _ (s : Seated) (j : ℕ) (can : CanWriteSet s.known.local j) (cells : Has
   there = (let small = can.0 in omega (arith, cells.count))
 
   -- the cell that was put
-  pub put_cell : (words : List ℕ) (offer steps : ℕ) (t : Seated) → t ≡ with_set j words offer steps s → cell_of t.known.local j ≡ put words offer
+  pub put_cell : (words : List ℕ) (offer steps : ℕ) (t : Seated) → t ≡ seat_with_set j words offer steps s → cell_of t.known.local j ≡ put words offer
   put_cell words offer steps t is = ap (λ (x : Seated). cell_of x.known.local j) is ∙ get_or-set_same s.known.local.cells j (put words offer) no_cell there
 
   -- what the seat had it has, since the cell was not offered
-  pub put_still : (words : List ℕ) (offer steps : ℕ) (t : Seated) → t ≡ with_set j words offer steps s → HasStill s.known t.known
+  pub put_still : (words : List ℕ) (offer steps : ℕ) (t : Seated) → t ≡ seat_with_set j words offer steps s → HasStill s.known t.known
   put_still words offer steps t is = record {
     entry = λ ticket e had. subst (λ (x : Seated). HasEntry (entries_of x.known) ticket e) (sym is) had;
     set = λ ticket x had. subst (λ (y : Seated). (has_of y.known).set ticket x) (sym is) (elim had [
@@ -99,7 +99,7 @@ module _ (s : Seated) (j : ℕ) (can : CanWriteSet s.known.local j) (cells : Has
   }
 
   -- the set may still be written
-  pub put_can : (words : List ℕ) (steps : ℕ) (t : Seated) → t ≡ with_set j words old.offer steps s → CanWriteSet t.known.local j
+  pub put_can : (words : List ℕ) (steps : ℕ) (t : Seated) → t ≡ seat_with_set j words old.offer steps s → CanWriteSet t.known.local j
   put_can words steps t is =
       let cell = put_cell words old.offer steps t is in
       let own : t.known.local.own ≡ s.known.local.own = ap (λ (x : Seated). x.known.local.own) is in
@@ -109,7 +109,7 @@ module _ (s : Seated) (j : ℕ) (can : CanWriteSet s.known.local j) (cells : Has
   abbrev celled : List Cell → ℕ → List Noted → Seated
   celled cs steps noted = record s { known = record s.known { local = record s.known.local { cells = cs; steps = steps }; noted = noted } }
 
-  none_put : s ≡ with_set j old.set old.offer s.known.local.steps s
+  none_put : s ≡ seat_with_set j old.set old.offer s.known.local.steps s
   none_put = ap (λ (cs : List Cell). celled cs s.known.local.steps s.known.noted) (sym (set-get_or s.known.local.cells j no_cell))
 
   pub written_none : (pairs : List ℕ) → length old.set ≡ 513 → HasWritten j pairs 0 s s
@@ -124,7 +124,7 @@ module _ (s : Seated) (j : ℕ) (can : CanWriteSet s.known.local j) (cells : Has
       | inl e ↦ ap (slice_index was.words) e ∙ sym (ap (λ (c : Cell). slice_index c.set i) (put_cell was.words old.offer t.known.local.steps t was.is)) ∙ here ∙ value ∙ ap (slice_index pairs) (sym e)
       | inr ne ↦ was.same n (let apart : n ≢ i = ne in omega (arith, below, apart))
     ];
-    is = same_seat ∙ was.is ∙ (λ k. with_set j was.words old.offer (sym same_seat k).known.local.steps s);
+    is = same_seat ∙ was.is ∙ (λ k. seat_with_set j was.words old.offer (sym same_seat k).known.local.steps s);
   }
 
   -- or was written
@@ -136,7 +136,7 @@ module _ (s : Seated) (j : ℕ) (can : CanWriteSet s.known.local j) (cells : Has
       ap (λ (c : Cell). set t.known.local.cells j (record c { set = set c.set i v })) cell
       ∙ ap (λ (x : Seated). set x.known.local.cells j (put new old.offer)) was.is
       ∙ set-set s.known.local.cells j (put was.words old.offer) (put new old.offer) in
-      let is : u ≡ with_set j new old.offer (one_more t.known.local.steps) s =
+      let is : u ≡ seat_with_set j new old.offer (one_more t.known.local.steps) s =
       step
       ∙ ap (λ (cs : List Cell). record t { known = record t.known { local = record t.known.local { cells = cs; steps = one_more t.known.local.steps }; noted = t.known.noted ++ [] } }) cells_are
       ∙ ap (λ (x : Seated). record x { known = record x.known { local = record x.known.local { cells = set s.known.local.cells j (put new old.offer); steps = one_more t.known.local.steps }; noted = x.known.noted ++ [] } }) was.is
@@ -148,7 +148,7 @@ module _ (s : Seated) (j : ℕ) (can : CanWriteSet s.known.local j) (cells : Has
           | inl e ↦ ap (slice_index new) e ∙ get_or-set_same was.words i v 0 (omega (arith, was.long)) ∙ value ∙ ap (slice_index pairs) (sym e)
           | inr ne ↦ get_or-set_other was.words i n v 0 ne ∙ was.same n (let apart : n ≢ i = ne in omega (arith, less, apart))
         ];
-        is = is ∙ (λ k. with_set j new old.offer (sym (ap (λ (x : Seated). x.known.local.steps) is) k) s);
+        is = is ∙ (λ k. seat_with_set j new old.offer (sym (ap (λ (x : Seated). x.known.local.steps) is) k) s);
       }
 
   -- the set was offered
@@ -161,7 +161,7 @@ module _ (s : Seated) (j : ℕ) (can : CanWriteSet s.known.local j) (cells : Has
       ∙ ap (λ n. set t.known.local.cells j (put was.words n)) word
       ∙ ap (λ (x : Seated). set x.known.local.cells j (put was.words (ticket + 1))) was.is
       ∙ set-set s.known.local.cells j (put was.words old.offer) (put was.words (ticket + 1)) in
-      let is : u ≡ with_set j was.words (ticket + 1) (one_more t.known.local.steps) s =
+      let is : u ≡ seat_with_set j was.words (ticket + 1) (one_more t.known.local.steps) s =
       step
       ∙ ap (λ (cs : List Cell). record t { known = record t.known { local = record t.known.local { cells = cs; steps = one_more t.known.local.steps }; noted = t.known.noted ++ [] } }) cells_are
       ∙ ap (λ (x : Seated). record x { known = record x.known { local = record x.known.local { cells = set s.known.local.cells j (put was.words (ticket + 1)); steps = one_more t.known.local.steps }; noted = x.known.noted ++ [] } }) was.is
@@ -169,7 +169,7 @@ module _ (s : Seated) (j : ℕ) (can : CanWriteSet s.known.local j) (cells : Has
       record {
         set = was.words;
         same = was.same;
-        seat = is ∙ (λ k. with_set j was.words (ticket + 1) (sym (ap (λ (x : Seated). x.known.local.steps) is) k) s);
+        seat = is ∙ (λ k. seat_with_set j was.words (ticket + 1) (sym (ap (λ (x : Seated). x.known.local.steps) is) k) s);
       }
 
   -- what was written may be offered
@@ -183,7 +183,7 @@ module _ (s : Seated) (j : ℕ) (can : CanWriteSet s.known.local j) (cells : Has
 
   -- a step that the limit did not allow changes nothing more
   pub writes_of : (pairs : List ℕ) (i : ℕ) (t u : Seated) → HasWritten j pairs i s t → u ≡ t → WritesSet j s u
-  writes_of pairs i t u was same = record { set = was.words; seat = same ∙ was.is ∙ (λ k. with_set j was.words old.offer (sym same k).known.local.steps s) }
+  writes_of pairs i t u was same = record { set = was.words; seat = same ∙ was.is ∙ (λ k. seat_with_set j was.words old.offer (sym same k).known.local.steps s) }
 
   pub writes_still : (u : Seated) → WritesSet j s u → HasStill s.known u.known
   writes_still u w = put_still w.set old.offer u.known.local.steps u w.seat

@@ -14,7 +14,8 @@ use Rattle.cx_rule.specs.Fitting.{Fitting}
 use Rattle.cx_rule.specs.Running.{Running, instance_at}
 use Rattle.cx_rule.specs.Seats.{IsAtLimit, Seated, stepped}
 use Rattle.cx_table.specs.Runs.{Runs, no_step, one_more_step, set_reads_from}
-use Rattle.redo_set.specs.Taking.{FindsUnoffered, IsReadingSet, LeavesTaking, ReadsFewer, ReadsWords, set_notes, sets_read, with_notes}
+use Rattle.cx_table.specs.GapMarks.{StepsOn}
+use Rattle.redo_set.specs.Taking.{FindsUnoffered, IsReadingSet, LeavesTaking, ReadsFewer, ReadsSetWords, set_notes, sets_read, with_notes}
 
 abbrev note : ℕ → ℕ → ℕ → SetNoted
 note ticket i w = record { ticket = ticket; index = i; word = w }
@@ -48,7 +49,7 @@ reading_so cell ticket found steps words s after offered fewer is = record {
   seat = shown_so (Some (record { cell = cell; ticket = ticket; word = found })) steps (set_notes ticket 0 words) s after is;
 }
 
--- the limit was come to among the words
+-- the limit was reached among the words
 pub fewer_so : (ticket from count : ℕ) (words : List ℕ) (s t after : Seated) → length words < count → t ≡ with_notes s.known.local.seen_offer t.known.local.steps (set_notes ticket from words) s → after ≡ t → ReadsFewer ticket from count s after
 fewer_so ticket from count words s t after fewer is same = record {
   words = words;
@@ -85,20 +86,24 @@ read_one instance cell ticket i v seen steps notes s t after is step =
     step ∙ ap (λ x. stepped instance (ReadSet cell ticket i) x v) is
     ∙ (λ k. seat_with s seen (one_more steps) (append-nil s.known.noted k) (append_assoc s.known.sets notes (note ticket i v ∷ []) k))
 
+-- one step more takes none back
+pub one_since : (s t u : Seated) → StepsOn s t → u.known.local.steps ≡ one_more t.known.local.steps → StepsOn s u
+one_since s t u was is = omega (arith, was, is)
+
 -- notes behind notes
 pub notes_then : (seen : Option SeenOffer) (steps more_steps : ℕ) (notes more : List SetNoted) (s t u : Seated) → t ≡ with_notes seen steps notes s → u ≡ with_notes t.known.local.seen_offer more_steps more t → u ≡ with_notes seen more_steps (notes ++ more) s
 notes_then seen steps more_steps notes more s t u is next =
     next ∙ ap (λ (x : Seated). with_notes x.known.local.seen_offer more_steps more x) is ∙ (λ k. seat_with s seen more_steps s.known.noted (append_assoc s.known.sets notes more k))
 
 module _ {O : Type 0} (o : Ghosts O) (r : Running O) where
-  pub words_none : (ticket from : ℕ) (s after : Seated) → after ≡ s → ReadsWords o r ticket from [] s after
+  pub words_none : (ticket from : ℕ) (s after : Seated) → after ≡ s → ReadsSetWords o r ticket from [] s after
   words_none ticket from s after same = record {
     seat = same ∙ none_is s ∙ (λ k. with_notes s.known.local.seen_offer (sym same k).known.local.steps [] s);
     fits = λ f. subst (λ (x : Seated). Fitting r.lines (o.lawful r.object) r.base (o.step r.object) x.known) (sym same) f;
   }
 
-  pub words_more : (cell ticket from : ℕ) (ws : List ℕ) (v i : ℕ) (s t after : Seated) → ReadsWords o r ticket from ws s t → i ≡ from + length ws → after ≡ stepped (instance_at r o.step o.only_reads) (ReadSet cell ticket i) t v → Fitting r.lines (o.lawful r.object) r.base (o.step r.object) after.known →
-      ReadsWords o r ticket from (ws ++ v ∷ []) s after
+  pub words_more : (cell ticket from : ℕ) (ws : List ℕ) (v i : ℕ) (s t after : Seated) → ReadsSetWords o r ticket from ws s t → i ≡ from + length ws → after ≡ stepped (instance_at r o.step o.only_reads) (ReadSet cell ticket i) t v → Fitting r.lines (o.lawful r.object) r.base (o.step r.object) after.known →
+      ReadsSetWords o r ticket from (ws ++ v ∷ []) s after
   words_more cell ticket from ws v i s t after was at step fits =
       let seen = s.known.local.seen_offer in
       let is = read_one (instance_at r o.step o.only_reads) cell ticket i v seen t.known.local.steps (set_notes ticket from ws) s t after was.seat step in
@@ -109,11 +114,16 @@ module _ {O : Type 0} (o : Ghosts O) (r : Running O) where
       }
 
   -- what a run of reads leads to
-  pub run_words : (cell ticket from : ℕ) (words : List ℕ) (before after : Seated) → Runs r o.step o.only_reads (o.lawful r.object) (set_reads_from cell ticket from) words before after → ReadsWords o r ticket from words before after
-  run_words cell ticket from words before after (no_step _ _ _ nothing same) = subst (λ (ws : List ℕ). ReadsWords o r ticket from ws before after) (sym nothing) (words_none ticket from before after same)
+  pub run_words : (cell ticket from : ℕ) (words : List ℕ) (before after : Seated) → Runs r o.step o.only_reads (o.lawful r.object) (set_reads_from cell ticket from) words before after → ReadsSetWords o r ticket from words before after
+  run_words cell ticket from words before after (no_step _ _ _ nothing same) = subst (λ (ws : List ℕ). ReadsSetWords o r ticket from ws before after) (sym nothing) (words_none ticket from before after same)
   run_words cell ticket from words before after (one_more_step _ _ _ first found mid longer run made fits) =
-      subst (λ (ws : List ℕ). ReadsWords o r ticket from ws before after) (sym longer)
+      subst (λ (ws : List ℕ). ReadsSetWords o r ticket from ws before after) (sym longer)
       (words_more cell ticket from first found (from + length first) before mid after (run_words cell ticket from first before mid run) refl made.made fits)
+
+  pub run_since : (cell ticket from : ℕ) (words : List ℕ) (before after : Seated) → Runs r o.step o.only_reads (o.lawful r.object) (set_reads_from cell ticket from) words before after → StepsOn before after
+  run_since cell ticket from words before after (no_step _ _ _ nothing same) = (let e = ap (λ (x : Seated). x.known.local.steps) same in omega (arith, e))
+  run_since cell ticket from words before after (one_more_step _ _ _ first found mid longer run made fits) =
+      one_since before mid after (run_since cell ticket from first before mid run) (ap (λ (x : Seated). x.known.local.steps) made.made)
 
 -- the words of a set are noted one by one
 noted_at : (ticket from i : ℕ) (words : List ℕ) → i < length words → slice_get (set_notes ticket from words) i ≡ Some (note ticket (from + i) (slice_index words i))

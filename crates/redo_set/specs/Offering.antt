@@ -16,20 +16,20 @@ pub record MayOffer {O : Type 0} (r : Running O) (cell ticket : ℕ) (seat : Sea
   pub can : CanWriteSet seat.known.local cell
   pub named : (cell_of seat.known.local cell).ticket ≡ Some ticket
 
--- the seat after so many steps, where a cell has these words as its set and this offer word
-abbrev pub with_set : ℕ → List ℕ → ℕ → ℕ → Seated → Seated
-with_set j set offer steps s = record s { known = record s.known { local = record s.known.local { cells = slice_set s.known.local.cells j (record (cell_of s.known.local j) { set = set; offer = offer }); steps = steps } } }
+-- the seat after this number of steps, where a cell has these words as its set and this offer word
+abbrev pub seat_with_set : ℕ → List ℕ → ℕ → ℕ → Seated → Seated
+seat_with_set j set offer steps s = record s { known = record s.known { local = record s.known.local { cells = slice_set s.known.local.cells j (record (cell_of s.known.local j) { set = set; offer = offer }); steps = steps } } }
 
 -- words of the set of a cell were written, and nothing else changed but the steps
 pub record WritesSet (j : ℕ) (before after : Seated) : Type 0 where
   pub set : List ℕ
-  pub seat : after ≡ with_set j set (cell_of before.known.local j).offer after.known.local.steps before
+  pub seat : after ≡ seat_with_set j set (cell_of before.known.local j).offer after.known.local.steps before
 
 -- the pairs of a set were written beside a cell and offered with a ticket
 pub record OffersSet (j ticket : ℕ) (pairs : List ℕ) (before after : Seated) : Type 0 where
   pub set : List ℕ
   pub same : (i : ℕ) → i < 2 * slice_index pairs 0 + 1 → slice_index set i ≡ slice_index pairs i
-  pub seat : after ≡ with_set j set (ticket + 1) after.known.local.steps before
+  pub seat : after ≡ seat_with_set j set (ticket + 1) after.known.local.steps before
 
 -- a word that differed from the one in a cell's set was written by a step, and for one that did not nothing was done
 abbrev pub WritesDiffering : {O : Type 0} → Running O → (O → List ℕ → List ℕ → List ℕ × List ℕ) → (O → List ℕ → Bool) → ℕ → ℕ → ℕ → Seated → Seated → Type 0

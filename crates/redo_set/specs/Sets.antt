@@ -7,20 +7,20 @@ pub record IsSet (set : List ℕ) : Type 0 where
   pub long : length set ≡ 513
   pub few : slice_index set 0 ≤ 256
 
--- a set with one pair more, behind the others
-abbrev pub with_pair : ℕ → ℕ → List ℕ → List ℕ
-with_pair at v set = slice_set (slice_set (slice_set set (2 * slice_index set 0 + 1) at) (2 * slice_index set 0 + 2) v) 0 (slice_index set 0 + 1)
+-- a set with one pair more, after the others
+abbrev pub set_with_pair : ℕ → ℕ → List ℕ → List ℕ
+set_with_pair at v set = slice_set (slice_set (slice_set set (2 * slice_index set 0 + 1) at) (2 * slice_index set 0 + 2) v) 0 (slice_index set 0 + 1)
 
 -- the words after all pairs of a set were stored over them in order
 unfoldable pub put_over : List ℕ → List ℕ → List ℕ
 put_over set words = stored (slice_index set 0) set words
 
--- the words after so many pairs of a set, from the first one on, were stored over them in order
+-- the words after a number of pairs of a set, from the first one on, were stored over them in order
 pub record IsFrontOver (set before now : List ℕ) : Type 0 where
   pub count : ℕ
   pub some : count ≤ slice_index set 0
   pub is : now ≡ stored count set before
 
--- each address of a set is that of one of so many words
+-- each address of a set is that of a word of a region of this size
 abbrev pub AreWithin : ℕ → List ℕ → Type 0
 AreWithin size set = (m : ℕ) → m < slice_index set 0 → slice_index set (2 * m + 1) < size

@@ -15,7 +15,7 @@ use Rattle.cx_rule.specs.Running.{IsSeatOf, Running, instance_at}
 use Rattle.cx_rule.specs.Seats.{IsAtLimit, Seated, unseen}
 
 -- the offer of the entry with a ticket may be looked at in a cell: the slot last looked at shows it there, and a protection keeps it
-pub record MayTake {O : Type 0} (r : Running O) (cell ticket : ℕ) (seat : Seated) : Type 0 where
+pub record MayTakeSet {O : Type 0} (r : Running O) (cell ticket : ℕ) (seat : Seated) : Type 0 where
   pub of : IsSeatOf r seat
   pub linked : ticket < seat.known.local.front
   pub shows : ShowsTicket r.callers seat.known.local.seen_slot ticket cell
@@ -31,12 +31,12 @@ abbrev pub set_notes : ℕ → ℕ → List ℕ → List SetNoted
 set_notes ticket i [] = []
 set_notes ticket i (w ∷ words) = record { ticket = ticket; index = i; word = w } ∷ set_notes ticket (i + 1) words
 
--- the seat after so many steps, where this offer was seen last and these words of sets were noted more
+-- the seat after this number of steps, where this offer was seen last and these words of sets were noted beside the others
 abbrev pub with_notes : Option SeenOffer → ℕ → List SetNoted → Seated → Seated
 with_notes seen steps notes s = record s { known = record s.known { local = record s.known.local { seen_offer = seen; steps = steps }; sets = s.known.sets ++ notes } }
 
 -- words of a set were read, from an index on, and noted, and nothing else changed but the steps
-pub record ReadsWords {O : Type 0} (o : Ghosts O) (r : Running O) (ticket from : ℕ) (words : List ℕ) (before after : Seated) : Type 0 where
+pub record ReadsSetWords {O : Type 0} (o : Ghosts O) (r : Running O) (ticket from : ℕ) (words : List ℕ) (before after : Seated) : Type 0 where
   pub seat : after ≡ with_notes before.known.local.seen_offer after.known.local.steps (set_notes ticket from words) before
   pub fits : Fitting r.lines (o.lawful r.object) r.base (o.step r.object) before.known → Fitting r.lines (o.lawful r.object) r.base (o.step r.object) after.known
 
@@ -75,7 +75,7 @@ abbrev pub LooksForOffer : ℕ → ℕ → Seated → Seated → Bool → Type 0
 LooksForOffer cell ticket before after true = ¬ IsAtLimit before.known.local
 LooksForOffer cell ticket before after false = FindsUnoffered cell ticket before after
 
--- fewer words of a set than so many were read, from an index on, and noted, and nothing else changed but the steps
+-- fewer words of a set than this number were read, from an index on, and noted, and nothing else changed but the steps
 pub record ReadsFewer (ticket from count : ℕ) (before after : Seated) : Type 0 where
   pub words : List ℕ
   pub fewer : length words < count

@@ -1,6 +1,11 @@
-//! Write sets: addresses and values that lead from one image to the next.
+//! In CX every update is run on replica after replica: a search, or a tree that is balanced again, each time with the same result.
 //!
-//! - A set takes a pair behind its others, and refuses one, unchanged, exactly where it holds 256: `WriteSet::note` (`noted`, `full`, `same`).
+//! A write set is a physical redo log of one entry: the addresses and values that its step stored. The caller that ran the entry offers it, and
+//! others store it in place of the step. The idea is that of Redo ("Persistent Memory and the Rise of Universal Constructions", Correia, Ramalhete,
+//! Felber, EuroSys 2020). It differs in that a set has its place beside the entry's cell, is read under the same protection, has at most 256 pairs
+//! and may be missing: then the entry is run.
+//!
+//! - A set takes a pair after its others, and refuses one, unchanged, exactly where it holds 256: `WriteSet::note` (`noted`, `full`, `same`).
 //!   To store it is then to store what it held, and that pair last: `last`.
 //! - A set is stored over any writable memory that has its addresses, pair by pair in order, for every pair of lists that stands; it halts only
 //!   where no access is left, with the first of its pairs stored: `apply_set` (`done`, `cut`, `halts`). Where the full image at a ticket is
@@ -13,8 +18,9 @@
 //! - A set that whatever fits tells to be one of an own entry's ticket is written beside the entry's cell, each word that differs from the one
 //!   there, and offered. What the seat had it has still, and what really is there fits; with `Halt` nothing is offered: `offer` (`offered`:
 //!   `OffersSet`; `has`: `HasStill`; `halts`: `WritesSet`).
-//! - The gaps that a set leaves between the lines of its addresses are noted for its ticket in the ring of gaps, where they are 16 at most. Nothing of
-//!   the seat changes but the steps: `note_gaps` (`leaves`: `LeavesNoting`).
+//! - The gaps that a set leaves between the lines of its addresses are noted for its ticket in the ring of gaps, where the table keeps gaps and they are
+//!   16 at most: as many steps are made as there are gaps, and fewer only where the limit ends it; else none (`note_gaps`: `noted`, `none`). Nothing of the
+//!   seat changes but the steps (`leaves`: `LeavesNoting`), so no clause says which gaps the words name; each names one that the set leaves untouched.
 //!
 //! Tested (`table_tests`): one address noted twice, each limit of its two stores, one set that is emptied and used again, and 256 pairs with a
 //! 257th that is refused; a set that is written at each limit of steps, and found not to be offered at each limit.

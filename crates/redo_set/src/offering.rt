@@ -7,6 +7,7 @@ ghost use Rattle.cx_rule.specs.Offers.{TellsSet};
 ghost use Rattle.cx_table.specs.Calls.{MakesStep, MayStep};
 ghost use Rattle.cx_table.specs.Running.{IsSeatOf};
 ghost use Rattle.cx_table.specs.Seats.{IsAtLimit};
+ghost use Rattle.cx_table.specs.GapMarks.{StepsOn};
 ghost use Rattle.redo_set.specs.Offering.{HasStill, MayOffer, OffersSet, WritesDiffering, WritesSet};
 
 use crate::set::WriteSet;
@@ -29,6 +30,7 @@ pub fn offer<O: Object>(
     ensures fits { OnOk result (Fitting shared.now.lines (O.lawful shared.now.object) shared.now.base (O.step shared.now.object) seat.new.known) }
     ensures has { HasStill seat.old.known seat.new.known }
     ensures seat { IsSeatOf shared.now seat.new }
+    ensures since { StepsOn seat.old seat.new }
     ensures halts { OnErr result (WritesSet cell seat.old seat.new × IsAtLimit seat.new.known.local) }
 {
     let _ = ticket;

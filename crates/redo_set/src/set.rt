@@ -1,8 +1,9 @@
 //! A write set in memory of its caller's own.
 
 ghost use Rattle.std.specs.Prelude.{◌≡◌, ◌+◌, ◌*◌, ◌<◌, ◌≤◌, ◌↔◌, ℕ, List, false, slice_index, slice_set, IfOk, IsTrue};
-ghost use Rattle.redo_set.specs.Sets.{AreWithin, put_over, with_pair};
+ghost use Rattle.redo_set.specs.Sets.{AreWithin, put_over, set_with_pair};
 
+use cx_base::SET_WORDS;
 use std::alloc::{AllocError, Global};
 use std::marker::Model;
 
@@ -28,11 +29,11 @@ impl Model for WriteSet {
 }
 
 impl WriteSet {
-    /// The empty set, with room for 256 pairs. `Err` is want of memory.
+    /// The empty set, with room for 256 pairs. `Err` says that memory ran out.
     pub fn new(alloc: Global) -> Result<WriteSet, AllocError>
         ensures { IfOk result (λ set. slice_index set 0 ≡ 0) }
     {
-        let words = vec![in alloc; 0; 513]?;
+        let words = vec![in alloc; 0; SET_WORDS]?;
         Ok(WriteSet { words })
     }
 
@@ -64,15 +65,15 @@ impl WriteSet {
 
     /// A word: the number of pairs, or the address or the value of one.
     pub(crate) fn word(&self, i: u64) -> u64
-        requires { i < 513 }
+        requires { i < SET_WORDS }
         ensures { result ≡ slice_index self.now i }
     {
         self.words[i as usize]
     }
 
-    /// Adds a pair behind the others. It is false exactly where 256 pairs are held, and then nothing changes.
+    /// Adds a pair after the others. It is false exactly where 256 pairs are held, and then nothing changes.
     pub fn note(&mut self, at: u64, v: u64) -> bool
-        ensures noted { IsTrue result → self.new ≡ with_pair at v self.old }
+        ensures noted { IsTrue result → self.new ≡ set_with_pair at v self.old }
         ensures last { IsTrue result → (words : List ℕ) → put_over self.new words ≡ slice_set (put_over self.old words) at v }
         ensures within { (size : ℕ) → at < size → AreWithin size self.old → AreWithin size self.new }
         ensures full { (result ≡ false) ↔ (slice_index self.old 0 ≡ 256) }

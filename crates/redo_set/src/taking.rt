@@ -3,10 +3,11 @@
 ghost use Rattle.std.specs.Prelude.{◌≡◌, ◌+◌, ◌<◌, ◌≤◌, ◌↔◌, false, IfOk, IsTrue, OnErr, OnOk, length};
 ghost use Rattle.cx_table.specs.Running.{IsSeatOf};
 ghost use Rattle.cx_table.specs.Seats.{IsAtLimit};
-ghost use Rattle.redo_set.specs.Taking.{CountsTaken, IsTakingSet, LeavesTaking, LooksForOffer, MayReadSet, MayTake, ReadsFewer, ReadsWords, Takes};
+ghost use Rattle.cx_table.specs.GapMarks.{StepsOn};
+ghost use Rattle.redo_set.specs.Taking.{CountsTaken, IsTakingSet, LeavesTaking, LooksForOffer, MayReadSet, MayTakeSet, ReadsFewer, ReadsSetWords, Takes};
 
 use crate::set::WriteSet;
-use cx_base::{Halt, Object};
+use cx_base::{Halt, Object, SET_WORDS};
 use cx_table::{CallerSeat, Shared};
 
 /// Reads the write set of the entry with a ticket, whose cell the slot last looked at shows, where the entry is offered: the offer word, the
@@ -21,11 +22,12 @@ pub fn take<O: Object>(
     ticket: u64,
     into: &mut WriteSet,
 ) -> Result<bool, Halt>
-    requires may { MayTake shared.now cell ticket seat.old }
+    requires may { MayTakeSet shared.now cell ticket seat.old }
     ensures taken { IfOk result (λ taken. Takes O.Object shared.now cell ticket into.new seat.new taken) }
     ensures looked { IfOk result (LooksForOffer cell ticket seat.old seat.new) }
     ensures counted { IfOk result (CountsTaken seat.old seat.new) }
     ensures leaves { LeavesTaking seat.old seat.new }
+    ensures since { StepsOn seat.old seat.new }
     ensures seat { IsSeatOf shared.now seat.new }
     ensures halts { OnErr result (IsAtLimit seat.new.known.local) }
     ensures due { OnErr result (IsTakingSet cell ticket seat.old seat.new) }
@@ -57,9 +59,10 @@ fn read_words<O: Object>(
     into: &mut [u64],
 ) -> Result<(), Halt>
     requires may { MayReadSet O.Object shared.now cell ticket seat.old }
-    requires few { 1 + length into.old ≤ 513 }
-    ensures read { OnOk result (ReadsWords O.Object shared.now ticket 1 into.new seat.old seat.new) }
+    requires few { 1 + length into.old ≤ SET_WORDS }
+    ensures read { OnOk result (ReadsSetWords O.Object shared.now ticket 1 into.new seat.old seat.new) }
     ensures leaves { LeavesTaking seat.old seat.new }
+    ensures since { StepsOn seat.old seat.new }
     ensures long { length into.new ≡ length into.old }
     ensures seat { IsSeatOf shared.now seat.new }
     ensures halts { OnErr result (IsAtLimit seat.new.known.local) }
@@ -71,7 +74,7 @@ fn read_words<O: Object>(
     read_each(shared, seat, cell, ticket, into)
 }
 
-/// The same by a call for each word, where the limit may leave fewer steps than there are words.
+/// Reads the words by a call for each, where the limit may leave fewer steps than there are words.
 fn read_each<O: Object>(
     shared: &Shared<O>,
     seat: &mut CallerSeat,
@@ -80,9 +83,10 @@ fn read_each<O: Object>(
     into: &mut [u64],
 ) -> Result<(), Halt>
     requires may { MayReadSet O.Object shared.now cell ticket seat.old }
-    requires few { 1 + length into.old ≤ 513 }
-    ensures read { OnOk result (ReadsWords O.Object shared.now ticket 1 into.new seat.old seat.new) }
+    requires few { 1 + length into.old ≤ SET_WORDS }
+    ensures read { OnOk result (ReadsSetWords O.Object shared.now ticket 1 into.new seat.old seat.new) }
     ensures leaves { LeavesTaking seat.old seat.new }
+    ensures since { StepsOn seat.old seat.new }
     ensures long { length into.new ≡ length into.old }
     ensures seat { IsSeatOf shared.now seat.new }
     ensures halts { OnErr result (IsAtLimit seat.new.known.local) }

@@ -11,7 +11,7 @@ use Rattle.cx_core.specs.LockEvents.{exclusive_mark, passing, shared_by}
 use Rattle.cx_core.specs.Region.{region_words}
 use Rattle.cx_core.specs.RegionEvents.{loaded_into, stored_into}
 use Rattle.cx_core.specs.Rights.{held_dirty}
-use Rattle.cx_core.specs.State.{Instance}
+use Rattle.cx_core.specs.State.{Instance, one_more}
 use Rattle.cx_rule.specs.declared.rule.Known.{Known}
 use Rattle.cx_rule.specs.Fitting.{Fitting, SomeFits}
 use Rattle.cx_rule.specs.Running.{IsSeatOf, Running, instance_at}
@@ -20,6 +20,7 @@ use Rattle.cx_rule.specs.Steps.{Halts, Steps}
 use Rattle.cx_table.specs.Right.{Right}
 use Rattle.cx_table.specs.Runs.{Runs, loads_from, no_step, one_more_step}
 use Rattle.cx_table.specs.Tokens.{IsExclusiveOf, IsSharedOf, TriedShared}
+use Rattle.cx_table.specs.GapMarks.{StepsOn}
 use Rattle.replica.specs.Copies.{HoldsBoth, LeavesCopied, LoadsAtMost, LoadsFewer, SomeDiffers, StoresAsMany, beside_copy, but_loads}
 use Rattle.replica.specs.Held.{IsHeld, but_words}
 use Rattle.replica.specs.Laws.{shared_held}
@@ -87,16 +88,21 @@ module _ {O : Type 0} (lines : ℕ) (r : Running O) (step : O → List ℕ → L
       both_still both s.seat (store_rest r step reads q at v before after s) fits
       (subst (λ (t : Seated). All (λ i. i < region_words lines) (held_dirty t.known.local.exclusive)) (sym s.made) (dirty_stored (λ i. i < region_words lines) at v before.known.local.exclusive below both.exclusive.dirty))
 
+-- one step more takes none back
+one_since : (s t u : Seated) → StepsOn s t → u.known.local.steps ≡ one_more t.known.local.steps → StepsOn s u
+one_since s t u was is = omega (arith, was, is)
+
 -- a run of loads leaves both rights, and tells of each of its words
 pub record HasRun {O : Type 0} (lines : ℕ) (r : Running O) (step : O → List ℕ → List ℕ → List ℕ × List ℕ) (lawful : List ℕ → Type 0) (held source : Right) (q from : ℕ) (words : List ℕ) (before after : Seated) : Type 0 where
   pub both : HoldsBoth lines r lawful (step r.object) after held source
   pub rest : beside_copy after ≡ beside_copy before
+  pub since : StepsOn before after
   pub run : IsRunOf q from words before.known after.known
 
 module _ {O : Type 0} (lines : ℕ) (r : Running O) (step : O → List ℕ → List ℕ → List ℕ × List ℕ) (reads : O → List ℕ → Bool) (lawful : List ℕ → Type 0) (held source : Right) (q from : ℕ) where
   none_ran : (before after : Seated) → after ≡ before → HoldsBoth lines r lawful (step r.object) before held source → HasRun lines r step lawful held source q from [] before after
   none_ran before after same both =
-      subst (λ (s : Seated). HasRun lines r step lawful held source q from [] before s) (sym same) (record { both = both; rest = refl; run = no_run q from before.known })
+      subst (λ (s : Seated). HasRun lines r step lawful held source q from [] before s) (sym same) (record { both = both; rest = refl; since = omega arith; run = no_run q from before.known })
 
   pub has_run : (words : List ℕ) (before after : Seated) → HoldsBoth lines r lawful (step r.object) before held source → Runs r step reads lawful (loads_from q from) words before after → HasRun lines r step lawful held source q from words before after
   has_run words before after both (no_step _ _ _ nothing same) = subst (λ ws. HasRun lines r step lawful held source q from ws before after) (sym nothing) (none_ran before after same both)
@@ -106,13 +112,14 @@ module _ {O : Type 0} (lines : ℕ) (r : Running O) (step : O → List ℕ → L
       record {
         both = both_load lines r step reads lawful held source mid after q at found was.both made fits;
         rest = load_rest r step reads q at found mid after made ∙ was.rest;
+        since = one_since before mid after was.since (ap (λ (s : Seated). s.known.local.steps) made.made);
         run = subst (λ ws. IsRunOf q from ws before.known after.known) (sym longer)
             (subst (λ (k : Known). IsRunOf q from (first ++ found ∷ []) before.known k) (sym (ap (λ (s : Seated). s.known) made.made))
             (longer_run (instance_at r step reads) q from found first before.known mid.known was.run));
       }
 
 unmoved : {O : Type 0} (o : Ghosts O) (r : Running O) (held source : Right) (before after : Seated) → HoldsBoth (o.line_count r.object) r (o.lawful r.object) (o.step r.object) before held source → Halts r before after → LeavesCopied o r held source before after
-unmoved o r held source before after both halted = record { both = subst (λ (s : Seated). HoldsBoth (o.line_count r.object) r (o.lawful r.object) (o.step r.object) s held source) (sym halted.same) both; rest = ap beside_copy halted.same }
+unmoved o r held source before after both halted = record { both = subst (λ (s : Seated). HoldsBoth (o.line_count r.object) r (o.lawful r.object) (o.step r.object) s held source) (sym halted.same) both; since = (let same = ap (λ (s : Seated). s.known.local.steps) halted.same in omega (arith, same)); rest = ap beside_copy halted.same }
 
 module _ {O E : Type 0} (o : Ghosts O) (r : Running O) (held source : Right) (q at : ℕ) (before after : Seated) (both : HoldsBoth (o.line_count r.object) r (o.lawful r.object) (o.step r.object) before held source) where
   -- what a store leaves, whether the step was made or refused
@@ -120,6 +127,7 @@ module _ {O E : Type 0} (o : Ghosts O) (r : Running O) (held source : Right) (q 
       LeavesCopied o r held source before after
   store_leaves v (Ok x) below made fits halted = record {
     both = both_store (o.line_count r.object) r o.step o.only_reads (o.lawful r.object) held source before after q at v below both made fits;
+    since = one_since before before after (omega arith) (ap (λ (s : Seated). s.known.local.steps) made.made);
     rest = store_rest r o.step o.only_reads q at v before after made;
   }
   store_leaves v (Err e) below made fits halted = unmoved o r held source before after both halted

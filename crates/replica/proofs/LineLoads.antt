@@ -68,7 +68,7 @@ load_stores : (b : Bool) (accesses : List Note) (at v : ℕ) → stores_in (with
 load_stores true accesses at v = (let e = stores_more accesses false at v in omega (arith, e))
 load_stores false accesses at v = refl
 
--- so many steps at most, and no store
+-- n steps at most, and no store
 abbrev pub Counts : ℕ → Known → Known → Type 0
 Counts n k k' = (k'.local.steps ≤ k.local.steps + n) × StoresAsMany k k'
 
@@ -202,7 +202,7 @@ then_load P r at v k k' k'' apart one two = record {
 
 -- ---- runs of loads
 
--- the words from one on, so many
+-- n words, from one on
 abbrev pub IsIn : ℕ → ℕ → ℕ → Type 0
 IsIn from n i = (from ≤ i) × (i < from + n)
 

@@ -19,8 +19,8 @@ use Rattle.cx_rule.specs.Running.{Running, instance_at}
 use Rattle.cx_rule.specs.Seats.{Seated, place_noted}
 use Rattle.cx_table.specs.Gaps.{IsListedFrom}
 use Rattle.cx_table.specs.Right.{Right}
-use Rattle.line_gaps.specs.Marks.{IsMarked, LeavesLoads, MarksChanged, with_gaps}
-use Rattle.line_gaps.proofs.Walks.{walk_by}
+use Rattle.cx_table.specs.GapMarks.{IsMarked, LeavesLoads, MarksChanged, with_gaps}
+use Rattle.cx_table.proofs.GapWalks.{walk_by}
 use Rattle.replica.specs.Copies.{HoldsBoth, IsCopiedTo, IsListed, MayList, Renews, RenewsListed, beside_copy, beside_listed, piece_at, skips_by, skips_piece, without_shared}
 use Rattle.replica.specs.Laws.{shared_held}
 use Rattle.replica.specs.Regions.{HasPlace}

@@ -10,6 +10,7 @@ use Rattle.cx_core.specs.declared.local.HeldExclusive.{HeldExclusive}
 use Rattle.cx_core.specs.Region.{region_words}
 use Rattle.cx_core.specs.RegionEvents.{persisted}
 use Rattle.cx_core.specs.Rights.{held_dirty}
+use Rattle.cx_core.specs.State.{one_more}
 use Rattle.cx_rule.specs.Running.{Running}
 use Rattle.cx_rule.specs.Seats.{Seated}
 use Rattle.cx_rule.specs.Steps.{Steps}
@@ -18,7 +19,7 @@ use Rattle.cx_table.specs.Right.{Right}
 use Rattle.replica.specs.Flushes.{Persists}
 use Rattle.replica.specs.Held.{IsHeld, beside_held, but_loaded, but_words}
 use Rattle.replica.specs.Laws.{image_same}
-use Rattle.replica.specs.Replays.{IsImage}
+use Rattle.replica.specs.Replays.{IsHeldImage}
 use Rattle.replica.proofs.Access.{beside, still_exclusive}
 use Rattle.replica.proofs.RegionLaws.{same_has}
 
@@ -78,6 +79,7 @@ module _ {O : Type 0} (o : Ghosts O) (r : Running O) (held : Right) (at : ℕ) (
           dirty = dirty_after (All below) (All below) s (All-nil below) (λ xs all. All-filter (λ x. cond (x == at) false true) below xs all) of.dirty;
         };
         accesses = accesses;
+        since = (let one : after.known.local.steps ≡ one_more before.known.local.steps = ap (λ (t : Seated). t.known.local.steps) s.made in omega (arith, one));
         rest = rest;
       }
 
@@ -90,7 +92,7 @@ module _ {O : Type 0} (o : Ghosts O) (r : Running O) (held : Right) (at : ℕ) (
       by (Some h) there = left_off h.dirty at there
 
 -- what is the image after its place stays so
-pub persisted_image : {O : Type 0} (o : Ghosts O) (r : Running O) (held : Right) (before after : Seated) → Persists o r held before after → IsImage (o.line_count r.object) (o.lawful r.object) r.base (o.step r.object) before.known → IsImage (o.line_count r.object) (o.lawful r.object) r.base (o.step r.object) after.known
+pub persisted_image : {O : Type 0} (o : Ghosts O) (r : Running O) (held : Right) (before after : Seated) → Persists o r held before after → IsHeldImage (o.line_count r.object) (o.lawful r.object) r.base (o.step r.object) before.known → IsHeldImage (o.line_count r.object) (o.lawful r.object) r.base (o.step r.object) after.known
 persisted_image o r held before after p image = image_same (o.line_count r.object) (o.lawful r.object) r.base (o.step r.object) before.known after.known (same_has held.replica before after p.rest) p.accesses image
 
 -- where each dirty word is one of the region and no word of the region is dirty, none is

@@ -1,5 +1,5 @@
 -- What an access does to the pairs that stand for a held replica.
-use Rattle.std.proofs.Common.{Bool, IsTrue, ◌||◌, cond, false, true, ◌==◌, ◌≡◌, ◌-◌, ◌^◌, ◌<◌, nat_lt, is_some, ℕ, List, [], ◌∷◌, ◌++◌, refl, ap, sym, subst, ◌∙◌, Result, Ok, Err, IfOk, OnErr, OnOk, Option, Some, None}
+use Rattle.std.proofs.Common.{Bool, IsTrue, ◌||◌, cond, false, true, ◌==◌, ◌≡◌, ◌-◌, ◌^◌, ◌<◌, nat_lt, is_some, ℕ, List, [], ◌∷◌, ◌++◌, refl, ap, sym, subst, ◌∙◌, Result, Ok, Err, IfOk, OnErr, OnOk, Option, Some, None, arith}
 use Rattle.std.proofs.lemmas.List.{map-append}
 use Rattle.std.proofs.lemmas.List.Folds.{list_any-append}
 use Rattle.std.specs.List.{list_any}
@@ -9,7 +9,8 @@ use Rattle.cx_core.specs.declared.entry.Base.{Base}
 use Rattle.cx_core.specs.declared.local.Local.{Local}
 use Rattle.cx_core.specs.Layout.{max_word}
 use Rattle.cx_core.specs.Region.{region_words}
-use Rattle.cx_rule.specs.Fitting.{Fits, FitsKnown, FitsOn, Has, ReadFits, has_of, loads_of, loaded_of}
+use Rattle.cx_table.specs.GapMarks.{HasMadeSteps}
+use Rattle.cx_rule.specs.Fitting.{IsConsistentWith, FitsKnown, FitsOn, Has, ReadFits, has_of, loads_of, loaded_of}
 use Rattle.cx_rule.specs.Running.{Running}
 use Rattle.cx_rule.specs.Seats.{IsWithinLimit, Seated, place_noted}
 use Rattle.cx_rule.specs.Steps.{Halts}
@@ -19,7 +20,7 @@ use Rattle.replica.specs.Regions.{HasPlace, fits_shows, has_loaded, is_same}
 use Rattle.replica.proofs.Runs.{run_keeps, run_reads}
 
 module _ (lines : ℕ) (lawful : List ℕ → Type 0) (base : Base) where
-  fits_load : (accesses : List Note) (at v : ℕ) → Loaded at v (Fits lines lawful base accesses) (Fits lines lawful base (accesses ++ (false, at, v) ∷ []))
+  fits_load : (accesses : List Note) (at v : ℕ) → Loaded at v (IsConsistentWith lines lawful base accesses) (IsConsistentWith lines lawful base (accesses ++ (false, at, v) ∷ []))
   fits_load accesses at v =
       let s = shows_load (region_words lines) accesses at v in
       record {
@@ -27,7 +28,7 @@ module _ (lines : ℕ) (lawful : List ℕ → Type 0) (base : Base) where
         on = λ first now f e. record { origin = f.origin; from = f.from; leads = (s.on first now (fits_shows lines lawful base _ first now f) e).leads };
       }
 
-  fits_store : (accesses : List Note) (at v : ℕ) → v < 2 ^ 64 → Stored at v (Fits lines lawful base accesses) (Fits lines lawful base (accesses ++ (true, at, v) ∷ []))
+  fits_store : (accesses : List Note) (at v : ℕ) → v < 2 ^ 64 → Stored at v (IsConsistentWith lines lawful base accesses) (IsConsistentWith lines lawful base (accesses ++ (true, at, v) ∷ []))
   fits_store accesses at v small =
       let s = shows_store (region_words lines) accesses at v small in
       record {
@@ -40,8 +41,8 @@ module _ (lines : ℕ) (lawful : List ℕ → Type 0) (base : Base) where
       let l = fits_load (loads_of loaded) at v in
       let more : loads_of (loaded ++ (at, v) ∷ []) ≡ loads_of loaded ++ (false, at, v) ∷ [] = map-append (λ (x : ℕ × ℕ). (let n : Note = (false, x.0, x.1) in n)) loaded ((at, v) ∷ []) in
       record {
-        back = λ first now f. (let p = l.back first now (subst (λ xs. Fits lines lawful base xs first now) more f.fits) in (record { fits = p.0; same = f.same }, p.1));
-        on = λ first now f e. record { fits = subst (λ xs. Fits lines lawful base xs first now) (sym more) (l.on first now f.fits e); same = f.same };
+        back = λ first now f. (let p = l.back first now (subst (λ xs. IsConsistentWith lines lawful base xs first now) more f.fits) in (record { fits = p.0; same = f.same }, p.1));
+        on = λ first now f e. record { fits = subst (λ xs. IsConsistentWith lines lawful base xs first now) (sym more) (l.on first now f.fits e); same = f.same };
       }
 
 -- what was applied looks at the first words alone, so a load and a store tell of what stays lawful what they tell of what fits
@@ -106,6 +107,11 @@ module _ {O E : Type 0} (lines : ℕ) (r : Running O) (lawful : List ℕ → Typ
   held_after note placed (Err e) made halts of within place =
       subst (λ (s : Seated). IsHeld lines r lawful step s held × IsWithinLimit s.known.local × (IsTrue placed → HasPlace s.known.accesses)) (sym halts.same) (of, within, place)
 
+  -- so many steps as were made before still are
+  pub since_after : {A : Type 0} (note : A → Note) (began : ℕ) (result : Result A E) → IfOk result (λ x. Accesses lines r lawful step held (note x) old new) → OnErr result (Halts r old new) → HasMadeSteps began old → HasMadeSteps began new
+  since_after note began (Ok x) made halts was = (let one = made.steps in omega (arith, one, was))
+  since_after note began (Err e) made halts was = subst (λ s. HasMadeSteps began s) (sym halts.same) was
+
 module _ {O E : Type 0} (lines : ℕ) (r : Running O) (lawful : List ℕ → Type 0) (held : Right) (old new : Seated) where
   pub stands_read : (at : ℕ) (result : Result ℕ E) → IfOk result (λ v. LoadsShared lines r lawful held at v old new) → IfOk result (λ v. Loaded at v (ReadFits lines lawful r.base (loaded_of old.known.local.shared)) (ReadFits lines lawful r.base (loaded_of new.known.local.shared)))
   stands_read at (Ok v) made = subst (λ xs. Loaded at v (ReadFits lines lawful r.base (loaded_of old.known.local.shared)) (ReadFits lines lawful r.base xs)) (sym made.loaded) (read_load lines lawful r.base (loaded_of old.known.local.shared) at v)
@@ -119,6 +125,10 @@ module _ {O E : Type 0} (lines : ℕ) (r : Running O) (lawful : List ℕ → Typ
       (made.still, made.within, subst (λ xs. IsTrue (has_loaded placed xs)) (sym made.loaded) (still_loaded placed (loaded_of old.known.local.shared) ((at, v) ∷ []) place))
   shared_after at placed (Err e) made halts of within place =
       subst (λ (s : Seated). IsHeldShared lines r lawful s held × IsWithinLimit s.known.local × IsTrue (has_loaded placed (loaded_of s.known.local.shared))) (sym halts.same) (of, within, place)
+
+  pub shared_since : (at began : ℕ) (result : Result ℕ E) → IfOk result (λ v. LoadsShared lines r lawful held at v old new) → OnErr result (Halts r old new) → HasMadeSteps began old → HasMadeSteps began new
+  shared_since at began (Ok v) made halts was = (let one = made.steps in omega (arith, one, was))
+  shared_since at began (Err e) made halts was = subst (λ s. HasMadeSteps began s) (sym halts.same) was
 
 -- ---- words from a place on
 
@@ -134,6 +144,9 @@ module _ {O : Type 0} (lines : ℕ) (r : Running O) (lawful : List ℕ → Type 
       (λ at v before after made was. held_after {E = ℕ} lines r lawful step held before after (λ (w : ℕ). (false, at, w)) placed (Ok v) made tt was.0 was.1 was.2)
       words old new run (of, within, place)
 
+  pub since_run : (began : ℕ) → LoadsRun (LoadsHeld lines r lawful step held) from words old new → HasMadeSteps began old → HasMadeSteps began new
+  since_run began run was = run_keeps (LoadsHeld lines r lawful step held) from (λ s. HasMadeSteps began s) (λ at v before after made was. (let one = made.steps in omega (arith, one, was))) words old new run was
+
   pub rest_run : LoadsRun (LoadsHeld lines r lawful step held) from words old new → beside_held held.replica new ≡ beside_held held.replica old
   rest_run run = run_keeps (LoadsHeld lines r lawful step held) from (λ s. beside_held held.replica s ≡ beside_held held.replica old) (λ at v before after made was. made.rest ∙ was) words old new run refl
 
@@ -148,6 +161,9 @@ module _ {O : Type 0} (lines : ℕ) (r : Running O) (lawful : List ℕ → Type 
       run_keeps (LoadsShared lines r lawful held) from (λ s. IsHeldShared lines r lawful s held × IsWithinLimit s.known.local × IsTrue (has_loaded placed (loaded_of s.known.local.shared)))
       (λ at v before after made was. shared_after {E = ℕ} lines r lawful held before after at placed (Ok v) made tt was.0 was.1 was.2)
       words old new run (of, within, place)
+
+  pub since_shared_run : (began : ℕ) → LoadsRun (LoadsShared lines r lawful held) from words old new → HasMadeSteps began old → HasMadeSteps began new
+  since_shared_run began run was = run_keeps (LoadsShared lines r lawful held) from (λ s. HasMadeSteps began s) (λ at v before after made was. (let one = made.steps in omega (arith, one, was))) words old new run was
 
   pub rest_shared_run : LoadsRun (LoadsShared lines r lawful held) from words old new → beside_shared held.replica new ≡ beside_shared held.replica old
   rest_shared_run run = run_keeps (LoadsShared lines r lawful held) from (λ s. beside_shared held.replica s ≡ beside_shared held.replica old) (λ at v before after made was. made.rest ∙ was) words old new run refl

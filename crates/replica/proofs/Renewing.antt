@@ -1,5 +1,5 @@
 -- A replica over which another was copied, whose shared right was given back.
-use Rattle.std.proofs.Common.{false, ◌≡◌, ◌<◌, ℕ, Bool, cond, All, List, [], ◌∷◌, slice_index, refl, ap, sym, subst, ◌∙◌, arith, Some, None}
+use Rattle.std.proofs.Common.{false, true, ◌≡◌, ◌<◌, ℕ, Bool, cond, All, List, [], ◌∷◌, slice_index, refl, ap, sym, subst, ◌∙◌, arith, Some, None}
 use Rattle.std.proofs.lemmas.List.Elements.{All-cons, All-contains, All-nil}
 use Rattle.std.proofs.lemmas.Option.{none-some}
 use Rattle.std.proofs.Math.Logic.{∥∥₁_elim}
@@ -10,7 +10,7 @@ use Rattle.cx_core.specs.declared.entry.Base.{Base}
 use Rattle.cx_core.specs.declared.local.Local.{Local}
 use Rattle.cx_core.specs.LockEvents.{backed_off}
 use Rattle.cx_core.specs.Region.{region_words}
-use Rattle.cx_core.specs.Rights.{held_dirty, is_at}
+use Rattle.cx_core.specs.Rights.{held_dirty, is_at, shared_on}
 use Rattle.cx_core.specs.State.{one_more}
 use Rattle.cx_rule.specs.Fitting.{Fitting, SomeFits, SomeReadFits, loaded_of, loads_of, word_noted}
 use Rattle.cx_rule.specs.Running.{Running}
@@ -22,7 +22,7 @@ use Rattle.cx_table.specs.Right.{Right}
 use Rattle.cx_table.specs.Tokens.{IsExclusiveOf}
 use Rattle.replica.specs.Copies.{HoldsBoth}
 use Rattle.replica.specs.Held.{IsHeld}
-use Rattle.replica.specs.Replays.{IsImage, StoresNone}
+use Rattle.replica.specs.Replays.{IsHeldImage, StoresNone}
 use Rattle.replica.proofs.Access.{at_itself}
 use Rattle.replica.proofs.Replaying.{unstored_image}
 
@@ -69,7 +69,7 @@ module _ {O : Type 0} (lines : ℕ) (r : Running O) (step : O → List ℕ → L
       }
 
   -- the words copied are an image, at the place that was copied
-  pub renewed_image : IsCopiedWord before.known 0 → IsImage lines lawful r.base (step r.object) after.known × (place_noted 0 after.known.accesses ≡ place_noted 0 before.known.accesses)
+  pub renewed_image : IsCopiedWord before.known 0 → IsHeldImage lines lawful r.base (step r.object) after.known × (place_noted 0 after.known.accesses ≡ place_noted 0 before.known.accesses)
   renewed_image first =
       let accesses : after.known.accesses ≡ loads_of (loaded_of old.shared) = ap (λ (s : Seated). s.known.accesses) copied.made in
       let noted : (p : ℕ) → place_noted p after.known.accesses ≡ first.0 = λ p. ap (place_noted p) accesses ∙ place_is (loads_of (loaded_of old.shared)) p first.0 first.2 in (
@@ -81,3 +81,12 @@ module _ {O : Type 0} (lines : ℕ) (r : Running O) (step : O → List ℕ → L
   pub renewed_place : (p : ℕ) → IsCopiedWord before.known 0 → Contains (loaded_of old.shared) (0, p) → place_noted 0 after.known.accesses ≡ p
   renewed_place p first has =
       ap (λ (s : Seated). place_noted 0 s.known.accesses) copied.made ∙ place_is (loads_of (loaded_of old.shared)) 0 first.0 first.2 ∙ loaded_once lines lawful r.base (loaded_of old.shared) first.0 p both.shared.some first.2 has
+
+-- a shared right is given back by one step
+pub released_steps : (q : ℕ) (l : Local) → (backed_off q l).steps ≡ one_more l.steps
+released_steps q l = by (is_at q (shared_on l)) (is_at q l.passer)
+  where
+    by : (a b : Bool) → (cond a (record l { shared = None; steps = one_more l.steps }) (cond b (record l { passer = None; steps = one_more l.steps }) (record l { downgraded = None; steps = one_more l.steps }))).steps ≡ one_more l.steps
+    by true b = refl
+    by false true = refl
+    by false false = refl

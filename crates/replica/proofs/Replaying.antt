@@ -19,14 +19,14 @@ use Rattle.cx_core.specs.WriteSet.{stored}
 use Rattle.cx_core.proofs.HistoryLemmas.{ObjectLaws}
 use Rattle.cx_core.proofs.KeepLemmas as keep
 use Rattle.cx_rule.specs.declared.rule.Known.{Known}
-use Rattle.cx_rule.specs.Fitting.{Fits, FitsKnown, Has, ReplayedTo, SomeFits, base_of, has_of, start, with_entry, with_set}
+use Rattle.cx_rule.specs.Fitting.{IsConsistentWith, FitsKnown, Has, ReplayedTo, SomeFits, base_of, has_of, start, with_entry, with_set}
 use Rattle.cx_rule.specs.Running.{Running}
 use Rattle.cx_rule.specs.Seats.{Seated, place_noted}
 use Rattle.cx_table.specs.Right.{Right}
 use Rattle.replica.specs.Held.{Accesses}
 use Rattle.replica.specs.Regions.{HasPlace}
 use Rattle.replica.proofs.RegionLaws.{loaded_place, same_has}
-use Rattle.replica.specs.Replays.{Accessed, CanStep, ComesNext, IsImage, IsReady, ShowsReply, StoresNone, noted_place}
+use Rattle.replica.specs.Replays.{IsAfterFullStep, CanStep, ComesNext, IsHeldImage, IsReady, ShowsReply, StoresNone, noted_place}
 
 -- ---- the place that was noted
 
@@ -58,55 +58,55 @@ unchanged ((true, a, w) ∷ accesses) ws now none leads = absurd (true≢false (
 
 module _ (lines : ℕ) (lawful : List ℕ → Type 0) (base : Base) (step : List ℕ → List ℕ → List ℕ × List ℕ) where
   -- the region is at the place that was noted
-  noted_at : (accesses : List Note) → HasPlace accesses → (first now : List ℕ) → Fits lines lawful base accesses first now → place_of now ≡ place_noted 0 accesses
+  noted_at : (accesses : List Note) → HasPlace accesses → (first now : List ℕ) → IsConsistentWith lines lawful base accesses first now → place_of now ≡ place_noted 0 accesses
   noted_at accesses begun first now f =
       let some : 0 < length first = (let long = f.origin.size.long in omega arith) in
       place_told accesses first now (place_of first) refl some f.leads ∙ begun (place_of first)
 
-  pub image_at : (known : Known) → IsImage lines lawful base step known → (first now : List ℕ) → FitsKnown lines lawful base step known first now → place_of now ≡ place_noted 0 known.accesses
+  pub image_at : (known : Known) → IsHeldImage lines lawful base step known → (first now : List ℕ) → FitsKnown lines lawful base step known first now → place_of now ≡ place_noted 0 known.accesses
   image_at known image first now f = noted_at known.accesses image.begun first now f.fits
 
-  pub image_below : (known : Known) (bound : ℕ) → IsImage lines lawful base step known → place_noted 0 known.accesses < bound → (first now : List ℕ) → FitsKnown lines lawful base step known first now → place_of now < bound
+  pub image_below : (known : Known) (bound : ℕ) → IsHeldImage lines lawful base step known → place_noted 0 known.accesses < bound → (first now : List ℕ) → FitsKnown lines lawful base step known first now → place_of now < bound
   image_below known bound image small first now f = subst (λ p. p < bound) (sym (image_at known image first now f)) small
 
   -- it is lawful as a base: what was applied leads to it
-  image_law : (known : Known) → IsImage lines lawful base step known → (first now : List ℕ) → FitsKnown lines lawful base step known first now → LawfulBase lines lawful (base_of now)
+  image_law : (known : Known) → IsHeldImage lines lawful base step known → (first now : List ℕ) → FitsKnown lines lawful base step known first now → LawfulBase lines lawful (base_of now)
   image_law known image first now f =
       subst (λ p. LawfulBase lines lawful (let b : Base = record { place = p; words = now } in b)) (sym (image_at known image first now f)) (f.stays (place_noted 0 known.accesses) now (image.replayed first now f))
 
-  pub image_object : (known : Known) → IsImage lines lawful base step known → (first now : List ℕ) → FitsKnown lines lawful base step known first now → lawful (object_part now)
+  pub image_object : (known : Known) → IsHeldImage lines lawful base step known → (first now : List ℕ) → FitsKnown lines lawful base step known first now → lawful (object_part now)
   image_object known image first now f = (image_law known image first now f).object
 
   -- where what the seat has leads on to the next place, whatever fits, it is the image after that place
   image_on : (old new : Known) → HasPlace new.accesses → SomeFits lines lawful base step new → ((first now : List ℕ) → FitsKnown lines lawful base step new first now → ReplayedTo step (has_of new) first (place_noted 0 old.accesses + 1) now) →
-      IsImage lines lawful base step new × (place_noted 0 new.accesses ≡ place_noted 0 old.accesses + 1)
+      IsHeldImage lines lawful base step new × (place_noted 0 new.accesses ≡ place_noted 0 old.accesses + 1)
   image_on old new begun some leads =
       let next = place_noted 0 old.accesses + 1 in
       let place : place_noted 0 new.accesses ≡ next = ∥∥₁_elim some (hlevel props) (λ p. (let f = p.2 in sym (noted_at new.accesses begun p.0 p.1 f.fits) ∙ (f.stays next p.1 (leads p.0 p.1 f)).at_place)) in
       (record { begun = begun; replayed = λ first now f. subst (λ t. ReplayedTo step (has_of new) first t now) (sym place) (leads first now f) }, place)
 
   -- what it has leads to the image that was there
-  led_to : (old new : Known) → has_of new ≡ has_of old → IsImage lines lawful base step old → (first before : List ℕ) → FitsKnown lines lawful base step old first before → ReplayedTo step (has_of new) first (place_noted 0 old.accesses) before
+  led_to : (old new : Known) → has_of new ≡ has_of old → IsHeldImage lines lawful base step old → (first before : List ℕ) → FitsKnown lines lawful base step old first before → ReplayedTo step (has_of new) first (place_noted 0 old.accesses) before
   led_to old new same image first before f = subst (λ h. ReplayedTo step h first (place_noted 0 old.accesses) before) (sym same) (image.replayed first before f)
 
   -- and on to the next, by the full step of an entry that it has
-  entry_on : (old new : Known) (entry : Entry) (reply : List ℕ) → has_of new ≡ has_of old → HasPlace new.accesses → SomeFits lines lawful base step new → IsImage lines lawful base step old → (has_of old).entry (place_noted 0 old.accesses) entry →
-      Becomes (FitsKnown lines lawful base step old) (FitsKnown lines lawful base step new) (IsStepped step entry reply) → IsImage lines lawful base step new × (place_noted 0 new.accesses ≡ place_noted 0 old.accesses + 1)
+  entry_on : (old new : Known) (entry : Entry) (reply : List ℕ) → has_of new ≡ has_of old → HasPlace new.accesses → SomeFits lines lawful base step new → IsHeldImage lines lawful base step old → (has_of old).entry (place_noted 0 old.accesses) entry →
+      Becomes (FitsKnown lines lawful base step old) (FitsKnown lines lawful base step new) (IsStepped step entry reply) → IsHeldImage lines lawful base step new × (place_noted 0 new.accesses ≡ place_noted 0 old.accesses + 1)
   entry_on old new entry reply same begun some image had becomes = image_on old new begun some (λ first now f. (
       let ticket = place_noted 0 old.accesses in
       let b = becomes.from first now f in
       with_entry (ticket + 1) now ticket b.0 entry refl b.2.words (subst (λ (h : Has). h.entry ticket entry) (sym same) had) (led_to old new same image first b.0 b.1)))
 
   -- or by a write set that it has
-  pub set_on : (old new : Known) (pairs : List ℕ) → has_of new ≡ has_of old → HasPlace new.accesses → SomeFits lines lawful base step new → IsImage lines lawful base step old → (has_of old).set (place_noted 0 old.accesses) pairs →
-      Becomes (FitsKnown lines lawful base step old) (FitsKnown lines lawful base step new) (λ before now. now ≡ stored (slice_index pairs 0) pairs before) → IsImage lines lawful base step new × (place_noted 0 new.accesses ≡ place_noted 0 old.accesses + 1)
+  pub set_on : (old new : Known) (pairs : List ℕ) → has_of new ≡ has_of old → HasPlace new.accesses → SomeFits lines lawful base step new → IsHeldImage lines lawful base step old → (has_of old).set (place_noted 0 old.accesses) pairs →
+      Becomes (FitsKnown lines lawful base step old) (FitsKnown lines lawful base step new) (λ before now. now ≡ stored (slice_index pairs 0) pairs before) → IsHeldImage lines lawful base step new × (place_noted 0 new.accesses ≡ place_noted 0 old.accesses + 1)
   set_on old new pairs same begun some image had becomes = image_on old new begun some (λ first now f. (
       let ticket = place_noted 0 old.accesses in
       let b = becomes.from first now f in
       with_set (ticket + 1) now ticket b.0 pairs refl b.2 (subst (λ (h : Has). h.set ticket pairs) (sym same) had) (led_to old new same image first b.0 b.1)))
 
   -- after a full step the entry's caller has the reply
-  replied_on : ObjectLaws lines lawful step → (old new : Known) (entry : Entry) (reply : List ℕ) → IsImage lines lawful base step old → IsLawfulEntry (place_noted 0 old.accesses) entry → place_noted 0 old.accesses < 2 ^ 40 →
+  replied_on : ObjectLaws lines lawful step → (old new : Known) (entry : Entry) (reply : List ℕ) → IsHeldImage lines lawful base step old → IsLawfulEntry (place_noted 0 old.accesses) entry → place_noted 0 old.accesses < 2 ^ 40 →
       Becomes (FitsKnown lines lawful base step old) (FitsKnown lines lawful base step new) (IsStepped step entry reply) → ShowsReply lines lawful base step new entry.caller reply
   replied_on laws old new entry reply image is small becomes first now f =
       let b = becomes.from first now f in
@@ -122,8 +122,8 @@ module _ (lines : ℕ) (lawful : List ℕ → Type 0) (base : Base) (step : List
       kept.reply ∙ sym b.2.replied
 
   -- what was only loaded from stays the image after the same place
-  pub loaded_image : (old new : Known) → has_of new ≡ has_of old → HasPlace new.accesses → SomeFits lines lawful base step new → IsImage lines lawful base step old →
-      Becomes (FitsKnown lines lawful base step old) (FitsKnown lines lawful base step new) ◌≡◌ → IsImage lines lawful base step new × (place_noted 0 new.accesses ≡ place_noted 0 old.accesses)
+  pub loaded_image : (old new : Known) → has_of new ≡ has_of old → HasPlace new.accesses → SomeFits lines lawful base step new → IsHeldImage lines lawful base step old →
+      Becomes (FitsKnown lines lawful base step old) (FitsKnown lines lawful base step new) ◌≡◌ → IsHeldImage lines lawful base step new × (place_noted 0 new.accesses ≡ place_noted 0 old.accesses)
   loaded_image old new same begun some image becomes =
       let place : place_noted 0 new.accesses ≡ place_noted 0 old.accesses =
       ∥∥₁_elim some (hlevel props) (λ p. (let f = p.2 in let b = becomes.from p.0 p.1 f in sym (noted_at new.accesses begun p.0 p.1 f.fits) ∙ ap place_of (sym b.2) ∙ image_at old image p.0 b.0 b.1)) in (
@@ -142,11 +142,11 @@ module _ (lines : ℕ) (lawful : List ℕ → Type 0) (base : Base) (step : List
   chain_from has first place now (with_entry _ _ t before e at is had rest) = (let below = chain_from has first t before rest in omega arith)
   chain_from has first place now (with_set _ _ t before pairs at is had rest) = (let below = chain_from has first t before rest in omega arith)
 
-  pub image_from : (known : Known) → SomeFits lines lawful base step known → IsImage lines lawful base step known → base.place ≤ place_noted 0 known.accesses
+  pub image_from : (known : Known) → SomeFits lines lawful base step known → IsHeldImage lines lawful base step known → base.place ≤ place_noted 0 known.accesses
   image_from known some image = ∥∥₁_elim some le_prop (λ p. (let f = p.2 in let from = f.fits.from in let on = chain_from (has_of known) p.0 (place_noted 0 known.accesses) p.1 (image.replayed p.0 p.1 f) in omega arith))
 
   -- what was not stored into since its place was loaded is the image after that place
-  pub unstored_image : (known : Known) → HasPlace known.accesses → StoresNone known.accesses → IsImage lines lawful base step known
+  pub unstored_image : (known : Known) → HasPlace known.accesses → StoresNone known.accesses → IsHeldImage lines lawful base step known
   unstored_image known begun none = record {
     begun = begun;
     replayed = λ first now f. (
@@ -154,7 +154,7 @@ module _ (lines : ℕ) (lawful : List ℕ → Type 0) (base : Base) (step : List
         start (place_noted 0 known.accesses) now (sym (noted_at known.accesses begun first now f.fits) ∙ ap place_of same) same);
   }
 
-  begins : (old new : Known) (place : ℕ) → StoresNone old.accesses → new.accesses ≡ old.accesses ++ (false, 0, place) ∷ [] → IsImage lines lawful base step new × (place_noted 0 new.accesses ≡ place)
+  begins : (old new : Known) (place : ℕ) → StoresNone old.accesses → new.accesses ≡ old.accesses ++ (false, 0, place) ∷ [] → IsHeldImage lines lawful base step new × (place_noted 0 new.accesses ≡ place)
   begins old new place none is =
       let noted : (p : ℕ) → place_noted p new.accesses ≡ place = λ p. ap (place_noted p) is ∙ loaded_place old.accesses place p in (
         unstored_image new (λ p. noted p ∙ sym (noted 0)) (subst StoresNone (sym is) (All-push (λ (note : Note). note.0 ≡ false) old.accesses (false, 0, place) none refl)),
@@ -183,7 +183,7 @@ module _ {O : Type 0} (o : Ghosts O) (r : Running O) (held : Right) where
   }
 
   -- whether it was done or not
-  pub steps_ready : {X E : Type 0} (entry : Entry) (reply : List ℕ) (before after : Seated) → ObjectLaws (o.line_count r.object) (o.lawful r.object) (o.step r.object) → (result : Result X E) → IsImage (o.line_count r.object) (o.lawful r.object) r.base (o.step r.object) before.known → ComesNext entry before → Accessed o r held before after →
+  pub steps_ready : {X E : Type 0} (entry : Entry) (reply : List ℕ) (before after : Seated) → ObjectLaws (o.line_count r.object) (o.lawful r.object) (o.step r.object) → (result : Result X E) → IsHeldImage (o.line_count r.object) (o.lawful r.object) r.base (o.step r.object) before.known → ComesNext entry before → IsAfterFullStep o r held before after →
       OnOk result (Becomes (FitsKnown (o.line_count r.object) (o.lawful r.object) r.base (o.step r.object) before.known) (FitsKnown (o.line_count r.object) (o.lawful r.object) r.base (o.step r.object) after.known) (IsStepped (o.step r.object) entry reply)) →
       OnOk result (IsReady o r held (noted_place before + 1) after × ShowsReply (o.line_count r.object) (o.lawful r.object) r.base (o.step r.object) after.known entry.caller reply)
   steps_ready entry reply before after laws (Ok x) image next leaves becomes =

@@ -12,7 +12,7 @@ use Rattle.cx_core.proofs.KeepLemmas.{region_kept}
 use Rattle.cx_rule.specs.declared.rule.Known.{Known}
 use Rattle.cx_rule.specs.Fitting.{FitsKnown, base_of}
 use Rattle.cx_rule.specs.Seats.{place_noted}
-use Rattle.replica.specs.Replays.{IsImage}
+use Rattle.replica.specs.Replays.{IsHeldImage}
 use Rattle.replica.proofs.Replaying.{image_at, image_object}
 use Rattle.replica.specs.Stepping.{IsSteppable}
 
@@ -42,8 +42,8 @@ stepped old new lines lawful step laws entry few op left some words can same_siz
       subst (λ ws. lawful (object_part ws)) (sym b.2) (kept lines lawful step laws entry few op b.0 ((words first b.0 b.1).long ∙ can.sized) (can.image first b.0 b.1)).1);
 }
 
--- a replica held exclusively that is the image after its place, which is so many entries from the last place
-pub image_steppable : (lines : ℕ) (lawful : List ℕ → Type 0) (base : Base) (step : List ℕ → List ℕ → List ℕ × List ℕ) (known : Known) (left : ℕ) → IsImage lines lawful base step known → place_noted 0 known.accesses + left ≤ 2 ^ 40 → IsSteppable lines lawful (region_words lines) true (FitsKnown lines lawful base step known) left
+-- a replica held exclusively that is the image after its place, which is `left` entries from the last place
+pub image_steppable : (lines : ℕ) (lawful : List ℕ → Type 0) (base : Base) (step : List ℕ → List ℕ → List ℕ × List ℕ) (known : Known) (left : ℕ) → IsHeldImage lines lawful base step known → place_noted 0 known.accesses + left ≤ 2 ^ 40 → IsSteppable lines lawful (region_words lines) true (FitsKnown lines lawful base step known) left
 image_steppable lines lawful base step known left image most = record {
   sized = refl;
   may_store = refl;

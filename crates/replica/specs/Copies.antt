@@ -13,7 +13,7 @@ use Rattle.cx_rule.specs.Running.{Running, instance_at}
 use Rattle.cx_rule.specs.Seats.{Seated}
 use Rattle.seat_memory.specs.Copies.{IsCopiedWord}
 use Rattle.cx_table.specs.Right.{Right}
-use Rattle.line_gaps.specs.Marks.{MarksChanged}
+use Rattle.cx_table.specs.GapMarks.{MarksChanged, StepsOn}
 use Rattle.replica.specs.Held.{IsHeld, IsHeldShared, but_words}
 use Rattle.replica.specs.Regions.{HasPlace}
 use Rattle.replica.specs.Replays.{IsReady, StoresNone, noted_place}
@@ -37,9 +37,10 @@ beside_copy s = record s {
   };
 }
 
--- whatever was copied, both are held still, and what a copy does not change is as it was
+-- whatever was copied, both are held still, no step is taken back, and what a copy does not change is as it was
 pub record LeavesCopied {O : Type 0} (o : Ghosts O) (r : Running O) (held source : Right) (before after : Seated) : Type 0 where
   pub both : HoldsBoth (o.line_count r.object) r (o.lawful r.object) (o.step r.object) after held source
+  pub since : StepsOn before after
   pub rest : beside_copy after ≡ beside_copy before
 
 -- the same with no replica held shared
@@ -110,7 +111,7 @@ pub record CopiesPiece (from n m least : ℕ) (us vs : List ℕ) (before after :
   pub copied : CopiesOn n m before after
 
 -- A replica held shared was copied over one held exclusively, which then has its words and this place.
-pub record Copies {O : Type 0} (o : Ghosts O) (r : Running O) (at : ℕ) (before after : Seated) : Type 0 where
+pub record CopiesReplica {O : Type 0} (o : Ghosts O) (r : Running O) (at : ℕ) (before after : Seated) : Type 0 where
   pub agree : AgreeTo after.known (region_words (o.line_count r.object))
   pub equal : AreEqual (o.line_count r.object) (o.lawful r.object) r.base (o.step r.object) after.known
   pub differed : DirtiesDiffering (region_words (o.line_count r.object)) before.known after.known
@@ -141,7 +142,7 @@ pub record CopiesMarked {O : Type 0} (o : Ghosts O) (r : Running O) (skips : ℕ
   pub copied : IsCopiedTo skips (region_words (o.line_count r.object)) (region_words (o.line_count r.object)) before.known after.known
   pub place : noted_place after ≡ at
 
--- One was, whose shared right was given back: the replica is the image after this place, which is the one that was loaded before, if
+-- One was, whose shared right was released: the replica is the image after this place, which is the one that was loaded before, if
 -- it was.
 pub record Renews {O : Type 0} (o : Ghosts O) (r : Running O) (held : Right) (at : ℕ) (before after : Seated) : Type 0 where
   pub ready : IsReady o r held at after
@@ -181,7 +182,7 @@ stores_in ((stores, at, word) ∷ accesses) = (if stores then 1 else 0) + stores
 abbrev pub StoresAsMany : Known → Known → Type 0
 StoresAsMany before after = stores_in after.accesses ≡ stores_in before.accesses
 
--- Words are loaded by so many steps at most, and where the limit ends it, by fewer.
+-- Words are loaded in at most this number of steps, and where the limit ends it, in fewer.
 abbrev pub EndsLoads : {A E : Type 0} → ℕ → Known → Known → Result A E → Type 0
 EndsLoads n before after (Ok x) = (after.local.steps ≤ before.local.steps + n) × StoresAsMany before after
 EndsLoads n before after (Err e) = (after.local.steps < before.local.steps + n) × StoresAsMany before after
@@ -195,14 +196,14 @@ pub record SomeDiffers (region : ℕ) (known : Known) : Type 0 where
   pub apart : held ≢ source
   pub seen : IsSeen at held source known
 
--- beside one for each word stored, so many steps were made at most, or fewer
+-- beside one for each word stored, at most this number of steps was made; or, with the limit in the way, fewer
 abbrev pub LoadsAtMost : ℕ → Known → Known → Type 0
 LoadsAtMost n before after = after.local.steps + stores_in before.accesses ≤ before.local.steps + n + stores_in after.accesses
 
 abbrev pub LoadsFewer : ℕ → Known → Known → Type 0
 LoadsFewer n before after = after.local.steps + stores_in before.accesses < before.local.steps + n + stores_in after.accesses
 
--- A copy makes so many loads at most. Where the limit ends it, it made fewer, or a word that differs is left to store.
+-- A copy makes at most this number of loads. Where the limit ends it, it made fewer, or a word that differs is left to store.
 abbrev pub EndsCopy : {A E : Type 0} → ℕ → ℕ → Known → Known → Result A E → Type 0
 EndsCopy n region before after (Ok x) = LoadsAtMost n before after
 EndsCopy n region before after (Err e) = LoadsFewer n before after ⊎ SomeDiffers region after

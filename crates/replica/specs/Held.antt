@@ -17,12 +17,13 @@ use Rattle.cx_rule.specs.Seats.{IsAtLimit, IsWithinLimit, Seated}
 use Rattle.cx_table.specs.Right.{Right}
 use Rattle.cx_table.specs.Runs.{Runs}
 use Rattle.cx_table.specs.Tokens.{IsExclusiveOf, IsSharedOf}
+use Rattle.cx_table.specs.GapMarks.{StepsOn}
 
 -- the steps that the limit leaves, where 2^64 - 1 is none
 abbrev pub left_of : Local → Option ℕ
 left_of l = if nat_lt l.limit max_word then Some (l.limit - l.steps) else None
 
--- a table is of an object of so many lines, within the limits, and opens from a region of such an object
+-- a table is of an object of this number of lines, within the limits, and opens from a region of such an object
 pub record IsSized {O : Type 0} (lines : ℕ) (r : Running O) : Type 0 where
   pub lines_are : r.lines ≡ lines
   pub small : lines ≤ 16384
@@ -72,9 +73,10 @@ beside_shared r s = record s {
   };
 }
 
--- whatever accesses of a replica held exclusively were made, it is held still, and what no access changes is as it was
+-- whatever accesses of a replica held exclusively were made, it is held still, no step is taken back, and what no access changes is as it was
 pub record LeavesHeld {O : Type 0} (o : Ghosts O) (r : Running O) (held : Right) (before after : Seated) : Type 0 where
   pub still : IsHeld (o.line_count r.object) r (o.lawful r.object) (o.step r.object) after held
+  pub since : StepsOn before after
   pub rest : beside_held held.replica after ≡ beside_held held.replica before
 
 -- an access of a replica held exclusively was made: it is noted, and nothing else is changed

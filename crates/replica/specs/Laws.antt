@@ -21,7 +21,7 @@ use Rattle.cx_table.specs.Right.{Right}
 use Rattle.cx_table.specs.Tokens.{IsSharedOf, TriedExclusive}
 use Rattle.replica.specs.Held.{IsHeld, IsHeldShared, IsSized}
 use Rattle.replica.specs.Regions.{HasPlace}
-use Rattle.replica.specs.Replays.{IsImage}
+use Rattle.replica.specs.Replays.{IsHeldImage}
 
 -- a replica that was just taken is held, and nothing of it is noted
 pub record IsTaken {O : Type 0} (lines : ℕ) (r : Running O) (lawful : List ℕ → Type 0) (step : List ℕ → List ℕ → List ℕ × List ℕ) (seat : Seated) (held : Right) : Type 0 where
@@ -65,7 +65,7 @@ shared_held lines r lawful step seat held sized of right fits = record {
 }
 
 -- what is the image after its place stays so when more is had
-pub image_more : (lines : ℕ) (lawful : List ℕ → Type 0) (base : Base) (step : List ℕ → List ℕ → List ℕ × List ℕ) (before after : Known) → HasMore (has_of before) (has_of after) → after.accesses ≡ before.accesses → IsImage lines lawful base step before → IsImage lines lawful base step after
+pub image_more : (lines : ℕ) (lawful : List ℕ → Type 0) (base : Base) (step : List ℕ → List ℕ → List ℕ × List ℕ) (before after : Known) → HasMore (has_of before) (has_of after) → after.accesses ≡ before.accesses → IsHeldImage lines lawful base step before → IsHeldImage lines lawful base step after
 image_more lines lawful base step before after more same image = record {
   begun = subst HasPlace (sym same) image.begun;
   replayed = λ first now f. replayed_more step (has_of before) (has_of after) more first (place_noted 0 after.accesses) now (
@@ -73,6 +73,6 @@ image_more lines lawful base step before after more same image = record {
       image.replayed first now (fits_more lines lawful base step (has_of before) (has_of after) more before.accesses first now (subst (λ xs. FitsOn lines lawful base step (has_of after) xs first now) same f))));
 }
 
-pub image_same : (lines : ℕ) (lawful : List ℕ → Type 0) (base : Base) (step : List ℕ → List ℕ → List ℕ × List ℕ) (before after : Known) → has_of after ≡ has_of before → after.accesses ≡ before.accesses → IsImage lines lawful base step before → IsImage lines lawful base step after
+pub image_same : (lines : ℕ) (lawful : List ℕ → Type 0) (base : Base) (step : List ℕ → List ℕ → List ℕ × List ℕ) (before after : Known) → has_of after ≡ has_of before → after.accesses ≡ before.accesses → IsHeldImage lines lawful base step before → IsHeldImage lines lawful base step after
 image_same lines lawful base step before after has same image =
     image_more lines lawful base step before after (subst (HasMore (has_of before)) (sym has) (record { entry = λ t e had. had; set = λ t pairs had. had })) same image

@@ -6,22 +6,23 @@ use Rattle.cx_base.specs.Noted.{Note, NotesShow, shown_words}
 use Rattle.cx_core.specs.declared.entry.Base.{Base}
 use Rattle.cx_core.specs.Region.{region_words}
 use Rattle.cx_rule.specs.declared.rule.Known.{Known}
-use Rattle.cx_rule.specs.Fitting.{Fits, FitsKnown, ReadFits, loads_of}
+use Rattle.cx_rule.specs.Fitting.{IsConsistentWith, FitsKnown, ReadFits, loads_of}
 use Rattle.cx_rule.specs.Seats.{Seated, place_noted}
 use Rattle.cx_table.specs.Right.{Right}
 use Rattle.replica.specs.Held.{beside_held}
 
--- what no access of a region changes: the reference to the seat, the table, the token, whether the place was accessed before, and the seat
--- but for what an access changes
+-- what no access of a region changes: the reference to the seat, the table, the token, whether the place was accessed before, the steps made
+-- before, and the seat but for what an access changes
 pub record RegionFixed (Name Table : Type 0) : Type 0 where
   pub name : Name
   pub table : Table
   pub held : Right
   pub placed : Bool
+  pub began : ℕ
   pub rest : Seated
 
-abbrev pub region_fixed : {Name Table : Type 0} → Name → Table → Right → Bool → Seated → RegionFixed Name Table
-region_fixed name table held placed seat = record { name = name; table = table; held = held; placed = placed; rest = beside_held held.replica seat }
+abbrev pub region_fixed : {Name Table : Type 0} → Name → Table → Right → Bool → ℕ → Seated → RegionFixed Name Table
+region_fixed name table held placed began seat = record { name = name; table = table; held = held; placed = placed; began = began; rest = beside_held held.replica seat }
 
 -- it is the same region
 pub record SameRegion {Name Table : Type 0} (before after : RegionFixed Name Table) : Type 0 where
@@ -29,6 +30,7 @@ pub record SameRegion {Name Table : Type 0} (before after : RegionFixed Name Tab
   pub table : after.table ≡ before.table
   pub held : after.held ≡ before.held
   pub placed : after.placed ≡ before.placed
+  pub began : after.began ≡ before.began
   pub rest : after.rest ≡ before.rest
 
 -- the same of a region for loads, where the place may have been loaded before
@@ -37,15 +39,18 @@ pub record ReadFixed (Name Table : Type 0) : Type 0 where
   pub table : Table
   pub held : Right
   pub placed : Option ℕ
+  pub began : ℕ
   pub rest : Seated
 
--- a region is over this table, seat and right, and it is known of its place whether, or as what, it was accessed before
-pub record IsRegionOf {Name Table Placed : Type 0} (n n' : Name) (t t' : Table) (s s' : Seated) (h h' : Right) (p p' : Placed) : Type 0 where
+-- A region is over this table, seat and right, and it is known of its place whether, or as what, it was accessed before, and how many steps were
+-- made before.
+pub record IsRegionOf {Name Table Placed : Type 0} (n n' : Name) (t t' : Table) (s s' : Seated) (h h' : Right) (p p' : Placed) (began : ℕ) : Type 0 where
   pub name : n' ≡ n
   pub table : t' ≡ t
   pub seat : s' ≡ s
   pub held : h' ≡ h
   pub placed : p' ≡ p
+  pub steps : began ≡ s.known.local.steps
 
 -- the place is among the words loaded or stored
 abbrev pub HasPlace : List Note → Type 0
@@ -60,11 +65,11 @@ abbrev pub has_loaded : Option ℕ → List (ℕ × ℕ) → Bool
 has_loaded None loaded = true
 has_loaded (Some place) loaded = list_any (is_same (0, place)) loaded
 
-pub fits_shows : (lines : ℕ) (lawful : List ℕ → Type 0) (base : Base) (accesses : List Note) (first now : List ℕ) → Fits lines lawful base accesses first now → NotesShow (region_words lines) accesses first now
+pub fits_shows : (lines : ℕ) (lawful : List ℕ → Type 0) (base : Base) (accesses : List Note) (first now : List ℕ) → IsConsistentWith lines lawful base accesses first now → NotesShow (region_words lines) accesses first now
 fits_shows lines lawful base accesses first now f = record { words = f.origin.size; leads = f.leads }
 
 -- the words now of a pair that fits are a region
-pub fits_words : (lines : ℕ) (lawful : List ℕ → Type 0) (base : Base) (accesses : List Note) (first now : List ℕ) → Fits lines lawful base accesses first now → Words (region_words lines) now
+pub fits_words : (lines : ℕ) (lawful : List ℕ → Type 0) (base : Base) (accesses : List Note) (first now : List ℕ) → IsConsistentWith lines lawful base accesses first now → Words (region_words lines) now
 fits_words lines lawful base accesses first now f = shown_words (region_words lines) accesses first now (fits_shows lines lawful base accesses first now f)
 
 pub known_words : (lines : ℕ) (lawful : List ℕ → Type 0) (base : Base) (step : List ℕ → List ℕ → List ℕ × List ℕ) (known : Known) (first now : List ℕ) → FitsKnown lines lawful base step known first now → Words (region_words lines) now

@@ -12,6 +12,7 @@ use Rattle.cx_rule.specs.Fitting.{FitsKnown, HasEntry, IsReplayedToPlace, entrie
 use Rattle.cx_rule.specs.Running.{Running}
 use Rattle.cx_rule.specs.Seats.{IsWithinLimit, Seated, place_noted}
 use Rattle.cx_table.specs.Right.{Right}
+use Rattle.cx_table.specs.GapMarks.{StepsOn}
 use Rattle.replica.specs.Held.{IsHeld, beside_held}
 use Rattle.replica.specs.Regions.{HasPlace}
 
@@ -24,15 +25,15 @@ abbrev pub noted_place : Seated → ℕ
 noted_place seat = place_noted 0 seat.known.accesses
 
 -- The place was loaded. For every pair that fits what was noted, entries and write sets that the caller has lead from the first words to the
--- words now, up to the place that was loaded or stored last. The table asks this of a replica that is given up.
-pub record IsImage (lines : ℕ) (lawful : List ℕ → Type 0) (base : Base) (step : List ℕ → List ℕ → List ℕ × List ℕ) (known : Known) : Type 0 where
+-- words now, up to the place that was loaded or stored last. The table asks this of a replica that is released.
+pub record IsHeldImage (lines : ℕ) (lawful : List ℕ → Type 0) (base : Base) (step : List ℕ → List ℕ → List ℕ × List ℕ) (known : Known) : Type 0 where
   pub begun : HasPlace known.accesses
   pub replayed : IsReplayedToPlace lines lawful base step known
 
 -- a replica is held exclusively that is the image after this place
 pub record IsReady {O : Type 0} (o : Ghosts O) (r : Running O) (held : Right) (at : ℕ) (seat : Seated) : Type 0 where
   pub is_held : IsHeld (o.line_count r.object) r (o.lawful r.object) (o.step r.object) seat held
-  pub image : IsImage (o.line_count r.object) (o.lawful r.object) r.base (o.step r.object) seat.known
+  pub image : IsHeldImage (o.line_count r.object) (o.lawful r.object) r.base (o.step r.object) seat.known
   pub place : noted_place seat ≡ at
 
 -- whatever fits the accesses of a replica, the last entry of this caller there has this reply
@@ -52,8 +53,9 @@ pub record CanStep {O : Type 0} (o : Ghosts O) (r : Running O) (seat : Seated) :
   pub begun : HasPlace seat.known.accesses
 
 -- what a full step leaves, whether it was done or not
-pub record Accessed {O : Type 0} (o : Ghosts O) (r : Running O) (held : Right) (before after : Seated) : Type 0 where
+pub record IsAfterFullStep {O : Type 0} (o : Ghosts O) (r : Running O) (held : Right) (before after : Seated) : Type 0 where
   pub still : IsHeld (o.line_count r.object) r (o.lawful r.object) (o.step r.object) after held
   pub begun : HasPlace after.known.accesses
   pub within : IsWithinLimit after.known.local
+  pub since : StepsOn before after
   pub rest : beside_held held.replica after ≡ beside_held held.replica before

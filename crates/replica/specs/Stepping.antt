@@ -3,7 +3,7 @@ use Rattle.std.specs.Prelude.{◌≡◌, ◌+◌, ◌^◌, ◌≤◌, ℕ, Bool,
 use Rattle.cx_base.specs.Memory.{Always}
 use Rattle.cx_core.specs.Region.{object_part, place_of, region_words}
 
--- a memory of so many words, with these pairs, on which so many full steps can be done
+-- a memory of this size, with these pairs, on which this number of full steps can be done
 pub record IsSteppable {Key : Type 0} (lines : ℕ) (lawful : List ℕ → Type 0) (size : ℕ) (writable : Bool) (stands : Key → List ℕ → Type 0) (left : ℕ) : Type 0 where
   pub sized : size ≡ region_words lines
   pub may_store : IsTrue writable

@@ -1,16 +1,18 @@
 //! A replica behind another is renewed by the lines alone that changed between their places, where the ring of gaps tells them.
 
-ghost use Rattle.std.specs.Prelude.{◌≡◌, IfOk, IsTrue, OnErr};
+ghost use Rattle.std.specs.Prelude.{◌≡◌, ◌+◌, ◌-◌, ◌*◌, min, IfOk, IsTrue, OnErr};
+ghost use Rattle.cx_core.specs.Layout.{gap_slots};
+ghost use Rattle.cx_core.specs.Region.{region_words};
 ghost use Rattle.cx_rule.specs.Running.{IsSeatOf};
 ghost use Rattle.cx_rule.specs.Seats.{IsAtLimit};
-ghost use Rattle.line_gaps.specs.Marks.{LeavesLoads};
+ghost use Rattle.cx_table.specs.GapMarks.{LeavesLoads, StepsBy, StepsOn};
 ghost use Rattle.replica.specs.Copies.{HoldsBoth, IsListed, MayList, Renews, RenewsListed, beside_copy, beside_listed};
+ghost use Rattle.replica.specs.Replays.{noted_place};
 
 use crate::copying::{copy_marked, renew_from};
 use cx_base::{Halt, Object};
 use cx_core::HEAD_LINES;
-use cx_table::{CallerSeat, Exclusive, Shared, SharedHold};
-use line_gaps::{keeps_gaps, mark_changed};
+use cx_table::{CallerSeat, Exclusive, Shared, SharedHold, keeps_gaps, mark_changed};
 
 /// The pieces of the largest region: that of line 0, and those of 8 lines each.
 const MOST_PIECES: usize = 2068;
@@ -19,9 +21,9 @@ const MOST_PIECES: usize = 2068;
 const KEPT_TICKETS: u64 = 512;
 
 /// Renews a replica held exclusively, into which nothing was stored since it was taken, from one held shared whose place was loaded, as
-/// `renew_from` does: by the lines that changed between their places, where the ring of gaps tells them for each ticket, and else by all. It makes 16
-/// steps for each ticket between more than `renew_from` at most. `Halt` comes exactly where a further step is to be made and the seat's steps
-/// equal its limit: both rights then stand.
+/// `renew_from` does: by the lines that changed between their places, where the ring of gaps tells them for each ticket, and else by all. Beside
+/// the steps that `renew_from` may make, it makes at most 16 for each ticket between, and none where the ring keeps fewer tickets. `Halt` comes exactly
+/// where a further step is to be made and the seat's steps equal its limit: both rights then stand.
 pub fn renew_listed<O: Object>(
     shared: &Shared<O>,
     seat: &mut CallerSeat,
@@ -32,6 +34,8 @@ pub fn renew_listed<O: Object>(
     requires both { HoldsBoth (O.line_count shared.now.object) shared.now (O.lawful shared.now.object) (O.step shared.now.object) seat.old held.now source }
     requires may { MayList to seat.old }
     ensures renewed { IfOk result (λ place. RenewsListed O.Object shared.now held.now place seat.old seat.new) }
+    ensures steps { StepsBy (16 * min (to - noted_place seat.old) (gap_slots shared.now.callers) + 3 * region_words (O.line_count shared.now.object) + 1) seat.old seat.new }
+    ensures since { StepsOn seat.old seat.new }
     ensures still { OnErr result (beside_listed seat.new ≡ beside_listed seat.old) }
     ensures seat { IsSeatOf shared.now seat.new }
     ensures halts { OnErr result (IsAtLimit seat.new.known.local) }
@@ -57,6 +61,8 @@ fn mark_listed<O: Object>(
     requires { HoldsBoth (O.line_count shared.now.object) shared.now (O.lawful shared.now.object) (O.step shared.now.object) seat.old held.now source.now }
     ensures listed { IsTrue result → IsListed O.Object shared.now to marks.new seat.new }
     ensures leaves { LeavesLoads O.Object shared.now seat.old seat.new }
+    ensures steps { StepsBy (16 * min (to - noted_place seat.old) (gap_slots shared.now.callers)) seat.old seat.new }
+    ensures since { StepsOn seat.old seat.new }
     ensures both { HoldsBoth (O.line_count shared.now.object) shared.now (O.lawful shared.now.object) (O.step shared.now.object) seat.new held.now source.now }
 {
     let _ = held;
@@ -87,6 +93,8 @@ fn renew_marked<O: Object>(
     requires may { MayList to seat.old }
     requires listed { IsListed O.Object shared.now to marks.now seat.old }
     ensures renewed { IfOk result (λ place. Renews O.Object shared.now held.now place seat.old seat.new) }
+    ensures steps { StepsBy (3 * region_words (O.line_count shared.now.object) + 1) seat.old seat.new }
+    ensures since { StepsOn seat.old seat.new }
     ensures still { OnErr result (beside_copy seat.new ≡ beside_copy seat.old) }
     ensures seat { IsSeatOf shared.now seat.new }
     ensures halts { OnErr result (IsAtLimit seat.new.known.local) }

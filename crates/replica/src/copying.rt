@@ -6,13 +6,13 @@ ghost use Rattle.cx_core.specs.Region.{region_words};
 ghost use Rattle.cx_rule.specs.Running.{IsSeatOf, instance_at};
 ghost use Rattle.cx_rule.specs.Seats.{IsAtLimit, known_after};
 ghost use Rattle.cx_rule.specs.Steps.{Halts};
-ghost use Rattle.replica.specs.Copies.{AreLines, AreOfPiece, ArePiece, Copies, CopiesMarked, CopiesOn, CopiesOver, CopiesPiece, EndsCopy, EndsLoads, HoldsBoth, LeavesCopied, Renews, SeesLine, beside_copy, skips_by, skips_piece};
+ghost use Rattle.cx_table.specs.GapMarks.{StepsBy, StepsOn};
+ghost use Rattle.replica.specs.Copies.{AreLines, AreOfPiece, ArePiece, CopiesReplica, CopiesMarked, CopiesOn, CopiesOver, CopiesPiece, EndsCopy, EndsLoads, HoldsBoth, LeavesCopied, Renews, SeesLine, beside_copy, skips_by, skips_piece};
 
 use crate::words::{HeldWords, load_run};
 use cx_base::{Halt, Object};
 use cx_core::{HEAD_LINES, LINE_WORDS};
-use cx_table::{CallerSeat, Exclusive, Shared, SharedHold};
-use line_gaps::piece_of;
+use cx_table::{CallerSeat, Exclusive, Shared, SharedHold, piece_of};
 use line_lanes::differing;
 
 /// The words of a line.
@@ -27,9 +27,9 @@ const PIECE: usize = LINE * PIECE_LINES;
 /// Copies a replica held shared over one held exclusively, piece by piece, and stores only the words that differ. Then whatever
 /// fits the one is what fits the other, and each word that became dirty differed, so it lies in a line that differed. It gives
 /// their place. Both rights stand afterwards. What was stored is no replay, by which alone the replica would be the image after its
-/// place: so the exclusive right is given up, or entries are replayed, after the source was given back by `Shared::release_copied`,
-/// as `renew_from` does. It makes two steps for each word at most, and one for each word stored. `Halt` comes exactly where a
-/// further word is to be loaded, or one that differs to be stored, and the seat's steps equal its limit.
+/// place: so the exclusive right is released, or entries are replayed, after the source was released by `Shared::release_copied`,
+/// as `renew_from` does. It makes two steps for each word at most, and one for each word stored, which it stores once. `Halt`
+/// comes exactly where a further word is to be loaded, or one that differs to be stored, and the seat's steps equal its limit.
 pub fn copy_from<O: Object>(
     shared: &Shared<O>,
     seat: &mut CallerSeat,
@@ -37,19 +37,21 @@ pub fn copy_from<O: Object>(
     source: &SharedHold,
 ) -> Result<u64, Halt>
     requires { HoldsBoth (O.line_count shared.now.object) shared.now (O.lawful shared.now.object) (O.step shared.now.object) seat.old held.now source.now }
-    ensures copied { IfOk result (λ place. Copies O.Object shared.now place seat.old seat.new) }
+    ensures copied { IfOk result (λ place. CopiesReplica O.Object shared.now place seat.old seat.new) }
     ensures steps { EndsCopy (2 * region_words (O.line_count shared.now.object)) (region_words (O.line_count shared.now.object)) seat.old.known seat.new.known result }
     ensures leaves { LeavesCopied O.Object shared.now held.now source.now seat.old seat.new }
+    ensures bound { StepsBy (3 * region_words (O.line_count shared.now.object)) seat.old seat.new }
     ensures halts { OnErr result (IsAtLimit seat.new.known.local) }
 {
     let place = copy_marked(shared, seat, held, source, &[], true)?;
     Ok(place)
 }
 
-/// Copies a replica held shared over one held exclusively, and gives the shared right back. The words copied are then those
+/// Copies a replica held shared over one held exclusively, and releases the shared right. The words copied are then those
 /// that the exclusive right began with, so that its replica is the image after its place, and entries can be replayed on it. It
-/// gives that place, which is the one that was loaded of the replica held shared before, if it was. `Halt` comes exactly where a
-/// further step is to be made and the seat's steps equal its limit: both rights then stand.
+/// gives that place, which is the one that was loaded of the replica held shared before, if it was. It makes three steps for each
+/// word of a region at most, and one. `Halt` comes exactly where a further step is to be made and the seat's steps equal its limit:
+/// both rights then stand.
 pub fn renew_from<O: Object>(
     shared: &Shared<O>,
     seat: &mut CallerSeat,
@@ -60,6 +62,8 @@ pub fn renew_from<O: Object>(
     ensures renewed { IfOk result (λ place. Renews O.Object shared.now held.now place seat.old seat.new) }
     ensures still { OnErr result (beside_copy seat.new ≡ beside_copy seat.old) }
     ensures seat { IsSeatOf shared.now seat.new }
+    ensures steps { StepsBy (3 * region_words (O.line_count shared.now.object) + 1) seat.old seat.new }
+    ensures since { StepsOn seat.old seat.new }
     ensures halts { OnErr result (IsAtLimit seat.new.known.local) }
 {
     let place = copy_from(shared, seat, held, &source)?;
@@ -81,6 +85,7 @@ pub(crate) fn copy_marked<O: Object>(
     ensures copied { IfOk result (λ place. CopiesMarked O.Object shared.now (skips_by all marks.now) place seat.old seat.new) }
     ensures steps { EndsCopy (2 * region_words (O.line_count shared.now.object)) (region_words (O.line_count shared.now.object)) seat.old.known seat.new.known result }
     ensures leaves { LeavesCopied O.Object shared.now held.now source.now seat.old seat.new }
+    ensures bound { StepsBy (3 * region_words (O.line_count shared.now.object)) seat.old seat.new }
     ensures halts { OnErr result (IsAtLimit seat.new.known.local) }
 {
     let lines = HEAD_LINES + shared.lines();
@@ -124,6 +129,7 @@ fn copy_unskipped<O: Object>(
     ensures copied { OnOk result (CopiesOver (skips_by all marks.now) (8 * line) (8 * line + length held_words.old) seat.old.known seat.new.known) }
     ensures steps { EndsCopy (2 * length held_words.old) (region_words (O.line_count shared.now.object)) seat.old.known seat.new.known result }
     ensures leaves { LeavesCopied O.Object shared.now held.now source.now seat.old seat.new }
+    ensures bound { StepsBy (3 * length held_words.old) seat.old seat.new }
     ensures halts { OnErr result (IsAtLimit seat.new.known.local) }
 {
     if is_skipped(marks, all, piece_of(line)) {
@@ -182,6 +188,7 @@ fn copy_piece<O: Object>(
     ensures copied { OnOk result (CopiesOn from (from + length held_words.old) seat.old.known seat.new.known) }
     ensures steps { EndsCopy (2 * length held_words.old) (region_words (O.line_count shared.now.object)) seat.old.known seat.new.known result }
     ensures leaves { LeavesCopied O.Object shared.now held.now source.now seat.old seat.new }
+    ensures bound { StepsBy (3 * length held_words.old) seat.old seat.new }
     ensures halts { OnErr result (IsAtLimit seat.new.known.local) }
 {
     load_piece(shared, seat, held, source, from, held_words, source_words)?;
@@ -252,6 +259,7 @@ fn store_line<O: Object>(
     ensures stored { OnOk result (CopiesPiece from (from + first) (from + first + 8) (first + 8) held_words.now source_words.now seat.old.known seat.new.known) }
     ensures steps { EndsCopy 0 (region_words (O.line_count shared.now.object)) seat.old.known seat.new.known result }
     ensures leaves { LeavesCopied O.Object shared.now held.now source.now seat.old seat.new }
+    ensures bound { StepsBy 8 seat.old seat.new }
     ensures halts { OnErr result (IsAtLimit seat.new.known.local) }
 {
     for i in first..first + LINE {

@@ -7,7 +7,7 @@ ghost use Rattle.cx_core.specs.Rights.{held_dirty};
 ghost use Rattle.cx_rule.specs.Steps.{Halts};
 ghost use Rattle.replica.specs.Flushes.{EndsFlushing, Persists};
 ghost use Rattle.replica.specs.Held.{IsHeld};
-ghost use Rattle.replica.specs.Replays.{IsImage};
+ghost use Rattle.replica.specs.Replays.{IsHeldImage};
 
 use cx_base::{Halt, Object};
 use cx_table::{CallerSeat, Exclusive, Shared};
@@ -22,7 +22,7 @@ pub fn flush<O: Object>(
     requires { IsHeld (O.line_count shared.now.object) shared.now (O.lawful shared.now.object) (O.step shared.now.object) seat.old held.now }
     ensures clean { EndsFlushing seat.new result }
     ensures persists { Persists O.Object shared.now held.now seat.old seat.new }
-    ensures image { IsImage (O.line_count shared.now.object) (O.lawful shared.now.object) shared.now.base (O.step shared.now.object) seat.old.known → IsImage (O.line_count shared.now.object) (O.lawful shared.now.object) shared.now.base (O.step shared.now.object) seat.new.known }
+    ensures image { IsHeldImage (O.line_count shared.now.object) (O.lawful shared.now.object) shared.now.base (O.step shared.now.object) seat.old.known → IsHeldImage (O.line_count shared.now.object) (O.lawful shared.now.object) shared.now.base (O.step shared.now.object) seat.new.known }
 {
     while let Some(at) = seat.some_dirty() {
         persist_dirty(shared, seat, held, at)?;

@@ -1,5 +1,10 @@
-//! Replicas that a caller holds as memories: any object runs on them, entries are replayed on them word by word, and what was
-//! stored is made durable before the right is given up.
+//! An object is sequential code over a memory, a replica is words that threads share, and between them are three duties: replay the log on it, make
+//! it durable before others may see it, and catch up where it fell too far behind.
+//!
+//! A replica that a caller holds is lent as a memory, on which any object runs unchanged, each load and store one step. The way is that of CX
+//! (Correia, Ramalhete, Felber, PPoPP 2020, and EuroSys 2020 for the durable form): entries are replayed from the replica's place on, dirty words
+//! are made durable before its right is released, and a replica that is too old is made a copy of the current one. A caller cannot see all words of
+//! a replica at once, so contracts speak of whatever words fit what it noted of loads and stores: they are the image after a place.
 //!
 //! - A replica held exclusively is a memory, and one held shared is a memory for loads: `Region`, `ReadRegion` (`Memory`). Its pairs are those
 //!   that fit what the seat noted, so any object runs on it unchanged; a load and a store are one step each, and `Halt` comes exactly where the
@@ -12,13 +17,14 @@
 //! - After a flush no word is dirty, and a region that was the image after its place still is; with `Halt` a word is dirty: `flush` (`clean`,
 //!   `image`, `persists`). So the conditions of a downgrade and of a release are met.
 //! - A copy makes the replica held exclusively equal to the one held shared, whatever fits what was noted, and gives their place: `copy_from`
-//!   (`copied`: `Copies`). Each word that became dirty had another value before than the source has, so it lies in a line that differed
+//!   (`copied`: `CopiesReplica`). Each word that became dirty had another value before than the source has, so it lies in a line that differed
 //!   (`DirtiesDiffering`). Beside one for each word stored it makes at most two steps for each word; with `Halt` it made fewer, or a word is
 //!   left to store that was loaded of both and differs (`steps`: `EndsCopy`), and both rights stand (`leaves`). Given the shared
-//!   right back, the words copied are those that the exclusive right began with: `renew_from` (`renewed`: `Renews`), at the place that was
-//!   loaded of the source, by `release_copied` (`made`: `StepsCopied`).
+//!   right back, the words copied are those that the exclusive right began with: `renew_from` (`renewed`: `Renews`; `steps`), at the place that
+//!   was loaded of the source, by `release_copied` (`made`: `StepsCopied`).
 //! - A replica into which nothing was stored is renewed by the lines alone that changed between the two places, where the ring of gaps tells
-//!   them for each ticket between, and else by all: `renew_listed` (`renewed`: `RenewsListed`, the same but for the gaps noted).
+//!   them for each ticket between, and else by all: `renew_listed` (`renewed`: `RenewsListed`, the same but for the gaps noted). It makes 16 steps at
+//!   most for each ticket between, of as many as the ring keeps, beside three for each word and one (`steps`: `StepsBy`), also where it halts.
 //!
 //! Tested (`table_tests`): a caller takes a replica, replays its own linked entry, flushes and downgrades, and another caller reads place,
 //! number and reply there; each limit of steps from 0 to 454, the first that does not halt; each limit of steps of a run of loads, by the words

@@ -5,15 +5,15 @@ ghost use Rattle.cx_base.specs.Memory.{Becomes, Framed, Reads};
 ghost use Rattle.cx_core.specs.Region.{place_of};
 ghost use Rattle.replica.specs.Outcomes.{IsOutcome, ReplyFrom};
 
-use cx_base::{Halt, Memory};
-use cx_core::slot_start;
+use cx_base::{Halt, Memory, OP_WORDS, OpWords};
+use cx_core::{OBJECT_START, slot_start};
 
 /// The word of a region that has the place.
 const PLACE_AT: u64 = 0;
 
 /// The place after which a region is. `Halt` comes only where no access is left.
 pub fn place<M: Memory>(mem: &mut M) -> Result<u64, Halt>
-    requires region { 1168 ≤ M.size mem.old }
+    requires region { OBJECT_START ≤ M.size mem.old }
     ensures read { IfOk result (λ place. Reads (M.stands mem.old) (M.stands mem.new) (λ region. place_of region ≡ place)) }
     ensures unchanged { Becomes (M.stands mem.old) (M.stands mem.new) ◌≡◌ }
     ensures halts { OnErr result (M.left mem.new ≡ Some 0) }
@@ -22,10 +22,10 @@ pub fn place<M: Memory>(mem: &mut M) -> Result<u64, Halt>
     mem.load(PLACE_AT)
 }
 
-/// The number of a caller's last entry in a region, 0 for none, and the reply to it, which is put where the caller has it. `Halt` comes
+/// The number of a caller's last entry in a region, 0 for none, and the reply to it, which is written into the caller's buffer. `Halt` comes
 /// only where no access is left.
-pub fn outcome<M: Memory>(mem: &mut M, caller: u32, reply: &mut [u64; 144]) -> Result<u64, Halt>
-    requires region { 1168 ≤ M.size mem.old }
+pub fn outcome<M: Memory>(mem: &mut M, caller: u32, reply: &mut OpWords) -> Result<u64, Halt>
+    requires region { OBJECT_START ≤ M.size mem.old }
     requires caller { caller < 8 }
     ensures read { IfOk result (λ number. Reads (M.stands mem.old) (M.stands mem.new) (IsOutcome caller number reply.new)) }
     ensures unchanged { Becomes (M.stands mem.old) (M.stands mem.new) ◌≡◌ }
@@ -39,9 +39,9 @@ pub fn outcome<M: Memory>(mem: &mut M, caller: u32, reply: &mut [u64; 144]) -> R
 }
 
 /// Loads a reply from a place on.
-fn load_reply<M: Memory>(mem: &mut M, from: u64, reply: &mut [u64; 144]) -> Result<(), Halt>
-    requires region { from + 144 ≤ M.size mem.old }
-    requires small { from < 1168 }
+fn load_reply<M: Memory>(mem: &mut M, from: u64, reply: &mut OpWords) -> Result<(), Halt>
+    requires region { from + OP_WORDS ≤ M.size mem.old }
+    requires small { from < OBJECT_START }
     ensures read { OnOk result (Reads (M.stands mem.old) (M.stands mem.new) (ReplyFrom from reply.new)) }
     ensures unchanged { Becomes (M.stands mem.old) (M.stands mem.new) ◌≡◌ }
     ensures halts { OnErr result (M.left mem.new ≡ Some 0) }

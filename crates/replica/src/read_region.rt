@@ -5,6 +5,7 @@ ghost use Rattle.cx_core.specs.Region.{region_words};
 ghost use Rattle.cx_rule.specs.Fitting.{loaded_of};
 ghost use Rattle.cx_rule.specs.Seats.{IsWithinLimit};
 ghost use Rattle.cx_table.specs.Runs.{StartsAt};
+ghost use Rattle.cx_table.specs.GapMarks.{HasMadeSteps};
 ghost use Rattle.replica.specs.Held.{IsHeldShared};
 ghost use Rattle.replica.specs.Regions.{IsRegionOf, has_loaded};
 
@@ -22,19 +23,22 @@ pub struct ReadRegion<'a, T: HeldWords> {
     start: usize,
     /// The place, where it was loaded before the region began.
     placed: Option<u64>,
+    /// The steps that were made before the region began: it takes none back.
+    began: u64,
     ghost of: { IsHeldShared (T.line_count table.now) (T.running table.now) (T.lawful table.now) seat.now held.now },
     ghost starts: { StartsAt (T.running table.now) held.now.replica start },
     ghost within: { IsWithinLimit seat.now.known.local },
     ghost place: { IsTrue (has_loaded placed (loaded_of seat.now.known.local.shared)) },
+    ghost since: { HasMadeSteps began seat.now },
 }
 
 impl<'a, T: HeldWords> ReadRegion<'a, T> {
     /// The region of the replica that a token is of.
     pub fn of(table: &'a T, seat: &'a mut CallerSeat, held: &'a SharedHold) -> ReadRegion<'a, T>
         requires { IsHeldShared (T.line_count table.now) (T.running table.now) (T.lawful table.now) seat.old held.now }
-        ensures { IsRegionOf seat.entry.ghost_name result.seat.ghost_name table.now result.table.now seat.old result.seat.now held.now result.held.now None result.placed }
+        ensures { IsRegionOf seat.entry.ghost_name result.seat.ghost_name table.now result.table.now seat.old result.seat.now held.now result.held.now None result.placed result.began }
     {
-        let _steps = seat.steps();
+        let began = seat.steps();
         let start = table.start_shared(seat, held);
         ReadRegion {
             table,
@@ -42,10 +46,12 @@ impl<'a, T: HeldWords> ReadRegion<'a, T> {
             held,
             start,
             placed: None,
+            began,
         }
     }
 
-    /// The same where this place was loaded before. That it was is then known of the seat once the region ends.
+    /// The region of the replica that a token is of, where this place was loaded before. That it was is then known of the seat once the region
+    /// ends.
     pub fn placed(
         table: &'a T,
         seat: &'a mut CallerSeat,
@@ -54,9 +60,9 @@ impl<'a, T: HeldWords> ReadRegion<'a, T> {
     ) -> ReadRegion<'a, T>
         requires held { IsHeldShared (T.line_count table.now) (T.running table.now) (T.lawful table.now) seat.old held.now }
         requires place { IsTrue (has_loaded (Some place) (loaded_of seat.old.known.local.shared)) }
-        ensures { IsRegionOf seat.entry.ghost_name result.seat.ghost_name table.now result.table.now seat.old result.seat.now held.now result.held.now (Some place) result.placed }
+        ensures { IsRegionOf seat.entry.ghost_name result.seat.ghost_name table.now result.table.now seat.old result.seat.now held.now result.held.now (Some place) result.placed result.began }
     {
-        let _steps = seat.steps();
+        let began = seat.steps();
         let start = table.start_shared(seat, held);
         ReadRegion {
             table,
@@ -64,6 +70,7 @@ impl<'a, T: HeldWords> ReadRegion<'a, T> {
             held,
             start,
             placed: Some(place),
+            began,
         }
     }
 }
@@ -79,7 +86,7 @@ impl<T: HeldWords> Memory for ReadRegion<'_, T> {
 
     ghost Fixed = { ReadFixed GName T };
 
-    ghost fixed = { λ r. record { name = r.seat.ghost_name; table = r.table.now; held = r.held.now; placed = r.placed; rest = beside_shared r.held.now.replica r.seat.now } };
+    ghost fixed = { λ r. record { name = r.seat.ghost_name; table = r.table.now; held = r.held.now; placed = r.placed; began = r.began; rest = beside_shared r.held.now.replica r.seat.now } };
 
     // No step stores into a replica held shared. A seat whose limit is 0 makes no step at all, so that a store by it halts.
     ghost writable = { λ r. r.seat.now.known.local.limit == 0 };

@@ -4,6 +4,7 @@ ghost use Rattle.std.specs.Prelude.{false, true, List, ℕ, IsTrue};
 ghost use Rattle.cx_core.specs.Region.{region_words};
 ghost use Rattle.cx_rule.specs.Seats.{IsWithinLimit};
 ghost use Rattle.cx_table.specs.Runs.{StartsAt};
+ghost use Rattle.cx_table.specs.GapMarks.{HasMadeSteps};
 ghost use Rattle.replica.specs.Held.{IsHeld};
 ghost use Rattle.replica.specs.Regions.{HasPlace, IsRegionOf};
 
@@ -22,19 +23,22 @@ pub struct Region<'a, T: HeldWords> {
     start: usize,
     /// Whether the place was loaded or stored before the region began.
     pub(crate) placed: bool,
+    /// The steps that were made before the region began: it takes none back.
+    pub(crate) began: u64,
     ghost of: { IsHeld (T.line_count table.now) (T.running table.now) (T.lawful table.now) (T.step table.now) seat.now held.now },
     ghost starts: { StartsAt (T.running table.now) held.now.replica start },
     ghost within: { IsWithinLimit seat.now.known.local },
     ghost place: { IsTrue placed → HasPlace seat.now.known.accesses },
+    ghost since: { HasMadeSteps began seat.now },
 }
 
 impl<'a, T: HeldWords> Region<'a, T> {
     /// The region of the replica that a token is of.
     pub fn of(table: &'a T, seat: &'a mut CallerSeat, held: &'a Exclusive) -> Region<'a, T>
         requires { IsHeld (T.line_count table.now) (T.running table.now) (T.lawful table.now) (T.step table.now) seat.old held.now }
-        ensures { IsRegionOf seat.entry.ghost_name result.seat.ghost_name table.now result.table.now seat.old result.seat.now held.now result.held.now false result.placed }
+        ensures { IsRegionOf seat.entry.ghost_name result.seat.ghost_name table.now result.table.now seat.old result.seat.now held.now result.held.now false result.placed result.began }
     {
-        let _steps = seat.steps();
+        let began = seat.steps();
         let start = table.start_held(seat, held);
         Region {
             table,
@@ -42,16 +46,18 @@ impl<'a, T: HeldWords> Region<'a, T> {
             held,
             start,
             placed: false,
+            began,
         }
     }
 
-    /// The same where the place was loaded or stored before. That it was is then known of the seat once the region ends.
+    /// The region of the replica that a token is of, where the place was loaded or stored before. That it was is then known of the seat once the
+    /// region ends.
     pub fn placed(table: &'a T, seat: &'a mut CallerSeat, held: &'a Exclusive) -> Region<'a, T>
         requires held { IsHeld (T.line_count table.now) (T.running table.now) (T.lawful table.now) (T.step table.now) seat.old held.now }
         requires place { HasPlace seat.old.known.accesses }
-        ensures { IsRegionOf seat.entry.ghost_name result.seat.ghost_name table.now result.table.now seat.old result.seat.now held.now result.held.now true result.placed }
+        ensures { IsRegionOf seat.entry.ghost_name result.seat.ghost_name table.now result.table.now seat.old result.seat.now held.now result.held.now true result.placed result.began }
     {
-        let _steps = seat.steps();
+        let began = seat.steps();
         let start = table.start_held(seat, held);
         Region {
             table,
@@ -59,6 +65,7 @@ impl<'a, T: HeldWords> Region<'a, T> {
             held,
             start,
             placed: true,
+            began,
         }
     }
 }
@@ -73,7 +80,7 @@ impl<T: HeldWords> Memory for Region<'_, T> {
 
     ghost Fixed = { RegionFixed GName T };
 
-    ghost fixed = { λ r. region_fixed r.seat.ghost_name r.table.now r.held.now r.placed r.seat.now };
+    ghost fixed = { λ r. region_fixed r.seat.ghost_name r.table.now r.held.now r.placed r.began r.seat.now };
 
     ghost writable = { λ _. true };
 

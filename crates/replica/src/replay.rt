@@ -8,11 +8,11 @@ ghost use Rattle.cx_rule.specs.Fitting.{FitsKnown};
 ghost use Rattle.cx_rule.specs.Steps.{Halts};
 ghost use Rattle.replica.specs.Held.{IsHeld, LeavesHeld, left_of};
 ghost use Rattle.replica.specs.Regions.{SameRegion, region_fixed};
-ghost use Rattle.replica.specs.Replays.{Accessed, CanStep, ComesNext, IsReady, ShowsReply, StoresNone, noted_place};
+ghost use Rattle.replica.specs.Replays.{IsAfterFullStep, CanStep, ComesNext, IsReady, ShowsReply, StoresNone, noted_place};
 
 use crate::region::Region;
 use crate::words::HeldWords;
-use cx_base::{Halt, Object};
+use cx_base::{Halt, OP_WORDS, Object, OpWords};
 use cx_core::{Entry, full_step_into};
 use cx_table::{CallerSeat, Exclusive, Shared};
 
@@ -38,21 +38,21 @@ pub fn begin<O: Object>(
 }
 
 /// Does the full step of the entry of the place of a replica held exclusively: it is the image after its place, and then that
-/// after the next. The reply is put where the caller has it, and is the one that the replica then has for the entry's caller. `Halt` comes
+/// after the next. The reply is written into the caller's buffer, and is the one that the replica then has for the entry's caller. `Halt` comes
 /// only where the seat's steps equal its limit.
 pub fn apply<O: Object>(
     shared: &Shared<O>,
     seat: &mut CallerSeat,
     held: &Exclusive,
     entry: &Entry,
-    reply: &mut [u64; 144],
+    reply: &mut OpWords,
 ) -> Result<(), Halt>
     requires ready { IsReady O.Object shared.now held.now (noted_place seat.old) seat.old }
     requires next { ComesNext entry.now seat.old }
     ensures ready { OnOk result (IsReady O.Object shared.now held.now (noted_place seat.old + 1) seat.new) }
     ensures replied { OnOk result (ShowsReply (O.line_count shared.now.object) (O.lawful shared.now.object) shared.now.base (O.step shared.now.object) seat.new.known entry.now.caller reply.new) }
     ensures halts { OnErr result (left_of seat.new.known.local ≡ Some 0) }
-    ensures leaves { Accessed O.Object shared.now held.now seat.old seat.new }
+    ensures leaves { IsAfterFullStep O.Object shared.now held.now seat.old seat.new }
 {
     step_held(shared, seat, held, entry, reply)
 }
@@ -63,14 +63,14 @@ fn step_held<O: Object>(
     seat: &mut CallerSeat,
     held: &Exclusive,
     entry: &Entry,
-    reply: &mut [u64; 144],
+    reply: &mut OpWords,
 ) -> Result<(), Halt>
     requires held { IsHeld (O.line_count shared.now.object) shared.now (O.lawful shared.now.object) (O.step shared.now.object) seat.old held.now }
     requires can { CanStep O.Object shared.now seat.old }
     requires caller { entry.now.caller < 8 }
     ensures done { OnOk result (Becomes (FitsKnown (O.line_count shared.now.object) (O.lawful shared.now.object) shared.now.base (O.step shared.now.object) seat.old.known) (FitsKnown (O.line_count shared.now.object) (O.lawful shared.now.object) shared.now.base (O.step shared.now.object) seat.new.known) (IsStepped (O.step shared.now.object) entry.now reply.new)) }
     ensures halts { OnErr result (left_of seat.new.known.local ≡ Some 0) }
-    ensures leaves { Accessed O.Object shared.now held.now seat.old seat.new }
+    ensures leaves { IsAfterFullStep O.Object shared.now held.now seat.old seat.new }
 {
     let object = shared.object();
     full_step_into(
@@ -88,8 +88,8 @@ pub fn replay_one<O: Object>(region: &mut Region<'_, Shared<O>>, entry: &Entry) 
     requires next { ComesNext entry.now region.old.seat.now }
     ensures ready { OnOk result (IsReady O.Object region.new.table.now region.new.held.now (noted_place region.old.seat.now + 1) region.new.seat.now) }
     ensures halts { OnErr result (left_of region.new.seat.now.known.local ≡ Some 0) }
-    ensures same { SameRegion (region_fixed region.old.seat.ghost_name region.old.table.now region.old.held.now region.old.placed region.old.seat.now) (region_fixed region.new.seat.ghost_name region.new.table.now region.new.held.now region.new.placed region.new.seat.now) }
+    ensures same { SameRegion (region_fixed region.old.seat.ghost_name region.old.table.now region.old.held.now region.old.placed region.old.began region.old.seat.now) (region_fixed region.new.seat.ghost_name region.new.table.now region.new.held.now region.new.placed region.new.began region.new.seat.now) }
 {
-    let mut reply = [0; 144];
+    let mut reply = [0; OP_WORDS];
     apply(region.table, region.seat, region.held, entry, &mut reply)
 }

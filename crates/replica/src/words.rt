@@ -36,7 +36,7 @@ pub trait HeldWords {
         requires { IsHeld (line_count self.now) (running self.now) (lawful self.now) (step self.now) seat.now held.now }
         ensures { StartsAt (running self.now) held.now.replica result };
 
-    /// The same of a replica held shared.
+    /// Where the words of the replica held shared begin in the table.
     fn start_shared(&self, seat: &CallerSeat, held: &SharedHold) -> usize
         requires { IsHeldShared (line_count self.now) (running self.now) (lawful self.now) seat.now held.now }
         ensures { StartsAt (running self.now) held.now.replica result };
@@ -193,8 +193,8 @@ impl<O: Object> HeldWords for Shared<O> {
     }
 }
 
-/// Loads a word of a replica that the caller holds exclusively or shared: one behind the place by the shorter call, where the limit leaves
-/// a step. It stands in the code of each walk, and the longer call does not.
+/// Loads a word of a replica that the caller holds exclusively or shared: one after the place by the shorter call, where the limit leaves
+/// a step. This is inlined into the code of each walk, and the longer call is not.
 #[inline]
 fn load_one<O: Object>(
     shared: &Shared<O>,
@@ -214,7 +214,7 @@ fn load_one<O: Object>(
     load_alone(shared, seat, r, i)
 }
 
-/// The same by the longer call.
+/// Loads a word of a replica by the longer call, which may also load the place.
 #[cold]
 #[inline(never)]
 fn load_alone<O: Object>(
@@ -253,7 +253,7 @@ pub(crate) fn load_run<O: Object>(
     load_each(shared, seat, r, from, into)
 }
 
-/// The same, one by one.
+/// Loads the words one by one.
 fn load_each<O: Object>(
     shared: &Shared<O>,
     seat: &mut CallerSeat,

@@ -1,2 +1,5 @@
-mod Stored
+pub mod Accesses
+mod GapNotes
+pub mod NotingLaws
 mod Ready
+mod Stored

@@ -1,5 +1,5 @@
 -- What a look, an offer and a set that was taken leave of a replica that is the image after its place.
-use Rattle.std.proofs.Common.{All, inl, inr, ◌≡◌, ◌<◌, ◌⊎◌, ◌++◌, ℕ, List, [], map, slice_set, ap, refl, sym, subst, ◌∙◌, Option, None}
+use Rattle.std.proofs.Common.{All, inl, inr, ◌≡◌, ◌<◌, ◌⊎◌, ◌++◌, ℕ, List, [], map, slice_set, ap, arith, refl, sym, subst, ◌∙◌, Option, None}
 use Rattle.std.proofs.Math.Seq.{map-set_same}
 use Rattle.cx_base.specs.Memory.{Becomes}
 use Rattle.cx_base.specs.declared.object.Object.{Ghosts}
@@ -8,6 +8,7 @@ use Rattle.cx_core.specs.declared.local.SeenSlot.{SeenSlot}
 use Rattle.cx_core.specs.QueueEvents.{cell_of}
 use Rattle.cx_core.specs.Region.{region_words}
 use Rattle.cx_core.specs.Rights.{held_dirty}
+use Rattle.cx_core.specs.State.{one_more}
 use Rattle.cx_core.proofs.ListLemmas.{slice_get-append_left}
 use Rattle.core_queue.specs.declared.notes.SetNoted.{SetNoted}
 use Rattle.core_queue.specs.NotedSets.{IsNotedSet}
@@ -18,8 +19,9 @@ use Rattle.cx_rule.specs.Seats.{Seated}
 use Rattle.cx_rule.proofs.HasMore.{HasMore, fits_more, fits_same, some_same}
 use Rattle.cx_table.specs.Right.{Right}
 use Rattle.cx_table.specs.Tokens.{IsExclusiveOf}
+use Rattle.cx_table.specs.GapMarks.{StepsOn}
 use Rattle.mutation_queue.specs.Entries.{with_look}
-use Rattle.redo_set.specs.Offering.{HasStill, with_set}
+use Rattle.redo_set.specs.Offering.{HasStill, seat_with_set}
 use Rattle.redo_set.specs.Sets.{put_over}
 use Rattle.redo_set.specs.Taking.{LeavesTaking, with_notes}
 use Rattle.replica.specs.Held.{IsHeld, beside_held}
@@ -110,6 +112,12 @@ module _ {O : Type 0} (o : Ghosts O) (r : Running O) (held : Right) (at : ℕ) w
             (was, fits_same lines lawful r.base step before.known mid.known has accesses first was (fits_more lines lawful r.base step (has_of mid.known) (has_of taken.known) more mid.known.accesses first was (subst (λ xs. FitsOn lines lawful r.base step (has_of taken.known) xs first was) still b.1)), b.2));
       }
 
+-- a look is one step, and none is taken back behind it
+pub since_taken : (seen : Option SeenSlot) (before mid after : Seated) → mid ≡ with_look seen before → StepsOn mid after → StepsOn before after
+since_taken seen before mid after looked on =
+    let one : mid.known.local.steps ≡ one_more before.known.local.steps = ap (λ (s : Seated). s.known.local.steps) looked in
+    omega (arith, one, on)
+
 -- a seat beside what work on the replica held exclusively changes, beside what is seen and noted of sets too
 abbrev beside_both : Seated → Seated
 beside_both b = record b { known = record b.known { local = record b.known.local { seen_slot = None; seen_offer = None }; sets = [] } }
@@ -137,7 +145,7 @@ module _ {O : Type 0} (r : Running O) (replica : ℕ) where
   leaves_held before after of same = record { seat = of; rest = ap beside_cells same }
 
   -- words of an own set were written, or it was offered
-  pub leaves_set : (before mid after : Seated) (j : ℕ) (set : List ℕ) (offer steps : ℕ) → LeavesOwn r replica before mid → IsSeatOf r after → after ≡ with_set j set offer steps mid → LeavesOwn r replica before after
+  pub leaves_set : (before mid after : Seated) (j : ℕ) (set : List ℕ) (offer steps : ℕ) → LeavesOwn r replica before mid → IsSeatOf r after → after ≡ seat_with_set j set offer steps mid → LeavesOwn r replica before after
   leaves_set before mid after j set offer steps was of is =
       let cell : Cell = record (cell_of mid.known.local j) { set = set; offer = offer } in
       let same : map but_set (slice_set mid.known.local.cells j cell) ≡ map but_set mid.known.local.cells =
@@ -145,7 +153,7 @@ module _ {O : Type 0} (r : Running O) (replica : ℕ) where
       record { seat = of; rest = ap (beside_own replica) is ∙ ap (own_with replica mid) same ∙ was.rest }
 
 -- an own set was offered
-pub applied_offered : {O : Type 0} (o : Ghosts O) (r : Running O) (held : Right) (at caller : ℕ) (reply : List ℕ) (before after : Seated) (j : ℕ) (set : List ℕ) (offer steps : ℕ) → IsSeatOf r after → after ≡ with_set j set offer steps before →
+pub applied_offered : {O : Type 0} (o : Ghosts O) (r : Running O) (held : Right) (at caller : ℕ) (reply : List ℕ) (before after : Seated) (j : ℕ) (set : List ℕ) (offer steps : ℕ) → IsSeatOf r after → after ≡ seat_with_set j set offer steps before →
     HasStill before.known after.known → Fitting r.lines (o.lawful r.object) r.base (o.step r.object) after.known → HasApplied o r held at caller reply before → HasApplied o r held at caller reply after
 applied_offered o r held at caller reply before after j set offer steps of is still fits was =
     let lines = o.line_count r.object in
@@ -157,7 +165,7 @@ applied_offered o r held at caller reply before after j set offer steps of is st
         is_held = record {
           sized = held_before.sized;
           of = of;
-          right = subst (λ s. IsExclusiveOf r.callers s held) (sym is) (let right : IsExclusiveOf r.callers (with_set j set offer steps before) held = record { few = held_before.right.few; caller = held_before.right.caller; holds = held_before.right.holds } in right);
+          right = subst (λ s. IsExclusiveOf r.callers s held) (sym is) (let right : IsExclusiveOf r.callers (seat_with_set j set offer steps before) held = record { few = held_before.right.few; caller = held_before.right.caller; holds = held_before.right.holds } in right);
           some = subst (λ n. SomeFits n (o.lawful r.object) r.base (o.step r.object) after.known) held_before.sized.lines_are fits.exclusive;
           dirty = subst (λ (s : Seated). All (λ i. i < region_words lines) (held_dirty s.known.local.exclusive)) (sym is) held_before.dirty;
         };

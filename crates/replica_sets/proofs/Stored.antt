@@ -12,15 +12,15 @@ use Rattle.cx_rule.specs.Steps.{Halts}
 use Rattle.cx_table.specs.Right.{Right}
 use Rattle.redo_set.specs.Sets.{put_over}
 use Rattle.replica.proofs.Replaying.{set_on}
-use Rattle.replica.proofs.RegionLaws.{held_after, stands_stored}
+use Rattle.replica.proofs.RegionLaws.{held_after, since_after, stands_stored}
 use Rattle.replica.specs.Held.{Accesses, IsHeld, beside_held}
 use Rattle.replica.specs.Regions.{HasPlace}
 use Rattle.replica_sets.specs.Storing.{stores_to}
-use Rattle.replica.specs.Replays.{Accessed, IsImage, IsReady, noted_place}
+use Rattle.replica.specs.Replays.{IsAfterFullStep, IsHeldImage, IsReady, noted_place}
 
 -- whether all pairs were stored or not
 pub stored_ready : {O X E : Type 0} (o : Ghosts O) (r : Running O) (held : Right) (set : List ℕ) (before after : Seated) → (result : Result X E) →
-    IsImage (o.line_count r.object) (o.lawful r.object) r.base (o.step r.object) before.known → (has_of before.known).set (noted_place before) set → Accessed o r held before after →
+    IsHeldImage (o.line_count r.object) (o.lawful r.object) r.base (o.step r.object) before.known → (has_of before.known).set (noted_place before) set → IsAfterFullStep o r held before after →
     OnOk result (Becomes (FitsKnown (o.line_count r.object) (o.lawful r.object) r.base (o.step r.object) before.known) (FitsKnown (o.line_count r.object) (o.lawful r.object) r.base (o.step r.object) after.known) (λ was now. now ≡ put_over set was)) →
     OnOk result (IsReady o r held (noted_place before + 1) after)
 unfolding put_over
@@ -56,10 +56,10 @@ module _ {O A E : Type 0} (o : Ghosts O) (r : Running O) (held : Right) (at v : 
   same_rest (Err e) made halts = ap (beside_held held.replica) halts.same
 
   pub pair_leaves : (result : Result A E) → OnOk result (Accesses (o.line_count r.object) r (o.lawful r.object) (o.step r.object) held (true, at, v) before after) → OnErr result (Halts r before after) →
-      IsHeld (o.line_count r.object) r (o.lawful r.object) (o.step r.object) before held → IsWithinLimit before.known.local → HasPlace before.known.accesses → Accessed o r held before after
+      IsHeld (o.line_count r.object) r (o.lawful r.object) (o.step r.object) before held → IsWithinLimit before.known.local → HasPlace before.known.accesses → IsAfterFullStep o r held before after
   pair_leaves result made halts of within place =
       let kept = held_after (o.line_count r.object) r (o.lawful r.object) (o.step r.object) held before after (λ (x : A). (let n : Note = (true, at, v) in n)) true result (as_if_ok _ result made) halts of within (λ yes. place) in
-      record { still = kept.0; begun = kept.2 refl; within = kept.1; rest = same_rest result made halts }
+      record { still = kept.0; begun = kept.2 refl; within = kept.1; since = since_after (o.line_count r.object) r (o.lawful r.object) (o.step r.object) held before after (λ (x : A). (let n : Note = (true, at, v) in n)) before.known.local.steps result (as_if_ok _ result made) halts (omega arith); rest = same_rest result made halts }
 
 -- the stores of one pair more
 pub stores_more : (m : ℕ) (set : List ℕ) (at v : ℕ) (first now last : List Note) → now ≡ first ++ stores_to m set → last ≡ now ++ (true, at, v) ∷ [] → at ≡ slice_index set (2 * m + 1) → v ≡ slice_index set (2 * m + 2) → last ≡ first ++ stores_to (m + 1) set

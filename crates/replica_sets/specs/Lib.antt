@@ -1,3 +1,4 @@
-pub mod Storing
+pub mod Noting
 pub mod Offered
 pub mod Own
+pub mod Storing

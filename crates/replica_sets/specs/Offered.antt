@@ -22,7 +22,7 @@ pub record LeavesOffered {O : Type 0} (r : Running O) (replica : ℕ) (before af
   pub seat : IsSeatOf r after
   pub rest : beside_offered replica after ≡ beside_offered replica before
 
--- where the set was taken the replica is the image after the next place, and else after the same
+-- where the set was taken the replica is the image after the next place, and else after this one
 abbrev pub ReplaysOffered : {O : Type 0} → Ghosts O → Running O → Right → ℕ → Seated → Bool → Type 0
 ReplaysOffered o r held ticket after true = IsReady o r held (ticket + 1) after
 ReplaysOffered o r held ticket after false = IsReady o r held ticket after

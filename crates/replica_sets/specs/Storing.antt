@@ -6,7 +6,7 @@ use Rattle.cx_rule.specs.Fitting.{IsSetWithin, has_of}
 use Rattle.cx_rule.specs.Seats.{Seated}
 use Rattle.replica.specs.Replays.{noted_place}
 
--- the caller has a write set with the place of the replica held exclusively as its ticket, and its addresses are those of so many words
+-- the caller has a write set with the place of the replica held exclusively as its ticket, and its addresses are those of a region's words
 pub record SetComesNext (region : ℕ) (set : List ℕ) (seat : Seated) : Type 0 where
   pub had : (has_of seat.known).set (noted_place seat) set
   pub within : IsSetWithin region set
@@ -16,7 +16,7 @@ pub record OwnSetComesNext (region cell : ℕ) (seat : Seated) : Type 0 where
   pub few : cell < 16
   pub comes : SetComesNext region (cell_of seat.known.local cell).set seat
 
--- the stores of so many pairs of a set, from the first one on, as accesses
+-- the stores of this number of pairs of a set, from the first one on, as accesses
 unfoldable pub stores_to : ℕ → List ℕ → List Note
 stores_to zero set = []
 stores_to (suc m) set = stores_to m set ++ (true, slice_index set (2 * m + 1), slice_index set (2 * m + 2)) ∷ []

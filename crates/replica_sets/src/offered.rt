@@ -3,6 +3,7 @@
 ghost use Rattle.std.specs.Prelude.{◌≤◌, IfOk, MatchResult};
 ghost use Rattle.cx_rule.specs.Seats.{IsAtLimit};
 ghost use Rattle.cx_table.specs.Calls.{MakesStep};
+ghost use Rattle.cx_table.specs.GapMarks.{StepsOn};
 ghost use Rattle.mutation_queue.specs.Entries.{Looked, MayRead};
 ghost use Rattle.redo_set.specs.Taking.{CountsTaken};
 ghost use Rattle.replica.specs.Replays.{IsReady};
@@ -31,6 +32,7 @@ pub fn replay_offered<O: Object>(
     ensures counted { IfOk result (CountsTaken seat.old seat.new) }
     ensures brought { IfOk result (BringsBySet O.Object shared.now ticket set.new seat.old seat.new) }
     ensures leaves { LeavesOffered shared.now held.now.replica seat.old seat.new }
+    ensures since { StepsOn seat.old seat.new }
 {
     let cell = see_cell(shared, seat, ticket)?;
     let taken = take(shared, seat, cell, ticket, set)?;

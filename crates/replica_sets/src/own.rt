@@ -6,16 +6,17 @@ ghost use Rattle.cx_core.specs.QueueEvents.{cell_of};
 ghost use Rattle.cx_core.specs.Region.{region_words};
 ghost use Rattle.cx_rule.specs.Fitting.{IsSetWithin};
 ghost use Rattle.cx_rule.specs.Seats.{IsAtLimit};
+ghost use Rattle.cx_table.specs.GapMarks.{StepsOn};
 ghost use Rattle.replica.specs.Replays.{ComesNext, IsReady};
 ghost use Rattle.replica.specs.Held.{IsSized, LeavesHeld};
 ghost use Rattle.replica_sets.specs.Offered.{ReplaysOffered};
 ghost use Rattle.replica_sets.specs.Own.{HasApplied, LeavesOwn};
 
+use crate::noting::apply_noting;
 use crate::storing::store_own_set;
-use cx_base::{Halt, Object};
+use cx_base::{Halt, Object, OpWords};
 use cx_core::{Entry, HEAD_LINES, LINE_WORDS};
 use cx_table::{CallerSeat, Exclusive, Shared};
-use noting_region::apply_noting;
 use redo_set::{WriteSet, offer};
 
 /// Brings a replica held exclusively on by the set of the caller's own entry whose ticket is its place, where that is offered, from the seat's
@@ -61,7 +62,7 @@ fn is_within<O: Object>(shared: &Shared<O>, seat: &CallerSeat, cell: u64) -> boo
 }
 
 /// Does the full step of the caller's own entry, whose ticket is the place of a replica held exclusively, and offers what it stored as the
-/// entry's write set, where that has room for it and the entry is not offered yet. The reply is put where the caller has it, and is the one
+/// entry's write set, where that has room for it and the entry is not offered yet. The reply is written into the caller's buffer, and is the one
 /// that the replica then has for the entry's caller. `Halt` comes only where the seat's steps equal its limit.
 pub fn step_and_offer<O: Object>(
     shared: &Shared<O>,
@@ -70,12 +71,13 @@ pub fn step_and_offer<O: Object>(
     ticket: u64,
     entry: &Entry,
     set: &mut WriteSet,
-    reply: &mut [u64; 144],
+    reply: &mut OpWords,
 ) -> Result<(), Halt>
     requires ready { IsReady O.Object shared.now held.now ticket seat.old }
     requires next { ComesNext entry.now seat.old }
     ensures applied { MatchResult result (λ _. HasApplied O.Object shared.now held.now (ticket + 1) entry.now.caller reply.new seat.new) (λ _. IsAtLimit seat.new.known.local) }
     ensures leaves { LeavesOwn shared.now held.now.replica seat.old seat.new }
+    ensures since { StepsOn seat.old seat.new }
 {
     let whole = apply_noting(shared, seat, held, entry, set, reply)?;
     if !whole {

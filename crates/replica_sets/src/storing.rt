@@ -9,7 +9,7 @@ ghost use Rattle.cx_rule.specs.Fitting.{FitsKnown, IsSetWithin};
 ghost use Rattle.redo_set.specs.Sets.{put_over};
 ghost use Rattle.replica.specs.Held.{IsHeld, left_of};
 ghost use Rattle.replica.specs.Regions.{HasPlace};
-ghost use Rattle.replica.specs.Replays.{Accessed, IsReady, noted_place};
+ghost use Rattle.replica.specs.Replays.{IsAfterFullStep, IsReady, noted_place};
 ghost use Rattle.replica_sets.specs.Storing.{OwnSetComesNext, SetComesNext, set_stores};
 
 use cx_base::{Halt, Object};
@@ -31,7 +31,7 @@ pub fn store_set<O: Object>(
     ensures done { OnOk result (Becomes (FitsKnown (O.line_count shared.now.object) (O.lawful shared.now.object) shared.now.base (O.step shared.now.object) seat.old.known) (FitsKnown (O.line_count shared.now.object) (O.lawful shared.now.object) shared.now.base (O.step shared.now.object) seat.new.known) (λ before now. now ≡ put_over set.now before)) }
     ensures stores { OnOk result (seat.new.known.accesses ≡ seat.old.known.accesses ++ set_stores set.now) }
     ensures halts { OnErr result (left_of seat.new.known.local ≡ Some 0) }
-    ensures leaves { Accessed O.Object shared.now held.now seat.old seat.new }
+    ensures leaves { IsAfterFullStep O.Object shared.now held.now seat.old seat.new }
 {
     put_pairs(shared, seat, held, set)
 }
@@ -49,7 +49,7 @@ fn put_pairs<O: Object>(
     ensures done { OnOk result (Becomes (FitsKnown (O.line_count shared.now.object) (O.lawful shared.now.object) shared.now.base (O.step shared.now.object) seat.old.known) (FitsKnown (O.line_count shared.now.object) (O.lawful shared.now.object) shared.now.base (O.step shared.now.object) seat.new.known) (λ before now. now ≡ put_over set.now before)) }
     ensures stores { OnOk result (seat.new.known.accesses ≡ seat.old.known.accesses ++ set_stores set.now) }
     ensures halts { OnErr result (left_of seat.new.known.local ≡ Some 0) }
-    ensures leaves { Accessed O.Object shared.now held.now seat.old seat.new }
+    ensures leaves { IsAfterFullStep O.Object shared.now held.now seat.old seat.new }
 {
     let _steps = seat.steps();
     for m in 0..set.len() {
@@ -59,7 +59,8 @@ fn put_pairs<O: Object>(
     Ok(())
 }
 
-/// The same by the set of the caller's own entry in a cell, from the seat's memory.
+/// Does as `store_set` by the set of the caller's own entry in a cell, from the seat's memory. `Halt` comes only where the seat's steps equal
+/// its limit.
 pub fn store_own_set<O: Object>(
     shared: &Shared<O>,
     seat: &mut CallerSeat,
@@ -70,7 +71,7 @@ pub fn store_own_set<O: Object>(
     requires next { OwnSetComesNext (region_words (O.line_count shared.now.object)) cell seat.old }
     ensures ready { OnOk result (IsReady O.Object shared.now held.now (noted_place seat.old + 1) seat.new) }
     ensures halts { OnErr result (left_of seat.new.known.local ≡ Some 0) }
-    ensures leaves { Accessed O.Object shared.now held.now seat.old seat.new }
+    ensures leaves { IsAfterFullStep O.Object shared.now held.now seat.old seat.new }
 {
     put_own_pairs(shared, seat, held, cell)
 }
@@ -87,7 +88,7 @@ fn put_own_pairs<O: Object>(
     requires within { (cell < 16) × IsSetWithin (region_words (O.line_count shared.now.object)) (cell_of seat.old.known.local cell).set }
     ensures done { OnOk result (Becomes (FitsKnown (O.line_count shared.now.object) (O.lawful shared.now.object) shared.now.base (O.step shared.now.object) seat.old.known) (FitsKnown (O.line_count shared.now.object) (O.lawful shared.now.object) shared.now.base (O.step shared.now.object) seat.new.known) (λ before now. now ≡ put_over (cell_of seat.old.known.local cell).set before)) }
     ensures halts { OnErr result (left_of seat.new.known.local ≡ Some 0) }
-    ensures leaves { Accessed O.Object shared.now held.now seat.old seat.new }
+    ensures leaves { IsAfterFullStep O.Object shared.now held.now seat.old seat.new }
 {
     let _steps = seat.steps();
     for m in 0..seat.set_word(cell, 0) {
@@ -112,7 +113,7 @@ fn put_pair<O: Object>(
     ensures done { OnOk result (Stored at v (FitsKnown (O.line_count shared.now.object) (O.lawful shared.now.object) shared.now.base (O.step shared.now.object) seat.old.known) (FitsKnown (O.line_count shared.now.object) (O.lawful shared.now.object) shared.now.base (O.step shared.now.object) seat.new.known)) }
     ensures stores { OnOk result (seat.new.known.accesses ≡ seat.old.known.accesses ++ (true, at, v) ∷ []) }
     ensures halts { OnErr result (left_of seat.new.known.local ≡ Some 0) }
-    ensures leaves { Accessed O.Object shared.now held.now seat.old seat.new }
+    ensures leaves { IsAfterFullStep O.Object shared.now held.now seat.old seat.new }
 {
     let _steps = seat.steps();
     shared.store_held(seat, held, at, v)

@@ -1,4 +1,4 @@
--- The lines of clients that were stopped, and of those that gave up, are read off their text.
+-- The lines of clients that were stopped, and of those that ran out of free cells, are read off their text.
 use Rattle.std.proofs.Common.{◌≡◌, ℕ, ◌^◌, ◌<◌, Bool, true, false, List, [], ◌∷◌, ◌++◌, cond, codes, sym, ap, ◌∙◌, refl, arith, lit≤, append_assoc}
 use Rattle.std.specs.Fmt.{decimal}
 use Rattle.std.proofs.lemmas.List.{append_cancel_left}
@@ -63,7 +63,7 @@ same_stop a b x y fits others_fit e =
 pub stops_read : AreReadOff stop_text 115 HasStopNumbers
 stops_read = record { begins = λ line. (_, refl); same = same_stop }
 
--- ---- clients that gave up
+-- ---- clients that ran out of free cells
 
 abbrev ticket_end : FullLine → List ℕ → List ℕ
 ticket_end line x = decimal line.note.ticket ++ 10 ∷ x

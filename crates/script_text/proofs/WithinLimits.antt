@@ -14,9 +14,9 @@ use Rattle.script_text.specs.declared.lines.ScriptLine.{ScriptLine}
 use Rattle.script_text.specs.declared.lines.ScriptLine.TheVariants as forms
 use Rattle.plain_text.specs.LineGrammar.{AddsAll, IsTextOf}
 use Rattle.plain_text.specs.Lines.{text_lines}
-use Rattle.script_text.specs.Grammar.{Adds, AsksWithinLimits, Commands, MayStand, Says, last_life, no_script, with_command, with_cut, with_said}
+use Rattle.script_text.specs.Grammar.{AddsScriptLine, AsksWithinLimits, Commands, MayStand, SaysScriptLine, last_life, no_script, with_command, with_cut, with_said}
 use Rattle.script_text.specs.ScriptGrammar.{script_grammar}
-use Rattle.script_text.specs.Within.{IsWithin}
+use Rattle.script_text.specs.Within.{IsScriptWithin}
 use Rattle.script_text.proofs.LastLives.{All-with_last, length-with_last, command_count-with_command, command_count-with_cut, command_count-begun}
 
 -- a client without a cut is none of those that have one
@@ -44,12 +44,12 @@ module _ {Op : Type 0} where
       let known = all k d below in
       record { client = omega (arith, same, known.client); steps = known.steps }
 
-  -- what holds of the script of each front of the lines
+  -- what holds of the script of each prefix of the lines
   record IsFitScript (limits : ScriptLimits) (script : Script Op) : Type 0 where
     lines : ((script.lines ≡ 0) × (length script.lives ≡ 0)) ⊎ ((64 ≤ script.lines) × (script.lines ≤ 16384))
     commands : command_count script.lives ≤ 100000
     each : All (IsFit limits.clients) script.lives
-    within : IsWithin limits script
+    within : IsScriptWithin limits script
 
   -- the lines of a script that has a header
   headed : (limits : ScriptLimits) (script : Script Op) → IsFitScript limits script → 0 < script.lines → (64 ≤ script.lines) × (script.lines ≤ 16384)
@@ -133,7 +133,7 @@ module _ {Op : Type 0} where
 module _ {Op Reason : Type 0} (commands : Commands Op Reason) where
   -- with one more line
   said-within : (script : Script Op) (line : List ℕ) (says : ScriptLine Op)
-      → IsFitScript commands.limits script → Says commands says line → MayStand commands script says → IsFitScript commands.limits (with_said script says)
+      → IsFitScript commands.limits script → SaysScriptLine commands says line → MayStand commands script says → IsFitScript commands.limits (with_said script says)
   said-within script line (forms.Lines lines) within (spelled, least, most) stands =
       record { lines = inr (least, most); commands = within.commands; each = within.each; within = record { lives = within.within.lives; uncut = within.within.uncut } }
   said-within script line (forms.Life clients choice) within (spelled, least, most, fits) (some, few) =
@@ -144,7 +144,7 @@ module _ {Op Reason : Type 0} (commands : Commands Op Reason) where
       command-within commands.limits script command within some life last below few
 
   line-within : (script : Script Op) (line : List ℕ) (after : Script Op)
-      → IsFitScript commands.limits script → Adds commands script line after → IsFitScript commands.limits after
+      → IsFitScript commands.limits script → AddsScriptLine commands script line after → IsFitScript commands.limits after
   line-within script line after within (inl (passed, same)) = subst (IsFitScript commands.limits) (sym same) within
   line-within script line after within (inr (says, is, same)) =
       subst (IsFitScript commands.limits) (sym same) (said-within script line says within is.says_it is.stands)
@@ -163,7 +163,7 @@ module _ {Op Reason : Type 0} (commands : Commands Op Reason) where
     within = record { lives = omega arith; uncut = λ none. All-nil IsUncut };
   }) is
 
-  pub within-script : (text : List ℕ) (script : Script Op) → IsTextOf (script_grammar commands) text script → IsWithin commands.limits script
+  pub within-script : (text : List ℕ) (script : Script Op) → IsTextOf (script_grammar commands) text script → IsScriptWithin commands.limits script
   within-script text script is = (script-fits text script is).within
 
   pub limits-script : (is_op : Op → Type 0) (text : List ℕ) (script : Script Op) → commands.limits.lives ≤ 1000

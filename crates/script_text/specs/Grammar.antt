@@ -80,13 +80,13 @@ module _ {Op : Type 0} where
 
 module _ {Op Reason : Type 0} where
   -- A line says this: `lines L`, `life N power C`, `cut K S`, or `K COMMAND`.
-  abbrev pub Says : Commands Op Reason → ScriptLine Op → List ℕ → Type 0
-  Says commands (forms.Lines lines) line = (line ≡ codes "lines " ++ decimal lines) × (64 ≤ lines) × (lines ≤ 16384)
-  Says commands (forms.Life clients choice) line =
+  abbrev pub SaysScriptLine : Commands Op Reason → ScriptLine Op → List ℕ → Type 0
+  SaysScriptLine commands (forms.Lines lines) line = (line ≡ codes "lines " ++ decimal lines) × (64 ≤ lines) × (lines ≤ 16384)
+  SaysScriptLine commands (forms.Life clients choice) line =
       (line ≡ codes "life " ++ decimal clients ++ codes " power " ++ decimal choice) × (1 ≤ clients) × (clients ≤ commands.limits.clients) × (choice < 2 ^ 64)
-  Says commands (forms.Cut cut) line =
+  SaysScriptLine commands (forms.Cut cut) line =
       (line ≡ codes "cut " ++ decimal cut.client ++ codes " " ++ decimal cut.steps) × (cut.client < 2 ^ 64) × (cut.steps < 2 ^ 64) × (commands.limits.cuts ≡ true)
-  Says commands (forms.Command command) line =
+  SaysScriptLine commands (forms.Command command) line =
       (text : List ℕ) × (line ≡ decimal command.client ++ codes " " ++ text) × (command.client < 2 ^ 64) × commands.Asks command.op text
 
   -- Where a line may stand: the header first and once; then lives, up to their number; in a life the commands of its clients, up
@@ -103,13 +103,13 @@ module _ {Op Reason : Type 0} where
       × (command_count script.lives < 100000)
 
   -- A line that is not passed over, of which the whole grammar says that it may stand behind these lines, and what it says.
-  pub record IsAccepted (commands : Commands Op Reason) (before : Script Op) (line : List ℕ) (says : ScriptLine Op) : Type 0 where
+  pub record IsLineAccepted (commands : Commands Op Reason) (before : Script Op) (line : List ℕ) (says : ScriptLine Op) : Type 0 where
     pub text : is_utf8 line ≡ true
-    pub says_it : Says commands says line
+    pub says_it : SaysScriptLine commands says line
     pub stands : MayStand commands before says
 
   -- the script after one more line
-  abbrev pub Adds : Commands Op Reason → Script Op → List ℕ → Script Op → Type 0
-  Adds commands before line after =
+  abbrev pub AddsScriptLine : Commands Op Reason → Script Op → List ℕ → Script Op → Type 0
+  AddsScriptLine commands before line after =
       ((is_passed_over line ≡ true) × (after ≡ before))
-      ⊎ ((says : ScriptLine Op) × IsAccepted commands before line says × (after ≡ with_said before says))
+      ⊎ ((says : ScriptLine Op) × IsLineAccepted commands before line says × (after ≡ with_said before says))

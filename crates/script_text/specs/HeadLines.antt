@@ -19,7 +19,7 @@ use Rattle.script_text.specs.Choices.{mapped_some, step_some, first_branch, seco
 abbrev pair : ℕ → ℕ → ℕ × ℕ
 pair clients choice = (clients, choice)
 
--- `life N power C`, of so many clients at the most
+-- `life N power C`, of at most the given number of clients
 abbrev pub IsLifeLine : ℕ → ℕ × ℕ → List ℕ → Type 0
 IsLifeLine most life line =
     (line ≡ codes "life " ++ decimal life.0 ++ codes " power " ++ decimal life.1) × (1 ≤ life.0) × (life.0 ≤ most) × (life.1 < 2 ^ 64)

@@ -31,7 +31,7 @@ life_behind most text =
 unfoldable pub life_of : ℕ → List ℕ → Option (ℕ × ℕ)
 life_of most line = if is_word (codes "life") (first_word line) then option_and_then (life_behind most) (rest_of line) else None
 
--- the client that a word names, of so many
+-- the client that a word names, of the given number of clients
 unfoldable pub client_of : ℕ → List ℕ → Option ℕ
 client_of clients word = option_and_then (λ client. if nat_lt client clients then Some client else None) (number_of word)
 

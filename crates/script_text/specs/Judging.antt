@@ -8,7 +8,7 @@ use Rattle.plain_text.specs.Words.{first_word, rest_of, is_word}
 use Rattle.plain_text.specs.LineGrammar.{ReadsLines}
 use Rattle.plain_text.proofs.LineByLine.{no_value, one_value}
 use Rattle.life_records.specs.Scripts.{command_count}
-use Rattle.script_text.specs.Grammar.{Adds, Commands, Life, ReadsCommands, Row, Script, first_that_fits, is_passed_over, last_life, with_said}
+use Rattle.script_text.specs.Grammar.{AddsScriptLine, Commands, Life, ReadsCommands, Row, Script, first_that_fits, is_passed_over, last_life, with_said}
 use Rattle.script_text.specs.Heads.{header_of, life_of, client_of}
 use Rattle.script_text.specs.Reading.{then_ok, command_of, cut_behind, said_in, begun, said_below, line_of, with_parsed, judged}
 use Rattle.script_text.specs.ScriptGrammar.{reasons_for, IsReason, script_grammar}
@@ -135,7 +135,7 @@ module _ {Op Reason : Type 0} where
   refused_read before (Ok says) reason e = absurd cc
 
 module _ {Op Reason : Type 0} (commands : Commands Op Reason) (asked : Option (List ℕ) → Result Op Reason) (r : ReadsCommands commands asked) where
-  sound : (before : Script Op) (line : List ℕ) (after : Script Op) → judged commands asked before line ≡ Ok after → Adds commands before line after
+  sound : (before : Script Op) (line : List ℕ) (after : Script Op) → judged commands asked before line ≡ Ok after → AddsScriptLine commands before line after
   unfolding judged
   sound before line after e =
       elim (cases_Bool (is_passed_over line)) [
@@ -145,7 +145,7 @@ module _ {Op Reason : Type 0} (commands : Commands Op Reason) (asked : Option (L
             inr (says.0, accepted commands asked r before line says.0 says.1, says.2)
       ]
 
-  complete : (before : Script Op) (line : List ℕ) (after : Script Op) → Adds commands before line after → judged commands asked before line ≡ Ok after
+  complete : (before : Script Op) (line : List ℕ) (after : Script Op) → AddsScriptLine commands before line after → judged commands asked before line ≡ Ok after
   unfolding judged
   complete before line after (inl (passed, same)) = rw (passed, same) refl
   complete before line after (inr (says, is, same)) =

@@ -11,7 +11,7 @@ use Rattle.plain_text.proofs.LineByLine.{one_value}
 use Rattle.plain_text.proofs.WordCuts.{named, spaced, word_is, word_cut, decimal_unspaced, decimal_first}
 use Rattle.life_records.specs.Scripts.{command_count}
 use Rattle.life_records.specs.declared.script.Cut.{Cut}
-use Rattle.script_text.specs.Grammar.{Commands, ReadsCommands, Life, Script, Says, MayStand, IsAccepted, last_life, is_passed_over}
+use Rattle.script_text.specs.Grammar.{Commands, ReadsCommands, Life, Script, SaysScriptLine, MayStand, IsLineAccepted, last_life, is_passed_over}
 use Rattle.script_text.specs.Heads.{header_of, life_of, client_of, cut_of}
 use Rattle.script_text.specs.Reading.{then_ok, command_of, cut_behind, said_by, said_in, begun, said_below, line_of}
 use Rattle.script_text.specs.declared.lines.ScriptLine.{ScriptLine}
@@ -33,7 +33,7 @@ module _ {Op Reason : Type 0} (commands : Commands Op Reason) (asked : Option (L
 
   request_is : (before : Script Op) (life : Life Op) (line : List ℕ) (client : Option ℕ) (says : ScriptLine Op) → 0 < before.lines → last_life before.lives ≡ Some life
       → client_of life.clients (first_word line) ≡ client → command_of commands asked (command_count before.lives) client (rest_of line) ≡ Ok says
-      → Says commands says line × MayStand commands before says
+      → SaysScriptLine commands says line × MayStand commands before says
   request_is before life line None says some last name e = absurd cc
   request_is before life line (Some client) says some last name e =
       let make : Op → ScriptLine Op = λ op. forms.Command (record { client = client; op = op }) in
@@ -43,13 +43,13 @@ module _ {Op Reason : Type 0} (commands : Commands Op Reason) (asked : Option (L
       let number = client_is life.clients (first_word line) client name in
       let spelled : line ≡ decimal client ++ codes " " ++ text.0 =
       spaced line text.0 text.1 ∙ ap (λ (word : List ℕ). word ++ 32 ∷ text.0) number.0 ∙ sym (append_assoc (decimal client) (codes " ") text.0) in
-      subst (λ (said : ScriptLine Op). Says commands said line × MayStand commands before said) op.2 (
+      subst (λ (said : ScriptLine Op). SaysScriptLine commands said line × MayStand commands before said) op.2 (
         (text.0, spelled, number.1, text.2),
         (some, (life, last, number.2), ltb-true (command_count before.lives) 100000 few.0),
       )
 
   in_life_is : (before : Script Op) (line : List ℕ) (life : Option (Life Op)) (says : ScriptLine Op) → 0 < before.lines → last_life before.lives ≡ life
-      → said_in commands asked (command_count before.lives) life line ≡ Ok says → Says commands says line × MayStand commands before says
+      → said_in commands asked (command_count before.lives) life line ≡ Ok says → SaysScriptLine commands says line × MayStand commands before says
   in_life_is before line None says some last e = absurd cc
   in_life_is before line (Some life) says some last e =
       elim (chosen (is_word (codes "cut") (first_word line))
@@ -62,7 +62,7 @@ module _ {Op Reason : Type 0} (commands : Commands Op Reason) (asked : Option (L
             let rest = step_some (cut_of life.clients life.cuts) (rest_of line) stop.0 allowed.1 in
             let is = cut_is life.clients life.cuts rest.0 stop.0 rest.2 in
             let line_is = subst (IsCutLine stop.0) (sym (named (codes "cut") line rest.0 hit rest.1)) is.0 in
-            subst (λ (said : ScriptLine Op). Says commands said line × MayStand commands before said) stop.2 (
+            subst (λ (said : ScriptLine Op). SaysScriptLine commands said line × MayStand commands before said) stop.2 (
               (line_is.0, line_is.1, line_is.2, allowed.0),
               (some, (life, last, is.1, is.2)),
             )
@@ -78,19 +78,19 @@ module _ {Op Reason : Type 0} (commands : Commands Op Reason) (asked : Option (L
       (life, refl, same, ltb-true count commands.limits.lives few.0)
 
   below_is : (before : Script Op) (line : List ℕ) (says : ScriptLine Op) → 0 < before.lines → said_below commands asked before.lives line ≡ Ok says
-      → Says commands says line × MayStand commands before says
+      → SaysScriptLine commands says line × MayStand commands before says
   below_is before line says some e =
       elim (chosen (is_word (codes "life") (first_word line)) (begun commands (length before.lives) (life_of commands.limits.clients line))
       (said_in commands asked (command_count before.lives) (last_life before.lives) line) (Ok says) e) [
         | inl (_, life) ↦
             let is = begun_is (length before.lives) (life_of commands.limits.clients line) says life in
-            subst (λ (said : ScriptLine Op). Says commands said line × MayStand commands before said) is.2
+            subst (λ (said : ScriptLine Op). SaysScriptLine commands said line × MayStand commands before said) is.2
             (life_is commands.limits.clients line is.0 is.1, (some, is.3))
         | inr (_, other) ↦ in_life_is before line (last_life before.lives) says some refl other
       ]
 
   -- what is read of a line is accepted
-  pub accepted : (before : Script Op) (line : List ℕ) (says : ScriptLine Op) → line_of commands asked before line ≡ Ok says → IsAccepted commands before line says
+  pub accepted : (before : Script Op) (line : List ℕ) (says : ScriptLine Op) → line_of commands asked before line ≡ Ok says → IsLineAccepted commands before line says
   unfolding line_of
   accepted before line says e =
       let text = ok_first (is_utf8 line) (commands.reason reasons.Utf8) _ says e in
@@ -100,7 +100,7 @@ module _ {Op Reason : Type 0} (commands : Commands Op Reason) (asked : Option (L
             let lines = mapped_some forms.Lines (header_of line) says (or_some _ (commands.reason reasons.Header) says header) in
             record {
               text = text.0;
-              says_it = subst (λ (said : ScriptLine Op). Says commands said line) lines.2 (header_is line lines.0 lines.1);
+              says_it = subst (λ (said : ScriptLine Op). SaysScriptLine commands said line) lines.2 (header_is line lines.0 lines.1);
               stands = subst (MayStand commands before) lines.2 (eqb-true before.lines 0 none);
             }
         | inr (some, other) ↦
@@ -141,7 +141,7 @@ number_not_passed n text fits =
     ap (λ (t : List ℕ). is_passed_over (t ++ text)) first.2 ∙ apart
 
 module _ {Op Reason : Type 0} (commands : Commands Op Reason) (asked : Option (List ℕ) → Result Op Reason) (r : ReadsCommands commands asked) where
-  said_again : (before : Script Op) (line : List ℕ) (says : ScriptLine Op) → is_utf8 line ≡ true → Says commands says line → MayStand commands before says
+  said_again : (before : Script Op) (line : List ℕ) (says : ScriptLine Op) → is_utf8 line ≡ true → SaysScriptLine commands says line → MayStand commands before says
       → line_of commands asked before line ≡ Ok says
   unfolding line_of
   said_again before line (forms.Lines lines) text (spelled, least, most) stands =
@@ -175,10 +175,10 @@ module _ {Op Reason : Type 0} (commands : Commands Op Reason) (asked : Option (L
       (ap (then_ok (λ op. forms.Command (record { client = command.client; op = op }))) (r.complete asks command.op is))
 
   -- what is accepted is read
-  pub read_again : (before : Script Op) (line : List ℕ) (says : ScriptLine Op) → IsAccepted commands before line says → line_of commands asked before line ≡ Ok says
+  pub read_again : (before : Script Op) (line : List ℕ) (says : ScriptLine Op) → IsLineAccepted commands before line says → line_of commands asked before line ≡ Ok says
   read_again before line says is = said_again before line says is.text is.says_it is.stands
 
-  pub not_passed : (line : List ℕ) (says : ScriptLine Op) → Says commands says line → is_passed_over line ≡ false
+  pub not_passed : (line : List ℕ) (says : ScriptLine Op) → SaysScriptLine commands says line → is_passed_over line ≡ false
   not_passed line (forms.Lines lines) (spelled, _, _) = ap is_passed_over spelled
   not_passed line (forms.Life clients choice) (spelled, _, _, _) = ap is_passed_over spelled
   not_passed line (forms.Cut cut) (spelled, _, _, _) = ap is_passed_over spelled

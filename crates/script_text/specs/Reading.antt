@@ -21,13 +21,13 @@ abbrev pub cut_behind : Bool → ℕ → List Cut → Option (List ℕ) → Opti
 cut_behind allowed clients cuts rest = if allowed then option_and_then (cut_of clients cuts) rest else None
 
 module _ {Op Reason : Type 0} where
-  -- what a client's line says, where so many commands stand before it
+  -- what a client's line says, where the given number of commands stands before it
   abbrev pub command_of : Commands Op Reason → (Option (List ℕ) → Result Op Reason) → ℕ → Option ℕ → Option (List ℕ) → Result (ScriptLine Op) Reason
   command_of commands asked count None text = Err (commands.reason reasons.Client)
   command_of commands asked count (Some client) text =
       if nat_lt count 100000 then then_ok (λ op. forms.Command (record { client = client; op = op })) (asked text) else Err (commands.reason reasons.Commands)
 
-  -- what a line says that stands in a life of so many clients with these cuts and begins none, by its first word and the rest
+  -- what a line says that stands in a life of the given number of clients with these cuts and begins none, by its first word and the rest
   abbrev pub said_by : Commands Op Reason → (Option (List ℕ) → Result Op Reason) → ℕ → ℕ → List Cut → List ℕ → Option (List ℕ) → Result (ScriptLine Op) Reason
   said_by commands asked count clients cuts word rest =
       if is_word (codes "cut") word then ok_or (option_map forms.Cut (cut_behind commands.limits.cuts clients cuts rest)) (commands.reason reasons.Cut)
@@ -37,7 +37,7 @@ module _ {Op Reason : Type 0} where
   said_in commands asked count None line = Err (commands.reason reasons.Life)
   said_in commands asked count (Some life) line = said_by commands asked count life.clients life.cuts (first_word line) (rest_of line)
 
-  -- what a life's first line says, where so many lives stand before it
+  -- what a life's first line says, where the given number of lives stands before it
   abbrev pub begun : Commands Op Reason → ℕ → Option (ℕ × ℕ) → Result (ScriptLine Op) Reason
   begun commands count None = Err (commands.reason reasons.Life)
   begun commands count (Some life) = if nat_lt count commands.limits.lives then Ok (forms.Life life.0 life.1) else Err (commands.reason reasons.Lives)

@@ -62,7 +62,7 @@ module _ {Op Reply : Type 0} where
   abbrev pub record_text : Wording Op Reply → ℕ → Life Op → LifeRecord Reply → List ℕ
   record_text w number life told =
       life_text number told.clients told.from ++ flat_map (journal_text w life) told.journal ++ flat_map (read_text w life) told.reads
-      ++ flat_map stop_text told.stops ++ flat_map full_text told.fulls ++ power_text told.choice told.kept (length told.journal) w.items told.documents
+      ++ flat_map stop_text told.stops ++ flat_map full_text told.fulls ++ power_text told.choice told.kept (length told.journal) w.items told.items
 
   -- the lines of lives that are counted from a number on
   abbrev pub records_text : Wording Op Reply → ℕ → List (Life Op) → List (LifeRecord Reply) → List ℕ

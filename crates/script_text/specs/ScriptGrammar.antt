@@ -5,7 +5,7 @@ use Rattle.std.specs.Str.{is_utf8}
 use Rattle.plain_text.specs.LineGrammar.{LineGrammar}
 use Rattle.plain_text.specs.Words.{first_word, rest_of, is_word}
 use Rattle.life_records.specs.Scripts.{command_count}
-use Rattle.script_text.specs.Grammar.{Adds, Commands, IsAccepted, Life, Row, Script, first_that_fits, last_life, no_script}
+use Rattle.script_text.specs.Grammar.{AddsScriptLine, Commands, IsLineAccepted, Life, Row, Script, first_that_fits, last_life, no_script}
 use Rattle.script_text.specs.Heads.{header_of, life_of, client_of}
 use Rattle.script_text.specs.Reading.{cut_behind}
 use Rattle.script_text.specs.declared.lines.ScriptLine.{ScriptLine}
@@ -35,8 +35,8 @@ module _ {Op Reason : Type 0} where
   -- Why a line is refused: no line of the grammar is spelled so and may stand here, and the reason is the first that fits.
   abbrev pub IsReason : Commands Op Reason → Script Op → List ℕ → Reason → Type 0
   IsReason commands before line reason =
-      ((says : ScriptLine Op) → IsAccepted commands before line says → ⊥) × (first_that_fits (reasons_for commands before line) ≡ Some reason)
+      ((says : ScriptLine Op) → IsLineAccepted commands before line says → ⊥) × (first_that_fits (reasons_for commands before line) ≡ Some reason)
 
   -- the language of scripts with these commands
   abbrev pub script_grammar : Commands Op Reason → LineGrammar (Script Op) Reason
-  script_grammar commands = record { nothing = no_script; Adds = Adds commands; IsReason = IsReason commands }
+  script_grammar commands = record { nothing = no_script; Adds = AddsScriptLine commands; IsReason = IsReason commands }

@@ -32,7 +32,7 @@ pub trait CommandReader: Drop {
     fn reason(of: ScriptReason) -> Self::Reason
         ensures { result ≡ commands.reason of };
 
-    /// The operation that the text behind a client asks for, or why it asks for none. `Err` is want of memory.
+    /// The operation that the text behind a client asks for, or why it asks for none. `Err` means out of memory.
     fn read_op(
         alloc: Global,
         text: Option<&[u8]>,

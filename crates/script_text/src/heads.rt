@@ -37,7 +37,7 @@ fn within(least: u64, most: u64, number: u64) -> Option<u64>
     }
 }
 
-/// The clients and the choice of the life that begins with a line, with so many clients at the most.
+/// The clients and the choice of the life that begins with a line, with at most `most` clients.
 #[tactic(auto, unfolding(crate::specs::Heads::life_of))]
 pub(crate) fn read_life(most: u32, line: &[u8]) -> Option<(u32, u64)>
     ensures { result ≡ life_of most line.now }
@@ -72,7 +72,7 @@ fn read_choice(text: &[u8]) -> Option<u64>
     number_of(choice?)
 }
 
-/// The client that a word names, of so many.
+/// The client that a word names, of `clients` clients.
 #[tactic(auto, unfolding(crate::specs::Heads::client_of))]
 pub(crate) fn read_client(clients: u32, word: &[u8]) -> Option<u32>
     ensures { result ≡ client_of clients word.now }

@@ -29,7 +29,7 @@ impl<'a, Op> Model for IndexedLife<'a, Op> {
 }
 
 impl<'a, Op> IndexedLife<'a, Op> {
-    /// Makes the index. Commands that name a client outside the life are passed over. `Err` is want of memory.
+    /// Makes the index. Commands that name a client outside the life are passed over. `Err` means out of memory.
     pub fn of(alloc: Global, life: &'a BorrowedLife<'a, Op>) -> Result<Self, AllocError>
         ensures { IfOk result (λ indexed. indexed ≡ life.now) }
     {
@@ -54,7 +54,7 @@ impl<'a, Op> IndexedLife<'a, Op> {
     }
 }
 
-// So many empty lists.
+// `count` empty lists.
 fn empty_lists<'a, Op>(alloc: Global, count: u32) -> Result<Vec<Vec<&'a Op>>, AllocError>
     ensures count { IfOk result (λ lists. length lists.items ≡ count) }
     ensures empty { IfOk result (λ lists. All (λ own. own.items ≡ []) lists.items) }

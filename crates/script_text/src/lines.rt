@@ -15,9 +15,9 @@ pub struct ScriptLimits {
 pub enum ScriptLine<Op> {
     /// The number of lines of the store: `lines L`.
     Lines(u64),
-    /// A life begins, with so many clients and this choice: `life N power C`.
+    /// A life begins, with this many clients and this choice: `life N power C`.
     Life { clients: u32, choice: u64 },
-    /// A client may make so many steps in the life: `cut K S`.
+    /// A client's limit of steps in the life: `cut K S`.
     Cut(Cut),
     /// A client asks for an operation: `K COMMAND`.
     Command(Command<Op>),

@@ -11,7 +11,7 @@ use plain_text::{write_labelled, write_number};
 use std::alloc::{AllocError, Global};
 
 // Each function below appends a part of the report to what is written. After an `Err` what is written is of no use,
-// since the report is given up.
+// since there is no report then.
 
 /// How an object's reports are worded.
 pub trait ReportWriter: Drop {
@@ -24,11 +24,11 @@ pub trait ReportWriter: Drop {
     /// The words.
     ghost wording: { Wording Self.Op Self.Reply };
 
-    /// Appends a command without its client.
+    /// Appends a command without its client. `Err` means out of memory; what is written is of no use then.
     fn write_command(out: &mut Vec<u8>, op: &Self::Op) -> Result<(), AllocError>
         ensures { OnOk result (out.new.items ≡ out.old.items ++ wording.command_text op.now) };
 
-    /// Appends a reply.
+    /// Appends a reply. `Err` means out of memory; what is written is of no use then.
     fn write_reply(out: &mut Vec<u8>, reply: &Self::Reply) -> Result<(), AllocError>
         ensures { OnOk result (out.new.items ≡ out.old.items ++ wording.reply_text reply.now) };
 
@@ -37,7 +37,7 @@ pub trait ReportWriter: Drop {
         ensures { result.now ≡ wording.items };
 }
 
-/// The report of a script's lives. `Err` is want of memory.
+/// The report of a script's lives. `Err` means out of memory.
 pub fn report<W: ReportWriter>(
     alloc: Global,
     script: &Script<W::Op>,
@@ -78,11 +78,11 @@ fn write_record<W: ReportWriter>(
         told.kept,
         journal.len() as u64,
         W::items(),
-        told.documents,
+        told.items,
     )
 }
 
-/// Appends the first line of a life.
+/// Appends the first line of a life. `Err` means out of memory.
 pub fn write_life(out: &mut Vec<u8>, number: u64, clients: u32, from: u64) -> Result<(), AllocError>
     ensures { OnOk result (out.new.items ≡ out.old.items ++ life_text number clients from) }
 {
@@ -92,7 +92,7 @@ pub fn write_life(out: &mut Vec<u8>, number: u64, clients: u32, from: u64) -> Re
     out.extend_from_slice(b"\n")
 }
 
-/// Appends the lines of a history.
+/// Appends the lines of a history. `Err` means out of memory.
 pub fn write_journal<W: ReportWriter>(
     out: &mut Vec<u8>,
     life: &IndexedLife<'_, W::Op>,
@@ -122,7 +122,7 @@ fn write_journal_line<W: ReportWriter>(
     write_exchange::<W>(out, life.op(line.client, line.command), line.reply.as_ref())
 }
 
-/// Appends the lines of reads.
+/// Appends the lines of reads. `Err` means out of memory.
 pub fn write_reads<W: ReportWriter>(
     out: &mut Vec<u8>,
     life: &IndexedLife<'_, W::Op>,
@@ -152,7 +152,7 @@ fn write_read_line<W: ReportWriter>(
     write_exchange::<W>(out, life.op(line.client, line.command), Some(&line.reply))
 }
 
-/// Appends the lines of clients that were stopped.
+/// Appends the lines of clients that were stopped. `Err` means out of memory.
 pub fn write_stops(out: &mut Vec<u8>, stops: &[StopLine]) -> Result<(), AllocError>
     ensures { OnOk result (out.new.items ≡ out.old.items ++ flat_map stop_text stops.now) }
 {
@@ -175,7 +175,7 @@ fn write_stop_line(out: &mut Vec<u8>, line: &StopLine) -> Result<(), AllocError>
     }
 }
 
-/// Appends the lines of clients that gave up.
+/// Appends the lines of clients that ran out of free cells. `Err` means out of memory.
 pub fn write_fulls(out: &mut Vec<u8>, fulls: &[FullLine]) -> Result<(), AllocError>
     ensures { OnOk result (out.new.items ≡ out.old.items ++ flat_map full_text fulls.now) }
 {
@@ -196,7 +196,7 @@ fn write_full_line(out: &mut Vec<u8>, line: &FullLine) -> Result<(), AllocError>
     out.extend_from_slice(b"\n")
 }
 
-/// Appends the line on the loss of power: the choice, how many of so many entries are kept, and how many of such items.
+/// Appends the line on the crash: the choice, how many of the entries are kept, and how many items of what kind there are. `Err` means out of memory.
 pub fn write_power(
     out: &mut Vec<u8>,
     choice: u64,

@@ -8,7 +8,7 @@ ghost use Rattle.life_records.specs.Limits.{KeepsLimits};
 ghost use Rattle.script_text.specs.Grammar.{AsksWithinLimits, MayStand, Script, last_life, no_script, with_said};
 ghost use Rattle.script_text.specs.Reading.{begun, judged, line_of, said_below, said_by};
 ghost use Rattle.script_text.specs.ScriptGrammar.{script_grammar};
-ghost use Rattle.script_text.specs.Within.{IsWithin};
+ghost use Rattle.script_text.specs.Within.{IsScriptWithin};
 
 use crate::commands::CommandReader;
 use crate::heads::{read_client, read_cut_behind, read_header, read_life};
@@ -22,7 +22,7 @@ use std::marker::Model;
 /// The most commands of a script.
 const MAX_COMMANDS: usize = 100_000;
 
-/// Reads a script with these commands. It is Ok exactly for the texts of scripts, unless memory is wanting. Other texts are refused
+/// Reads a script with these commands. It is Ok exactly for the texts of scripts, unless memory runs out. Other texts are refused
 /// by the first line with which the lines so far are no script.
 pub fn read_script<C: CommandReader>(
     alloc: Global,
@@ -33,7 +33,7 @@ pub fn read_script<C: CommandReader>(
     // What is a script is read.
     ensures only { (script : Script C.Op) → IsTextOf (script_grammar C.commands) bytes.now script → IsOkOr script result }
     ensures limits { IfOk result (KeepsLimits C.is_op C.commands.limits.clients) }
-    ensures within { IfOk result (IsWithin C.commands.limits) }
+    ensures within { IfOk result (IsScriptWithin C.commands.limits) }
     // The line refused is the first with which the lines so far are no script.
     ensures refused { IfErr result (IsFault (script_grammar C.commands) bytes.now) }
 {
@@ -104,7 +104,7 @@ impl<C: CommandReader> Draft<C> {
         }
     }
 
-    /// What a line says that is not passed over, or why it is refused. `Err` is want of memory.
+    /// What a line says that is not passed over, or why it is refused. `Err` means out of memory.
     #[tactic(auto, unfolding(crate::specs::Reading::line_of))]
     fn read_line(
         &self,
@@ -161,7 +161,7 @@ impl<C: CommandReader> Draft<C> {
         self.lives.last()
     }
 
-    /// Adds what a line says that may stand here. `Err` is want of memory.
+    /// Adds what a line says that may stand here. `Err` means out of memory.
     fn add(&mut self, alloc: Global, says: ScriptLine<C::Op>) -> Result<(), AllocError>
         requires { MayStand C.commands self.old says }
         ensures { OnOk result (self.new ≡ with_said self.old says) }
@@ -223,7 +223,7 @@ impl<C: CommandReader> Draft<C> {
     }
 }
 
-/// What a life's first line says, where so many lives stand before it.
+/// What a life's first line says, where `count` lives stand before it.
 fn begun<C: CommandReader>(
     count: usize,
     life: Option<(u32, u64)>,
@@ -238,7 +238,7 @@ fn begun<C: CommandReader>(
     }
 }
 
-/// What a line says that stands in a life of so many clients with these cuts and begins none, by its first word and the rest. So many
+/// What a line says that stands in a life of `clients` clients with these cuts and begins none, by its first word and the rest. `count`
 /// commands stand before it.
 fn read_in<C: CommandReader>(
     alloc: Global,

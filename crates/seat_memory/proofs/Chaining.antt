@@ -13,7 +13,7 @@ use Rattle.cx_core.specs.Shown.{shown}
 use Rattle.cx_core.specs.State.{Instance}
 use Rattle.cx_core.proofs.HeldLists.{contains_cases, contains_first, contains_rest}
 use Rattle.cx_core.proofs.RootCodes.{code_up}
-use Rattle.seat_memory.specs.Wins.{IsTaken, IsWayBy, LeadsBy, wins_of}
+use Rattle.seat_memory.specs.Wins.{IsWinTaken, IsWayBy, LeadsBy, wins_of}
 
 -- an item that was taken out of a list, and those that stay
 pub removed_keeps : {X : Type 0} (xs : List X) (i : ℕ) (y x : X) → slice_get xs i ≡ Some y → Contains xs x → (y ≡ x) ⊎ Contains (remove xs i) x
@@ -49,7 +49,7 @@ among_item (z ∷ zs) x there =
     ]
 
 -- a win that was found is taken out
-pub taken_out : (wins : List WonCode) (i before : ℕ) (w : WonCode) (new : List WonCode) → slice_get wins i ≡ Some w → w.before ≡ before → new ≡ remove wins i → length new + 1 ≡ length wins → IsTaken before w.code wins new
+pub taken_out : (wins : List WonCode) (i before : ℕ) (w : WonCode) (new : List WonCode) → slice_get wins i ≡ Some w → w.before ≡ before → new ≡ remove wins i → length new + 1 ≡ length wins → IsWinTaken before w.code wins new
 taken_out wins i before w new at over is fewer = record {
   among = subst (λ n. Contains wins (record { code = w.code; before = n })) over (item_among wins i w at);
   fewer = fewer;
@@ -72,7 +72,7 @@ pub goes_first : (wins : List WonCode) (from : ℕ) (above : List ℕ) (to : ℕ
 goes_first wins from above to way = record { rest = above; whole = refl; leads = way.leads; ahead = λ w there _. there; only = λ w there. there }
 
 -- one code more
-module _ (all left left' : List WonCode) (from : ℕ) (above : List ℕ) (to code next : ℕ) (codes : List ℕ) (way : IsWayBy all from above to) (taken : IsTaken code next left left') where
+module _ (all left left' : List WonCode) (from : ℕ) (above : List ℕ) (to code next : ℕ) (codes : List ℕ) (way : IsWayBy all from above to) (taken : IsWinTaken code next left left') where
   goes_by : (rest : List ℕ) → codes ++ rest ≡ from ∷ above → LeadsBy all code rest to → ((w : WonCode) → Contains all w → code ≤ w.before → Contains left w) →
       ((w : WonCode) → Contains left w → Contains all w) → Goes all left' from above to next (codes ++ next ∷ [])
   goes_by [] whole leads ahead only = absurd (way.ends (record { code = next; before = code }) (only _ taken.among) leads)

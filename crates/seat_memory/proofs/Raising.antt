@@ -18,7 +18,7 @@ use Rattle.cx_core.specs.State.{Instance}
 use Rattle.cx_core.proofs.HistoryLemmas.{ObjectLaws}
 use Rattle.cx_rule.specs.declared.rule.Known.{Known}
 use Rattle.cx_rule.specs.Fitting.{Fitting}
-use Rattle.cx_rule.specs.Raises.{AnswersOf, IsRaiseLearned, Raises, TeachesRaised, TellsAnswers, TellsReads, answered_local, known_answered, op_in, read_at}
+use Rattle.cx_rule.specs.Raises.{AnswersOf, IsRaiseLearned, Raises, TeachesRaised, TellsAnswers, TellsReads, answered_local, known_answered, read_op_in, read_at}
 use Rattle.cx_rule.specs.Running.{IsRunning, IsSeatOf, Running, instance_at}
 use Rattle.cx_rule.specs.Seats.{IsAtLimit, Seated, known_of, unanswered_ticket}
 use Rattle.cx_rule.proofs.Fitting.{fitting}
@@ -43,7 +43,7 @@ counts_of lines lawful base step known place (Some x) answers tells =
       | inr one ↦ subst (λ b. Counts b answers) (sym (lt-ltb x.ticket place one.below)) (record { ticket = x.ticket; reply = one.reply }, one.are)
     ]
 
--- the unanswered ticket after so many answers
+-- the unanswered ticket after these answers
 ticket_after : (l : Local) (b : Bool) (answers : List Answer) → length l.own ≤ length l.answered + 1 → Counts b answers → (cond b None (unanswered_ticket l)) ≡ option_map (λ (x : Linked). x.ticket) (slice_get l.own (length (l.answered ++ answers)))
 ticket_after l true answers one counts =
     let more : length (l.answered ++ answers) ≡ length l.answered + 1 = length-append l.answered answers ∙ ap (λ (xs : List Answer). length l.answered + length xs) counts.1 in
@@ -77,7 +77,7 @@ module _ {O : Type 0} (r : Running O) (step : O → List ℕ → List ℕ → Li
   abbrev instance : Instance
   instance = instance_at r step reads
 
-  raised_inside : IsSeat me summary before copy → ¬ IsAtLimit (known_of me.0).local → IsSeatOf r (seated table me before copy) → CanRaise instance code (op_in read) (known_of me.0).local →
+  raised_inside : IsSeat me summary before copy → ¬ IsAtLimit (known_of me.0).local → IsSeatOf r (seated table me before copy) → CanRaise instance code (read_op_in read) (known_of me.0).local →
       table' ≡ table → TellsAnswers lines lawful r.base (step r.object) (known_of me.0) (root_place_of r.callers code) answers → TeachesRaised instance code answers read (known_of me.0) me' → summary' ≡ raised_summary r.callers code (is_some read) summary →
       IsSeat me' summary' before copy × Raises r step reads code answers read (seated table me before copy) (seated table' me' before copy)
   raised_inside old allowed of guard same_table tells taught numbers =
@@ -113,12 +113,12 @@ module _ {O : Type 0} (r : Running O) (step : O → List ℕ → List ℕ → Li
       )
 
   pub raised_made : (callers : ℕ) (old : Seated) → IsSeat me summary before copy → seated table me before copy ≡ old → ((l : Local) → summary ≡ summary_of l → ¬ IsAtLimit l) → IsSeatOf r old →
-      CanRaise instance code (op_in read) old.known.local → table' ≡ table → TellsAnswers lines lawful r.base (step r.object) old.known (root_place_of r.callers code) answers →
+      CanRaise instance code (read_op_in read) old.known.local → table' ≡ table → TellsAnswers lines lawful r.base (step r.object) old.known (root_place_of r.callers code) answers →
       TeachesRaised instance code answers read (known_of me.0) me' → callers ≡ r.callers → summary' ≡ raised_summary callers code (is_some read) summary →
       IsSeat me' summary' before copy × Raises r step reads code answers read old (seated table' me' before copy)
   raised_made callers old is view allowed of guard same_table tells taught same numbers =
       subst (λ (s : Seated). IsSeat me' summary' before copy × Raises r step reads code answers read s (seated table' me' before copy)) view
-      (raised_inside is (allowed (known_of me.0).local is.0.is) (subst (IsSeatOf r) (sym view) of) (subst (λ (s : Seated). CanRaise instance code (op_in read) s.known.local) (sym view) guard) same_table
+      (raised_inside is (allowed (known_of me.0).local is.0.is) (subst (IsSeatOf r) (sym view) of) (subst (λ (s : Seated). CanRaise instance code (read_op_in read) s.known.local) (sym view) guard) same_table
       (subst (λ (s : Seated). TellsAnswers lines lawful r.base (step r.object) s.known (root_place_of r.callers code) answers) (sym view) tells) taught
       (numbers ∙ ap (λ n. raised_summary n code (is_some read) summary) same))
 
@@ -128,7 +128,7 @@ dur_within running = (let words = running.words in omega (arith, words))
 
 -- a raise is learned by what the seat's caller noted
 pub raise_learned : {O : Type 0} (line_count : O → ℕ) (lawful : O → List ℕ → Type 0) (step : O → List ℕ → List ℕ → List ℕ × List ℕ) (reads : O → List ℕ → Bool) (r : Running O) (code : ℕ) (read : Option (List ℕ × List ℕ)) (known : Known) (old : Seated) →
-    IsRunning line_count lawful r → ObjectLaws r.lines (lawful r.object) (step r.object) → known ≡ old.known → CanRaise (instance_at r step reads) code (op_in read) old.known.local → TellsReads r.lines (lawful r.object) r.base (step r.object) old.known read →
+    IsRunning line_count lawful r → ObjectLaws r.lines (lawful r.object) (step r.object) → known ≡ old.known → CanRaise (instance_at r step reads) code (read_op_in read) old.known.local → TellsReads r.lines (lawful r.object) r.base (step r.object) old.known read →
     (answers : List Answer) → TellsAnswers r.lines (lawful r.object) r.base (step r.object) old.known (root_place_of r.callers code) answers → IsRaiseLearned (instance_at r step reads) code answers read known dur_at
 raise_learned line_count lawful step reads r code read known old running laws same guard told answers tells =
     subst (λ (k : Known). IsRaiseLearned (instance_at r step reads) code answers read k dur_at) (sym same)

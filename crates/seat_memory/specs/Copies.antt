@@ -20,7 +20,7 @@ pub record Copied : Type 0 where
   pub cells : List ℕ
   pub sets : List ℕ
 
--- of so many words none is dirty, and no cell and no set was written
+-- of this number of words none is dirty, and no cell and no set was written
 abbrev pub blank_copy : ℕ → Copied
 blank_copy region = record { words = replicate region 0; dirty = replicate region false; place = 0; cells = replicate 2320 0; sets = replicate 8208 0 }
 

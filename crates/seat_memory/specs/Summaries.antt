@@ -50,7 +50,7 @@ summary_of l = record {
 }
 
 -- the numbers follow an event of this kind that found this word, of a caller that is seen to be allowed to make it, in each
--- instance with so many callers
+-- instance with this number of callers
 abbrev pub Follows : ℕ → Kind → ℕ → Summary → Summary → Type 0
 Follows callers kind found before after =
     (instance : Instance) (k : Known) → instance.callers ≡ callers → SeenGuard instance kind k.local → before ≡ summary_of k.local → after ≡ summary_of (known_local instance kind k found)

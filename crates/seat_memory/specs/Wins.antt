@@ -21,13 +21,13 @@ pub record IsWayBy (wins : List WonCode) (from : ℕ) (above : List ℕ) (to : �
   pub ends : (w : WonCode) → Contains wins w → w.before ≢ to
 
 -- of wins, one over a code was taken out
-pub record IsTaken (before code : ℕ) (old new : List WonCode) : Type 0 where
+pub record IsWinTaken (before code : ℕ) (old new : List WonCode) : Type 0 where
   pub among : Contains old (record { code = code; before = before })
   pub fewer : length new + 1 ≡ length old
   pub others : (w : WonCode) → Contains old w → w.before ≢ before → Contains new w
   pub still : (w : WonCode) → Contains new w → Contains old w
 
 -- one was, or there is none
-abbrev pub TakesOver : ℕ → List WonCode → List WonCode → Option ℕ → Type 0
-TakesOver before old new (Some code) = IsTaken before code old new
-TakesOver before old new None = (new ≡ old) × ((w : WonCode) → Contains old w → w.before ≢ before)
+abbrev pub TakesWin : ℕ → List WonCode → List WonCode → Option ℕ → Type 0
+TakesWin before old new (Some code) = IsWinTaken before code old new
+TakesWin before old new None = (new ≡ old) × ((w : WonCode) → Contains old w → w.before ≢ before)

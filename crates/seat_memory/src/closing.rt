@@ -3,7 +3,7 @@
 ghost use Rattle.std.specs.Prelude.{◌≡◌, ◌+◌, ◌≤◌, ◌∷◌, ℕ, List, [], length, slice_range, vec_capacity, vec_len};
 ghost use Rattle.std.specs.Slots.{IsFull, slots_items, slots_len};
 ghost use Rattle.seat_memory.specs.Marks.{MarksMore};
-ghost use Rattle.seat_memory.specs.Wins.{IsWayBy, TakesOver};
+ghost use Rattle.seat_memory.specs.Wins.{IsWayBy, TakesWin};
 
 use atomic_table::Closed;
 use cx_core::WonCode;
@@ -38,7 +38,7 @@ pub fn lead_on(mut wins: Vec<WonCode>, from: u64, codes: &mut Vec<u64>)
 
 /// Takes a win over this code out, and gives the code that won.
 fn take_over(wins: &mut Vec<WonCode>, before: u64) -> Option<u64>
-    ensures { TakesOver before wins.old.items wins.new.items result }
+    ensures { TakesWin before wins.old.items wins.new.items result }
 {
     for i in 0..wins.len() {
         if wins[i].before == before {
@@ -48,7 +48,7 @@ fn take_over(wins: &mut Vec<WonCode>, before: u64) -> Option<u64>
     None
 }
 
-/// Adds so many words of a closed table, from one on.
+/// Adds `count` words of a closed table, from word `from` on.
 pub fn copy_words(closed: &Closed<u8, Global>, words: &mut Vec<u64>, from: usize, count: usize)
     requires full { IsFull closed.now.words }
     requires within { from + count ≤ slots_len closed.now.words }

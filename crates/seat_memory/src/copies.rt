@@ -6,16 +6,17 @@ ghost use Rattle.std.specs.Prelude.{◌≡◌, ◌≢◌, ◌+◌, ◌*◌, ◌<
 ghost use Rattle.seat_memory.specs.Copies.{blank_copy};
 
 use crate::marks::Marks;
+use cx_base::{ENTRY_WORDS, OP_WORDS, OpWords, SET_WORDS};
 use cx_core::Entry;
 use line_lanes::first_apart;
 use std::alloc::{AllocError, Global};
 use std::marker::Model;
 
 /// The words of a caller's 16 cells, each of 145.
-const CELL_WORDS: usize = 16 * 145;
+const ALL_CELL_WORDS: usize = 16 * ENTRY_WORDS;
 
 /// The words of their write sets, each of 513.
-const SET_WORDS: usize = 16 * 513;
+const ALL_SET_WORDS: usize = 16 * SET_WORDS;
 
 /// The words stored, by address, which of them are dirty, the place last loaded or stored, and the words of the cells, one
 /// cell after another, and so those of the cells' sets.
@@ -37,7 +38,7 @@ impl Model for Copies {
 }
 
 impl Copies {
-    /// Room for so many words, none of which is dirty, and for cells and sets that were never written.
+    /// Room for the words of one region, none of which is dirty, and for cells and sets that were never written. `Err` says that memory ran out.
     pub fn of(alloc: Global, region: usize) -> Result<Copies, AllocError>
         ensures { IfOk result (λ c. c ≡ blank_copy region) }
     {
@@ -45,8 +46,8 @@ impl Copies {
             words: Vec::from_elem(alloc, 0, region)?,
             dirty: Marks::none(alloc, region)?,
             place: 0,
-            cells: Vec::from_elem(alloc, 0, CELL_WORDS)?,
-            sets: Vec::from_elem(alloc, 0, SET_WORDS)?,
+            cells: Vec::from_elem(alloc, 0, ALL_CELL_WORDS)?,
+            sets: Vec::from_elem(alloc, 0, ALL_SET_WORDS)?,
         })
     }
 
@@ -89,51 +90,53 @@ impl Copies {
 
     /// A word was written into a cell.
     pub fn write_cell(&mut self, j: u64, i: u64, v: u64)
-        requires { 145 * j + i < length self.old.cells }
-        ensures { self.new ≡ record self.old { cells = slice_set self.old.cells (145 * j + i) v } }
+        requires { ENTRY_WORDS * j + i < length self.old.cells }
+        ensures { self.new ≡ record self.old { cells = slice_set self.old.cells (ENTRY_WORDS * j + i) v } }
     {
-        self.cells[(145 * j + i) as usize] = v;
+        self.cells[(ENTRY_WORDS as u64 * j + i) as usize] = v;
     }
 
     /// A word was written into the set of a cell.
     pub fn write_set(&mut self, j: u64, i: u64, v: u64)
-        requires { 513 * j + i < length self.old.sets }
-        ensures { self.new ≡ record self.old { sets = slice_set self.old.sets (513 * j + i) v } }
+        requires { SET_WORDS * j + i < length self.old.sets }
+        ensures { self.new ≡ record self.old { sets = slice_set self.old.sets (SET_WORDS * j + i) v } }
     {
-        self.sets[(513 * j + i) as usize] = v;
+        self.sets[(SET_WORDS as u64 * j + i) as usize] = v;
     }
 
     /// A word of the set of a cell.
     pub fn set_word(&self, j: u64, i: u64) -> u64
-        requires { 513 * j + i < length self.now.sets }
-        ensures { result ≡ slice_index self.now.sets (513 * j + i) }
+        requires { SET_WORDS * j + i < length self.now.sets }
+        ensures { result ≡ slice_index self.now.sets (SET_WORDS * j + i) }
     {
-        self.sets[(513 * j + i) as usize]
+        self.sets[(SET_WORDS as u64 * j + i) as usize]
     }
 
     /// The first place from one on at which an operation's words differ from those of a cell behind its first, 144 where that is none.
-    pub fn cell_apart(&self, j: u64, op: &[u64; 144], from: usize) -> usize
+    pub fn cell_apart(&self, j: u64, op: &OpWords, from: usize) -> usize
         requires j { j < 16 }
         requires long { length self.now.cells ≡ 2320 }
-        requires from { from ≤ 144 }
+        requires from { from ≤ OP_WORDS }
         ensures least { from ≤ result }
-        ensures most { result ≤ 144 }
-        ensures same { (at : ℕ) → from ≤ at → at < result → slice_index self.now.cells (145 * j + (at + 1)) ≡ slice_index op.now at }
-        ensures apart { result < 144 → slice_index self.now.cells (145 * j + (result + 1)) ≢ slice_index op.now result }
+        ensures most { result ≤ OP_WORDS }
+        ensures same { (at : ℕ) → from ≤ at → at < result → slice_index self.now.cells (ENTRY_WORDS * j + (at + 1)) ≡ slice_index op.now at }
+        ensures apart { result < OP_WORDS → slice_index self.now.cells (ENTRY_WORDS * j + (result + 1)) ≢ slice_index op.now result }
     {
-        let first = 145 * (j as usize) + 1;
-        first_apart(&self.cells[first..first + 144], op, from)
+        let first = ENTRY_WORDS * (j as usize) + 1;
+        first_apart(&self.cells[first..first + OP_WORDS], op, from)
     }
 
     /// Makes an entry's number and operation those that stand in a cell.
     pub fn read_entry(&self, j: u64, entry: &mut Entry)
         requires j { j < 16 }
         requires long { length self.now.cells ≡ 2320 }
-        ensures { entry.new ≡ record entry.old { number = slice_index self.now.cells (145 * j); op = slice_range self.now.cells (145 * j + 1) (145 * j + 145) } }
+        ensures { entry.new ≡ record entry.old { number = slice_index self.now.cells (ENTRY_WORDS * j); op = slice_range self.now.cells (ENTRY_WORDS * j + 1) (ENTRY_WORDS * j + ENTRY_WORDS) } }
     {
-        let from = 145 * (j as usize);
+        let from = ENTRY_WORDS * (j as usize);
         entry.number = self.cells[from];
-        entry.op.copy_from_slice(&self.cells[from + 1..from + 145]);
+        entry
+            .op
+            .copy_from_slice(&self.cells[from + 1..from + ENTRY_WORDS]);
     }
 
     /// The word last stored.

@@ -1,6 +1,9 @@
-//! What a seat keeps in plain memory: the numbers of its caller's local state, how each kind of step changes them, and the
-//! words that its caller alone writes; and what is read off that when a table is closed. It gives no right to step: that is
-//! the seat's, which the running table hands out.
+//! What a caller knows is ghost state, which code cannot read. But a caller has to know its ticket, its rights, and which words of its replica are
+//! dirty; to ask the shared words for that would cost steps and tell less.
+//!
+//! So each seat keeps numbers in plain memory that follow the ghost state step by step (`Summary`), and copies of the words that its caller alone
+//! writes (`Copies`): of a held replica what is to be made durable, of its own cells what stands there, so that only words that differ are written.
+//! It gives no right to step: that is the seat's, which the running table hands out. When a table is closed, the chain of roots is read off it.
 //!
 //! - The numbers that a seat keeps in plain memory follow its caller's local state at each kind of step: `Follows` of each method of `Summary`.
 //! - Wins that lead from a code to another by one way are read off as that chain: `lead_on` (`IsWayBy`).

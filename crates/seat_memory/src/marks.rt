@@ -36,7 +36,7 @@ impl Model for Marks {
 }
 
 impl Marks {
-    /// Room for so many words, none of which is marked.
+    /// Room for the marks of `count` words, none of which is marked.
     pub(crate) fn none(alloc: Global, count: usize) -> Result<Marks, AllocError>
         ensures { IfOk result (λ m. m ≡ replicate count false) }
     {

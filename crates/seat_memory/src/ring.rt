@@ -1,4 +1,4 @@
-//! How the steps of the ring change the numbers: what a caller needs is stated, confirmed and given up, and tickets are
+//! How the steps of the ring change the numbers: what a caller needs is stated, confirmed and released, and tickets are
 //! closed, scanned and opened.
 
 ghost use Rattle.std.specs.Prelude.{◌≡◌, ◌<◌, ℕ};
@@ -47,7 +47,7 @@ impl Summary {
         self.steps = self.steps.saturating_add(1);
     }
 
-    /// A protection was given up.
+    /// A protection was released.
     pub fn unprotect(&mut self)
         ensures { (callers found : ℕ) → Follows callers Unprotect found self.old self.new }
     {

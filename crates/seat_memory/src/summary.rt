@@ -63,7 +63,7 @@ pub struct Summary {
     pub won: Option<WonCode>,
     pub raised: u64,
     pub floor: u64,
-    /// What keeps the cells from a ticket on from being given again.
+    /// What keeps the cells from a ticket on from being written again.
     pub protection: Protection,
     /// The scan of the callers' needs that is not at its end, and what the last whole one found.
     pub scan: Option<Scan>,
@@ -122,7 +122,7 @@ impl Summary {
         Ok(())
     }
 
-    /// Counts so many steps, each of which changes no other number, and answers whether the limit leaves them: if not, none is counted.
+    /// Counts `count` steps, each of which changes no other number, and answers whether the limit leaves them: if not, none is counted.
     pub fn count(&mut self, count: u64) -> bool
         ensures counted { IsTrue result → (self.new ≡ record self.old { steps = self.old.steps + count }) × (self.old.steps + count ≤ self.old.limit) × (self.old.steps + count < 2 ^ 64) }
         ensures short { result ≡ false → (self.new ≡ self.old) × (self.old.limit < self.old.steps + count) }
@@ -280,7 +280,7 @@ impl Summary {
         u64::from(root_replica(callers.number, self.seen_cur)) == r && self.fresh
     }
 
-    /// A shared right, a passer's mark or a downgraded right was taken back.
+    /// A shared right or a downgraded one was released, or a passer's mark taken back.
     pub fn back_off(&mut self, r: u64)
         ensures { (callers found : ℕ) → Follows callers (BackOff r) found self.old self.new }
     {
@@ -303,7 +303,7 @@ impl Summary {
         self.steps = self.steps.saturating_add(1);
     }
 
-    /// An exclusive right was given up.
+    /// An exclusive right was released.
     pub fn release_exclusive(&mut self)
         ensures { (callers r found : ℕ) → Follows callers (ReleaseExclusive r) found self.old self.new }
     {

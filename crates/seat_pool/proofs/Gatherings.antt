@@ -15,8 +15,8 @@ use Rattle.atomic_table.specs.Seated.{TableId}
 use Rattle.std.specs.List.{range_with_len}
 use Rattle.std.specs.Option.{option_to_list}
 use Rattle.seat_pool.specs.declared.lent.Lent.{Lent}
-use Rattle.seat_pool.specs.Gathering.{AreSame, AreTold, Gathers, IsGathering, IsHandedOf, IsLentOf, IsRestOf, IsTakingIn, handed_calls, handed_reads, if_stopped, kept_list, lent_kept, lent_shown, lent_told, number_of}
-use Rattle.seat_pool.specs.Pooling.{IsWhole, Tells, all_parts, both, calls_of, total, with_taken}
+use Rattle.seat_pool.specs.Gathering.{AreSame, AreCallsTold, Gathers, IsGathering, IsHandedOf, IsLentOf, IsRestOf, IsTakingIn, handed_calls, handed_reads, if_stopped, kept_list, lent_kept, lent_shown, lent_told, handed_number}
+use Rattle.seat_pool.specs.Pooling.{IsPassWhole, TellsRoom, all_parts, both, calls_of, total_weight, with_taken}
 use Rattle.seat_pool.specs.declared.hand.Hand.{Hand}
 use Rattle.seat_pool.specs.declared.hand.Told.{Told}
 use Rattle.seat_pool.proofs.Poolings.{total_both, units}
@@ -29,18 +29,18 @@ module _ {O : Type 0} (r : Running O) where
   pub gathers_both : (a b : List Seated) (xs ys : List Handed) → Gathers r a xs → Gathers r b ys → Gathers r (a ++ b) (xs ++ ys)
   gathers_both a b xs ys g k = record {
     of = All-append (IsHandedOf r) xs ys g.of k.of;
-    numbers = λ h. omega (arith, g.numbers h, k.numbers h, total_both (λ (x : Handed). h (number_of x)) xs ys, total_both (λ (x : Seated). h x.known.local.number) a b);
+    numbers = λ h. omega (arith, g.numbers h, k.numbers h, total_both (λ (x : Handed). h (handed_number x)) xs ys, total_both (λ (x : Seated). h x.known.local.number) a b);
     untold = g.untold ++ k.untold;
-    calls = λ h. omega (arith, g.calls h, k.calls h, total_both (handed_calls h) xs ys, total_both (λ (x : Seated). total h (calls_of x)) a b, total_both h g.untold k.untold);
+    calls = λ h. omega (arith, g.calls h, k.calls h, total_both (handed_calls h) xs ys, total_both (λ (x : Seated). total_weight h (calls_of x)) a b, total_both h g.untold k.untold);
     few = λ h. omega (arith, g.few h, k.few h, total_both (if_stopped h) xs ys, total_both (λ (t : Told). h t.caller) g.untold k.untold);
-    reads = λ h. omega (arith, g.reads h, k.reads h, total_both (handed_reads h) xs ys, total_both (λ (x : Seated). total h x.known.local.seen_reads) a b);
+    reads = λ h. omega (arith, g.reads h, k.reads h, total_both (handed_reads h) xs ys, total_both (λ (x : Seated). total_weight h x.known.local.seen_reads) a b);
   }
 
   -- a caller comes out of the queue
   pub gathers_taken : (v : Hand) (xs : List Handed) (x : Seated) → Gathers r v.held xs → IsCallerOf r x → Gathers r (with_taken v x).held (xs ++ Idle x ∷ [])
   gathers_taken v xs x g is = record {
     of = All-push (IsHandedOf r) xs (Idle x) g.of is;
-    numbers = λ h. omega (arith, g.numbers h, total_both (λ (y : Handed). h (number_of y)) xs (Idle x ∷ []));
+    numbers = λ h. omega (arith, g.numbers h, total_both (λ (y : Handed). h (handed_number y)) xs (Idle x ∷ []));
     untold = g.untold;
     calls = λ h. omega (arith, g.calls h, total_both (handed_calls h) xs (Idle x ∷ []));
     few = λ h. omega (arith, g.few h, total_both (if_stopped h) xs (Idle x ∷ []));
@@ -78,8 +78,8 @@ module _ {O : Type 0} (r : Running O) where
   })
 
 -- where the queue is empty, the pass with every part knows that it holds all
-pub drained : (v w : Hand) → v.parts ≡ all_parts → w ≡ v → Held 0 (Tells v) → IsWhole w []
-drained v w parts same ([], long, tells) = subst (λ (u : Hand). IsWhole u []) (sym same) (tells.whole parts)
+pub drained : (v w : Hand) → v.parts ≡ all_parts → w ≡ v → Held 0 (TellsRoom v) → IsPassWhole w []
+drained v w parts same ([], long, tells) = subst (λ (u : Hand). IsPassWhole u []) (sym same) (tells.whole parts)
 drained v w parts same (x ∷ items, long, tells) = absurd (omega (arith, long))
 
 -- the same, said of what a pass knows
@@ -90,8 +90,8 @@ pub none_of : {A : Type 0} (xs : List A) → length xs ≡ 0 → xs ≡ []
 none_of [] none = refl
 none_of (x ∷ xs) none = absurd (omega (arith, none))
 
-no_weight : {A : Type 0} (f : A → ℕ) (xs : List A) → xs ≡ [] → total f xs ≡ 0
-no_weight f xs none = ap (total f) none
+no_weight : {A : Type 0} (f : A → ℕ) (xs : List A) → xs ≡ [] → total_weight f xs ≡ 0
+no_weight f xs none = ap (total_weight f) none
 
 module _ {O : Type 0} (r : Running O) (table : TableId) where
   pub gathers_none : (held : List Seated) (xs : List Handed) → held ≡ [] → xs ≡ [] → Gathers r held xs
@@ -134,37 +134,37 @@ module _ {O : Type 0} (r : Running O) (table : TableId) where
         parts = omega (arith, k.parts, is.parts, long);
         placed = ap (λ l. v.placed ++ l) is.placed ∙ append-nil v.placed ∙ k.placed;
         told = λ h. (
-            let was : total (lent_told h) rest ≡ total (lent_told h) (after ++ x ∷ []) = ap (total (lent_told h)) left in
+            let was : total_weight (lent_told h) rest ≡ total_weight (lent_told h) (after ++ x ∷ []) = ap (total_weight (lent_told h)) left in
             omega (arith, was, k.told h, total_both (lent_told h) after (x ∷ []), total_both h v.told (view x.pass).told));
         shown = λ h. (
-            let was : total (lent_shown h) rest ≡ total (lent_shown h) (after ++ x ∷ []) = ap (total (lent_shown h)) left in
+            let was : total_weight (lent_shown h) rest ≡ total_weight (lent_shown h) (after ++ x ∷ []) = ap (total_weight (lent_shown h)) left in
             omega (arith, was, k.shown h, total_both (lent_shown h) after (x ∷ []), total_both h v.shown (view x.pass).shown));
         kept = λ f. (
-            let was : total (lent_kept f) rest ≡ total (lent_kept f) (after ++ x ∷ []) = ap (total (lent_kept f)) left in
-            let grown : total f ys ≡ total f (xs ++ kept_list x.kept) = ap (total f) more in
+            let was : total_weight (lent_kept f) rest ≡ total_weight (lent_kept f) (after ++ x ∷ []) = ap (total_weight (lent_kept f)) left in
+            let grown : total_weight f ys ≡ total_weight f (xs ++ kept_list x.kept) = ap (total_weight f) more in
             omega (arith, was, grown, k.kept f, total_both (lent_kept f) after (x ∷ []), total_both f xs (kept_list x.kept)));
         lents = (All-pop (IsLentOf r table) rest after (Some x) left k.lents).0;
         gathers = subst (λ (t : Hand). Gathers r t.held ys) same gathers;
       })
 
   -- all are gathered, by number
-  pub all_numbers : (all : List Lent) (v w : Hand) (xs ys : List Handed) → IsTakingIn r table all v [] xs → w.placed ≡ v.placed → IsWhole w [] → Gathers r w.held ys → (h : ℕ → ℕ) → total (λ (g : Handed). h (number_of g)) ys ≡ total h (range_with_len 0 r.callers)
+  pub all_numbers : (all : List Lent) (v w : Hand) (xs ys : List Handed) → IsTakingIn r table all v [] xs → w.placed ≡ v.placed → IsPassWhole w [] → Gathers r w.held ys → (h : ℕ → ℕ) → total_weight (λ (g : Handed). h (handed_number g)) ys ≡ total_weight h (range_with_len 0 r.callers)
   all_numbers all v w xs ys k same whole gathers h =
-      let placed : total h w.placed ≡ total h (range_with_len 0 r.callers) = ap (total h) (same ∙ k.placed) in
+      let placed : total_weight h w.placed ≡ total_weight h (range_with_len 0 r.callers) = ap (total_weight h) (same ∙ k.placed) in
       omega (arith, placed, whole.callers h, gathers.numbers h)
 
   -- and their calls are those that were told
-  pub all_told : (all : List Lent) (v w : Hand) (xs ys zs : List Handed) → IsTakingIn r table all v [] xs → w.told ≡ v.told → w.shown ≡ v.shown → IsWhole w [] → Gathers r w.held ys → ((f : Handed → ℕ) → total f xs ≤ total f ys) → ((f : Handed → ℕ) → ((s : Seated) → f (Idle s) ≡ 0) → total f ys ≡ total f xs) → AreSame zs ys → All (IsHandedOf r) zs
-      → AreTold r all zs
+  pub all_told : (all : List Lent) (v w : Hand) (xs ys zs : List Handed) → IsTakingIn r table all v [] xs → w.told ≡ v.told → w.shown ≡ v.shown → IsPassWhole w [] → Gathers r w.held ys → ((f : Handed → ℕ) → total_weight f xs ≤ total_weight f ys) → ((f : Handed → ℕ) → ((s : Seated) → f (Idle s) ≡ 0) → total_weight f ys ≡ total_weight f xs) → AreSame zs ys → All (IsHandedOf r) zs
+      → AreCallsTold r all zs
   all_told all v w xs ys zs k same seen whole gathers more idle order of = record {
     of = of;
     untold = gathers.untold;
     calls = λ h. (
-        let told : total h w.told ≡ total h v.told = ap (total h) same in
+        let told : total_weight h w.told ≡ total_weight h v.told = ap (total_weight h) same in
         omega (arith, told, whole.calls h, gathers.calls h, order (handed_calls h), k.told h));
     few = λ h. omega (arith, gathers.few h, order (if_stopped h));
     reads = λ h. (
-        let shown : total h w.shown ≡ total h v.shown = ap (total h) seen in
+        let shown : total_weight h w.shown ≡ total_weight h v.shown = ap (total_weight h) seen in
         omega (arith, shown, whole.reads h, gathers.reads h, order (handed_reads h), k.shown h));
     kept = λ f. omega (arith, k.kept f, more f, order f);
     others = λ f none. omega (arith, k.kept f, idle f none, order f);

@@ -13,7 +13,7 @@ use Rattle.cx_core.specs.Region.{slot_number}
 use Rattle.cx_rule.specs.Running.{Running}
 use Rattle.cx_rule.specs.Seats.{Seated}
 use Rattle.cx_service.specs.Callers.{IsCallerOf}
-use Rattle.seat_pool.specs.Pooling.{FitsHand, FitsHome, GoesOn, HasLimit, IsCallerAt, IsFirstOf, IsHomeOf, IsLentBy, IsSame, IsTaken, Keeps, Pools, Shown, Tells, all_parts, both, callers_at, calls_of, calls_weigh, cut_left, cut_right, fresh, given_from, limits_at, nothing, numbers_weigh, opened, reads_weigh, shown_by, total, with_given, with_placed, with_taken}
+use Rattle.seat_pool.specs.Pooling.{FitsHand, FitsHome, GoesOnCalling, HasLimit, IsCallerAt, IsFirstOf, IsHomeOf, IsLentBy, IsSameTable, IsCallerTaken, KeepsCallers, Pools, Shown, TellsRoom, all_parts, both, callers_at, calls_of, calls_weigh, cut_left, cut_right, fresh, given_from, limits_at, nothing, numbers_weigh, opened_pass, reads_weigh, shown_by, total_weight, with_given, with_placed, with_taken}
 use Rattle.seat_pool.specs.declared.hand.Hand.{Hand}
 use Rattle.seat_pool.specs.declared.hand.Home.{Home}
 use Rattle.seat_pool.specs.declared.hand.Told.{Told}
@@ -21,61 +21,61 @@ use Rattle.seat_pool.specs.declared.hand.Told.{Told}
 -- sums
 
 module _ {A : Type 0} (f : A → ℕ) where
-  pub total_both : (xs ys : List A) → total f (xs ++ ys) ≡ total f xs + total f ys
+  pub total_both : (xs ys : List A) → total_weight f (xs ++ ys) ≡ total_weight f xs + total_weight f ys
   total_both [] ys = omega arith
   total_both (x ∷ xs) ys = omega (arith, total_both xs ys)
 
   -- a sum where one changes
-  pub total_set : (xs : List A) (i : ℕ) (v w : A) → get_elem? xs i ≡ some v → total f (set xs i w) + f v ≡ total f xs + f w
+  pub total_set : (xs : List A) (i : ℕ) (v w : A) → get_elem? xs i ≡ some v → total_weight f (set xs i w) + f v ≡ total_weight f xs + f w
   total_set [] i v w at = absurd (some-ne-none v (sym at))
   total_set (x ∷ xs) zero v w at = (let same : f x ≡ f v = ap f (some-injective x v at) in omega (arith, same))
   total_set (x ∷ xs) (suc i) v w at = (let rest = total_set xs i v w at in omega (arith, rest))
 
   -- no one is more than all
-  pub total_has : (xs : List A) (i : ℕ) (v : A) → get_elem? xs i ≡ some v → f v ≤ total f xs
+  pub total_has : (xs : List A) (i : ℕ) (v : A) → get_elem? xs i ≡ some v → f v ≤ total_weight f xs
   total_has [] i v at = absurd (some-ne-none v (sym at))
   total_has (x ∷ xs) zero v at = (let same : f x ≡ f v = ap f (some-injective x v at) in omega (arith, same))
   total_has (x ∷ xs) (suc i) v at = (let rest = total_has xs i v at in omega (arith, rest))
 
   -- a sum of none
-  pub total_none : (p : A → ℕ) (xs : List A) → ((j : ℕ) (u : A) → get_elem? xs j ≡ some u → p u ≡ 0 → f u ≡ 0) → total p xs ≡ 0 → total f xs ≡ 0
+  pub total_none : (p : A → ℕ) (xs : List A) → ((j : ℕ) (u : A) → get_elem? xs j ≡ some u → p u ≡ 0 → f u ≡ 0) → total_weight p xs ≡ 0 → total_weight f xs ≡ 0
   total_none p [] idle none = refl
   total_none p (x ∷ xs) idle none =
       let here : f x ≡ 0 = idle 0 x refl (omega (arith, none)) in
-      let rest : total f xs ≡ 0 = total_none p xs (λ j u at. idle (suc j) u at) (omega (arith, none)) in
+      let rest : total_weight f xs ≡ 0 = total_none p xs (λ j u at. idle (suc j) u at) (omega (arith, none)) in
       omega (arith, here, rest)
 
   -- where one has all parts, its share is the whole
-  pub total_whole : (p : A → ℕ) (xs : List A) (i : ℕ) (v : A) → ((j : ℕ) (u : A) → get_elem? xs j ≡ some u → p u ≡ 0 → f u ≡ 0) → get_elem? xs i ≡ some v → total p xs ≡ p v → total f xs ≡ f v
+  pub total_whole : (p : A → ℕ) (xs : List A) (i : ℕ) (v : A) → ((j : ℕ) (u : A) → get_elem? xs j ≡ some u → p u ≡ 0 → f u ≡ 0) → get_elem? xs i ≡ some v → total_weight p xs ≡ p v → total_weight f xs ≡ f v
   total_whole p [] i v idle at all = absurd (some-ne-none v (sym at))
   total_whole p (x ∷ xs) zero v idle at all =
       let same : p x ≡ p v = ap p (some-injective x v at) in
       let here : f x ≡ f v = ap f (some-injective x v at) in
-      let rest : total f xs ≡ 0 = total_none p xs (λ j u at. idle (suc j) u at) (omega (arith, same, all)) in
+      let rest : total_weight f xs ≡ 0 = total_none p xs (λ j u at. idle (suc j) u at) (omega (arith, same, all)) in
       omega (arith, here, rest)
   total_whole p (x ∷ xs) (suc i) v idle at all =
-      let part : p v ≤ total p xs = part_of p xs i v at in
+      let part : p v ≤ total_weight p xs = part_of p xs i v at in
       let here : f x ≡ 0 = idle 0 x refl (omega (arith, part, all)) in
-      let rest : total f xs ≡ f v = total_whole p xs i v (λ j u at. idle (suc j) u at) at (omega (arith, part, all)) in
+      let rest : total_weight f xs ≡ f v = total_whole p xs i v (λ j u at. idle (suc j) u at) at (omega (arith, part, all)) in
       omega (arith, here, rest)
     where
-      part_of : (p : A → ℕ) (xs : List A) (i : ℕ) (v : A) → get_elem? xs i ≡ some v → p v ≤ total p xs
+      part_of : (p : A → ℕ) (xs : List A) (i : ℕ) (v : A) → get_elem? xs i ≡ some v → p v ≤ total_weight p xs
       part_of p [] i v at = absurd (some-ne-none v (sym at))
       part_of p (y ∷ ys) zero v at = (let same : p y ≡ p v = ap p (some-injective y v at) in omega (arith, same))
       part_of p (y ∷ ys) (suc i) v at = (let rest = part_of p ys i v at in omega (arith, rest))
 
-pub units : (A : Type 0) (xs : List A) → total {A = A} (λ _. 1) xs ≡ length xs
+pub units : (A : Type 0) (xs : List A) → total_weight {A = A} (λ _. 1) xs ≡ length xs
 units A [] = refl
 units A (x ∷ xs) = omega (arith, units A xs)
 
-each_same : (f g : Hand → ℕ) → ((u : Hand) → f u ≡ g u) → (us : List Hand) → total f us ≡ total g us
+each_same : (f g : Hand → ℕ) → ((u : Hand) → f u ≡ g u) → (us : List Hand) → total_weight f us ≡ total_weight g us
 each_same f g same [] = refl
 each_same f g same (u ∷ us) = omega (arith, same u, each_same f g same us)
 
 -- services
 
 -- a caller of a service is one of any with the same table, number of callers and base
-pub moved : {O P : Type 0} (q : Running O) (r : Running P) (x : Seated) → IsSame q r → IsCallerOf q x → IsCallerOf r x
+pub moved : {O P : Type 0} (q : Running O) (r : Running P) (x : Seated) → IsSameTable q r → IsCallerOf q x → IsCallerOf r x
 moved q r x same is = record {
   of = record {
     table = is.of.table ∙ same.table;
@@ -89,7 +89,7 @@ moved q r x same is = record {
   cells = is.cells;
 }
 
-back : {O P : Type 0} (q : Running O) (r : Running P) → IsSame q r → IsSame r q
+back : {O P : Type 0} (q : Running O) (r : Running P) → IsSameTable q r → IsSameTable r q
 back q r same = record { table = sym same.table; callers = sym same.callers; base = sym same.base }
 
 -- a caller of the service is one at the home that the pass knows
@@ -147,12 +147,12 @@ keeps_parts r v fits some_part = record { home = fits; idle = λ none. absurd (o
 -- what a move of one pass has to balance
 record Balances (service : Shown) (items after : List Seated) (v w : Hand) : Type 0 where
   pub parts : w.parts ≡ v.parts
-  pub callers : (h : ℕ → ℕ) → total h w.placed + numbers_weigh h v.held + numbers_weigh h items ≡ total h v.placed + numbers_weigh h w.held + numbers_weigh h after
-  pub calls : (h : Told → ℕ) → total h w.told + calls_weigh h v.held + calls_weigh h items ≡ total h v.told + calls_weigh h w.held + calls_weigh h after
-  pub reads : (h : SeenRead → ℕ) → total h w.shown + reads_weigh h v.held + reads_weigh h items ≤ total h v.shown + reads_weigh h w.held + reads_weigh h after
+  pub callers : (h : ℕ → ℕ) → total_weight h w.placed + numbers_weigh h v.held + numbers_weigh h items ≡ total_weight h v.placed + numbers_weigh h w.held + numbers_weigh h after
+  pub calls : (h : Told → ℕ) → total_weight h w.told + calls_weigh h v.held + calls_weigh h items ≡ total_weight h v.told + calls_weigh h w.held + calls_weigh h after
+  pub reads : (h : SeenRead → ℕ) → total_weight h w.shown + reads_weigh h v.held + reads_weigh h items ≤ total_weight h v.shown + reads_weigh h w.held + reads_weigh h after
 
-moves : (items after : List Seated) (views : List Hand) (pass : ℕ) (v w : Hand) (k : Keeps items views) → get_elem? views pass ≡ some v
-    → FitsHand k.service w → All (IsLentBy k.service) after → total (λ (u : Hand). length u.placed) (set views pass w) ≤ k.service.callers → Balances k.service items after v w → Keeps after (set views pass w)
+moves : (items after : List Seated) (views : List Hand) (pass : ℕ) (v w : Hand) (k : KeepsCallers items views) → get_elem? views pass ≡ some v
+    → FitsHand k.service w → All (IsLentBy k.service) after → total_weight (λ (u : Hand). length u.placed) (set views pass w) ≤ k.service.callers → Balances k.service items after v w → KeepsCallers after (set views pass w)
 moves items after views pass v w k at fits are room b = record {
   service = k.service;
   items_are = are;
@@ -160,21 +160,21 @@ moves items after views pass v w k at fits are room b = record {
   parts = (let s = total_set (λ (u : Hand). u.parts) views pass v w at in omega (arith, s, k.parts, b.parts));
   room = room;
   callers = λ h. (
-      let placed = total_set (λ (u : Hand). total h u.placed) views pass v w at in
+      let placed = total_set (λ (u : Hand). total_weight h u.placed) views pass v w at in
       let held = total_set (λ (u : Hand). numbers_weigh h u.held) views pass v w at in
       omega (arith, placed, held, k.callers h, b.callers h));
   calls = λ h. (
-      let told = total_set (λ (u : Hand). total h u.told) views pass v w at in
+      let told = total_set (λ (u : Hand). total_weight h u.told) views pass v w at in
       let held = total_set (λ (u : Hand). calls_weigh h u.held) views pass v w at in
       omega (arith, told, held, k.calls h, b.calls h));
   reads = λ h. (
-      let shown = total_set (λ (u : Hand). total h u.shown) views pass v w at in
+      let shown = total_set (λ (u : Hand). total_weight h u.shown) views pass v w at in
       let held = total_set (λ (u : Hand). reads_weigh h u.held) views pass v w at in
       omega (arith, shown, held, k.reads h, b.reads h));
 }
 
 -- nobody is placed
-same_room : (views : List Hand) (pass : ℕ) (v w : Hand) (n : ℕ) → get_elem? views pass ≡ some v → w.placed ≡ v.placed → total (λ (u : Hand). length u.placed) views ≤ n → total (λ (u : Hand). length u.placed) (set views pass w) ≤ n
+same_room : (views : List Hand) (pass : ℕ) (v w : Hand) (n : ℕ) → get_elem? views pass ≡ some v → w.placed ≡ v.placed → total_weight (λ (u : Hand). length u.placed) views ≤ n → total_weight (λ (u : Hand). length u.placed) (set views pass w) ≤ n
 same_room views pass v w n at placed room =
     let s = total_set (λ (u : Hand). length u.placed) views pass v w at in
     let same : length w.placed ≡ length v.placed = ap length placed in
@@ -187,15 +187,15 @@ pub begins : Pools [] (fresh ∷ [])
 begins = inl (refl, refl)
 
 -- there are no more callers in the queue than the pass leaves
-has_room : {O : Type 0} (r : Running O) (v : Hand) (items : List Seated) (views : List Hand) (pass : ℕ) → Keeps items views → IsHomeOf r v.home → get_elem? views pass ≡ some v → length v.held + length items ≤ callers_at v.home
+has_room : {O : Type 0} (r : Running O) (v : Hand) (items : List Seated) (views : List Hand) (pass : ℕ) → KeepsCallers items views → IsHomeOf r v.home → get_elem? views pass ≡ some v → length v.held + length items ≤ callers_at v.home
 has_room r v items views pass k of at =
     let count = count_fits r k.service v.parts v.home of (k.views_are pass v at).home in
-    let placed : total (λ (u : Hand). total (λ _. 1) u.placed) views ≡ total (λ (u : Hand). length u.placed) views = each_same (λ (u : Hand). total (λ _. 1) u.placed) (λ (u : Hand). length u.placed) (λ u. units ℕ u.placed) views in
+    let placed : total_weight (λ (u : Hand). total_weight (λ _. 1) u.placed) views ≡ total_weight (λ (u : Hand). length u.placed) views = each_same (λ (u : Hand). total_weight (λ _. 1) u.placed) (λ (u : Hand). length u.placed) (λ u. units ℕ u.placed) views in
     let mine = total_has (λ (u : Hand). numbers_weigh (λ _. 1) u.held) views pass v at in
     omega (arith, placed, mine, units Seated v.held, units Seated items, k.callers (λ _. 1), k.room, count)
 
 module _ {O : Type 0} where
-  pub pops : (pass : ℕ) (r : Running O) (v : Hand) → IsHomeOf r v.home → 0 < v.parts → Pops Pools pass v (IsTaken v)
+  pub pops : (pass : ℕ) (r : Running O) (v : Hand) → IsHomeOf r v.home → 0 < v.parts → Pops Pools pass v (IsCallerTaken v)
   pops pass r v of some_part x items views (inl new) at = absurd (is_not_new r v views pass of new.1 at)
   pops pass r v of some_part x items views (inr k) at =
       let w = with_taken v x in
@@ -219,15 +219,15 @@ module _ {O : Type 0} where
       let mine : IsLentBy k.service x = to_service r k.service v.parts v.home x of fits (at_home r v.home x of is limit) in
       let count = count_fits r k.service v.parts v.home of fits in
       let here = home_callers r v.home of in
-      let alone : total (λ (u : Hand). length u.placed) views ≡ length v.placed = total_whole (λ (u : Hand). length u.placed) (λ (u : Hand). u.parts) views pass v (λ j u e z. ap length ((k.views_are j u e).idle z).placed) at (k.parts ∙ sym parts) in
+      let alone : total_weight (λ (u : Hand). length u.placed) views ≡ length v.placed = total_whole (λ (u : Hand). length u.placed) (λ (u : Hand). u.parts) views pass v (λ j u e z. ap length ((k.views_are j u e).idle z).placed) at (k.parts ∙ sym parts) in
       let s = total_set (λ (u : Hand). length u.placed) views pass v w at in
       let long = length-append v.placed (x.known.local.number ∷ []) in (
         w,
         inr (moves items (items ++ x ∷ []) views pass v w k at (keeps_parts k.service w fits (omega (arith, parts))) (All-push (IsLentBy k.service) items x k.items_are mine) (omega (arith, s, alone, long, room, count, here)) (record {
           parts = refl;
           callers = λ h. omega (arith, total_both h v.placed (x.known.local.number ∷ []), total_both (λ (y : Seated). h y.known.local.number) items (x ∷ []));
-          calls = λ h. (let zero_ : total h (calls_of x) ≡ 0 = ap (total h) none in omega (arith, zero_, total_both (λ (y : Seated). total h (calls_of y)) items (x ∷ [])));
-          reads = λ h. omega (arith, total_both (λ (y : Seated). total h y.known.local.seen_reads) items (x ∷ []));
+          calls = λ h. (let zero_ : total_weight h (calls_of x) ≡ 0 = ap (total_weight h) none in omega (arith, zero_, total_both (λ (y : Seated). total_weight h (calls_of y)) items (x ∷ [])));
+          reads = λ h. omega (arith, total_both (λ (y : Seated). total_weight h y.known.local.seen_reads) items (x ∷ []));
         })),
         refl,
       )
@@ -254,13 +254,13 @@ module _ {O : Type 0} where
                   let same : h x.known.local.number ≡ h y.known.local.number = ap h first.number in
                   omega (arith, was, same, total_both (λ (z : Seated). h z.known.local.number) items (x ∷ [])));
               calls = λ h. (
-                  let was : calls_weigh h v.held ≡ total h (calls_of y) + calls_weigh h rest = ap (calls_weigh h) holds in
-                  let grown : total h (calls_of x) ≡ total h (calls_of y) + total h more = ap (total h) first.calls ∙ total_both h (calls_of y) more in
-                  omega (arith, was, grown, total_both h v.told more, total_both (λ (z : Seated). total h (calls_of z)) items (x ∷ [])));
+                  let was : calls_weigh h v.held ≡ total_weight h (calls_of y) + calls_weigh h rest = ap (calls_weigh h) holds in
+                  let grown : total_weight h (calls_of x) ≡ total_weight h (calls_of y) + total_weight h more = ap (total_weight h) first.calls ∙ total_both h (calls_of y) more in
+                  omega (arith, was, grown, total_both h v.told more, total_both (λ (z : Seated). total_weight h (calls_of z)) items (x ∷ [])));
               reads = λ h. (
-                  let was : reads_weigh h v.held ≡ total h y.known.local.seen_reads + reads_weigh h rest = ap (reads_weigh h) holds in
-                  let grown : total h x.known.local.seen_reads ≡ total h y.known.local.seen_reads + total h new = ap (total h) first.reads ∙ total_both h y.known.local.seen_reads new in
-                  omega (arith, was, grown, total_both h v.shown new, total_both (λ (z : Seated). total h z.known.local.seen_reads) items (x ∷ [])));
+                  let was : reads_weigh h v.held ≡ total_weight h y.known.local.seen_reads + reads_weigh h rest = ap (reads_weigh h) holds in
+                  let grown : total_weight h x.known.local.seen_reads ≡ total_weight h y.known.local.seen_reads + total_weight h new = ap (total_weight h) first.reads ∙ total_both h y.known.local.seen_reads new in
+                  omega (arith, was, grown, total_both h v.shown new, total_both (λ (z : Seated). total_weight h z.known.local.seen_reads) items (x ∷ [])));
             })),
             ap (λ l. given_from v l x) (sym holds),
           )
@@ -274,16 +274,16 @@ module _ {O : Type 0} where
       let fits = (k.views_are pass v at).home in
       let left : FitsHand k.service l = keeps_parts k.service l (refits r k.service v.parts l.parts v.home of fits) (omega (arith, more)) in
       let right : FitsHand k.service w = keeps_parts k.service w (refits r k.service v.parts 1 v.home of fits) (omega arith) in
-      let cut : (f : Hand → ℕ) → total f (set views pass l ++ w ∷ []) + f v ≡ total f views + f l + f w = λ f. (let s = total_set f views pass v l at in omega (arith, s, total_both f (set views pass l) (w ∷ []))) in
+      let cut : (f : Hand → ℕ) → total_weight f (set views pass l ++ w ∷ []) + f v ≡ total_weight f views + f l + f w = λ f. (let s = total_set f views pass v l at in omega (arith, s, total_both f (set views pass l) (w ∷ []))) in
       inr (record {
         service = k.service;
         items_are = k.items_are;
         views_are = fit_snoc k.service (set views pass l) w right (fit_set k.service views pass l left k.views_are);
         parts = omega (arith, cut (λ (u : Hand). u.parts), k.parts, more);
         room = omega (arith, cut (λ (u : Hand). length u.placed), k.room);
-        callers = λ h. omega (arith, cut (λ (u : Hand). total h u.placed), cut (λ (u : Hand). numbers_weigh h u.held), k.callers h);
-        calls = λ h. omega (arith, cut (λ (u : Hand). total h u.told), cut (λ (u : Hand). calls_weigh h u.held), k.calls h);
-        reads = λ h. omega (arith, cut (λ (u : Hand). total h u.shown), cut (λ (u : Hand). reads_weigh h u.held), k.reads h);
+        callers = λ h. omega (arith, cut (λ (u : Hand). total_weight h u.placed), cut (λ (u : Hand). numbers_weigh h u.held), k.callers h);
+        calls = λ h. omega (arith, cut (λ (u : Hand). total_weight h u.told), cut (λ (u : Hand). calls_weigh h u.held), k.calls h);
+        reads = λ h. omega (arith, cut (λ (u : Hand). total_weight h u.shown), cut (λ (u : Hand). reads_weigh h u.held), k.reads h);
       })
 
   -- two passes are put together
@@ -294,7 +294,7 @@ module _ {O : Type 0} where
       let fits = (k.views_are pass v at).home in
       let mine : FitsHand k.service b = keeps_parts k.service b (refits r k.service v.parts b.parts v.home of fits) (omega (arith, some_part)) in
       let spent : FitsHand k.service nothing = record { home = refl; idle = λ z. record { placed = refl; held = refl; told = refl; shown = refl } } in
-      let merged : (f : Hand → ℕ) → f b ≡ f v + f w → f nothing ≡ 0 → total f (set (set views pass b) other nothing) ≡ total f views = λ f adds none. (
+      let merged : (f : Hand → ℕ) → f b ≡ f v + f w → f nothing ≡ 0 → total_weight f (set (set views pass b) other nothing) ≡ total_weight f views = λ f adds none. (
       let first = total_set f views pass v b at in
       let second = total_set f (set views pass b) other w nothing at' in
       omega (arith, first, second, adds, none)) in
@@ -305,48 +305,48 @@ module _ {O : Type 0} where
         parts = merged (λ (u : Hand). u.parts) refl refl ∙ k.parts;
         room = (let m = merged (λ (u : Hand). length u.placed) (length-append v.placed w.placed) refl in omega (arith, m, k.room));
         callers = λ h. (
-            let placed = merged (λ (u : Hand). total h u.placed) (total_both h v.placed w.placed) refl in
+            let placed = merged (λ (u : Hand). total_weight h u.placed) (total_both h v.placed w.placed) refl in
             let held = merged (λ (u : Hand). numbers_weigh h u.held) (total_both (λ (y : Seated). h y.known.local.number) v.held w.held) refl in
             omega (arith, placed, held, k.callers h));
         calls = λ h. (
-            let told = merged (λ (u : Hand). total h u.told) (total_both h v.told w.told) refl in
-            let held = merged (λ (u : Hand). calls_weigh h u.held) (total_both (λ (y : Seated). total h (calls_of y)) v.held w.held) refl in
+            let told = merged (λ (u : Hand). total_weight h u.told) (total_both h v.told w.told) refl in
+            let held = merged (λ (u : Hand). calls_weigh h u.held) (total_both (λ (y : Seated). total_weight h (calls_of y)) v.held w.held) refl in
             omega (arith, told, held, k.calls h));
         reads = λ h. (
-            let shown = merged (λ (u : Hand). total h u.shown) (total_both h v.shown w.shown) refl in
-            let held = merged (λ (u : Hand). reads_weigh h u.held) (total_both (λ (y : Seated). total h y.known.local.seen_reads) v.held w.held) refl in
+            let shown = merged (λ (u : Hand). total_weight h u.shown) (total_both h v.shown w.shown) refl in
+            let held = merged (λ (u : Hand). reads_weigh h u.held) (total_both (λ (y : Seated). total_weight h y.known.local.seen_reads) v.held w.held) refl in
             omega (arith, shown, held, k.reads h));
       })
 
-  pub learns : (pass : ℕ) (r : Running O) (v : Hand) → IsHomeOf r v.home → Learns Pools pass v (Tells v)
+  pub learns : (pass : ℕ) (r : Running O) (v : Hand) → IsHomeOf r v.home → Learns Pools pass v (TellsRoom v)
   learns pass r v of items views (inl new) at = absurd (is_not_new r v views pass of new.1 at)
   learns pass r v of items views (inr k) at =
       record {
         room = has_room r v items views pass k of at;
         whole = λ parts. record {
           callers = λ h. (
-              let placed' = total_whole (λ (u : Hand). total h u.placed) (λ (u : Hand). u.parts) views pass v (λ j u e z. ap (total h) ((k.views_are j u e).idle z).placed) at (k.parts ∙ sym parts) in
+              let placed' = total_whole (λ (u : Hand). total_weight h u.placed) (λ (u : Hand). u.parts) views pass v (λ j u e z. ap (total_weight h) ((k.views_are j u e).idle z).placed) at (k.parts ∙ sym parts) in
               let held' = total_whole (λ (u : Hand). numbers_weigh h u.held) (λ (u : Hand). u.parts) views pass v (λ j u e z. ap (numbers_weigh h) ((k.views_are j u e).idle z).held) at (k.parts ∙ sym parts) in
               omega (arith, placed', held', k.callers h));
           calls = λ h. (
-              let told' = total_whole (λ (u : Hand). total h u.told) (λ (u : Hand). u.parts) views pass v (λ j u e z. ap (total h) ((k.views_are j u e).idle z).told) at (k.parts ∙ sym parts) in
+              let told' = total_whole (λ (u : Hand). total_weight h u.told) (λ (u : Hand). u.parts) views pass v (λ j u e z. ap (total_weight h) ((k.views_are j u e).idle z).told) at (k.parts ∙ sym parts) in
               let held' = total_whole (λ (u : Hand). calls_weigh h u.held) (λ (u : Hand). u.parts) views pass v (λ j u e z. ap (calls_weigh h) ((k.views_are j u e).idle z).held) at (k.parts ∙ sym parts) in
               omega (arith, told', held', k.calls h));
           reads = λ h. (
-              let shown' = total_whole (λ (u : Hand). total h u.shown) (λ (u : Hand). u.parts) views pass v (λ j u e z. ap (total h) ((k.views_are j u e).idle z).shown) at (k.parts ∙ sym parts) in
+              let shown' = total_whole (λ (u : Hand). total_weight h u.shown) (λ (u : Hand). u.parts) views pass v (λ j u e z. ap (total_weight h) ((k.views_are j u e).idle z).shown) at (k.parts ∙ sym parts) in
               let held' = total_whole (λ (u : Hand). reads_weigh h u.held) (λ (u : Hand). u.parts) views pass v (λ j u e z. ap (reads_weigh h) ((k.views_are j u e).idle z).held) at (k.parts ∙ sym parts) in
               omega (arith, shown', held', k.reads h));
         };
       }
 
 -- the first pass learns the service, before any caller is placed
-pub opens : (pass : ℕ) (home : Home) → Forks Pools pass fresh (opened home) nothing
+pub opens : (pass : ℕ) (home : Home) → Forks Pools pass fresh (opened_pass home) nothing
 opens zero home items views (inl new) at =
-    subst (λ (l : List Seated). Pools l (set views 0 (opened home) ++ nothing ∷ [])) (sym new.0)
-    (subst (λ (l : List Hand). Pools [] (set l 0 (opened home) ++ nothing ∷ [])) (sym new.1) (inr (record {
+    subst (λ (l : List Seated). Pools l (set views 0 (opened_pass home) ++ nothing ∷ [])) (sym new.0)
+    (subst (λ (l : List Hand). Pools [] (set l 0 (opened_pass home) ++ nothing ∷ [])) (sym new.1) (inr (record {
       service = shown_by home;
       items_are = All-nil (IsLentBy (shown_by home));
-      views_are = fit_snoc (shown_by home) (opened home ∷ []) nothing spent (one (record { home = refl; idle = λ z. absurd (omega (arith, z)) }));
+      views_are = fit_snoc (shown_by home) (opened_pass home ∷ []) nothing spent (one (record { home = refl; idle = λ z. absurd (omega (arith, z)) }));
       parts = refl;
       room = omega arith;
       callers = λ h. refl;
@@ -357,26 +357,26 @@ opens zero home items views (inl new) at =
     spent : FitsHand (shown_by home) nothing
     spent = record { home = refl; idle = λ z. record { placed = refl; held = refl; told = refl; shown = refl } }
 
-    one : FitsHand (shown_by home) (opened home) → AllFit (shown_by home) (opened home ∷ [])
-    one fits zero u e = subst (FitsHand (shown_by home)) (some-injective (opened home) u e) fits
+    one : FitsHand (shown_by home) (opened_pass home) → AllFit (shown_by home) (opened_pass home ∷ [])
+    one fits zero u e = subst (FitsHand (shown_by home)) (some-injective (opened_pass home) u e) fits
     one fits (suc j) u e = absurd (some-ne-none u (sym e))
 opens (suc pass) home items views (inl new) at = absurd (some-ne-none fresh (sym at ∙ ap (λ l. get_elem? l (suc pass)) new.1))
 opens pass home items views (inr k) at = (let none : all_parts ≡ 0 = (k.views_are pass fresh at).home in absurd (omega (arith, none)))
 
 -- a pass with every part knows that no more callers are in the queue than it placed
-pub not_full : (v : Hand) (items : List Seated) → Tells v items → v.parts ≡ all_parts → length items ≤ length v.placed
+pub not_full : (v : Hand) (items : List Seated) → TellsRoom v items → v.parts ≡ all_parts → length items ≤ length v.placed
 not_full v items tells parts = omega (arith, (tells.whole parts).callers (λ _. 1), units ℕ v.placed, units Seated v.held, units Seated items)
 
 -- so a queue with room for all callers is not full while one is still to be placed
-pub is_short : (v : Hand) (cap n : ℕ) → v.parts ≡ all_parts → length v.placed < n → cap ≡ n → Held cap (Tells v) → ⊥
+pub is_short : (v : Hand) (cap n : ℕ) → v.parts ≡ all_parts → length v.placed < n → cap ≡ n → Held cap (TellsRoom v) → ⊥
 is_short v cap n parts room fits (items, long, tells) = (let most = not_full v items tells parts in absurd (omega (arith, most, long, fits, room)))
 
 -- what was taken out is a caller of the service
-pub taken : {O : Type 0} (r : Running O) (v w : Hand) (found : Option Seated) (none : Type 0) → IsHomeOf r v.home → MatchOption found none (λ x. IsTaken v x w)
+pub taken : {O : Type 0} (r : Running O) (v w : Hand) (found : Option Seated) (none : Type 0) → IsHomeOf r v.home → MatchOption found none (λ x. IsCallerTaken v x w)
     → MatchOption found none (λ x. IsCallerOf r x × HasLimit (limits_at v.home) x × (w ≡ with_taken v x) × (length v.held < r.callers))
 taken r v w None none of told = told
 taken r v w (Some x) none of told = ((from_home r v.home x of told.0).0, (from_home r v.home x of told.0).1, told.1, (let count = home_callers r v.home of in let most = told.2 in omega (arith, count, most)))
 
 -- a pass holds no more callers than there are
-pub within : {O : Type 0} (r : Running O) (v : Hand) (items : List Seated) → IsHomeOf r v.home → Tells v items → length v.held ≤ r.callers
+pub within : {O : Type 0} (r : Running O) (v : Hand) (items : List Seated) → IsHomeOf r v.home → TellsRoom v items → length v.held ≤ r.callers
 within r v items of tells = (let count = home_callers r v.home of in let room = tells.room in omega (arith, count, room))

@@ -10,11 +10,11 @@ use Rattle.cx_rule.specs.Running.{Running}
 use Rattle.cx_rule.specs.Seats.{Seated}
 use Rattle.cx_service.specs.Callers.{IsCallerOf, IsStoppedOf, StoppedSeat}
 use Rattle.cx_service.specs.Lookups.{ReadHalted}
-use Rattle.cx_service.specs.Submits.{entry_at}
+use Rattle.cx_service.specs.Submits.{next_entry}
 use Rattle.cx_service.specs.Updates.{HaltsLinked, HaltsUnlinked, UpdateDone, UpdateHalted}
 use Rattle.cx_service.specs.declared.close.Handed.TheVariants.{Idle, Stopped}
 use Rattle.seat_pool.specs.Gathering.{Gathers, IsHandedOf, StaysIdle}
-use Rattle.seat_pool.specs.Pooling.{IsFirstOf, calls_from, calls_of, given_from, hand_told, told_with, total, with_given}
+use Rattle.seat_pool.specs.Pooling.{IsFirstOf, calls_from, calls_of, given_from, hand_told, told_with, total_weight, with_given}
 use Rattle.seat_pool.specs.declared.hand.Hand.{Hand}
 use Rattle.seat_pool.specs.declared.hand.Told.{Told}
 use Rattle.seat_pool.proofs.Poolings.{total_both}
@@ -43,18 +43,18 @@ same_calls s n own answers number is told =
 
 module _ {O : Type 0} (r : Running O) where
   grown : (op : List ℕ) (before after : Seated) (answer : Answer) → IsCallerOf r before → UpdateDone r op before after answer
-      → calls_of after ≡ calls_of before ++ told_with before.known.local.number (entry_at r before.known.local op answer.ticket) answer ∷ []
+      → calls_of after ≡ calls_of before ++ told_with before.known.local.number (next_entry r before.known.local op answer.ticket) answer ∷ []
   grown op before after answer is done =
-      let e = entry_at r before.known.local op answer.ticket in
+      let e = next_entry r before.known.local op answer.ticket in
       let n = before.known.local.number in
       let same : length before.known.local.own ≡ length before.known.local.answered = (let c = is.count in omega (arith, c)) in
       same_calls after n (before.known.local.own ++ e ∷ []) (before.known.local.answered ++ answer ∷ []) done.links.number done.links.own done.answered
       ∙ one_more_call n before.known.local.own before.known.local.answered e answer same
 
   pub are_told : (op : List ℕ) (taken before after : Seated) (rest : List Seated) (answer : Answer) (v : Hand) → v.held ≡ taken ∷ rest → StaysIdle r taken before → UpdateDone r op before after answer
-      → IsFirstOf v.held after × (hand_told v after ≡ v.told ++ told_with before.known.local.number (entry_at r before.known.local op answer.ticket) answer ∷ [])
+      → IsFirstOf v.held after × (hand_told v after ≡ v.told ++ told_with before.known.local.number (next_entry r before.known.local op answer.ticket) answer ∷ [])
   are_told op taken before after rest answer v holds idle done =
-      let t = told_with before.known.local.number (entry_at r before.known.local op answer.ticket) answer in
+      let t = told_with before.known.local.number (next_entry r before.known.local op answer.ticket) answer in
       let more : calls_of after ≡ calls_of taken ++ t ∷ [] = grown op before after answer idle.caller done ∙ ap (λ (l : List Told). l ++ t ∷ []) idle.calls in
       let new : drop (length (calls_of taken)) (calls_of after) ≡ t ∷ [] = ap (drop (length (calls_of taken))) more ∙ drop-append_seam (calls_of taken) (t ∷ []) in (
         subst (λ l. IsFirstOf l after) (sym holds) (record {
@@ -87,21 +87,21 @@ module _ {O : Type 0} (r : Running O) where
     of = All-push (IsHandedOf r) [] (Idle now) (All-nil (IsHandedOf r)) idle.caller;
     numbers = λ h. (let same : h now.known.local.number ≡ h taken.known.local.number = ap h idle.number in omega (arith, same));
     untold = [];
-    calls = λ h. (let same : total h (calls_of now) ≡ total h (calls_of taken) = ap (total h) idle.calls in omega (arith, same));
+    calls = λ h. (let same : total_weight h (calls_of now) ≡ total_weight h (calls_of taken) = ap (total_weight h) idle.calls in omega (arith, same));
     few = λ h. omega arith;
-    reads = λ h. (let same : total h now.known.local.seen_reads ≡ total h (taken.known.local.seen_reads ++ idle.more) = ap (total h) idle.reads in omega (arith, same, total_both h taken.known.local.seen_reads idle.more));
+    reads = λ h. (let same : total_weight h now.known.local.seen_reads ≡ total_weight h (taken.known.local.seen_reads ++ idle.more) = ap (total_weight h) idle.reads in omega (arith, same, total_both h taken.known.local.seen_reads idle.more));
   }
 
   -- a stopped caller, with what no call told, and reads that nobody was shown
   stopped : (taken : Seated) (s : StoppedSeat) (untold : List Told) (reads : List SeenRead) → IsStoppedOf r s.seat → s.seat.known.local.number ≡ taken.known.local.number → calls_of s.seat ≡ calls_of taken ++ untold
-      → s.seat.known.local.seen_reads ≡ taken.known.local.seen_reads ++ reads → ((h : ℕ → ℕ) → total (λ (t : Told). h t.caller) untold ≤ h s.seat.known.local.number) → Gathers r (taken ∷ []) (Stopped s ∷ [])
+      → s.seat.known.local.seen_reads ≡ taken.known.local.seen_reads ++ reads → ((h : ℕ → ℕ) → total_weight (λ (t : Told). h t.caller) untold ≤ h s.seat.known.local.number) → Gathers r (taken ∷ []) (Stopped s ∷ [])
   stopped taken s untold reads is number calls seen few = record {
     of = All-push (IsHandedOf r) [] (Stopped s) (All-nil (IsHandedOf r)) is;
     numbers = λ h. (let same : h s.seat.known.local.number ≡ h taken.known.local.number = ap h number in omega (arith, same));
     untold = untold;
-    calls = λ h. (let same : total h (calls_of s.seat) ≡ total h (calls_of taken ++ untold) = ap (total h) calls in omega (arith, same, total_both h (calls_of taken) untold));
+    calls = λ h. (let same : total_weight h (calls_of s.seat) ≡ total_weight h (calls_of taken ++ untold) = ap (total_weight h) calls in omega (arith, same, total_both h (calls_of taken) untold));
     few = λ h. (let most = few h in omega (arith, most));
-    reads = λ h. (let same : total h s.seat.known.local.seen_reads ≡ total h (taken.known.local.seen_reads ++ reads) = ap (total h) seen in omega (arith, same, total_both h taken.known.local.seen_reads reads));
+    reads = λ h. (let same : total_weight h s.seat.known.local.seen_reads ≡ total_weight h (taken.known.local.seen_reads ++ reads) = ap (total_weight h) seen in omega (arith, same, total_both h taken.known.local.seen_reads reads));
   }
 
   module _ (op : List ℕ) (taken before : Seated) (s : StoppedSeat) (idle : StaysIdle r taken before) where
@@ -124,7 +124,7 @@ module _ {O : Type 0} (r : Running O) where
 
     linked_ : UpdateHalted r op before s → HaltsLinked r op before s → Gathers r (taken ∷ []) (Stopped s ∷ [])
     linked_ halted l =
-        let e = entry_at r before.known.local op l.ticket in
+        let e = next_entry r before.known.local op l.ticket in
         ⊎_elim
         (λ a. none [] halted.caller halted.number (same_calls s.seat n (before.known.local.own ++ e ∷ []) before.known.local.answered halted.number l.links.own a ∙ no_more_calls n before.known.local.own before.known.local.answered e same) (still l.links.reads))
         (λ a.

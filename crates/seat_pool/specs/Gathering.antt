@@ -10,7 +10,7 @@ use Rattle.cx_service.specs.Callers.{IsCallerOf, IsLinkedOf, IsStoppedOf}
 use Rattle.cx_service.specs.Closes.{seat_of}
 use Rattle.cx_service.specs.declared.close.Handed.{Handed}
 use Rattle.cx_service.specs.declared.close.Handed.TheVariants.{Idle, Linked, Stopped}
-use Rattle.seat_pool.specs.Pooling.{IsHomeOf, all_parts, calls_of, calls_weigh, numbers_weigh, reads_weigh, total}
+use Rattle.seat_pool.specs.Pooling.{IsHomeOf, all_parts, calls_of, calls_weigh, numbers_weigh, reads_weigh, total_weight}
 use Rattle.seat_pool.specs.declared.hand.Hand.{Hand}
 use Rattle.seat_pool.specs.declared.hand.Told.{Told}
 use Rattle.seat_pool.specs.declared.lent.Lent.{Lent}
@@ -21,16 +21,16 @@ IsHandedOf r (Idle seat) = IsCallerOf r seat
 IsHandedOf r (Linked seat) = IsLinkedOf r seat
 IsHandedOf r (Stopped stopped) = IsStoppedOf r stopped.seat
 
-abbrev pub number_of : Handed → ℕ
-number_of g = (seat_of g).known.local.number
+abbrev pub handed_number : Handed → ℕ
+handed_number g = (seat_of g).known.local.number
 
 -- the weight of the answered calls of a caller
 abbrev pub handed_calls : (Told → ℕ) → Handed → ℕ
-handed_calls h g = total h (calls_of (seat_of g))
+handed_calls h g = total_weight h (calls_of (seat_of g))
 
 -- the weight of its reads
 abbrev pub handed_reads : (SeenRead → ℕ) → Handed → ℕ
-handed_reads h g = total h (seat_of g).known.local.seen_reads
+handed_reads h g = total_weight h (seat_of g).known.local.seen_reads
 
 -- the weight of a caller where it is stopped
 abbrev pub if_stopped : (ℕ → ℕ) → Handed → ℕ
@@ -42,11 +42,11 @@ if_stopped h (Stopped stopped) = h stopped.seat.known.local.number
 -- stopped one at most one more, which was told to nobody; and it has the reads that it had.
 pub record Gathers {O : Type 0} (r : Running O) (held : List Seated) (gathered : List Handed) : Type 0 where
   pub of : All (IsHandedOf r) gathered
-  pub numbers : (h : ℕ → ℕ) → total (λ (g : Handed). h (number_of g)) gathered ≡ numbers_weigh h held
+  pub numbers : (h : ℕ → ℕ) → total_weight (λ (g : Handed). h (handed_number g)) gathered ≡ numbers_weigh h held
   pub untold : List Told
-  pub calls : (h : Told → ℕ) → total (handed_calls h) gathered ≡ calls_weigh h held + total h untold
-  pub few : (h : ℕ → ℕ) → total (λ (t : Told). h t.caller) untold ≤ total (if_stopped h) gathered
-  pub reads : (h : SeenRead → ℕ) → reads_weigh h held ≤ total (handed_reads h) gathered
+  pub calls : (h : Told → ℕ) → total_weight (handed_calls h) gathered ≡ calls_weigh h held + total_weight h untold
+  pub few : (h : ℕ → ℕ) → total_weight (λ (t : Told). h t.caller) untold ≤ total_weight (if_stopped h) gathered
+  pub reads : (h : SeenRead → ℕ) → reads_weigh h held ≤ total_weight (handed_reads h) gathered
 
 -- A caller that was taken out of the queue, now: one of the service in no call, of this number and limit, with no call answered since and the
 -- reads that it had.
@@ -72,17 +72,17 @@ pub record IsLentOf {O : Type 0} (r : Running O) (table : TableId) (lent : Lent)
 
 -- the weight of the calls that were told to a client, of the reads that it was shown, and of the caller that it keeps
 abbrev pub lent_told : (Told → ℕ) → Lent → ℕ
-lent_told h lent = total h (view lent.pass).told
+lent_told h lent = total_weight h (view lent.pass).told
 
 abbrev pub lent_shown : (SeenRead → ℕ) → Lent → ℕ
-lent_shown h lent = total h (view lent.pass).shown
+lent_shown h lent = total_weight h (view lent.pass).shown
 
 abbrev pub lent_kept : (Handed → ℕ) → Lent → ℕ
-lent_kept f lent = total f (kept_list lent.kept)
+lent_kept f lent = total_weight f (kept_list lent.kept)
 
 -- the same callers, in whatever order
 abbrev pub AreSame : List Handed → List Handed → Type 0
-AreSame xs ys = (f : Handed → ℕ) → total f xs ≡ total f ys
+AreSame xs ys = (f : Handed → ℕ) → total_weight f xs ≡ total_weight f ys
 
 -- What a pass with every part knows while it takes callers out of the queue: beside those that it holds, nothing changes.
 pub record IsGathering {O : Type 0} (r : Running O) (before v : Hand) (gathered : List Handed) : Type 0 where
@@ -101,18 +101,18 @@ one_at (suc wanted) zero = 0
 one_at (suc wanted) (suc n) = one_at wanted n
 
 -- the caller at this place has this number
-pub record IsAt (gathered : List Handed) (place wanted : ℕ) : Type 0 where
+pub record IsNumberAt (gathered : List Handed) (place wanted : ℕ) : Type 0 where
   pub within : place < length gathered
-  pub number : (d : Handed) → number_of (slice_index_or gathered place d) ≡ wanted
+  pub number : (d : Handed) → handed_number (slice_index_or gathered place d) ≡ wanted
 
 -- the loop over the gathered callers whose first ones have been put in order
 pub record IsOrdering {O : Type 0} (r : Running O) (all gathered out : List Handed) : Type 0 where
   pub left : All (IsHandedOf r) gathered
   pub done : All (IsHandedOf r) out
-  pub numbers : map (λ (g : Handed). number_of g) out ≡ range_with_len 0 (length out)
-  pub same : (f : Handed → ℕ) → total f out + total f gathered ≡ total f all
+  pub numbers : map (λ (g : Handed). handed_number g) out ≡ range_with_len 0 (length out)
+  pub same : (f : Handed → ℕ) → total_weight f out + total_weight f gathered ≡ total_weight f all
 
--- the pool's own pass, beside so many that were lent of it: it placed all callers, and holds none
+-- the pool's own pass, beside this many that were lent of it: it placed all callers, and holds none
 pub record IsRestOf {O : Type 0} (r : Running O) (v : Hand) (lent : ℕ) : Type 0 where
   pub home : IsHomeOf r v.home
   pub some : 0 < v.parts
@@ -124,14 +124,14 @@ pub record IsRestOf {O : Type 0} (r : Running O) (v : Hand) (lent : ℕ) : Type 
 
 -- The answered calls of the callers are those that were told to clients, each once, and at most one further of each stopped caller. The reads that
 -- clients were shown are among theirs. The callers that clients keep are among them, and the others are in no call.
-pub record AreTold {O : Type 0} (r : Running O) (lents : List Lent) (handed : List Handed) : Type 0 where
+pub record AreCallsTold {O : Type 0} (r : Running O) (lents : List Lent) (handed : List Handed) : Type 0 where
   pub of : All (IsHandedOf r) handed
   pub untold : List Told
-  pub calls : (h : Told → ℕ) → total (handed_calls h) handed ≡ total (lent_told h) lents + total h untold
-  pub few : (h : ℕ → ℕ) → total (λ (t : Told). h t.caller) untold ≤ total (if_stopped h) handed
-  pub reads : (h : SeenRead → ℕ) → total (lent_shown h) lents ≤ total (handed_reads h) handed
-  pub kept : (f : Handed → ℕ) → total (lent_kept f) lents ≤ total f handed
-  pub others : (f : Handed → ℕ) → ((s : Seated) → f (Idle s) ≡ 0) → total f handed ≡ total (lent_kept f) lents
+  pub calls : (h : Told → ℕ) → total_weight (handed_calls h) handed ≡ total_weight (lent_told h) lents + total_weight h untold
+  pub few : (h : ℕ → ℕ) → total_weight (λ (t : Told). h t.caller) untold ≤ total_weight (if_stopped h) handed
+  pub reads : (h : SeenRead → ℕ) → total_weight (lent_shown h) lents ≤ total_weight (handed_reads h) handed
+  pub kept : (f : Handed → ℕ) → total_weight (lent_kept f) lents ≤ total_weight f handed
+  pub others : (f : Handed → ℕ) → ((s : Seated) → f (Idle s) ≡ 0) → total_weight f handed ≡ total_weight (lent_kept f) lents
 
 -- the loop over what was lent, some of which was taken in
 pub record IsTakingIn {O : Type 0} (r : Running O) (table : TableId) (all : List Lent) (v : Hand) (rest : List Lent) (gathered : List Handed) : Type 0 where
@@ -139,8 +139,8 @@ pub record IsTakingIn {O : Type 0} (r : Running O) (table : TableId) (all : List
   pub some : 0 < v.parts
   pub parts : v.parts + length rest ≡ all_parts
   pub placed : v.placed ≡ range_with_len 0 r.callers
-  pub told : (h : Told → ℕ) → total h v.told + total (lent_told h) rest ≡ total (lent_told h) all
-  pub shown : (h : SeenRead → ℕ) → total h v.shown + total (lent_shown h) rest ≡ total (lent_shown h) all
-  pub kept : (f : Handed → ℕ) → total f gathered + total (lent_kept f) rest ≡ total (lent_kept f) all
+  pub told : (h : Told → ℕ) → total_weight h v.told + total_weight (lent_told h) rest ≡ total_weight (lent_told h) all
+  pub shown : (h : SeenRead → ℕ) → total_weight h v.shown + total_weight (lent_shown h) rest ≡ total_weight (lent_shown h) all
+  pub kept : (f : Handed → ℕ) → total_weight f gathered + total_weight (lent_kept f) rest ≡ total_weight (lent_kept f) all
   pub lents : All (IsLentOf r table) rest
   pub gathers : Gathers r v.held gathered

@@ -10,6 +10,7 @@ use Rattle.cx_rule.specs.Seats.{Seated}
 use Rattle.cx_service.specs.Callers.{IsCallerOf}
 use Rattle.seat_pool.specs.declared.hand.Hand.{Hand}
 use Rattle.seat_pool.specs.declared.hand.Home.{Home}
+use Rattle.seat_pool.specs.declared.hand.Returned.{Returned}
 use Rattle.seat_pool.specs.declared.hand.Told.{Told}
 
 -- a service as far as its callers show it: its table, its number of callers and its base, and in the place of its object their limits
@@ -28,15 +29,15 @@ abbrev pub IsLentBy : Shown → Seated → Type 0
 IsLentBy service x = IsCallerOf service x × HasLimit service.object x
 
 -- the same table, number of callers and base
-pub record IsSame {O P : Type 0} (q : Running O) (r : Running P) : Type 0 where
+pub record IsSameTable {O P : Type 0} (q : Running O) (r : Running P) : Type 0 where
   pub table : q.table ≡ r.table
   pub callers : q.callers ≡ r.callers
   pub base : q.base ≡ r.base
 
 -- the sum of a weight of each
-abbrev pub total : {A : Type 0} → (A → ℕ) → List A → ℕ
-total f [] = 0
-total f (x ∷ xs) = f x + total f xs
+abbrev pub total_weight : {A : Type 0} → (A → ℕ) → List A → ℕ
+total_weight f [] = 0
+total_weight f (x ∷ xs) = f x + total_weight f xs
 
 -- the calls of a caller that are answered: its entries, in order, with their answers
 abbrev pub calls_from : ℕ → List Linked → List Answer → List Told
@@ -49,18 +50,18 @@ calls_of x = calls_from x.known.local.number x.known.local.own x.known.local.ans
 
 -- the weight of callers, by their numbers
 abbrev pub numbers_weigh : (ℕ → ℕ) → List Seated → ℕ
-numbers_weigh h xs = total (λ (x : Seated). h x.known.local.number) xs
+numbers_weigh h xs = total_weight (λ (x : Seated). h x.known.local.number) xs
 
 -- the weight of the answered calls of callers
 abbrev pub calls_weigh : (Told → ℕ) → List Seated → ℕ
-calls_weigh h xs = total (λ (x : Seated). total h (calls_of x)) xs
+calls_weigh h xs = total_weight (λ (x : Seated). total_weight h (calls_of x)) xs
 
 -- the weight of the reads of callers
 abbrev pub reads_weigh : (SeenRead → ℕ) → List Seated → ℕ
-reads_weigh h xs = total (λ (x : Seated). total h x.known.local.seen_reads) xs
+reads_weigh h xs = total_weight (λ (x : Seated). total_weight h x.known.local.seen_reads) xs
 
-abbrev pub hand : Option Home → ℕ → List ℕ → List Seated → List Told → List SeenRead → Hand
-hand home parts placed held told shown = record { home = home; parts = parts; placed = placed; held = held; told = told; shown = shown }
+abbrev pub hand : Option Home → ℕ → List ℕ → List Seated → List Told → List SeenRead → List Returned → Hand
+hand home parts placed held told shown returned = record { home = home; parts = parts; placed = placed; held = held; told = told; shown = shown; returned = returned }
 
 -- the parts of the right to know the whole
 abbrev pub all_parts : ℕ
@@ -68,35 +69,36 @@ all_parts = 1024
 
 -- a pass with no part has done nothing
 abbrev pub nothing : Hand
-nothing = hand None 0 [] [] [] []
+nothing = hand None 0 [] [] [] [] []
 
 -- the pass of a queue that is new
 abbrev pub fresh : Hand
-fresh = hand None all_parts [] [] [] []
+fresh = hand None all_parts [] [] [] [] []
 
 -- it knows the service, once
-abbrev pub opened : Home → Hand
-opened home = hand (Some home) all_parts [] [] [] []
+abbrev pub opened_pass : Home → Hand
+opened_pass home = hand (Some home) all_parts [] [] [] [] []
 
 -- a caller was put into the queue for the first time
 abbrev pub with_placed : Hand → Seated → Hand
-with_placed v x = hand v.home v.parts (v.placed ++ x.known.local.number ∷ []) v.held v.told v.shown
+with_placed v x = hand v.home v.parts (v.placed ++ x.known.local.number ∷ []) v.held v.told v.shown v.returned
 
 -- a caller was taken out: it is held, as it was then
 abbrev pub with_taken : Hand → Seated → Hand
-with_taken v x = hand v.home v.parts v.placed (x ∷ v.held) v.told v.shown
+with_taken v x = hand v.home v.parts v.placed (x ∷ v.held) v.told v.shown v.returned
 
--- the first of those held was given back: the calls that it has more are told, and the reads that it has more are shown
+-- the first of those held was given back: the calls that it has more are told, the reads that it has more are shown, and both of its states are noted
 abbrev pub given_from : Hand → List Seated → Seated → Hand
 given_from v [] x = v
 given_from v (y ∷ rest) x =
     hand v.home v.parts v.placed rest (v.told ++ drop (length (calls_of y)) (calls_of x)) (v.shown ++ drop (length y.known.local.seen_reads) x.known.local.seen_reads)
+    (v.returned ++ record { taken = y; back = x } ∷ [])
 
 abbrev pub with_given : Hand → Seated → Hand
 with_given v x = given_from v v.held x
 
 -- it is a caller of this number and limit, with further calls and reads behind those that it had
-pub record GoesOn (y x : Seated) : Type 0 where
+pub record GoesOnCalling (y x : Seated) : Type 0 where
   pub number : x.known.local.number ≡ y.known.local.number
   pub limit : x.known.local.limit ≡ y.known.local.limit
   pub calls : calls_of x ≡ calls_of y ++ drop (length (calls_of y)) (calls_of x)
@@ -105,25 +107,25 @@ pub record GoesOn (y x : Seated) : Type 0 where
 -- it is the first of those held
 abbrev pub IsFirstOf : List Seated → Seated → Type 0
 IsFirstOf [] x = ⊥
-IsFirstOf (y ∷ rest) x = GoesOn y x
+IsFirstOf (y ∷ rest) x = GoesOnCalling y x
 
 -- a pass without one part, and a pass with that part alone
 abbrev pub cut_left : Hand → Hand
-cut_left v = hand v.home (v.parts - 1) v.placed v.held v.told v.shown
+cut_left v = hand v.home (v.parts - 1) v.placed v.held v.told v.shown v.returned
 
 abbrev pub cut_right : Hand → Hand
-cut_right v = hand v.home 1 [] [] [] []
+cut_right v = hand v.home 1 [] [] [] [] []
 
 -- what two passes know and hold, in one
 abbrev pub both : Hand → Hand → Hand
-both v w = hand v.home (v.parts + w.parts) (v.placed ++ w.placed) (v.held ++ w.held) (v.told ++ w.told) (v.shown ++ w.shown)
+both v w = hand v.home (v.parts + w.parts) (v.placed ++ w.placed) (v.held ++ w.held) (v.told ++ w.told) (v.shown ++ w.shown) (v.returned ++ w.returned)
 
 -- it knows this service, or it has no part
 abbrev pub FitsHome : Shown → ℕ → Option Home → Type 0
 FitsHome r parts None = parts ≡ 0
 FitsHome r parts (Some home) = shown_by home ≡ r
 
-pub record IsIdle (v : Hand) : Type 0 where
+pub record IsPassIdle (v : Hand) : Type 0 where
   pub placed : v.placed ≡ []
   pub held : v.held ≡ []
   pub told : v.told ≡ []
@@ -131,29 +133,29 @@ pub record IsIdle (v : Hand) : Type 0 where
 
 pub record FitsHand (r : Shown) (v : Hand) : Type 0 where
   pub home : FitsHome r v.parts v.home
-  pub idle : v.parts ≡ 0 → IsIdle v
+  pub idle : v.parts ≡ 0 → IsPassIdle v
 
 -- The queue holds callers of one service, which each pass with a part knows. However callers are weighed, those that were placed are those that
 -- passes hold and those in the queue. However calls are weighed, those that were told are the answered calls of the callers, held (as they
 -- were when they were taken) or in the queue; and however reads are weighed, those that were shown are among theirs.
-pub record Keeps (items : List Seated) (views : List Hand) : Type 0 where
+pub record KeepsCallers (items : List Seated) (views : List Hand) : Type 0 where
   pub service : Shown
   pub items_are : All (IsLentBy service) items
   pub views_are : (pass : ℕ) (v : Hand) → get_elem? views pass ≡ some v → FitsHand service v
-  pub parts : total (λ (v : Hand). v.parts) views ≡ all_parts
-  pub room : total (λ (v : Hand). length v.placed) views ≤ service.callers
-  pub callers : (h : ℕ → ℕ) → total (λ (v : Hand). total h v.placed) views ≡ total (λ (v : Hand). numbers_weigh h v.held) views + numbers_weigh h items
-  pub calls : (h : Told → ℕ) → total (λ (v : Hand). total h v.told) views ≡ total (λ (v : Hand). calls_weigh h v.held) views + calls_weigh h items
-  pub reads : (h : SeenRead → ℕ) → total (λ (v : Hand). total h v.shown) views ≤ total (λ (v : Hand). reads_weigh h v.held) views + reads_weigh h items
+  pub parts : total_weight (λ (v : Hand). v.parts) views ≡ all_parts
+  pub room : total_weight (λ (v : Hand). length v.placed) views ≤ service.callers
+  pub callers : (h : ℕ → ℕ) → total_weight (λ (v : Hand). total_weight h v.placed) views ≡ total_weight (λ (v : Hand). numbers_weigh h v.held) views + numbers_weigh h items
+  pub calls : (h : Told → ℕ) → total_weight (λ (v : Hand). total_weight h v.told) views ≡ total_weight (λ (v : Hand). calls_weigh h v.held) views + calls_weigh h items
+  pub reads : (h : SeenRead → ℕ) → total_weight (λ (v : Hand). total_weight h v.shown) views ≤ total_weight (λ (v : Hand). reads_weigh h v.held) views + reads_weigh h items
 
 -- so it is, or the queue is new
 abbrev pub Pools : List Seated → List Hand → Type 0
-Pools items views = ((items ≡ []) × (views ≡ fresh ∷ [])) ⊎ Keeps items views
+Pools items views = ((items ≡ []) × (views ≡ fresh ∷ [])) ⊎ KeepsCallers items views
 
 -- the pass knows that it is of this service's queue
 abbrev pub IsHomeOf : {O : Type 0} → Running O → Option Home → Type 0
 IsHomeOf r None = ⊥
-IsHomeOf r (Some home) = IsSame (shown_by home) r
+IsHomeOf r (Some home) = IsSameTable (shown_by home) r
 
 -- how many callers the service has that the pass knows
 abbrev pub callers_at : Option Home → ℕ
@@ -171,22 +173,22 @@ IsCallerAt None x = ⊥
 IsCallerAt (Some home) x = IsLentBy (shown_by home) x
 
 -- what came out is such a caller, and the pass held fewer than there are
-abbrev pub IsTaken : Hand → Seated → Hand → Type 0
-IsTaken v x w = IsCallerAt v.home x × (w ≡ with_taken v x) × (length v.held < callers_at v.home)
+abbrev pub IsCallerTaken : Hand → Seated → Hand → Type 0
+IsCallerTaken v x w = IsCallerAt v.home x × (w ≡ with_taken v x) × (length v.held < callers_at v.home)
 
 -- All that was placed is with this pass or in the queue, the calls told to it are theirs, and the reads shown to it are among theirs.
-pub record IsWhole (v : Hand) (items : List Seated) : Type 0 where
-  pub callers : (h : ℕ → ℕ) → total h v.placed ≡ numbers_weigh h v.held + numbers_weigh h items
-  pub calls : (h : Told → ℕ) → total h v.told ≡ calls_weigh h v.held + calls_weigh h items
-  pub reads : (h : SeenRead → ℕ) → total h v.shown ≤ reads_weigh h v.held + reads_weigh h items
+pub record IsPassWhole (v : Hand) (items : List Seated) : Type 0 where
+  pub callers : (h : ℕ → ℕ) → total_weight h v.placed ≡ numbers_weigh h v.held + numbers_weigh h items
+  pub calls : (h : Told → ℕ) → total_weight h v.told ≡ calls_weigh h v.held + calls_weigh h items
+  pub reads : (h : SeenRead → ℕ) → total_weight h v.shown ≤ reads_weigh h v.held + reads_weigh h items
 
 -- what a pass learns of the queue: there is room in it for what the pass holds, and a pass with every part learns the whole
-pub record Tells (v : Hand) (items : List Seated) : Type 0 where
+pub record TellsRoom (v : Hand) (items : List Seated) : Type 0 where
   pub room : length v.held + length items ≤ callers_at v.home
-  pub whole : v.parts ≡ all_parts → IsWhole v items
+  pub whole : v.parts ≡ all_parts → IsPassWhole v items
 
 -- what the first pass knows before any caller is placed
-pub record IsOpened {O : Type 0} (r : Running O) (limits : List ℕ) (v : Hand) : Type 0 where
+pub record IsPassOpened {O : Type 0} (r : Running O) (limits : List ℕ) (v : Hand) : Type 0 where
   pub home : IsHomeOf r v.home
   pub limits_are : limits_at v.home ≡ limits
   pub parts : v.parts ≡ all_parts

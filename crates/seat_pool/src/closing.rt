@@ -6,7 +6,7 @@ ghost use Rattle.cx_rule.specs.Running.{instance_at};
 ghost use Rattle.cx_service.specs.Closes.{seats_of};
 ghost use Rattle.cx_service.specs.declared.close.Handed as close_handed;
 ghost use Rattle.cx_table.specs.Remains.{AreSeats, Leaves};
-ghost use Rattle.seat_pool.specs.Gathering.{AreTold, IsLentOf, IsRestOf};
+ghost use Rattle.seat_pool.specs.Gathering.{AreCallsTold, IsLentOf, IsRestOf};
 
 use crate::gather::gather;
 use crate::hand::Hand;
@@ -20,8 +20,8 @@ use std::alloc::Global;
 use std::sync::Wait;
 
 /// Closes a service whose callers are in the queue or kept by clients, where `lents` are all that was lent of it. The calls that the clients were told
-/// are those that the callers show as answered, each once, but for at most one of each stopped caller, which was told to nobody. `Err` is want of memory
-/// alone, and hands back the service and all its callers, of caller 0 first. The two rooms are for the callers.
+/// are those that the callers show as answered, each once, but for at most one of each stopped caller, which was told to nobody. `Err` comes only where
+/// memory runs out, and hands back the service and all its callers, of caller 0 first. The two rooms are for the callers.
 pub fn close<O: Object, R: Wait>(
     rt: &R,
     alloc: Global,
@@ -36,8 +36,8 @@ pub fn close<O: Object, R: Wait>(
     requires lents { All (IsLentOf service line.table.shared.table_id) lents.items }
     requires gathered { (gathered.items ≡ []) × (service.callers ≤ vec_capacity gathered) }
     requires out { (out.items ≡ []) × (service.callers ≤ vec_capacity out) }
-    ensures remains { IfOk result (λ r. (handed : List close_handed.Handed) × Leaves service (instance_at service O.step O.only_reads) (seats_of handed) r × AreTold service lents.items handed) }
-    ensures kept { IfErr result (λ k. (k.service ≡ service) × AreSeats service (seats_of k.callers.items) × AreTold service lents.items k.callers.items) }
+    ensures remains { IfOk result (λ r. (handed : List close_handed.Handed) × Leaves service (instance_at service O.step O.only_reads) (seats_of handed) r × AreCallsTold service lents.items handed) }
+    ensures kept { IfErr result (λ k. (k.service ≡ service) × AreSeats service (seats_of k.callers.items) × AreCallsTold service lents.items k.callers.items) }
 {
     let handed = gather(rt, &service, &line, pass, lents, gathered, out);
     service.close(alloc, handed)

@@ -8,8 +8,8 @@ ghost use Rattle.cx_service.specs.Closes.{seats_of};
 ghost use Rattle.cx_service.specs.declared.close.Handed as handed_type;
 ghost use Rattle.cx_service.specs.declared.close.Handed.TheVariants as handed_cases;
 ghost use Rattle.cx_table.specs.Remains.{AreSeats};
-ghost use Rattle.seat_pool.specs.Gathering.{AreSame, AreTold, Gathers, IsAt, IsHandedOf, IsLentOf, IsRestOf, kept_list, number_of, one_at};
-ghost use Rattle.seat_pool.specs.Pooling.{IsHomeOf, IsWhole, all_parts, both, total};
+ghost use Rattle.seat_pool.specs.Gathering.{AreSame, AreCallsTold, Gathers, IsNumberAt, IsHandedOf, IsLentOf, IsRestOf, kept_list, handed_number, one_at};
+ghost use Rattle.seat_pool.specs.Pooling.{IsHomeOf, IsPassWhole, all_parts, both, total_weight};
 
 use crate::hand::Hand;
 use crate::lent::Lent;
@@ -53,10 +53,10 @@ pub(crate) fn drain<O: Object, R: Wait>(
 ) -> Vec<Handed>
     requires { (IsPassOf line.now pass.old × IsHomeOf service.now (view pass.old).home × ((view pass.old).parts ≡ all_parts)) × (Gathers service.now (view pass.old).held gathered.items × (service.now.callers ≤ vec_capacity gathered)) }
     ensures gathered { Gathers service.now (view pass.new).held result.items }
-    ensures whole { IsWhole (view pass.new) [] }
+    ensures whole { IsPassWhole (view pass.new) [] }
     ensures same { ((view pass.new).placed ≡ (view pass.old).placed) × ((view pass.new).told ≡ (view pass.old).told) × ((view pass.new).shown ≡ (view pass.old).shown) }
-    ensures more { (f : handed_type.Handed → ℕ) → total f gathered.items ≤ total f result.items }
-    ensures idle { (f : handed_type.Handed → ℕ) → ((s : Seated) → f (handed_cases.Idle s) ≡ 0) → total f result.items ≡ total f gathered.items }
+    ensures more { (f : handed_type.Handed → ℕ) → total_weight f gathered.items ≤ total_weight f result.items }
+    ensures idle { (f : handed_type.Handed → ℕ) → ((s : Seated) → f (handed_cases.Idle s) ≡ 0) → total_weight f result.items ≡ total_weight f gathered.items }
 {
     let mut gathered = gathered;
     for _ in rt.forever() {
@@ -70,7 +70,7 @@ pub(crate) fn drain<O: Object, R: Wait>(
 
 /// The number of a caller, in whatever state it is.
 fn number(handed: &Handed) -> u32
-    ensures { result ≡ number_of handed.now }
+    ensures { result ≡ handed_number handed.now }
 {
     match handed {
         Handed::Idle(caller) => caller.number(),
@@ -81,8 +81,8 @@ fn number(handed: &Handed) -> u32
 
 /// The place of the caller of this number.
 fn find(gathered: &Vec<Handed>, wanted: usize) -> usize
-    requires { 0 < total (λ g. one_at wanted (number_of g)) gathered.now.items }
-    ensures { IsAt gathered.now.items result wanted }
+    requires { 0 < total_weight (λ g. one_at wanted (handed_number g)) gathered.now.items }
+    ensures { IsNumberAt gathered.now.items result wanted }
 {
     let mut place = 0;
     for handed in gathered {
@@ -101,7 +101,7 @@ pub fn in_order<O: Object>(
     out: Vec<Handed>,
 ) -> Vec<Handed>
     requires all { All (IsHandedOf service.now) gathered.items }
-    requires numbers { (h : ℕ → ℕ) → total (λ g. h (number_of g)) gathered.items ≡ total h (range_with_len 0 service.now.callers) }
+    requires numbers { (h : ℕ → ℕ) → total_weight (λ g. h (handed_number g)) gathered.items ≡ total_weight h (range_with_len 0 service.now.callers) }
     requires out { (out.items ≡ []) × (service.now.callers ≤ vec_capacity out) }
     ensures all { AreSeats service.now (seats_of result.items) × All (IsHandedOf service.now) result.items }
     ensures same { AreSame result.items gathered.items }
@@ -132,7 +132,7 @@ pub(crate) fn gather<O: Object, R: Wait>(
     requires gathered { (gathered.items ≡ []) × (service.now.callers ≤ vec_capacity gathered) }
     requires out { (out.items ≡ []) × (service.now.callers ≤ vec_capacity out) }
     ensures seats { AreSeats service.now (seats_of result.items) }
-    ensures told { AreTold service.now lents.items result.items }
+    ensures told { AreCallsTold service.now lents.items result.items }
 {
     let mut pass = pass;
     let mut lents = lents;

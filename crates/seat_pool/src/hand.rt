@@ -19,8 +19,14 @@ pub struct Told {
     pub answer: Answer,
 }
 
+/// A caller that was given back: as it was when it was taken out, and as it was then.
+pub struct Returned {
+    pub taken: Caller,
+    pub back: Caller,
+}
+
 /// The service, once it is known; the parts of the right to know the whole; the callers that were placed in the queue, by number; those that
-/// are held, as they were when they were taken out; the calls that were told; and the reads that were shown.
+/// are held, as they were when they were taken out; the calls that were told; the reads that were shown; and the callers that were given back.
 pub struct Hand {
     pub home: Option<Home>,
     pub parts: u32,
@@ -28,4 +34,5 @@ pub struct Hand {
     pub held: LinkedList<Caller>,
     pub told: LinkedList<Told>,
     pub shown: LinkedList<SeenRead>,
+    pub returned: LinkedList<Returned>,
 }

@@ -5,7 +5,7 @@ ghost use Rattle.cx_core.specs.declared.local.Answer as local_answer;
 ghost use Rattle.cx_rule.specs.Seats.{Seated};
 ghost use Rattle.cx_service.specs.Callers.{StoppedSeat};
 ghost use Rattle.cx_service.specs.Lookups.{ReadHalted};
-ghost use Rattle.cx_service.specs.Submits.{entry_at};
+ghost use Rattle.cx_service.specs.Submits.{next_entry};
 ghost use Rattle.cx_service.specs.Updates.{UpdateDone, UpdateHalted};
 ghost use Rattle.cx_service.specs.declared.close.Handed.TheVariants as handed_cases;
 ghost use Rattle.seat_pool.specs.Gathering.{Gathers, StaysIdle};
@@ -19,7 +19,7 @@ use cx_service::Service;
 /// that push is the update's entry with its answer, and nothing else.
 pub fn answers_are_told<O: Object>(service: &Service<O>)
     ensures { (op : List ℕ) (taken before after : Seated) (rest : List Seated) (answer : local_answer.Answer) (v : hand_hand.Hand) → v.held ≡ taken ∷ rest → StaysIdle service.now taken before → UpdateDone service.now op before after answer →
-        IsFirstOf v.held after × (hand_told v after ≡ v.told ++ told_with before.known.local.number (entry_at service.now before.known.local op answer.ticket) answer ∷ []) }
+        IsFirstOf v.held after × (hand_told v after ≡ v.told ++ told_with before.known.local.number (next_entry service.now before.known.local op answer.ticket) answer ∷ []) }
 {
     let _ = service;
 }

@@ -4,7 +4,7 @@ ghost use Rattle.std.specs.Prelude.{◌≡◌, ◌<◌, ◌≤◌, [], IfOk, Mat
 ghost use Rattle.crossbeam_queue.specs.Fifo.{Held};
 ghost use Rattle.crossbeam_queue.specs.Passes.{view, IsPassOf, ruled_capacity};
 ghost use Rattle.cx_service.specs.Callers.{IsCallerOf};
-ghost use Rattle.seat_pool.specs.Pooling.{HasLimit, IsFirstOf, IsHomeOf, IsOpened, IsSame, Tells, all_parts, both, calls_of, cut_left, cut_right, limits_at, opened, shown_by, with_given, with_placed, with_taken};
+ghost use Rattle.seat_pool.specs.Pooling.{HasLimit, IsFirstOf, IsHomeOf, IsPassOpened, IsSameTable, TellsRoom, all_parts, both, calls_of, cut_left, cut_right, limits_at, opened_pass, shown_by, with_given, with_placed, with_taken};
 
 use crate::hand::Hand;
 use crate::rule::{Gives, Known, Line, Opens, Parted, Places, Takes};
@@ -15,14 +15,15 @@ use std::alloc::{AllocError, Global};
 use std::marker::Brand;
 use std::sync::Wait;
 
-/// A queue with room for these callers of this service, and its first pass, which has every part and knows the callers' limits.
+/// A queue with room for these callers of this service, and its first pass, which has every part and knows the callers' limits. `Err` means out
+/// of memory.
 pub fn open<O: Object>(
     alloc: Global,
     service: &Service<O>,
     callers: &[Caller],
 ) -> Result<(Line, Pass<Caller, Hand>), AllocError>
     requires { 0 < length callers.now }
-    ensures { IfOk result (λ q. IsPassOf q.0 q.1 × (ruled_capacity q.0 ≡ length callers.now) × IsOpened service.now (map (λ c. c.known.local.limit) callers.now) (view q.1)) }
+    ensures { IfOk result (λ q. IsPassOf q.0 q.1 × (ruled_capacity q.0 ≡ length callers.now) × IsPassOpened service.now (map (λ c. c.known.local.limit) callers.now) (view q.1)) }
 {
     open_for::<O, Brand>(alloc, service, callers)
 }
@@ -33,8 +34,8 @@ fn open_for<O: Object, K: Known>(
     callers: &[Caller],
 ) -> Result<(Line, Pass<Caller, Hand>), AllocError>
     requires room { 0 < length callers.now }
-    requires home { IsSame (shown_by K.home) service.now }
-    ensures { IfOk result (λ q. IsPassOf q.0 q.1 × (ruled_capacity q.0 ≡ length callers.now) × (view q.1 ≡ opened K.home)) }
+    requires home { IsSameTable (shown_by K.home) service.now }
+    ensures { IfOk result (λ q. IsPassOf q.0 q.1 × (ruled_capacity q.0 ≡ length callers.now) × (view q.1 ≡ opened_pass K.home)) }
 {
     let _ = service;
     let (line, mut pass) = Line::ruled(alloc, callers.len())?;
@@ -71,13 +72,14 @@ pub fn take<O: Object, R: Wait>(
 ) -> Option<Caller>
     requires { IsPassOf line.now pass.old × IsHomeOf service.now (view pass.old).home × (0 < (view pass.old).parts) }
     ensures pass { IsPassOf line.now pass.new }
-    ensures caller { MatchOption result ((view pass.new ≡ view pass.old) × Held 0 (Tells (view pass.old))) (λ x. IsCallerOf service.now x × HasLimit (limits_at (view pass.old).home) x × (view pass.new ≡ with_taken (view pass.old) x) × (length (view pass.old).held < service.now.callers)) }
+    ensures caller { MatchOption result ((view pass.new ≡ view pass.old) × Held 0 (TellsRoom (view pass.old))) (λ x. IsCallerOf service.now x × HasLimit (limits_at (view pass.old).home) x × (view pass.new ≡ with_taken (view pass.old) x) × (length (view pass.old).held < service.now.callers)) }
 {
     let _ = service;
     line.pop_as::<Takes, R>(rt, pass)
 }
 
-/// Gives back the caller that the pass took last. The calls that it has more since are told to the pass in the same step, and the reads are shown.
+/// Gives back the caller that the pass took last. The calls that it has more since are told to the pass in the same step, the reads are shown, and what the
+/// caller was when it was taken and is now is noted.
 pub fn give<O: Object, R: Wait>(
     rt: &R,
     service: &Service<O>,

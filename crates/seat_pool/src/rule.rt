@@ -51,9 +51,9 @@ pub(crate) struct Opens<K> {
 }
 
 impl<K: Known> Split<Hand> for Opens<K> {
-    ghost use Rattle.seat_pool.specs.Pooling.{nothing, opened};
+    ghost use Rattle.seat_pool.specs.Pooling.{nothing, opened_pass};
 
-    ghost left = { λ v. opened K.home };
+    ghost left = { λ v. opened_pass K.home };
 
     ghost right = { λ v. nothing };
 }
@@ -88,24 +88,24 @@ impl Outcome<Caller, Hand> for Places {
 }
 
 impl Lesson<Caller, Hand> for Places {
-    ghost use Rattle.seat_pool.specs.Pooling.{Tells};
+    ghost use Rattle.seat_pool.specs.Pooling.{TellsRoom};
 
-    ghost fact = { λ v items. Tells v items };
+    ghost fact = { λ v items. TellsRoom v items };
 }
 
 /// A caller is taken out.
 pub(crate) struct Takes;
 
 impl Outcome<Caller, Hand> for Takes {
-    ghost use Rattle.seat_pool.specs.Pooling.{IsTaken};
+    ghost use Rattle.seat_pool.specs.Pooling.{IsCallerTaken};
 
-    ghost then = { λ v x w. IsTaken v x w };
+    ghost then = { λ v x w. IsCallerTaken v x w };
 }
 
 impl Lesson<Caller, Hand> for Takes {
-    ghost use Rattle.seat_pool.specs.Pooling.{Tells};
+    ghost use Rattle.seat_pool.specs.Pooling.{TellsRoom};
 
-    ghost fact = { λ v items. Tells v items };
+    ghost fact = { λ v items. TellsRoom v items };
 }
 
 /// A caller is given back, and its new calls are told in the same step.
@@ -119,7 +119,7 @@ impl Outcome<Caller, Hand> for Gives {
 }
 
 impl Lesson<Caller, Hand> for Gives {
-    ghost use Rattle.seat_pool.specs.Pooling.{Tells};
+    ghost use Rattle.seat_pool.specs.Pooling.{TellsRoom};
 
-    ghost fact = { λ v items. Tells v items };
+    ghost fact = { λ v items. TellsRoom v items };
 }

@@ -8,29 +8,29 @@ use Rattle.cx_rule.specs.Seats.{Seated}
 use Rattle.cx_service.specs.Callers.{IsCallerOf}
 use Rattle.cx_service.specs.CatchUps.{HasSeen}
 use Rattle.cx_service.specs.Lookups.{ReadAnswered, ReadPending}
-use Rattle.cx_service.specs.Submits.{entry_at}
+use Rattle.cx_service.specs.Submits.{next_entry}
 use Rattle.cx_service.specs.Updates.{KeepsLists, ReadQueues, UpdateDone, UpdateWorn}
 use Rattle.cx_service.specs.declared.update.Updated.TheVariants.{Done, Worn}
 use Rattle.cx_service.proofs.Seeing.{lists_seen, queued_sees, read_behind, update_behind}
 use Rattle.cx_turns.specs.declared.lookup.Seen.{Seen}
 use Rattle.cx_turns.specs.Answering.{with_answer}
-use Rattle.service_parts.specs.Asking.{IsAnswered, IsAsked}
+use Rattle.service_parts.specs.Asking.{IsOperationAnswered, IsAsked}
 use Rattle.service_parts.specs.declared.asking.Asked.TheVariants.{Told}
 
 -- an update behind tries that changed nothing of the caller's lists
 module _ {O : Type 0} (r : Running O) (op : List ℕ) (before u : Seated) (keeps : KeepsLists before u) where
   -- the caller's next entry is the same
-  same_entry : (ticket : ℕ) → entry_at r u.known.local op ticket ≡ entry_at r before.known.local op ticket
+  same_entry : (ticket : ℕ) → next_entry r u.known.local op ticket ≡ next_entry r before.known.local op ticket
   same_entry ticket =
       ap (λ (n : ℕ). (let e : OwnEntry = record { ticket = ticket; entry = record { caller = n; number = slot_number n r.base.words + length u.known.local.own + 1; op = op } } in e)) keeps.number
       ∙ ap (λ (xs : List OwnEntry). (let e : OwnEntry = record { ticket = ticket; entry = record { caller = before.known.local.number; number = slot_number before.known.local.number r.base.words + length xs + 1; op = op } } in e)) keeps.own
 
-  done_answered : (after : Seated) (answer : Answer) → UpdateDone r op u after answer → IsAnswered r op answer.ticket answer.reply before after
+  done_answered : (after : Seated) (answer : Answer) → UpdateDone r op u after answer → IsOperationAnswered r op answer.ticket answer.reply before after
   done_answered after answer done = record {
     links = record {
       number = done.links.number ∙ keeps.number;
       limit = done.links.limit ∙ keeps.limit;
-      own = done.links.own ∙ ap (λ (xs : List OwnEntry). xs ++ entry_at r u.known.local op answer.ticket ∷ []) keeps.own ∙ ap (λ (x : OwnEntry). before.known.local.own ++ x ∷ []) (same_entry answer.ticket);
+      own = done.links.own ∙ ap (λ (xs : List OwnEntry). xs ++ next_entry r u.known.local op answer.ticket ∷ []) keeps.own ∙ ap (λ (x : OwnEntry). before.known.local.own ++ x ∷ []) (same_entry answer.ticket);
       reads = done.links.reads ∙ keeps.reads;
     };
     answered = done.answered ∙ ap (with_answer answer.ticket answer.reply) keeps.answered;

@@ -10,7 +10,7 @@ use Rattle.cx_service.specs.Starts.{Starts}
 use Rattle.cx_table.specs.declared.remains.Remains.{Remains}
 use Rattle.cx_table.specs.Remains.{Leaves, opening_seat}
 use Rattle.service_parts.specs.Callers.{AreNew, TellsEach}
-use Rattle.service_parts.specs.Lives.{IsOpen, IsServed, IsServedBy, MayServe}
+use Rattle.service_parts.specs.Lives.{IsOpen, IsServiceFrom, IsServedBy, MayServe}
 
 module _ {O : Type 0} (o : Ghosts O) (object : O) where
   pub open_of : (callers : ℕ) (limits : List ℕ) (base : Base) (service : Running O) (seats : List Seated) → MayServe o object base → Starts object (o.line_count object) callers limits base service seats → IsOpen o object callers base service
@@ -31,11 +31,11 @@ module _ {O : Type 0} (o : Ghosts O) (object : O) where
       }
 
   -- what such a service leaves, it left
-  pub served_of : (callers : ℕ) (base : Base) (service : Running O) (r : Remains) → IsOpen o object callers base service → IsServed o service.object service.callers service.base r → IsServed o object callers base r
+  pub served_of : (callers : ℕ) (base : Base) (service : Running O) (r : Remains) → IsOpen o object callers base service → IsServiceFrom o service.object service.callers service.base r → IsServiceFrom o object callers base r
   served_of callers base service r is served =
-      subst (λ (b : Base). IsServed o object callers b r) is.base_is
-      (subst (λ (n : ℕ). IsServed o object n service.base r) is.callers_are
-      (subst (λ (x : O). IsServed o x service.callers service.base r) is.object_is served))
+      subst (λ (b : Base). IsServiceFrom o object callers b r) is.base_is
+      (subst (λ (n : ℕ). IsServiceFrom o object n service.base r) is.callers_are
+      (subst (λ (x : O). IsServiceFrom o x service.callers service.base r) is.object_is served))
 
 -- as many callers as were asked for
 pub count_of : {O : Type 0} (object : O) (lines callers : ℕ) (limits : List ℕ) (base : Base) (service : Running O) (seats : List Seated) → Starts object lines callers limits base service seats → length seats ≡ callers

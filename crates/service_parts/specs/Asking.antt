@@ -1,12 +1,12 @@
--- What an operation comes to that is asked for until it is answered.
+-- The result of an operation that is asked for until it is answered.
 use Rattle.std.specs.Prelude.{◌≡◌, ◌+◌, ◌≤◌, ◌⊎◌, ℕ, List, [], ◌∷◌, ◌++◌, Result, MatchResult, length}
 use Rattle.cx_rule.specs.Running.{Running}
 use Rattle.cx_rule.specs.Seats.{Seated}
 use Rattle.cx_service.specs.Callers.{IsCallerOf, IsStoppedOf, StoppedSeat}
 use Rattle.cx_service.specs.CatchUps.{HasSeen}
-use Rattle.cx_service.specs.Submits.{entry_at}
+use Rattle.cx_service.specs.Submits.{next_entry}
 use Rattle.cx_service.specs.Updates.{KeepsLists}
-use Rattle.cx_turns.specs.Answering.{with_answer, with_read}
+use Rattle.cx_turns.specs.Answering.{with_answer, reads_with}
 use Rattle.service_parts.specs.Callers.{IsBack}
 use Rattle.service_parts.specs.declared.asking.Asked.{Asked}
 use Rattle.service_parts.specs.declared.asking.Asked.TheVariants.{Told, Worn, Stopped}
@@ -15,11 +15,11 @@ use Rattle.service_parts.specs.declared.asking.Asked.TheVariants.{Told, Worn, St
 pub record LinksOne {O : Type 0} (r : Running O) (op : List ℕ) (ticket : ℕ) (before after : Seated) : Type 0 where
   pub number : after.known.local.number ≡ before.known.local.number
   pub limit : after.known.local.limit ≡ before.known.local.limit
-  pub own : after.known.local.own ≡ before.known.local.own ++ entry_at r before.known.local op ticket ∷ []
+  pub own : after.known.local.own ≡ before.known.local.own ++ next_entry r before.known.local op ticket ∷ []
   pub reads : after.known.local.seen_reads ≡ before.known.local.seen_reads
 
 -- the operation is done, and nothing else: the caller has one entry more, and one answer more, which is told
-pub record IsAnswered {O : Type 0} (r : Running O) (op : List ℕ) (ticket : ℕ) (reply : List ℕ) (before after : Seated) : Type 0 where
+pub record IsOperationAnswered {O : Type 0} (r : Running O) (op : List ℕ) (ticket : ℕ) (reply : List ℕ) (before after : Seated) : Type 0 where
   pub links : LinksOne r op ticket before after
   pub answered : after.known.local.answered ≡ with_answer ticket reply before.known.local.answered
 
@@ -37,12 +37,12 @@ pub record IsStoppedIn {O : Type 0} (r : Running O) (before : Seated) (after : S
 pub record IsReadBeside (op : List ℕ) (place : ℕ) (reply : List ℕ) (before after : Seated) : Type 0 where
   pub own : after.known.local.own ≡ before.known.local.own
   pub answered : after.known.local.answered ≡ before.known.local.answered
-  pub reads : after.known.local.seen_reads ≡ with_read place op reply (length before.known.local.answered) before.known.local.seen_reads
+  pub reads : after.known.local.seen_reads ≡ reads_with place op reply (length before.known.local.answered) before.known.local.seen_reads
 
--- What an operation comes to. One that is told is answered beside the queue at the place that is told, or as an entry of it, whose ticket is the
+-- The result of an operation. One that is told is answered beside the queue at the place that is told, or as an entry of it, whose ticket is the
 -- one below that place.
 abbrev pub IsAsked : {O : Type 0} → Running O → List ℕ → Seated → Asked → Type 0
-IsAsked r op before (Told after reply place) = IsBack r before after × (IsReadBeside op place reply before after ⊎ ((ticket : ℕ) × (place ≡ ticket + 1) × IsAnswered r op ticket reply before after))
+IsAsked r op before (Told after reply place) = IsBack r before after × (IsReadBeside op place reply before after ⊎ ((ticket : ℕ) × (place ≡ ticket + 1) × IsOperationAnswered r op ticket reply before after))
 IsAsked r op before (Worn after) = IsLeftAlone r before after
 IsAsked r op before (Stopped after) = IsStoppedIn r before after
 
@@ -59,5 +59,5 @@ pub record HasFollowed {O : Type 0} (r : Running O) (place : ℕ) (before after 
   pub seen : HasSeen r.callers place after.known.local
 
 -- so it is, or the caller is stopped at its limit of steps
-abbrev pub Follows : {O : Type 0} → Running O → ℕ → Seated → Result Seated StoppedSeat → Type 0
-Follows r place before result = MatchResult result (HasFollowed r place before) (IsStoppedIn r before)
+abbrev pub IsAnsweredOrStopped : {O : Type 0} → Running O → ℕ → Seated → Result Seated StoppedSeat → Type 0
+IsAnsweredOrStopped r place before result = MatchResult result (HasFollowed r place before) (IsStoppedIn r before)

@@ -15,7 +15,7 @@ pub record IsBack {O : Type 0} (r : Running O) (before after : Seated) : Type 0 
   pub number : after.known.local.number ≡ before.known.local.number
 
 -- the same caller of a service, in whatever state it is
-pub record IsSame {O : Type 0} (r : Running O) (before after : Seated) : Type 0 where
+pub record IsSameCaller {O : Type 0} (r : Running O) (before after : Seated) : Type 0 where
   pub of : IsSeatOf r after
   pub number : after.known.local.number ≡ before.known.local.number
 
@@ -27,15 +27,15 @@ IsHanded r (Stopped after) = IsSeatOf r after.seat
 
 -- so the same caller is handed back
 pub record IsHandedBy {O : Type 0} (r : Running O) (before : Seated) (handed : Handed) : Type 0 where
-  pub same : IsSame r before (seat_of handed)
+  pub same : IsSameCaller r before (seat_of handed)
   pub stands : IsHanded r handed
 
 -- all the callers of a service, of caller 0 first, none in a call
-pub record AreCallers {O : Type 0} (r : Running O) (seats : List Seated) : Type 0 where
+pub record AreAllCallers {O : Type 0} (r : Running O) (seats : List Seated) : Type 0 where
   pub each : All (IsCallerOf r) seats
   pub all : AreSeats r seats
 
--- What a worker comes to that was lent a caller: the caller is handed back, and what is told is so of it.
+-- The result of a worker that was lent a caller: the caller is handed back, and what is told is so of it.
 pub record IsWorked {O T : Type 0} (r : Running O) (tells : Running O → Seated → Seated → T → Type 0) (before : Seated) (handed : Handed) (told : T) : Type 0 where
   pub back : IsHandedBy r before handed
   pub tells_so : tells r before (seat_of handed) told

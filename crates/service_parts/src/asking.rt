@@ -2,35 +2,30 @@
 
 ghost use Rattle.std.specs.Prelude.{IsTrue};
 ghost use Rattle.cx_service.specs.Callers.{IsCallerOf};
-ghost use Rattle.service_parts.specs.Asking.{Follows, IsAsked, KeepsPlaces};
+ghost use Rattle.service_parts.specs.Asking.{IsAnsweredOrStopped, IsAsked, KeepsPlaces};
 
-use cx_base::Object;
+use cx_base::{Object, OpWords};
 use cx_service::{Caller, CaughtUp, ReadDone, Service, Stopped, Updated};
 use std::sync::Wait;
 use std::thread;
 
-/// What an operation comes to that is asked for until it is answered.
+/// The result of an operation that is asked for until it is answered.
 #[derive(Drop)]
 pub enum Asked {
-    /// It is done and durable, or read of what is durable: the reply, and the place by which another caller catches up with it: behind an entry
+    /// It is done and durable, or read of what is durable: the reply, and the place by which another caller catches up with it: after an entry
     /// its ticket plus 1, and of a read the read's.
-    Told(Caller, [u64; 144], u64),
+    Told(Caller, OpWords, u64),
     /// There is no further ticket. Nothing is done.
     Worn(Caller),
-    /// The caller's limit of steps was reached.
+    /// The caller's step limit was reached.
     Stopped(Stopped),
 }
 
 /// Asks for an operation until it is answered; one that only reads is answered beside the queue where it can be. Where another caller
 /// needs this one's cells (`Full`) it is tried again, once others have run: each caller gives back in time what it needs, unless it was
 /// stopped. So it is for services none of whose callers has a limit of steps; with one that may be stopped, count the answers of
-/// `Service::update` and give up.
-pub fn ask<O: Object, R: Wait>(
-    rt: &R,
-    service: &Service<O>,
-    caller: Caller,
-    op: &[u64; 144],
-) -> Asked
+/// `Service::update` and stop asking.
+pub fn ask<O: Object, R: Wait>(rt: &R, service: &Service<O>, caller: Caller, op: &OpWords) -> Asked
     requires { IsCallerOf service.now caller }
     ensures asked { IsAsked service.now op.now caller result }
     ensures sees { KeepsPlaces service.now.callers caller result }
@@ -52,7 +47,7 @@ pub fn follow<O: Object, R: Wait>(
     place: u64,
 ) -> Result<Caller, Stopped>
     requires { IsCallerOf service.now caller }
-    ensures { Follows service.now place caller result }
+    ensures { IsAnsweredOrStopped service.now place caller result }
 {
     let mut caller = caller;
     for _ in rt.forever() {
@@ -69,7 +64,7 @@ pub fn follow<O: Object, R: Wait>(
 }
 
 /// Asks for any operation, as an entry of the queue.
-fn enter<O: Object, R: Wait>(rt: &R, service: &Service<O>, caller: Caller, op: &[u64; 144]) -> Asked
+fn enter<O: Object, R: Wait>(rt: &R, service: &Service<O>, caller: Caller, op: &OpWords) -> Asked
     requires { IsCallerOf service.now caller }
     ensures asked { IsAsked service.now op.now caller result }
     ensures sees { KeepsPlaces service.now.callers caller result }
@@ -93,7 +88,7 @@ fn enter<O: Object, R: Wait>(rt: &R, service: &Service<O>, caller: Caller, op: &
 }
 
 /// Asks for one that only reads, beside the queue or in it.
-fn look<O: Object, R: Wait>(rt: &R, service: &Service<O>, caller: Caller, op: &[u64; 144]) -> Asked
+fn look<O: Object, R: Wait>(rt: &R, service: &Service<O>, caller: Caller, op: &OpWords) -> Asked
     requires caller { IsCallerOf service.now caller }
     requires reads { IsTrue (O.only_reads service.now.object op.now) }
     ensures asked { IsAsked service.now op.now caller result }

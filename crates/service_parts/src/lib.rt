@@ -1,5 +1,8 @@
-//! What a program over a service of its own object needs beside the service: calls that go on until they are answered, a life in which
-//! each caller works on a thread of its own, and what a loss of power keeps of it.
+//! The problem: a program that shares an object of its own has to start a service, give each caller to a thread, have it asked until it is answered,
+//! gather all callers, close the service, and recover what a crash leaves of it. Each of these calls has a contract to be met.
+//!
+//! The idea: a life, from the start of a service to the crash that ends it, is one call. The program gives a worker, which says what is done with a
+//! caller and what is so of what it tells; the threads, the callers and the closing are seen to here.
 //!
 //! - An operation is done once and its reply told, or a reading is answered beside the queue; the same caller is handed back: `ask`
 //!   (`IsAsked`). Its place is told too: who catches up with it by `follow` sees it, and so do all later calls of that caller (`KeepsPlaces`).

@@ -1,4 +1,4 @@
-//! What a loss of power keeps.
+//! What a crash keeps.
 
 ghost use Rattle.std.specs.Prelude.{IfOk};
 ghost use Rattle.service_parts.specs.Lives.{IsKeptOf, IsLeftBy, MayServe};
@@ -9,8 +9,8 @@ use cx_table::Remains;
 use recovery::{ImageFault, closed_tables_are_whole, closed_tables_recover, crash_image, recover};
 use std::alloc::{AllocError, Global};
 
-/// What a loss of power keeps of a life, by choice: a base from which the next service of the object starts, with all that was answered
-/// in it. No image that is left is refused, so `Err` is want of memory.
+/// What a crash keeps of a life, by choice: a base from which the next service of the object starts, with all that was answered
+/// in it. No image that is left is refused, so `Err` means out of memory.
 pub fn recovered<O: Object>(
     alloc: Global,
     object: &O,

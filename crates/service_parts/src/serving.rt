@@ -7,8 +7,8 @@ ghost use Rattle.cx_service.specs.Starts.{AreFewCallers};
 ghost use Rattle.cx_table.specs.Remains.{AreSeats, Leaves, locals_of};
 ghost use Rattle.recovery.specs.Kept.{IsOpened};
 ghost use Rattle.cx_rule.specs.Running.{instance_at};
-ghost use Rattle.service_parts.specs.Callers.{AreCallers, AreNew};
-ghost use Rattle.service_parts.specs.Lives.{IsOpen, IsServed, IsServedBy, MayServe};
+ghost use Rattle.service_parts.specs.Callers.{AreAllCallers, AreNew};
+ghost use Rattle.service_parts.specs.Lives.{IsOpen, IsServiceFrom, IsServedBy, MayServe};
 
 use crate::working::{Worker, work_together};
 use cx_base::Object;
@@ -22,7 +22,7 @@ use std::thread::Threads;
 /// No limit of steps, for each of 8 callers.
 const NO_LIMITS: [u64; 8] = [u64::MAX; 8];
 
-/// A service of 1 to 8 callers without limits that starts from a base, and its callers. `Err` is want of memory.
+/// A service of 1 to 8 callers without limits that starts from a base, and its callers. `Err` means out of memory.
 pub fn started<O: Object>(
     alloc: Global,
     object: O,
@@ -32,7 +32,7 @@ pub fn started<O: Object>(
     requires callers { AreFewCallers callers }
     requires may { MayServe O.Object object base.now }
     ensures service { IfOk result (λ r. IsOpen O.Object object callers base.now r.0) }
-    ensures callers { IfOk result (λ r. AreCallers r.0 r.1.items) }
+    ensures callers { IfOk result (λ r. AreAllCallers r.0 r.1.items) }
     ensures count { IfOk result (λ r. length r.1.items ≡ callers) }
     ensures new { IfOk result (λ r. AreNew r.0 callers r.1.items) }
 {
@@ -45,7 +45,7 @@ pub fn started<O: Object>(
 }
 
 /// Closes a service, whose callers are handed in, of caller 0 first: what it leaves. Its history has each caller's entries, each once and
-/// in order. `Err` is want of memory, and drops the service.
+/// in order. `Err` means out of memory, and drops the service.
 pub fn closed<O: Object>(
     alloc: Global,
     service: Service<O>,
@@ -54,7 +54,7 @@ pub fn closed<O: Object>(
     requires service { IsOpened O.line_count O.lawful service }
     requires callers { AreSeats service (seats_of callers.items) }
     ensures history { IfOk result (λ r. IsHistory service.base.place r.trail.history (locals_of (seats_of callers.items))) }
-    ensures left { IfOk result (IsServed O.Object service.object service.callers service.base) }
+    ensures left { IfOk result (IsServiceFrom O.Object service.object service.callers service.base) }
     ensures locals { IfOk result (λ r. r.trail.locals ≡ locals_of (seats_of callers.items)) }
     ensures leaves { IfOk result (Leaves service (instance_at service O.step O.only_reads) (seats_of callers.items)) }
 {
@@ -65,7 +65,7 @@ pub fn closed<O: Object>(
 }
 
 /// One life of a service of 1 to 8 callers: it starts from a base, the worker does each caller's work on a thread of its own, and it is
-/// closed. What each told, of caller 0 first, and what is left: what the worker says of a telling is so of each caller. `Err` is want of memory,
+/// closed. What each told, of caller 0 first, and what is left: what the worker says of a telling is so of each caller. `Err` means out of memory,
 /// and gives nothing back.
 pub fn serve<O: Object + Send + Sync, R: Threads + Wait + Sync, W: Worker<O> + Sync>(
     rt: &R,
@@ -78,7 +78,7 @@ pub fn serve<O: Object + Send + Sync, R: Threads + Wait + Sync, W: Worker<O> + S
     requires callers { AreFewCallers callers }
     requires may { MayServe O.Object object base.now }
     ensures told { IfOk result (λ r. length r.0.items ≡ callers) }
-    ensures served { IfOk result (λ r. IsServed O.Object object callers base.now r.1) }
+    ensures served { IfOk result (λ r. IsServiceFrom O.Object object callers base.now r.1) }
     ensures tells { IfOk result (λ r. IsServedBy O.Object object callers base.now (W.tells worker.now) r.1 r.0.items) }
 {
     let (service, callers) = started(alloc, object, callers, base)?;

@@ -6,7 +6,7 @@ ghost use Rattle.cx_rule.specs.Seats.{Seated};
 ghost use Rattle.cx_service.specs.Callers.{IsCallerOf};
 ghost use Rattle.cx_service.specs.Closes.{seats_of};
 ghost use Rattle.cx_table.specs.Remains.{AreSeats};
-ghost use Rattle.service_parts.specs.Callers.{AreCallers, IsWorked, TellsEach};
+ghost use Rattle.service_parts.specs.Callers.{AreAllCallers, IsWorked, TellsEach};
 
 use cx_base::Object;
 use cx_service::{Caller, Handed, Service};
@@ -14,7 +14,7 @@ use std::alloc::{AllocError, Global};
 use std::sync::Wait;
 use std::thread::{Threads, map_vec};
 
-/// What a worker comes to: the caller that it was lent, in whatever state it is, and what it has to tell.
+/// The result of a worker: the caller that it was lent, in whatever state it is, and what it has to tell.
 #[derive(Drop)]
 pub struct Worked<T> {
     pub caller: Handed,
@@ -36,7 +36,7 @@ pub trait Worker<O: Object> {
 }
 
 /// Gives each caller to the worker, all at once, and joins them: the callers, and what was told, in order. Where a thread cannot be started
-/// the calling thread does its work. `Err` is want of memory, and drops the callers.
+/// the calling thread does its work. `Err` means out of memory, and drops the callers.
 pub fn work_together<O: Object + Send + Sync, R: Threads + Wait + Sync, W: Worker<O> + Sync>(
     rt: &R,
     alloc: Global,
@@ -44,7 +44,7 @@ pub fn work_together<O: Object + Send + Sync, R: Threads + Wait + Sync, W: Worke
     callers: Vec<Caller>,
     worker: &W,
 ) -> Result<(Vec<Handed>, Vec<W::Told>), AllocError>
-    requires { AreCallers service.now callers.items }
+    requires { AreAllCallers service.now callers.items }
     ensures handed { IfOk result (λ r. AreSeats service.now (seats_of r.0.items)) }
     ensures count { IfOk result (λ r. length r.1.items ≡ length callers.items) }
     ensures tells { IfOk result (λ r. TellsEach (W.tells worker.now service.now) callers.items (seats_of r.0.items) r.1.items) }
@@ -54,14 +54,14 @@ pub fn work_together<O: Object + Send + Sync, R: Threads + Wait + Sync, W: Worke
     Ok((handed, told))
 }
 
-/// What the workers come to.
+/// The results of the workers.
 fn all_work<O: Object + Send + Sync, R: Threads + Wait + Sync, W: Worker<O> + Sync>(
     rt: &R,
     service: &Service<O>,
     callers: Vec<Caller>,
     worker: &W,
 ) -> Result<Vec<Worked<W::Told>>, AllocError>
-    requires { AreCallers service.now callers.items }
+    requires { AreAllCallers service.now callers.items }
     ensures handed { IfOk result (λ v. AreSeats service.now (seats_of (map (λ w. w.caller) v.items))) }
     ensures count { IfOk result (λ v. length v.items ≡ length callers.items) }
     ensures tells { IfOk result (λ v. TellsEach (W.tells worker.now service.now) callers.items (seats_of (map (λ w. w.caller) v.items)) (map (λ w. w.told) v.items)) }
@@ -70,14 +70,14 @@ fn all_work<O: Object + Send + Sync, R: Threads + Wait + Sync, W: Worker<O> + Sy
     Ok(all)
 }
 
-/// What each comes to.
+/// The result of each.
 fn each_works<O: Object + Send + Sync, R: Threads + Wait + Sync, W: Worker<O> + Sync>(
     rt: &R,
     service: &Service<O>,
     callers: Vec<Caller>,
     worker: &W,
 ) -> Result<Vec<Worked<W::Told>>, AllocError>
-    requires { AreCallers service.now callers.items }
+    requires { AreAllCallers service.now callers.items }
     ensures long { IfOk result (λ v. vec_len v ≡ vec_len callers) }
     ensures each { IfOk result (λ v. (i : ℕ) (d : _) (e : _) → i < vec_len callers → IsWorked service.now (W.tells worker.now) (slice_index_or callers.items i d) (slice_index_or v.items i e).caller (slice_index_or v.items i e).told) }
 {

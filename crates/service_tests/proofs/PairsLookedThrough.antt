@@ -5,7 +5,7 @@ use Rattle.std.proofs.lemmas.List.Elements.{All-nil, All-push, All-weaker}
 use Rattle.recovery.specs.Images.{RiseFrom}
 use Rattle.recovery.proofs.Pairs.{Below, pushed_rises}
 
--- the first so many rise below an address and below an end
+-- the first i pairs rise below an address and below an end
 pub record RiseTo (pairs : List (ℕ × ℕ)) (end_ from i : ℕ) : Type 0 where
   pub rising : RiseFrom 0 (take i pairs)
   pub below : Below from (take i pairs)

@@ -44,9 +44,14 @@ pub(crate) fn made_alone<O: Object>(
 impl Alone {
     /// Whether the region that a closed service published last is this one: its place, each caller's slot and the object part.
     pub(crate) fn is_left(&self, remains: &Remains, logs: &[Vec<Told>]) -> bool {
-        let Some(region) = last_region(remains) else {
-            return false;
-        };
+        match last_region(remains) {
+            Some(region) => self.is_region(region, logs),
+            None => false,
+        }
+    }
+
+    /// Whether this is a region: its place, each caller's slot and the object part.
+    pub(crate) fn is_region(&self, region: &[u64], logs: &[Vec<Told>]) -> bool {
         self.is_of(region) && are_slots(region, logs)
     }
 
@@ -74,8 +79,8 @@ fn are_slots(region: &[u64], logs: &[Vec<Told>]) -> bool {
     true
 }
 
-// The words of the region that a closed service published last.
-fn last_region(remains: &Remains) -> Option<&[u64]> {
+/// The words of the region that a closed service published last.
+pub(crate) fn last_region(remains: &Remains) -> Option<&[u64]> {
     let code = *remains.published.last()?;
     let callers = remains.callers;
     if callers < 1 || callers > 8 {
@@ -115,7 +120,7 @@ fn last_update(log: &[Told]) -> (u64, [u64; 144]) {
     (updates, reply)
 }
 
-// The same over a memory, from the opening image on. Of each caller so many calls were made before.
+// The same over a memory, from the opening image on. `done` has the number of calls that each caller made before.
 fn replies_from_opening<O: Object, M: Memory>(
     object: &O,
     mem: &mut M,

@@ -38,7 +38,7 @@ fn updated<O: Object>(
     }
 }
 
-// A caller makes so many updates, by turns of two operations.
+// A caller makes this many updates, by turns of two operations.
 fn many<O: Object>(
     service: &Service<O>,
     caller: Caller,
@@ -57,7 +57,7 @@ fn many<O: Object>(
     Some(caller)
 }
 
-// The steps of an update of the second caller after so many of the first one.
+// The steps of an update of the second caller after this many of the first one.
 fn behind_by<O: Object>(
     service: &Service<O>,
     first: Caller,
@@ -127,7 +127,7 @@ fn alone(alloc: Global, count: u64, into: &mut [u64; 144]) -> Result<bool, Alloc
     })
 }
 
-// Whether an update behind so many tickets has the right reply, and a whole copy was made for it or not.
+// Whether an update behind `count` tickets has the right reply, and a whole copy was made for it or not.
 fn is_right(alloc: Global, lines: u64, count: u64, is_whole: bool) -> Result<bool, AllocError>
     requires { 64 ≤ lines × lines ≤ 16384 }
 {

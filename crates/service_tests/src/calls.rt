@@ -8,10 +8,10 @@ ghost use Rattle.service_tests.specs.Tests.{IsBack, IsOf};
 use crate::tasks::Work;
 use cx_base::Object;
 use cx_core::FullNote;
-use cx_service::{Caller, Driven, Handed, Linked, ReadTried, Service, Submitted};
+use cx_service::{Caller, CaughtUp, Driven, Handed, Linked, ReadTried, Service, Submitted};
 use std::thread::yield_now;
 
-/// What a turn came to.
+/// The answer to a turn.
 #[derive(Clone, Copy)]
 pub(crate) enum Came {
     /// The update at this ticket is answered.
@@ -282,7 +282,7 @@ fn turned<O: Object>(
     }
 }
 
-/// A caller asks for an operation, and is told what its last turn came to.
+/// A caller asks for an operation, and is told the answer to its last turn.
 pub(crate) fn asked<O: Object>(
     service: &Service<O>,
     handed: Handed,
@@ -318,7 +318,7 @@ fn number_of(handed: &Handed) -> u32 {
 }
 
 /// A caller asks for its operations one after another, as long as they are answered, and what it is told is put at the end of a list. It
-/// also ends where no memory is left for that.
+/// also ends where no memory is left for that. Before an operation it waits until the current place is the one that the work has it wait for.
 pub(crate) fn all_asked<O: Object>(
     service: &Service<O>,
     handed: Handed,
@@ -329,14 +329,64 @@ pub(crate) fn all_asked<O: Object>(
     requires { IsOf service.now handed }
     ensures { IsBack service.now (seat_of handed) result }
 {
+    let count = work.count(u64::from(number_of(&handed)));
+    asked_between(service, handed, work, (0, count), way, log)
+}
+
+/// The same of its operations from one on to below another.
+pub(crate) fn asked_between<O: Object>(
+    service: &Service<O>,
+    handed: Handed,
+    work: Work,
+    ends: (u64, u64),
+    way: Way,
+    log: &mut Vec<Told>,
+) -> Handed
+    requires { IsOf service.now handed }
+    ensures { IsBack service.now (seat_of handed) result }
+{
     let mut handed = handed;
     let number = u64::from(number_of(&handed));
-    for k in 0..work.count() {
-        let (back, told) = asked(service, handed, &work.task(number, k), way);
+    for k in ends.0..ends.1 {
+        let ready = waited(service, handed, work.waits_for(number, k));
+        let (back, told) = asked(service, ready, &work.task(number, k), way);
         handed = back;
         if log.push(told).is_err() || !told.is_answered() {
             break;
         }
     }
     handed
+}
+
+// The looks that a caller makes at most until the current place is one.
+const LOOKS: u64 = 1_000_000_000;
+
+// A caller with no call under way waits until the current place is at or above one.
+fn waited<O: Object>(service: &Service<O>, handed: Handed, place: u64) -> Handed
+    requires { IsOf service.now handed }
+    ensures { IsBack service.now (seat_of handed) result }
+{
+    if place == 0 {
+        return handed;
+    }
+    match handed {
+        Handed::Idle(caller) => waited_idle(service, caller, place),
+        Handed::Linked(_) | Handed::Stopped(_) => handed,
+    }
+}
+
+fn waited_idle<O: Object>(service: &Service<O>, caller: Caller, place: u64) -> Handed
+    requires { IsCallerOf service.now caller }
+    ensures { IsBack service.now caller result }
+{
+    let mut caller = caller;
+    for _look in 0..LOOKS {
+        match service.catch_up(caller, place) {
+            CaughtUp::Caught(back) => return Handed::Idle(back),
+            CaughtUp::Behind(back, _) => caller = back,
+            CaughtUp::Halted(stopped) => return Handed::Stopped(stopped),
+        }
+        yield_now();
+    }
+    Handed::Idle(caller)
 }

@@ -1,4 +1,4 @@
-//! What a loss of power leaves of closed services of the running sum, and what is recovered from it.
+//! What a loss of power leaves of closed services, and what is recovered from it.
 
 ghost use Rattle.std.specs.Prelude.{◌≡◌, IfErr, IfOk};
 ghost use Rattle.cx_base.specs.Codes.{root_place_of};
@@ -6,8 +6,9 @@ ghost use Rattle.cx_base.specs.Tally.{IsTally};
 ghost use Rattle.cx_core.specs.Base.{LawfulBase};
 ghost use Rattle.recovery.specs.Crashes.{left_root};
 ghost use Rattle.recovery.specs.declared.recovering.ImageFault.TheVariants.{Memory};
-ghost use Rattle.service_tests.specs.Closed.{IsClosedTally};
+ghost use Rattle.service_tests.specs.Closed.{IsClosed, IsClosedTally};
 
+use cx_base::Object;
 use cx_base::tally::Tally;
 use cx_core::Base;
 use cx_table::Remains;
@@ -16,7 +17,7 @@ use recovery::{
 };
 use std::alloc::{AllocError, Global};
 
-/// What is recovered by choice after a loss of power. Only want of memory can refuse it.
+/// What is recovered by choice after a loss of power. It fails only where memory runs out.
 pub(crate) fn recovered(alloc: Global, remains: &Remains, choice: u64) -> Result<Base, ImageFault>
     requires { IsClosedTally remains.now }
     ensures place { IfOk result (λ base. base.place ≡ root_place_of remains.now.callers (left_root remains.now choice)) }
@@ -37,4 +38,20 @@ pub(crate) fn left(alloc: Global, remains: &Remains, choice: u64) -> Result<Imag
 {
     closed_tables_are_whole::<Tally>();
     crash_image(alloc, remains, choice)
+}
+
+/// What is recovered by choice after a loss of power of a closed service of any object.
+pub(crate) fn recovered_of<O: Object>(
+    alloc: Global,
+    object: &O,
+    remains: &Remains,
+    choice: u64,
+) -> Result<Base, ImageFault>
+    requires { IsClosed O.Object (O.line_count object.now) remains.now }
+{
+    closed_tables_are_whole::<O>();
+    let Ok(image) = crash_image(alloc, remains, choice) else {
+        return Err(ImageFault::Memory);
+    };
+    recover(alloc, object, &image)
 }

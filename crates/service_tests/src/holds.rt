@@ -2,7 +2,7 @@
 
 use std::process::Abort;
 
-/// Asserts what a test came to.
+/// Asserts that a test is right.
 pub(crate) fn holds(rt: &impl Abort, is_right: bool) {
     assert!(rt; is_right);
 }

@@ -92,7 +92,7 @@ fn stops(flags: &[bool; 3]) -> [StopLine; 3] {
     ]
 }
 
-// Whether the stops of a life that kept so many entries get these flags, whatever flag they had.
+// Whether the stops of a life that kept `kept` entries get these flags, whatever flag they had.
 fn are_flagged(journal: &[JournalLine<Reply>], kept: u64, flags: &[bool; 3], before: bool) -> bool {
     let mut lines = stops(&[before; 3]);
     flag_stops(journal, 20, kept, &mut lines);

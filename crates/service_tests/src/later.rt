@@ -5,7 +5,7 @@ ghost use Rattle.cx_base.specs.Tally.{tally_reads, tally_reply};
 ghost use Rattle.service_tests.specs.Later.{IsLater, earlier_format, later_keeps, later_leaves, later_opening, later_opens, later_replies, later_step, later_takes_over};
 
 use cx_base::tally::Tally;
-use cx_base::{Halt, Memory, Object};
+use cx_base::{Halt, Memory, OP_WORDS, Object, OpWords};
 use std::alloc::{AllocError, Global};
 
 /// An object of 64 lines and version 8, with an old version 7, in which the sum stood in word 1. Word 0 of an operation is added to word 2
@@ -57,22 +57,33 @@ impl Object for LaterTally {
         mem.store(0, VERSION)
     }
 
-    fn reads(&self, op: &[u64; 144]) -> bool {
+    fn reads(&self, op: &OpWords) -> bool {
         op[1] == 1
     }
 
-    fn run<M: Memory>(&self, mem: &mut M, op: &[u64; 144]) -> Result<[u64; 144], Halt> {
+    fn run_into<M: Memory>(
+        &self,
+        mem: &mut M,
+        op: &OpWords,
+        reply: &mut OpWords,
+    ) -> Result<(), Halt> {
         if self.reads(op) {
-            return self.query(mem, op);
+            return self.query_into(mem, op, reply);
         }
         let sum = mem.load(2)?.wrapping_add(op[0]);
         mem.store(2, sum)?;
-        Ok(reply(sum))
+        *reply = reply_of(sum);
+        Ok(())
     }
 
-    fn query<M: Memory>(&self, mem: &mut M, _op: &[u64; 144]) -> Result<[u64; 144], Halt> {
-        let sum = mem.load(2)?;
-        Ok(reply(sum))
+    fn query_into<M: Memory>(
+        &self,
+        mem: &mut M,
+        _op: &OpWords,
+        reply: &mut OpWords,
+    ) -> Result<(), Halt> {
+        *reply = reply_of(mem.load(2)?);
+        Ok(())
     }
 
     fn check(&self, _alloc: Global, words: &[u64]) -> Result<bool, AllocError> {
@@ -96,10 +107,10 @@ impl Object for LaterTally {
 }
 
 // A reply with this sum.
-fn reply(sum: u64) -> [u64; 144]
+fn reply_of(sum: u64) -> OpWords
     ensures { result ≡ tally_reply sum }
 {
-    let mut words = [0; 144];
+    let mut words = [0; OP_WORDS];
     words[0] = sum;
     words
 }

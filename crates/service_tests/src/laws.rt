@@ -3,13 +3,13 @@
 ghost use Rattle.std.specs.Prelude.{◌≡◌, ◌≤◌};
 ghost use Rattle.cx_core.specs.Base.{LawfulBase, fresh_region};
 ghost use Rattle.doc_store.specs.DocumentMeaning.{document_meaning};
-ghost use Rattle.doc_store.specs.ExactStep.{IsImage, opening_image};
-ghost use Rattle.life_laws.specs.Begins.{IsBaseOf, nothing_begun};
+ghost use Rattle.doc_store.specs.ExactStep.{IsImageOfStore, opening_image};
+ghost use Rattle.life_records.specs.Begins.{IsBaseOf, nothing_begun};
 
 use crate::holds::holds;
 use cx_core::Base;
 use doc_store::DocStore;
-use life_laws::{
+use life_records::{
     fresh_bases_begin_with_nothing, histories_mean_stores, kept_bases_begin_the_next_life,
     kept_lives_go_on, replies_are_the_stores,
 };
@@ -20,7 +20,7 @@ use std::test::Fail;
 fn first_life(object: &DocStore, base: &Base)
     requires place { base.now.place ≡ 0 }
     requires words { base.now.words ≡ fresh_region (opening_image object.now.lines) }
-    requires lawful { LawfulBase object.now.lines (IsImage object.now.lines) base.now }
+    requires lawful { LawfulBase object.now.lines (IsImageOfStore object.now.lines) base.now }
     ensures { IsBaseOf (document_meaning object.now.lines) base.now (nothing_begun (document_meaning object.now.lines)) }
 {
     histories_mean_stores(object, base);
@@ -30,7 +30,7 @@ fn first_life(object: &DocStore, base: &Base)
     fresh_bases_begin_with_nothing(object, base);
 }
 
-// Whether the first base of a store of so many lines begins with nothing.
+// Whether the first base of a store of `lines` lines begins with nothing.
 fn begins_with_nothing(alloc: Global, lines: u64) -> Result<bool, AllocError>
     requires some { 1 ≤ lines }
     requires few { lines ≤ 200 }
@@ -41,7 +41,7 @@ fn begins_with_nothing(alloc: Global, lines: u64) -> Result<bool, AllocError>
     Ok(base.place == 0 && are_first(base.words.as_slice(), lines))
 }
 
-// Whether words are as many as the regions of an object of so many lines have, and the head's are 0.
+// Whether words are as many as the regions of an object of `lines` lines have, and the head's are 0.
 fn are_first(words: &[u64], lines: u64) -> bool
     requires { lines ≤ 200 }
 {

@@ -1,5 +1,9 @@
-//! Tests of the service, of recovery and of the laws of lives: callers on threads against the object alone, callers that stop, what a
-//! loss of power leaves of services that are closed at each step, and images written by hand, of an old version too. It has tests alone.
+//! Does the service do what a user sees, on threads, under a limit of steps, and over a crash? The replies of callers are compared with those of the
+//! object alone, by one thread.
+//!
+//! Callers run on threads and one after another; some are stopped at each step, and what a crash leaves of a service that is closed there is
+//! recovered. Images are written by hand too, also of an old version. Checkpoints that a caller takes while others go on are compared with the object
+//! alone at the checkpoint's place, taken at each limit of steps, and a service starts from one. The crate has tests alone.
 #![tactic(auto)]
 
 #[cfg(test)]
@@ -11,6 +15,14 @@ mod calls;
 #[cfg(test)]
 mod cells;
 #[cfg(test)]
+mod checkpoint_limits;
+#[cfg(test)]
+mod checkpoint_starts;
+#[cfg(test)]
+mod checkpoint_threads;
+#[cfg(test)]
+mod checkpoints_alone;
+#[cfg(test)]
 mod closing;
 #[cfg(test)]
 mod holds;
@@ -21,15 +33,21 @@ mod later;
 #[cfg(test)]
 mod laws;
 #[cfg(test)]
+mod listed;
+#[cfg(test)]
 mod losing;
 #[cfg(test)]
 mod meeting;
 #[cfg(test)]
 mod no_memory;
 #[cfg(test)]
+mod pairs;
+#[cfg(test)]
 mod places;
 #[cfg(test)]
 mod playing;
+#[cfg(test)]
+mod renewing;
 #[cfg(test)]
 mod reopened;
 #[cfg(test)]

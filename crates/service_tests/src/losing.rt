@@ -117,7 +117,7 @@ const PUBLISHED: u64 = 193;
 
 const ANSWERED: u64 = 195;
 
-// The first of limits, each so many above the one before, at which the update is kept or answered.
+// The first of limits, each `step` above the one before, at which the update is kept or answered.
 fn first_kept(alloc: Global, from: u64, to: u64, step: usize) -> Result<Option<u64>, AllocError>
     requires { 1 ≤ step }
 {

@@ -10,7 +10,7 @@ use crate::holds::holds;
 use crate::tasks::{HELD, LATE, Work};
 use crate::threads::{is_as_alone, run_on_threads};
 use cx_base::tally::Tally;
-use cx_base::{Halt, Memory, Object};
+use cx_base::{Halt, Memory, Object, OpWords};
 use std::alloc::{AllocError, Global};
 use std::sync::atomic::{AtomicBool, AtomicU64, Ordering};
 use std::test::Fail;
@@ -19,7 +19,7 @@ use std::thread::{Threads, yield_now};
 // The turns that a step waits at most.
 const TURNS: u64 = 1_000_000_000;
 
-// Where steps meet: the first so many of those that are to be held wait until all of them have come and so many reads were made.
+// Where steps meet: of those that are to be held the first `held` wait until all of them have come and `reads` reads were made.
 #[derive(Drop)]
 struct Meeting {
     held: u64,
@@ -40,7 +40,7 @@ impl Meeting {
         }
     }
 
-    // Waits until so many steps have come, and so many reads were made.
+    // Waits until this many steps have come, and this many reads were made.
     fn wait(&self, steps: u64, reads: u64) {
         for _turn in 0..TURNS {
             let come = self.come.load(Ordering::SeqCst) >= steps;
@@ -111,23 +111,33 @@ impl Object for MeetingTally<'_> {
     }
 
     // a caller asks this before it submits
-    fn reads(&self, op: &[u64; 144]) -> bool {
+    fn reads(&self, op: &OpWords) -> bool {
         if op[0] == LATE {
             self.meeting.wait(self.meeting.held, 0);
         }
         Tally.reads(op)
     }
 
-    fn run<M: Memory>(&self, mem: &mut M, op: &[u64; 144]) -> Result<[u64; 144], Halt> {
+    fn run_into<M: Memory>(
+        &self,
+        mem: &mut M,
+        op: &OpWords,
+        reply: &mut OpWords,
+    ) -> Result<(), Halt> {
         if op[0] == HELD {
             self.meeting.come();
         }
-        Tally.run(mem, op)
+        Tally.run_into(mem, op, reply)
     }
 
-    fn query<M: Memory>(&self, mem: &mut M, op: &[u64; 144]) -> Result<[u64; 144], Halt> {
+    fn query_into<M: Memory>(
+        &self,
+        mem: &mut M,
+        op: &OpWords,
+        reply: &mut OpWords,
+    ) -> Result<(), Halt> {
         self.meeting.read.fetch_add(1, Ordering::SeqCst);
-        Tally.query(mem, op)
+        Tally.query_into(mem, op, reply)
     }
 
     fn check(&self, alloc: Global, words: &[u64]) -> Result<bool, AllocError> {
@@ -145,7 +155,7 @@ impl Object for MeetingTally<'_> {
     fn upgrade(&self, _words: &mut [u64]) {}
 }
 
-// How many steps are held until so many reads were made, what each of eight callers asks for, and how many updates and reads that is.
+// How many steps are held until how many reads were made, what each of eight callers asks for, and how many updates and reads that is.
 type Row = (u64, u64, Work, u64, u64);
 
 const ROWS: [Row; 2] = [

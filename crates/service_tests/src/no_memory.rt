@@ -4,7 +4,7 @@ ghost use Rattle.std.specs.Prelude.{IfOk, IfSome};
 ghost use Rattle.cx_core.specs.Base.{LawfulBase};
 ghost use Rattle.cx_table.specs.Remains.{AreSeats};
 ghost use Rattle.cx_service.specs.Closes.{seats_of};
-ghost use Rattle.doc_store.specs.ExactStep.{IsImage};
+ghost use Rattle.doc_store.specs.ExactStep.{IsImageOfStore};
 
 use crate::holds::holds;
 use crate::starting::{NO_LIMIT, all_started};
@@ -19,13 +19,13 @@ use std::alloc::{AllocError, Global};
 use std::test::Fail;
 use std::thread::Threads;
 
-// A table of two callers of so many lines has 4 MiB of words.
+// A table of two callers and this many lines has 4 MiB of words.
 const LINES: u64 = 16_384;
 
 // The most blocks that are taken.
 const BLOCKS: usize = 200_000;
 
-// Takes blocks of so many bytes, none of which is written, until there is none.
+// Takes blocks of `bytes` bytes, none of which is written, until there is none.
 fn take_all(alloc: Global, bytes: usize, blocks: &mut Vec<Vec<u8>>) {
     for _ in 0..BLOCKS {
         let Ok(block) = Vec::with_capacity(alloc, bytes) else {
@@ -108,14 +108,14 @@ fn a_close_without_memory_hands_all_back(rt: HostRuntime) -> Result<(), Fail> {
 }
 
 fn base(alloc: Global) -> Result<Base, AllocError>
-    ensures { IfOk result (LawfulBase 16384 (IsImage 16384)) }
+    ensures { IfOk result (LawfulBase 16384 (IsImageOfStore 16384)) }
 {
     Base::fresh(alloc, &DocStore::of(LINES))
 }
 
 // What starting a service from a base is refused for. `None` where it starts.
 fn fault(alloc: Global, limits: &[u64; 2], base: &Base) -> Option<StartFault>
-    requires { LawfulBase 16384 (IsImage 16384) base.now }
+    requires { LawfulBase 16384 (IsImageOfStore 16384) base.now }
 {
     Service::start(alloc, DocStore::of(LINES), 2, limits, base).err()
 }
@@ -126,13 +126,13 @@ fn fault_without(
     limits: &[u64; 2],
     base: &Base,
 ) -> Result<Option<StartFault>, AllocError>
-    requires { LawfulBase 16384 (IsImage 16384) base.now }
+    requires { LawfulBase 16384 (IsImageOfStore 16384) base.now }
 {
     let _blocks = taken(alloc)?;
     Ok(fault(alloc, limits, base))
 }
 
-// Whether a service is started from a base, not started for want of memory, and started from the same base and limits then.
+// Whether a service is started from a base, not started where memory runs out, and started from the same base and limits then.
 fn starts_again(alloc: Global) -> Result<bool, AllocError> {
     let base = base(alloc)?;
     let limits = [NO_LIMIT; 2];

@@ -75,7 +75,7 @@ fn is_behind(one: &Stood, other: &Stood) -> bool {
     one.place <= other.at && one.sum <= other.sum
 }
 
-// Two callers in turn, so many rounds: whether each answer stands behind the one before it.
+// Two callers in turn, for `rounds` rounds: whether each answer stands behind the one before it.
 fn stand_in_turn(
     service: &Service<Tally>,
     first: Caller,
@@ -158,7 +158,7 @@ fn a_caller_catches_up_with_another(rt: HostRuntime) -> Result<(), Fail> {
     Ok(())
 }
 
-// Whether a caller that may make so many steps stops at its limit where that is below two, and else has caught up by two.
+// Whether a caller that may make `limit` steps stops at its limit where that is below two, and else has caught up by two.
 fn stops(service: &Service<Tally>, caller: Caller, limit: u64) -> bool
     requires { IsCallerOf service.now caller }
 {

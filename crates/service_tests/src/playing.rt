@@ -62,11 +62,11 @@ pub(crate) fn played_from(
     }
 }
 
-// Two callers.
+/// Two callers.
 #[derive(Drop)]
-struct Pair {
-    first: Handed,
-    second: Handed,
+pub(crate) struct Pair {
+    pub(crate) first: Handed,
+    pub(crate) second: Handed,
 }
 
 // One of two callers asks for its operations.

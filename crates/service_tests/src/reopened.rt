@@ -273,7 +273,7 @@ fn root_words(
     Vec::from_slice(alloc, root.of(image))
 }
 
-// Whether a loss of power at each of so many steps leaves the root's region, and `reopen` makes what they make.
+// Whether there are `steps` steps, a crash at each of them leaves the root's region, and `reopen` makes what they make.
 fn stands_at_each_step(
     alloc: Global,
     root: Root,

@@ -52,7 +52,7 @@ const ROWS: [Row; 2] = [
     },
 ];
 
-// Whether each update of the other is answered, at the tickets after so many entries that add 1000, and the published codes rise.
+// Whether each update of the other is answered, at the tickets after `linked` entries that add 1000, and the published codes rise.
 fn goes_on(others: &[Told], remains: &Remains, linked: u64) -> bool {
     others.len() == 16
         && adds_up(others, linked, linked.wrapping_mul(1000), 1)

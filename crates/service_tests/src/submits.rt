@@ -37,7 +37,7 @@ const IN_ORDER: [Part; 3] = [
     (1, Work::Filled(7), SUBMIT),
 ];
 
-// Whether two callers linked so, the first by so many steps: later the words stand, and the number alone is written.
+// Whether two callers linked so, the first by `STEPS_TO_LINK` steps: later the words stand, and the number alone is written.
 fn are_linked(log: &[Told]) -> bool {
     match log {
         [one, again, other] => {
@@ -139,7 +139,7 @@ fn no_ticket_is_left(rt: HostRuntime) -> Result<(), Fail> {
     Ok(())
 }
 
-// A caller makes so many updates, and is told that it is full: the note.
+// A caller makes up to `times` updates, and is told that it is full: the note.
 fn note_within<R: Wait>(
     rt: &R,
     service: &Service<Tally>,

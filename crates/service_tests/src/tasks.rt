@@ -9,11 +9,11 @@ pub(crate) const LATE: u64 = 10;
 /// Operations of one kind.
 #[derive(Clone, Copy)]
 pub(crate) enum Work {
-    /// Of Tally: so many updates that add a number.
+    /// Of Tally: this many updates that add a number.
     Adds { amount: u64, count: u64 },
     /// Of Tally: an operation each of whose words is this.
     Filled(u64),
-    /// Of Tally: so many operations, each word of operation k being k.
+    /// Of Tally: this many operations, each word of operation k being k.
     Rising(u64),
     /// Of Tally: a read.
     Sum,
@@ -23,23 +23,43 @@ pub(crate) enum Work {
     Documents,
     /// Of Tally: 24 updates and 6 reads of callers 0 and 1, and 30 reads of each other.
     Apart,
-    /// Of Tally: so many updates of each caller whose steps may be held.
+    /// Of Tally: this many updates of each caller whose steps may be held.
     Held { count: u64 },
     /// Of Tally: 8 updates of each caller and a read. The step of caller 0's fifth may be held, and the others' updates come late.
     HeldInFifth,
     /// Of a document store: 20,000 updates of each caller over 60 keys, and a read behind each 50 of them.
     Long,
+    /// Of a document store: each caller with an even number has this many of these, and each other has 30 of them, before each of which the
+    /// others go on.
+    Lagging { count: u64 },
+    /// Of a document store: this many blocks of a document under one key are put in place of as many others. Caller 0's second update and
+    /// one other of its updates put one block more under another key.
+    Blocks { count: u64, wider: u64 },
+    /// Of a document store: two documents of this many bytes, which caller 0's first two updates put, are read by entries in turn.
+    Gets { bytes: u64 },
 }
 
 impl Work {
-    /// How many operations each caller has.
-    pub(crate) fn count(self) -> u64 {
+    /// How many operations a caller has.
+    pub(crate) fn count(self, caller: u64) -> u64 {
         match self {
             Work::Adds { amount: _, count } | Work::Rising(count) | Work::Held { count } => count,
+            Work::Lagging { count } if caller % 2 == 0 => count,
+            Work::Lagging { count: _ } | Work::Blocks { .. } | Work::Gets { .. } => 30,
             Work::Filled(_) | Work::Sum => 1,
             Work::Sums | Work::Documents | Work::Apart => 30,
             Work::HeldInFifth => 9,
             Work::Long => 20_400,
+        }
+    }
+
+    /// The place that has to be reached before a caller asks for operation k, or 0: caller 0 alone goes on to each.
+    pub(crate) fn waits_for(self, caller: u64, k: u64) -> u64 {
+        match self {
+            Work::Lagging { count } if caller % 2 == 1 => {
+                k.wrapping_mul(count).wrapping_mul(caller.wrapping_add(1)) / 256
+            }
+            _ => 0,
         }
     }
 
@@ -56,7 +76,15 @@ impl Work {
             Work::Rising(_) => [k; 144],
             Work::Sum => sum(),
             Work::Documents => document_task(caller, k),
-            Work::Long => long_task(caller, k),
+            Work::Long | Work::Lagging { count: _ } => long_task(caller, k),
+            Work::Blocks { count, wider } if caller == 0 && (k == 1 || k == wider) => {
+                filled(b"b", count.saturating_add(1).wrapping_mul(56), k)
+            }
+            Work::Blocks { count, wider: _ } => {
+                filled(b"a", count.wrapping_mul(56), k.wrapping_add(caller))
+            }
+            Work::Gets { bytes } if caller == 0 && k < 2 => filled(key_of(k), bytes, k),
+            Work::Gets { bytes: _ } => words_of(4, key_of(k), b"", 0),
             Work::Apart if caller >= 2 => sum(),
             Work::Sums | Work::Apart if k % 5 == 4 => sum(),
             Work::Sums | Work::Apart => adds(caller.wrapping_mul(1000).wrapping_add(k)),
@@ -124,6 +152,17 @@ const DIGITS: [u8; 10] = *b"0123456789";
 // A digit of a number.
 fn digit(number: u64) -> u8 {
     DIGITS[(number % 10) as usize]
+}
+
+// One of two keys in turn.
+fn key_of(k: u64) -> &'static [u8] {
+    if k % 2 == 0 { b"a" } else { b"b" }
+}
+
+// The words that put a document under a key, `bytes` of them, up to 1,024, each of which is a digit of a number.
+fn filled(key: &[u8], bytes: u64, number: u64) -> [u64; 144] {
+    let document = [digit(number); 1024];
+    words_of(1, key, &document[..bytes.min(1024) as usize], 0)
 }
 
 // Operation k of a caller of a document store in a long run. Of 8 updates 4 put a document, 3 add and one deletes.

@@ -20,7 +20,7 @@ use std::alloc::{AllocError, Global};
 use std::test::Fail;
 use std::thread::{Threads, map_vec};
 
-// A call with so many turns that it is answered.
+// A call with turns enough to be answered.
 const UNTIL_ANSWERED: Way = Way {
     twice: false,
     turns: 1_000_000,
@@ -222,6 +222,9 @@ fn is_right<R: Threads + Sync>(rt: &R, alloc: Global, row: &Row) -> Result<bool,
     match row.1 {
         Work::Documents => is_shared(rt, alloc, DocStore::of(64), &DocStore::of(64), row),
         Work::Long => is_shared(rt, alloc, DocStore::of(256), &DocStore::of(256), row),
+        Work::Lagging { count: _ } => {
+            is_shared(rt, alloc, DocStore::of(4096), &DocStore::of(4096), row)
+        }
         _ => is_shared(rt, alloc, Tally, &Tally, row),
     }
 }
@@ -264,5 +267,20 @@ fn a_long_run_on_threads(rt: HostRuntime) -> Result<(), Fail> {
     let ran = run_on_threads(&rt, rt.alloc(), DocStore::of(256), 4, Work::Long)?;
     holds(&rt, is_as_alone(rt.alloc(), &ran, &object, &row)?);
     holds(&rt, ran.taken > 0);
+    Ok(())
+}
+
+// Callers that fall behind beside others, and renew their replicas by the lines that changed: in the last row of each number of callers each
+// slot of the ring of gaps is written five times and more.
+const LAGGING: [Row; 4] = [
+    (2, Work::Lagging { count: 3000 }, 2972, 58),
+    (2, Work::Lagging { count: 6000 }, 5913, 117),
+    (4, Work::Lagging { count: 6000 }, 11826, 234),
+    (8, Work::Lagging { count: 6000 }, 23652, 468),
+];
+
+#[test]
+fn callers_fall_behind_on_threads(rt: HostRuntime) -> Result<(), Fail> {
+    holds(&rt, first_wrong(&rt, rt.alloc(), &LAGGING)?.is_none());
     Ok(())
 }

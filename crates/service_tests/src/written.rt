@@ -29,7 +29,7 @@ fn rise_below(pairs: &[(u64, u64)], end: u64) -> bool
 // An image of an object of 64 lines, as it is written down: its callers, its number of words, its root, and its pairs.
 pub(crate) type Written = (u32, u64, u64, &'static [(u64, u64)]);
 
-// That image. `Err` is want of memory, or what may not be read.
+// That image. `Err` means out of memory, or what may not be read.
 pub(crate) fn image_of(alloc: Global, written: &Written) -> Result<Image, AllocError>
     ensures { IfOk result (IsReadable 64) }
 {

@@ -18,7 +18,7 @@ const EACH: u64 = 16;
 
 const ALL: u64 = 64_000;
 
-/// What answers came to: transfers, refused overdrafts, and audits that found what all have together.
+/// How many answers of each kind there were: transfers, refused overdrafts, and audits that found what all have together.
 #[derive(Clone, Copy, Debug)]
 pub struct Counts {
     pub moved: u64,
@@ -74,7 +74,7 @@ impl Counts {
 }
 
 /// Four callers work, the power is lost, they go on, it is lost again, and one caller looks: what the four did in each life, and what the
-/// last one found.
+/// last one found. `Err` means out of memory.
 pub fn two_losses<R: Wait + Threads + Sync>(
     rt: &R,
     alloc: Global,
@@ -116,7 +116,7 @@ fn operation(number: u32, step: u64) -> Op {
     }
 }
 
-/// Callers that do their operations from one on, and tell what the answers came to.
+/// Callers that do their operations from one on, and tell how many answers of each kind there were.
 struct Mover {
     from: u64,
 }

@@ -1,3 +1,9 @@
+//! The problem, as an example: several threads move money between accounts, and whoever adds up all accounts in between, or after a crash, has to
+//! find the same sum.
+//!
+//! The idea: the bank is an object for one thread (`bank`), whose every step keeps the sum. Shared by `serve` of `service_parts`, an audit is one
+//! operation like a transfer: it sees all of a transfer or nothing.
+//!
 //! 64 accounts that four threads share: money is paid out and moved, overdrafts are refused, and whoever adds up all accounts in between
 //! finds the same sum. The power is lost twice, and in a last life one caller looks at what is there.
 #![tactic(auto)]

@@ -1,6 +1,7 @@
-//! Counters that four threads share, over a loss of power.
+//! Counters that four threads share, over a crash.
 
 use bounded_counters::{Counters, Reply, add_words};
+use cx_base::OpWords;
 use cx_core::Base;
 use cx_service::{Caller, Handed, Service};
 use service_parts::{Asked, Worked, Worker, ask, recovered, serve};
@@ -16,7 +17,8 @@ pub struct Counted {
     pub after: u64,
 }
 
-/// Four threads count together in a service, then the power is lost, and four count on in a service that starts from what was kept.
+/// Four threads count together in a service, then there is a crash, and four count on in a service that starts from what was kept. `Err`
+/// means out of memory.
 pub fn count_over_a_loss<R: Wait + Threads + Sync>(
     rt: &R,
     alloc: Global,
@@ -62,7 +64,7 @@ impl Worker<Counters> for Adder {
 }
 
 /// The value that a reply tells, or another where it tells none.
-fn value_of(reply: &[u64; 144], other: u64) -> u64 {
+fn value_of(reply: &OpWords, other: u64) -> u64 {
     match Reply::of(reply) {
         Some(Reply::Value(count)) => count,
         _ => other,

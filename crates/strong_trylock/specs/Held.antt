@@ -36,6 +36,6 @@ abbrev pub SawWord : ℕ → ℕ → Seated → Type 0
 SawWord replica found seat = seat.known.local.seen_lock ≡ Some (record { replica = replica; word = found })
 
 -- the seat is of the table, and its caller has this right
-pub record Has {O : Type 0} (right : ℕ → Seated → Right → Type 0) (r : Running O) (seat : Seated) (held : Right) : Type 0 where
+pub record HasRight {O : Type 0} (right : ℕ → Seated → Right → Type 0) (r : Running O) (seat : Seated) (held : Right) : Type 0 where
   pub of : IsSeatOf r seat
   pub token : right r.callers seat held

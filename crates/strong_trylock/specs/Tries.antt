@@ -1,4 +1,4 @@
--- What tries of a replica come to, by the word found.
+-- The outcomes of tries of a replica, by the word found.
 use Rattle.std.specs.Prelude.{◌≡◌, ◌≢◌, ◌<◌, ◌≤◌, ◌⊎◌, ℕ, Bool, List, Some}
 use Rattle.cx_core.specs.declared.kinds.Kind.TheVariants.{BackOff, TryExclusive, TryShared}
 use Rattle.cx_core.specs.LockEvents.{exclusive_mark}

@@ -1,5 +1,9 @@
-//! Replicas that a caller tries to take without waiting, and gives up again. Each right is a token, and a try that is refused
-//! answers the word that it found.
+//! A caller that waits for a lock waits for whoever holds it, who may have stalled. With 2N replicas none needs to: another one is free.
+//!
+//! Each replica has a readers-writer lock that is only tried, as in CX (Correia, Ramalhete, Felber, PPoPP 2020). It is one word: an exclusive try
+//! is a compare-and-swap from 0, a shared one adds 1 and takes it back where the exclusive mark stood; an exclusive right becomes a shared one by
+//! one subtraction. No try is refused without a cause in the word (hence strong): a right, a pin, or the mark of a shared try that was refused and
+//! not taken back yet. That the pins of the roots count in the same word is this project's own choice.
 //!
 //! - An exclusive try is one step. It answers `Held` exactly where the lock word found is not 0, with that word, which the seat keeps, and then
 //!   the caller has the rights that it had; else the token of the replica: `try_exclusive` (`made`, `fits`, `halted`).
@@ -10,11 +14,11 @@
 //!   before the second the passer's mark stands: `try_shared` (`halted`).
 //! - The local state after a try is that of the events made, with the word found: `made` and `back` of `TriesExclusive`, `TakesShared`,
 //!   `PassesBy`, `LeavesMark`.
-//! - A downgrade is one step, and the exclusive right is then a downgraded one on the same replica. A release, and the giving up of a shared or
-//!   a downgraded right, is one step that ends that right and no other: `downgrade` (`made`: `Downgrades`), `release`, `release_shared`,
+//! - A downgrade is one step, and the exclusive right is then a downgraded one on the same replica. A release of an exclusive, a shared or
+//!   a downgraded right is one step that ends that right and no other: `downgrade` (`made`: `Downgrades`), `release`, `release_shared`,
 //!   `release_downgraded` (`made`: `Ends`). Each halts exactly at the limit, with nothing changed: `halted`.
 //!
-//! Tested (`table_tests`): the lock words of two callers over four replicas; a right of each kind but a win begun and given up, and what the
+//! Tested (`table_tests`): the lock words of two callers over four replicas; a right of each kind but a win begun and released, and what the
 //! other caller then finds; each limit from 0 to 2 of a shared try that is refused, and the mark that is left with a limit of 1.
 #![tactic(auto)]
 

@@ -9,7 +9,7 @@ ghost use Rattle.strong_trylock.specs.Tries.{HaltsShared, TriesExclusive, TriesS
 use cx_base::{Halt, Object};
 use cx_table::{CallerSeat, Exclusive, Shared, SharedHold, SharedRight};
 
-/// What a try to take a replica exclusively came to.
+/// The outcome of a try to take a replica exclusively.
 #[derive(Debug, Drop)]
 pub enum ExclusiveTried {
     /// The replica is the caller's.
@@ -18,7 +18,7 @@ pub enum ExclusiveTried {
     Held { found: u64 },
 }
 
-/// What a try to take a replica shared came to.
+/// The outcome of a try to take a replica shared.
 #[derive(Debug, Drop)]
 pub enum SharedTried {
     /// The caller has a shared right on the replica.

@@ -4,7 +4,7 @@ use Rattle.cx_core.specs.declared.entry.Entry.{Entry}
 use Rattle.cx_core.specs.declared.local.Linked.{Linked}
 use Rattle.cx_core.specs.Merge.{own_of}
 use Rattle.cx_core.proofs.MergeLemmas.{own_mine, own_other}
-use Rattle.mutation_queue.specs.Tests.{InOrder, OneOfEach}
+use Rattle.mutation_queue.specs.Tests.{AreInOrder, OneOfEach}
 
 -- each entry is one of these two callers'
 abbrev Only : ℕ → ℕ → List Entry → Type 0
@@ -58,7 +58,7 @@ alone c d ticket (entry ∷ rest) b apart only none own =
 
 -- the first entry is of the one that has one entry, as the other has
 then_other : (c d ticket : ℕ) (entry : Entry) (rest : List Entry) (a b : Linked) → c ≢ d → Only c d rest → entry.caller ≡ c → own_of c ticket (entry ∷ rest) ≡ a ∷ [] → own_of d ticket (entry ∷ rest) ≡ b ∷ [] →
-    InOrder ticket (entry ∷ rest) a b
+    AreInOrder ticket (entry ∷ rest) a b
 then_other c d ticket entry rest a b apart only e own_c own_d =
     let first = is_first c ticket entry rest a e own_c in
     let last = alone c d (ticket + 1) rest b apart only first.1 (sym (own_other d ticket entry rest (λ k. apart (sym e ∙ k))) ∙ own_d) in

@@ -1,4 +1,4 @@
--- A replica held exclusively, while a protection is stated and given up.
+-- A replica held exclusively, while a protection is stated and released.
 use Rattle.std.proofs.Common.{All, ◌≡◌, ◌<◌, ℕ, List, ap, sym, subst, ◌∙◌}
 use Rattle.cx_base.specs.declared.object.Object.{Ghosts}
 use Rattle.cx_core.specs.Region.{region_words}
@@ -10,7 +10,7 @@ use Rattle.cx_table.specs.Right.{Right}
 use Rattle.cx_table.specs.Tokens.{IsExclusiveOf}
 use Rattle.mutation_queue.specs.Protections.{but_protected}
 use Rattle.replica.specs.Held.{IsHeld}
-use Rattle.replica.specs.Replays.{IsImage, IsReady, noted_place}
+use Rattle.replica.specs.Replays.{IsHeldImage, IsReady, noted_place}
 
 -- a replica that is held still is
 pub held_protected : {O : Type 0} (lines : ℕ) (r : Running O) (lawful : List ℕ → Type 0) (step : List ℕ → List ℕ → List ℕ × List ℕ) (before after : Seated) (held : Right) → IsSeatOf r after → but_protected after ≡ but_protected before → IsHeld lines r lawful step before held → IsHeld lines r lawful step after held
@@ -27,10 +27,10 @@ held_protected lines r lawful step before after held of same was =
     }
 
 -- one that is the image after its place still is
-pub image_protected : {O : Type 0} (lines : ℕ) (r : Running O) (lawful : List ℕ → Type 0) (step : List ℕ → List ℕ → List ℕ × List ℕ) (before after : Seated) → but_protected after ≡ but_protected before → IsImage lines lawful r.base step before.known → IsImage lines lawful r.base step after.known
+pub image_protected : {O : Type 0} (lines : ℕ) (r : Running O) (lawful : List ℕ → Type 0) (step : List ℕ → List ℕ → List ℕ × List ℕ) (before after : Seated) → but_protected after ≡ but_protected before → IsHeldImage lines lawful r.base step before.known → IsHeldImage lines lawful r.base step after.known
 image_protected lines r lawful step before after same was =
-    let there : IsImage lines lawful r.base step (but_protected before).known = record { begun = was.begun; replayed = was.replayed } in
-    let here : IsImage lines lawful r.base step (but_protected after).known = subst (λ (s : Seated). IsImage lines lawful r.base step s.known) (sym same) there in
+    let there : IsHeldImage lines lawful r.base step (but_protected before).known = record { begun = was.begun; replayed = was.replayed } in
+    let here : IsHeldImage lines lawful r.base step (but_protected after).known = subst (λ (s : Seated). IsHeldImage lines lawful r.base step s.known) (sym same) there in
     record { begun = here.begun; replayed = here.replayed }
 
 pub ready_protected : {O : Type 0} (o : Ghosts O) (r : Running O) (before after : Seated) (held : Right) (at : ℕ) → IsSeatOf r after → but_protected after ≡ but_protected before → IsReady o r held at before → IsReady o r held at after

@@ -9,7 +9,7 @@ use Rattle.cx_rule.specs.Fitting.{Fitting}
 use Rattle.cx_rule.specs.Running.{IsRunning, Running}
 use Rattle.cx_rule.specs.Seats.{Seated}
 use Rattle.cx_table.specs.Right.{Right}
-use Rattle.cx_turns.specs.Replaying.{beside_replay, but_loads}
+use Rattle.cx_turns.specs.Replaying.{beside_replay, but_shared_loads}
 use Rattle.replica.specs.Held.{beside_held, but_loaded, but_words}
 use Rattle.replica.specs.Laws.{taken_held}
 use Rattle.strong_trylock.specs.declared.trying.ExclusiveTried.{ExclusiveTried}
@@ -22,7 +22,7 @@ words_kept : (o : Option HeldExclusive) → option_map (λ (h : HeldExclusive). 
 words_kept None = refl
 words_kept (Some h) = refl
 
-loads_kept : (o : Option HeldShared) → option_map (λ (h : HeldShared). h.replica) (option_map but_loads o) ≡ option_map (λ (h : HeldShared). h.replica) o
+loads_kept : (o : Option HeldShared) → option_map (λ (h : HeldShared). h.replica) (option_map but_shared_loads o) ≡ option_map (λ (h : HeldShared). h.replica) o
 loads_kept None = refl
 loads_kept (Some h) = refl
 

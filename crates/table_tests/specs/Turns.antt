@@ -1,4 +1,4 @@
--- A replica held exclusively that can be given up.
+-- A replica held exclusively that can be released.
 use Rattle.std.specs.Prelude.{◌≡◌, ℕ, List, Some}
 use Rattle.cx_rule.specs.Running.{Running}
 use Rattle.cx_rule.specs.Seats.{Seated}
@@ -6,7 +6,7 @@ use Rattle.cx_table.specs.Right.{Right}
 use Rattle.replica.specs.Flushes.{IsFlushed}
 use Rattle.replica.specs.Held.{IsHeld}
 use Rattle.replica.specs.Laws.{IsTaken}
-use Rattle.replica.specs.Replays.{IsImage}
+use Rattle.replica.specs.Replays.{IsHeldImage}
 use Rattle.strong_trylock.specs.Held.{all_rights, no_rights}
 
 -- it was just taken, and is the caller's only right
@@ -17,5 +17,5 @@ pub record TakesIt {O : Type 0} (lines : ℕ) (r : Running O) (lawful : List ℕ
 -- it is the image after its place, and no word of it is dirty
 pub record IsFlushedImage {O : Type 0} (lines : ℕ) (r : Running O) (lawful : List ℕ → Type 0) (step : List ℕ → List ℕ → List ℕ × List ℕ) (seat : Seated) (held : Right) : Type 0 where
   pub is_held : IsHeld lines r lawful step seat held
-  pub image : IsImage lines lawful r.base step seat.known
+  pub image : IsHeldImage lines lawful r.base step seat.known
   pub clean : IsFlushed seat

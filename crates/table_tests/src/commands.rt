@@ -50,7 +50,7 @@ fn lay(words: &mut [u64], from: usize, bytes: &[u8]) {
     }
 }
 
-/// The words that put so many letters, up to 150, under a key.
+/// The words that put `long` letters, up to 150, under a key.
 pub(crate) fn put(key: &[u8], long: usize) -> [u64; 144] {
     let mut words = [0; 144];
     put_word(&mut words, 0, 1);

@@ -1,4 +1,4 @@
-//! A replica is brought up and given up, and copied over another that differs, at each limit of steps within the copy.
+//! A replica is brought up and released, and copied over another that differs, at each limit of steps within the copy.
 
 ghost use Rattle.std.specs.Prelude.{◌≡◌, IfOk, IfSome};
 ghost use Rattle.cx_core.specs.LockEvents.{CanTryShared};
@@ -46,7 +46,7 @@ pub(crate) fn share_beside<O: Object>(
     Ok(right.ok())
 }
 
-/// What a copy came to: the steps before it, and the place that it gave.
+/// The result of a copy: the steps before it, and the place that it gave.
 pub(crate) type Copied = (u64, u64);
 
 // Copies a replica over one that was just taken.
@@ -89,7 +89,7 @@ fn renew_and_copy<O: Object>(
     }
 }
 
-/// What a caller with a limit came to, its steps, and what the table left.
+/// The copy of a caller with a limit, its steps, and what the table left.
 #[derive(Drop)]
 pub(crate) struct Outcome {
     pub(crate) copied: Option<Copied>,
@@ -122,7 +122,7 @@ pub(crate) fn at_limit(
 /// The steps before the copy, those of the whole run, and the place that it gave.
 pub(crate) type Whole = (u64, u64, u64);
 
-/// What a run without a limit came to.
+/// The result of a run without a limit.
 pub(crate) fn whole_run(alloc: Global, op: &[u64; 144]) -> Result<Option<Whole>, AllocError> {
     match at_limit(alloc, op, NO_LIMIT)? {
         Some(outcome) => Ok(whole_of(outcome.copied, outcome.steps)),
@@ -138,7 +138,7 @@ fn whole_of(copied: Option<Copied>, steps: u64) -> Option<Whole> {
 // The loads of a line of both replicas.
 const LINE_LOADS: u64 = 16;
 
-// Whether a copy of these words over those that stood before was left with the words found, after so many steps.
+// Whether a copy of these words over those that stood before was left with the words found, after `steps` steps.
 fn is_copied_to(words: &[u64], before: &[u64], found: &[u64], steps: u64) -> bool {
     let lines = words.len() / 8;
     let mut line = 0usize;
@@ -166,7 +166,7 @@ fn loads_before(line: usize, lines: usize) -> u64 {
     LINE_LOADS.saturating_mul(lines.saturating_sub(line).min(8) as u64)
 }
 
-// The steps left after a store of each word of a line that differs, at most so many, where the words found are those.
+// The steps left after a store of each word of a line that differs, as far as the steps go, where the words found are those.
 fn line_left(words: &[u64], before: &[u64], found: &[u64], steps: u64) -> Option<u64> {
     let mut left = steps;
     for ((word, before), found) in words.iter().zip(before.iter()).zip(found.iter()) {
@@ -182,14 +182,14 @@ fn line_left(words: &[u64], before: &[u64], found: &[u64], steps: u64) -> Option
     Some(left)
 }
 
-// Whether the replica that is copied over has the words that were stored in so many steps, of which none is durable yet.
+// Whether the replica that is copied over has the words that were stored in `steps` steps, of which none is durable yet.
 fn is_begun(replica: &Replica, source: &[u64], opening: &[u64], steps: u64) -> bool {
     replica.durable == opening
         && is_copied_to(source, opening, replica.volatile, steps)
         && is_marked(replica)
 }
 
-// Whether a caller that made so many steps of a copy left the replicas so: that which is copied durable, the other with the words that
+// Whether a caller that made `steps` steps of a copy left the replicas so: that which is copied durable, the other with the words that
 // were stored so far, and two untouched.
 fn is_copied(left: &Remains, source: &[u64], opening: &[u64], steps: u64) -> bool {
     let Some(target) = replica_of(left, TARGET as usize, opening.len()) else {
@@ -236,7 +236,7 @@ struct Words<'a> {
     opening: &'a [u64],
 }
 
-// Whether a limit of so many steps behind those before the copy, which is whole or not, leaves the copy begun.
+// Whether a limit of `steps` steps behind those before the copy, which is whole or not, leaves the copy begun.
 fn is_right_at(
     alloc: Global,
     words: &Words,

@@ -39,7 +39,7 @@ fn store_at(
     shared.store_held(seat, held, at, WORD)
 }
 
-// Stores a word over the last words of a replica, so many, and persists them.
+// Stores a word over each of the last `count` words of a replica, and persists them.
 fn store_and_flush(
     shared: &Shared<Tally>,
     seat: &mut CallerSeat,
@@ -85,7 +85,7 @@ fn copy_at_opening(shared: &Shared<Tally>, seat: &mut CallerSeat) -> Result<bool
     Ok(copy_from(shared, seat, &held, &source)? == 0)
 }
 
-// Flushes so many words, or else copies. It says whether that was done.
+// Flushes this many words, or else copies. It says whether that was done.
 fn flush_or_copy(
     shared: &Shared<Tally>,
     seat: &mut CallerSeat,
@@ -101,7 +101,7 @@ fn flush_or_copy(
     }
 }
 
-// What the table of a caller left that flushed so many words, or else copied, where it did.
+// What the table of a caller left that flushed this many words, or else copied, where it did.
 fn left_by(alloc: Global, flushed: Option<u64>) -> Result<Option<Remains>, AllocError> {
     let (shared, mut first, second) = made(alloc, Tally, &NO_LIMITS)?;
     let is_done = flush_or_copy(&shared, &mut first, flushed) == Ok(true);
@@ -109,7 +109,7 @@ fn left_by(alloc: Global, flushed: Option<u64>) -> Result<Option<Remains>, Alloc
     Ok(if is_done { left } else { None })
 }
 
-// The words that a table of this object opens with, and those where so many of the last are stored.
+// The words that a table of this object opens with, with `WORD` in place of each of the last `count`.
 fn words_with(alloc: Global, count: u64) -> Result<Vec<u64>, AllocError> {
     let base = Base::fresh(alloc, &Tally)?;
     let mut words = base.words.into_vec();

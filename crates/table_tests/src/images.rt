@@ -27,7 +27,7 @@ pub(crate) fn opening(alloc: Global) -> Result<Vec<u64>, AllocError> {
     Ok(base.words.into_vec())
 }
 
-/// The words after the full step of the first entry on a plain memory, of which so many accesses are allowed, and whether it was done.
+/// The words after the full step of the first entry on a plain memory, of which this many accesses are allowed, and whether it was done.
 pub(crate) fn stepped(
     alloc: Global,
     entry: &Entry,
@@ -50,7 +50,7 @@ pub(crate) struct Replica<'a> {
     pub(crate) dirty: &'a [bool],
 }
 
-/// What a table left of a replica of so many words.
+/// What a table left of a replica of `region` words.
 pub(crate) fn replica_of(left: &Remains, r: usize, region: usize) -> Option<Replica<'_>> {
     let from = region.checked_mul(r)?;
     let to = region.checked_add(from)?;

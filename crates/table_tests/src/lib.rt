@@ -1,4 +1,8 @@
-//! Tests of the running table: steps, try-locks, the queue, replicas, turns and write sets. It has tests alone.
+//! The running table has the words of the state machine as atomic words, and each of its calls may stop at any step, where its caller's limit is
+//! reached. The contracts say what stands then; here it is seen.
+//!
+//! Steps, try-locks, the operation log, replicas, turns and write sets are called by one caller and by two on threads. At each limit of steps
+//! within an update and within a copy, what is left is compared with a plain model that makes the same steps. The crate has tests alone.
 #![tactic(auto)]
 
 #[cfg(test)]

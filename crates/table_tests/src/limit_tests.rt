@@ -37,7 +37,7 @@ fn accesses_of(alloc: Global, entry: &Entry) -> Result<Option<u64>, AllocError>
     Ok(None)
 }
 
-// What the model is after so many steps: the words in memory, and how many of those that are stored are persisted then.
+// The model after a number of steps: the words in memory, and how many of those that are stored are persisted then.
 #[derive(Drop)]
 struct Model<'a> {
     opening: &'a [u64],
@@ -114,7 +114,7 @@ fn pair_words(before: &[u64], after: &[u64]) -> u64 {
     count
 }
 
-// The steps that offer the write set of an entry's full step of so many accesses, each store of which changes a word: one for each word of the
+// The steps that offer the write set of an entry's full step of `accesses` accesses, each store of which changes a word: one for each word of the
 // set that is not 0, as the cell has none yet, and one for the offer.
 fn offered_by(alloc: Global, entry: &Entry, accesses: u64) -> Result<u64, AllocError>
     requires { entry.now.caller < 8 }
@@ -129,8 +129,8 @@ fn offered_by(alloc: Global, entry: &Entry, accesses: u64) -> Result<u64, AllocE
     Ok(count)
 }
 
-// How many words were persisted after so many steps since the full step began, where it takes so many with the offer and one more gives the
-// protection up.
+// How many words were persisted `steps` steps after the full step began, where it takes `offered` steps with the offer, and one more releases
+// the protection.
 fn persisted_after(steps: u64, offered: u64, is_done: bool) -> u64 {
     if is_done {
         steps.saturating_sub(offered).saturating_sub(1)
@@ -180,8 +180,8 @@ fn most_dirty(
     Ok(Some(most))
 }
 
-// Whether the steps before the copy are those before the full step, its accesses and its offer, one that gives the protection up, one to persist each
-// word that it stores, a downgrade, one that gives the right up, and one try for each of the two rights of a copy. Each limit of fewer
+// Whether the steps before the copy are those before the full step, its accesses and its offer, one that releases the protection, one to persist each
+// word that it stores, a downgrade, one that releases the right, and one try for each of the two rights of a copy. Each limit of fewer
 // leaves the words of the model, and before the first persist all words that the full step stores are dirty.
 fn are_right(alloc: Global) -> Result<bool, AllocError> {
     let entry = first_entry();

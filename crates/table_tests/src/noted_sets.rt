@@ -72,7 +72,7 @@ fn note_all(set: &mut WriteSet, pairs: &[(u64, u64)]) -> usize
     pairs.len()
 }
 
-// The words after a set was stored over 1,680 zeros with so many accesses allowed, and whether it was stored whole.
+// The words after a set was stored over 1,680 zeros with this many accesses allowed, and whether it was stored whole.
 fn stored(alloc: Global, set: &WriteSet, left: Option<u64>) -> Result<(Vec<u64>, bool), AllocError>
     requires { AreWithin 1680 set.now }
 {

@@ -14,7 +14,7 @@ use mutation_queue::{Protected, entry, protect, unprotect};
 use std::alloc::{AllocError, Global};
 use std::test::Fail;
 
-// Protects the tickets from one on, reads its entry and gives the protection up, if the caller knows it to be linked and protects
+// Protects the tickets from one on, reads its entry and releases the protection, if the caller knows it to be linked and protects
 // nothing yet.
 fn read(
     shared: &Shared<Tally>,
@@ -39,7 +39,7 @@ fn read(
     }
 }
 
-// Reads the entry with a ticket from which on the caller protects, and gives the protection up.
+// Reads the entry with a ticket from which on the caller protects, and releases the protection.
 fn read_kept(
     shared: &Shared<Tally>,
     seat: &mut CallerSeat,
@@ -108,7 +108,7 @@ fn both_read(alloc: Global) -> Result<bool, AllocError> {
     Ok(is_linked(one, 0) && is_linked(other, 1) && by_second && by_first)
 }
 
-// 147 steps link an entry, 2 protect it, 146 read it, and 1 gives the protection up.
+// 147 steps link an entry, 2 protect it, 146 read it, and 1 releases the protection.
 const LIMITS: [u64; 7] = [147, 148, 149, 150, 200, 295, 296];
 
 // Whether a caller with a limit of steps that reads its entry stops there, or reads it.

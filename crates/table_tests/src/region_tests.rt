@@ -7,7 +7,7 @@ ghost use Rattle.cx_core.specs.Region.{place_of, region_words};
 ghost use Rattle.cx_rule.specs.Fitting.{base_of};
 ghost use Rattle.cx_rule.specs.Running.{IsSeatOf};
 ghost use Rattle.replica.specs.Held.{IsHeld};
-ghost use Rattle.replica.specs.Replays.{IsImage, noted_place};
+ghost use Rattle.replica.specs.Replays.{IsHeldImage, noted_place};
 ghost use Rattle.replica.specs.Stepping.{IsSteppable};
 ghost use Rattle.strong_trylock.specs.Held.{all_rights, no_rights};
 
@@ -24,7 +24,7 @@ use replica::{Region, begin};
 use std::alloc::{AllocError, Global};
 use std::test::Fail;
 
-// Does the full step of an entry, where so many are left before the end of places.
+// Does the full step of an entry, where `left` are left before the end of places.
 pub(crate) fn step_one<O: Object, M: Memory>(
     object: &O,
     mem: &mut M,
@@ -115,7 +115,7 @@ fn agree_held<O: Object, N: Memory>(
     count: u64,
 ) -> Result<u64, Halt>
     requires held { IsHeld (O.line_count shared.now.object) shared.now (O.lawful shared.now.object) (O.step shared.now.object) seat.old held.now }
-    requires image { IsImage (O.line_count shared.now.object) (O.lawful shared.now.object) shared.now.base (O.step shared.now.object) seat.old.known }
+    requires image { IsHeldImage (O.line_count shared.now.object) (O.lawful shared.now.object) shared.now.base (O.step shared.now.object) seat.old.known }
     requires place { noted_place seat.old + count ≤ 2 ^ 40 }
     requires plain { IsSteppable (O.line_count shared.now.object) (O.lawful shared.now.object) (N.size plain.old) (N.writable plain.old) (N.stands plain.old) count }
 {
@@ -179,7 +179,7 @@ fn agreed<O: Object>(alloc: Global, object: O) -> Result<Option<Vec<u64>>, Alloc
     Ok(agree_plain(&shared, &mut first, base.words.into_vec(), 1000))
 }
 
-// Whether the words after a thousand entries are so many, and the place is right.
+// Whether there are `count` words after a thousand entries, and the place is right.
 fn are_right(words: &Option<Vec<u64>>, count: usize) -> bool {
     match words {
         Some(words) => words.len() == count && words.first() == Some(&1000),

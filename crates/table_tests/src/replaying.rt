@@ -1,4 +1,4 @@
-//! A replica is taken, replayed with linked entries, made durable and given up.
+//! A replica is taken, replayed with linked entries, made durable and released.
 
 ghost use Rattle.std.specs.Prelude.{◌≡◌, ◌+◌, ◌*◌, ◌∷◌, ◌≤◌, ◌<◌, IfOk, IfSome, OnOk, length};
 ghost use Rattle.cx_base.specs.Memory.{Words};
@@ -114,7 +114,7 @@ fn replay_to<O: Object>(
     Ok(())
 }
 
-// Replays the entries from the place of a replica held exclusively up to a ticket, under a protection that is given up afterwards.
+// Replays the entries from the place of a replica held exclusively up to a ticket, under a protection that is released afterwards.
 // Nobody collects cells here, so that no caller is behind: one that is stops as if it was halted.
 fn replay_protected<O: Object>(
     shared: &Shared<O>,

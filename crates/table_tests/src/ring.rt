@@ -30,7 +30,7 @@ fn try_protect(
     Some(protect(shared, seat, place))
 }
 
-// Gives the caller's protection up, if it stands and is confirmed.
+// Releases the caller's protection, if it stands and is confirmed.
 fn give_up(shared: &Shared<Tally>, seat: &mut CallerSeat) -> Option<Result<(), Halt>>
     requires seat { IsSeatOf shared.now seat.old }
     ensures seat { IsSeatOf shared.now seat.new }
@@ -59,7 +59,7 @@ fn try_collect(
     Some(collect(shared, seat, target))
 }
 
-// What a caller collects up to a target while the other protects the tickets from a place on, which it then gives up.
+// What a caller collects up to a target while the other protects the tickets from a place on, which it then releases.
 fn collect_beside(
     shared: &Shared<Tally>,
     seat: &mut CallerSeat,

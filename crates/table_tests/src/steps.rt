@@ -130,7 +130,7 @@ const STEPS: [Kind; 4] = [
     Kind::Persist { r: 1, i: 5 },
 ];
 
-// The model after so many of the steps, where it may make each.
+// The model after the first `count` steps, where it may make each.
 fn stepped(alloc: Global, count: usize) -> Result<Option<Board>, AllocError> {
     let mut model = opened(alloc)?;
     for kind in STEPS.iter().take(count) {
@@ -141,7 +141,7 @@ fn stepped(alloc: Global, count: usize) -> Result<Option<Board>, AllocError> {
     Ok(Some(model))
 }
 
-// Closes a table whose caller makes at most so many steps, where these are all or the limit halts it.
+// Closes a table whose caller makes at most `limit` steps, where these are all or the limit halts it.
 fn closed_at(alloc: Global, limit: u64) -> Result<Option<Remains>, AllocError> {
     let (shared, mut seat) = made(alloc, limit)?;
     let is_done = leave_one_dirty(&shared, &mut seat).is_ok();

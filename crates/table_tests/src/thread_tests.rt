@@ -25,7 +25,7 @@ use std::thread::{Threads, join};
 // The ticket of a caller's entry, and its turns.
 type Done = (u64, Turns);
 
-// A caller without entries links one, and makes so many turns.
+// A caller without entries links one, and makes this many turns.
 fn link_and_turn<O: Object>(
     shared: &Shared<O>,
     seat: &mut CallerSeat,
@@ -60,7 +60,7 @@ fn on_thread<O: Object>(
     (seat, done.ok().flatten())
 }
 
-// What two threads on one table came to, and what the table left.
+// What two threads on one table did, and what the table left.
 #[derive(Drop)]
 struct Ended {
     first: Done,
@@ -68,7 +68,7 @@ struct Ended {
     left: Remains,
 }
 
-// Two callers on threads of their own link an entry each and make so many turns.
+// Two callers on threads of their own link an entry each and make this many turns.
 fn joined<R: Runtime + Threads + Sync>(
     rt: &R,
     shared: &Shared<DocStore>,
@@ -105,7 +105,7 @@ fn two_threads<R: Runtime + Threads + Sync>(
     Ok(both_ended(one, other, closed(alloc, shared, first, second)?))
 }
 
-// What they came to, where both made their turns and the table was closed.
+// What they did, where both made their turns and the table was closed.
 fn both_ended(first: Option<Done>, second: Option<Done>, left: Option<Remains>) -> Option<Ended> {
     Some(Ended {
         first: first?,
@@ -206,7 +206,7 @@ fn places_of(
     }
 }
 
-// The entries that two callers replayed, where each made so many turns rightly.
+// The entries that two callers replayed, where each made `count` turns rightly.
 fn replayed(first: &Turns, second: &Turns, count: u64) -> Option<u64> {
     let all = first.taken.saturating_add(first.refused) == count
         && second.taken.saturating_add(second.refused) == count;
@@ -217,7 +217,7 @@ fn replayed(first: &Turns, second: &Turns, count: u64) -> Option<u64> {
     }
 }
 
-// Whether two threads on a table of their own each made so many turns rightly, and left images on all replicas, with as many
+// Whether two threads on a table of their own each made this many turns rightly, and left images on all replicas, with as many
 // entries as they replayed. It gives how many that is.
 fn turned<R: Runtime + Threads + Sync>(
     rt: &R,
@@ -233,7 +233,7 @@ fn turned<R: Runtime + Threads + Sync>(
     Ok(if places == entries { entries } else { None })
 }
 
-// The entries that were replayed on so many tables, where each was left rightly.
+// The entries that were replayed on this many tables, where each was left rightly.
 fn replayed_on<R: Runtime + Threads + Sync>(
     rt: &R,
     alloc: Global,
@@ -250,7 +250,7 @@ fn replayed_on<R: Runtime + Threads + Sync>(
     Ok(Some(replayed))
 }
 
-// What two callers came to, one after the other, and how many write sets each took: the second one's turn, on a replica of its own, brings that
+// What two callers did, one after the other, and how many write sets each took: the second one's turn, on a replica of its own, brings that
 // on by the set that the first one offered, and by its own step.
 fn one_then_other(
     alloc: Global,

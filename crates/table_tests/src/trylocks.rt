@@ -172,7 +172,7 @@ fn takes_twice(shared: &Shared<Tally>, seat: &mut CallerSeat, r: u32) -> bool
     matches!(take_and_release(shared, seat, r), Ok(None))
 }
 
-// Whether rights that are given up can be taken again.
+// Whether rights that are released can be taken again.
 fn are_given_up(alloc: Global) -> Result<bool, AllocError> {
     let (shared, mut first, mut second) = made(alloc, &[NO_LIMIT, NO_LIMIT])?;
     let Ok(Some(token)) = take_and_downgrade(&shared, &mut first, 1) else {
@@ -194,8 +194,8 @@ fn are_given_up(alloc: Global) -> Result<bool, AllocError> {
     )
 }
 
-// While one caller holds a replica exclusively, the other one tries it shared: what that came to, and the word that is left
-// after the first one gave its right up, where it is not 0.
+// While one caller holds a replica exclusively, the other one tries it shared: the answer to that, and the word that is
+// left after the first one released its right, where it is not 0.
 fn words_left(
     shared: &Shared<Tally>,
     first: &mut CallerSeat,

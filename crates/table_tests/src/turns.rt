@@ -4,7 +4,7 @@ ghost use Rattle.std.specs.Prelude.{◌≡◌, ◌*◌, ◌<◌, IfOk, IfSome, O
 ghost use Rattle.cx_rule.specs.Running.{IsSeatOf};
 ghost use Rattle.replica.specs.Held.{IsHeld};
 ghost use Rattle.replica.specs.Laws.{IsTaken};
-ghost use Rattle.replica.specs.Replays.{IsImage};
+ghost use Rattle.replica.specs.Replays.{IsHeldImage};
 ghost use Rattle.table_tests.specs.Turns.{IsFlushedImage, TakesIt};
 ghost use Rattle.strong_trylock.specs.Held.{all_rights, no_rights};
 
@@ -16,7 +16,7 @@ use mutation_queue::{Protected, protect, unprotect};
 use replica::{begin, flush};
 use strong_trylock::{ExclusiveTried, downgrade, release_downgraded, try_exclusive};
 
-/// What the turns of a caller came to: how many replicas it took, how many others held, how many entries it replayed, and
+/// The result of a caller's turns: how many replicas it took, how many others held, how many entries it replayed, and
 /// whether each place was that of the image up to the ticket.
 #[derive(Drop)]
 pub(crate) struct Turns {
@@ -49,7 +49,7 @@ pub(crate) fn try_one<O: Object>(
 }
 
 // Brings a replica held exclusively up to a ticket: where its place is at most the ticket, the entries are read under a protection,
-// which is given up again. Nobody collects cells here, so that no caller is behind, and none has a protection before: one that is, or
+// which is released again. Nobody collects cells here, so that no caller is behind, and none has a protection before: one that is, or
 // has, stops as if it was halted.
 fn replay_protected<O: Object>(
     shared: &Shared<O>,
@@ -59,10 +59,10 @@ fn replay_protected<O: Object>(
     scratch: &mut Scratch,
 ) -> Result<(), Halt>
     requires held { IsHeld (O.line_count shared.now.object) shared.now (O.lawful shared.now.object) (O.step shared.now.object) seat.old held.now }
-    requires image { IsImage (O.line_count shared.now.object) (O.lawful shared.now.object) shared.now.base (O.step shared.now.object) seat.old.known }
+    requires image { IsHeldImage (O.line_count shared.now.object) (O.lawful shared.now.object) shared.now.base (O.step shared.now.object) seat.old.known }
     requires linked { ticket < seat.old.known.local.front }
     ensures held { OnOk result (IsHeld (O.line_count shared.now.object) shared.now (O.lawful shared.now.object) (O.step shared.now.object) seat.new held.now) }
-    ensures image { OnOk result (IsImage (O.line_count shared.now.object) (O.lawful shared.now.object) shared.now.base (O.step shared.now.object) seat.new.known) }
+    ensures image { OnOk result (IsHeldImage (O.line_count shared.now.object) (O.lawful shared.now.object) shared.now.base (O.step shared.now.object) seat.new.known) }
     ensures rights { OnOk result (all_rights seat.new ≡ all_rights seat.old) }
     ensures seat { IsSeatOf shared.now seat.new }
 {
@@ -149,7 +149,7 @@ pub(crate) fn turn<O: Object>(
     }
 }
 
-/// Makes so many turns, on each replica in turn from the caller's first on.
+/// Makes this many turns, on each replica in turn from the caller's first on.
 pub(crate) fn make_turns<O: Object>(
     shared: &Shared<O>,
     seat: &mut CallerSeat,

@@ -108,7 +108,7 @@ fn first_wrong_object(alloc: Global, rows: &[ObjectRow]) -> Result<Option<usize>
     Ok(None)
 }
 
-/// An object with so many keys that are numbered, and an end.
+/// An object with `keys` keys that are numbered, and an end.
 fn numbered(alloc: Global, keys: usize, value: &str, end: &[u8]) -> Result<Vec<u8>, AllocError> {
     let mut text = Vec::from_slice(alloc, b"{")?;
     for i in 0..keys {

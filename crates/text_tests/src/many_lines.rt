@@ -43,7 +43,7 @@ fn as_many_lives_as_may_be(rt: HostRuntime) -> Result<(), Fail> {
     Ok(())
 }
 
-/// A life of 8 clients with so many commands each.
+/// A life of 8 clients with `commands` commands each.
 fn life_of(alloc: Global, commands: usize) -> Result<Vec<u8>, AllocError> {
     spread(
         alloc,

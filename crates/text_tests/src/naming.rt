@@ -8,7 +8,7 @@ use doc_text::{JournalLine, Life, LifeRecord, ReadLine};
 use script_text::IndexedLife;
 use std::alloc::{AllocError, Global};
 
-/// Whether there is one record for each life, whose lines name commands of the life. `Err` is want of memory.
+/// Whether there is one record for each life, whose lines name commands of the life. `Err` means out of memory.
 pub(crate) fn name_commands(
     alloc: Global,
     lives: &[Life],

@@ -9,7 +9,7 @@ use std::alloc::{AllocError, Global};
 pub(crate) enum Outcome {
     /// The lines of the store, the number of lives and that of commands.
     Script(u64, usize, usize),
-    /// One command, which puts a document of so many bytes.
+    /// One command, which puts a document of this many bytes.
     Document(usize),
     /// The line refused, and why.
     Refused(u64, Reason),
@@ -18,7 +18,7 @@ pub(crate) enum Outcome {
 /// The header and the first line of a life.
 pub(crate) const HEAD: &[u8] = b"lines 64\nlife 1 power 0\n";
 
-/// The first row of texts behind a front, with `|` between two, of which one gives something else. `Err` is want of memory.
+/// The first row of texts behind a given beginning, with `|` between two, of which one gives something else. `Err` means out of memory.
 pub(crate) fn first_wrong(
     alloc: Global,
     front: &[u8],
@@ -34,7 +34,7 @@ pub(crate) fn first_wrong(
     Ok(None)
 }
 
-/// Whether a front and a text behind it give this. `Err` is want of memory.
+/// Whether a beginning and a text behind it give this. `Err` means out of memory.
 pub(crate) fn is_read_behind(
     alloc: Global,
     front: &[u8],
@@ -86,7 +86,7 @@ fn command_count(lives: &[Life]) -> usize {
     commands
 }
 
-/// Whether the first command of the first life puts a document of so many bytes.
+/// Whether the first command of the first life puts a document of `long` bytes.
 fn has_document(lives: &[Life], long: usize) -> bool {
     let [life] = lives else {
         return false;

@@ -48,7 +48,7 @@ static ROWS: [Row; 10] = [
     ),
 ];
 
-/// The first row of which a text gives something else. `Err` is want of memory.
+/// The first row of which a text gives something else. `Err` means out of memory.
 fn first_wrong(alloc: Global, rows: &[Row]) -> Result<Option<usize>, AllocError> {
     for (i, (want, texts)) in rows.iter().enumerate() {
         for text in texts.split(|b| *b == b'|') {

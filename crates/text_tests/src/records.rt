@@ -37,7 +37,7 @@ pub(crate) type StopRow = (u32, u64, u64, bool);
 /// Client, command, holder, need and ticket.
 pub(crate) type FullRow = (u32, u64, u32, u64, u64);
 
-/// A life: its clients and where it begins; its history and the reads; the clients that were stopped and those that gave up; and the
+/// A life: its clients and where it begins; its history and the reads; the clients that were stopped and those that ran out of free cells; and the
 /// choice, the entries kept and the documents.
 pub(crate) type Lived = (
     (u32, u64),
@@ -47,7 +47,7 @@ pub(crate) type Lived = (
     (u64, u64, u64),
 );
 
-/// The records of lives. `Err` is want of memory.
+/// The records of lives. `Err` means out of memory.
 pub(crate) fn records_of(alloc: Global, lives: &[Lived]) -> Result<Vec<LifeRecord>, AllocError> {
     let mut records = Vec::new(alloc);
     for life in lives {
@@ -57,7 +57,7 @@ pub(crate) fn records_of(alloc: Global, lives: &[Lived]) -> Result<Vec<LifeRecor
 }
 
 fn record_of(alloc: Global, life: &Lived) -> Result<LifeRecord, AllocError> {
-    let ((clients, from), _, _, _, (choice, kept, documents)) = *life;
+    let ((clients, from), _, _, _, (choice, kept, items)) = *life;
     let mut told = LifeRecord {
         clients,
         from,
@@ -67,7 +67,7 @@ fn record_of(alloc: Global, life: &Lived) -> Result<LifeRecord, AllocError> {
         fulls: Items::new(alloc),
         choice,
         kept,
-        documents,
+        items,
     };
     match add_lines(alloc, &mut told, life) {
         Ok(()) => Ok(told),

@@ -339,7 +339,7 @@ power 0 kept 0 of 0 documents 1
 ",
 };
 
-// A client that gave up, since one that was stopped keeps its cells.
+// A client that ran out of free cells, since one that was stopped keeps them in use.
 const GAVE_UP: Worked = Worked {
     script: b"\
 lines 64
@@ -354,7 +354,7 @@ power 0 kept 0 of 0 documents 0
 ",
 };
 
-// Both, and two that gave up.
+// Both, and two that ran out of free cells.
 const STOPPED_AND_GAVE_UP: Worked = Worked {
     script: b"\
 lines 64

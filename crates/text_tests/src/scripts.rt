@@ -217,7 +217,7 @@ fn are_one(lives: &[Life], wants: &[Parts]) -> bool {
     is_life(life, 1, 7, 0, wants.len()) && are_commands(life.commands.as_slice(), wants)
 }
 
-/// Whether a life has so many clients, this choice, and so many cuts and commands.
+/// Whether a life has this many clients, this choice, and this many cuts and commands.
 fn is_life(life: &Life, clients: u32, choice: u64, cuts: usize, commands: usize) -> bool {
     life.clients == clients
         && life.choice == choice
@@ -295,7 +295,7 @@ fn are_lives(lives: &[Life], wants: &[LifeRow]) -> bool {
     lives.len() == wants.len()
 }
 
-/// Whether cuts are of these clients after so many steps.
+/// Whether cuts are of these clients, after these numbers of steps.
 fn are_cuts(cuts: &[Cut], wants: &[(u32, u64)]) -> bool {
     for (cut, (client, steps)) in cuts.iter().zip(wants) {
         if cut.client != *client || cut.steps != *steps {

@@ -2,7 +2,7 @@
 
 use std::alloc::{AllocError, Global};
 
-/// A text whose parts stand with `|` between two. Each second part comes so many times.
+/// A text whose parts stand with `|` between two. Each second part is there `times` times.
 pub(crate) fn spread(alloc: Global, parts: &[u8], times: usize) -> Result<Vec<u8>, AllocError> {
     let mut text = Vec::new(alloc);
     for (i, part) in parts.split(|b| *b == b'|').enumerate() {
@@ -11,7 +11,7 @@ pub(crate) fn spread(alloc: Global, parts: &[u8], times: usize) -> Result<Vec<u8
     Ok(text)
 }
 
-// So many times the part behind the text.
+// Appends the part to the text `times` times.
 fn append(text: &mut Vec<u8>, part: &[u8], times: usize) -> Result<(), AllocError> {
     for _ in 0..times {
         text.extend_from_slice(part)?;

@@ -54,7 +54,7 @@ fn has_lines(alloc: Global, pairs: &[Pair], lines: &[u8]) -> Result<bool, AllocE
         fulls: Items::new(alloc),
         choice: 2,
         kept: 3,
-        documents: 4,
+        items: 4,
     };
     match summary(alloc, &told, pairs) {
         Ok(text) => Ok(text.as_slice() == lines),

@@ -10,7 +10,7 @@ use Rattle.cx_core.specs.Events.{Makes, local_after, words_after}
 use Rattle.cx_core.specs.Lawful.{Lawful}
 use Rattle.cx_core.specs.Merge.{scene_of}
 use Rattle.cx_core.specs.State.{Instance, State}
-use Rattle.core_root.proofs.ChainLaws.{chain_only}
+use Rattle.core_replica.proofs.ChainLaws.{chain_only}
 use Rattle.core_runs.proofs.Keeps.{event_kept}
 use Rattle.trace_check.specs.declared.check.Verdict.{Verdict}
 use Rattle.trace_check.specs.declared.check.Verdict.TheVariants.{Yes, Guard, Place}

@@ -1,4 +1,4 @@
--- What a loss of power leaves of a state is accepted.
+-- What a crash leaves of a state is accepted.
 use Rattle.std.proofs.Common.{◌≡◌, ◌+◌, ◌*◌, ◌%◌, ◌<◌, ◌≤◌, ℕ, List, [], ◌∷◌, drop, length, take, slice_index, refl, sym, ap, subst, ◌∙◌, arith, add-zero, inl}
 use Rattle.std.proofs.lemmas.List.{ext_get_or, get_or-drop, get_or-take, length-drop, length-take-le}
 use Rattle.std.proofs.lemmas.List.Elements.{Contains-get_or}
@@ -18,8 +18,8 @@ use Rattle.cx_core.specs.Region.{object_part, region_words}
 use Rattle.cx_core.specs.State.{Instance, State}
 use Rattle.cx_core.proofs.HistoryLemmas.{ObjectLaws}
 use Rattle.cx_core.proofs.LayoutLemmas.{replica_within}
-use Rattle.core_answers.proofs.BaseLaws.{kept_lawful}
-use Rattle.core_root.proofs.ChainLaws.{chain_only}
+use Rattle.core_replica.proofs.BaseLaws.{kept_lawful}
+use Rattle.core_replica.proofs.ChainLaws.{chain_only}
 use Rattle.core_runs.proofs.WholeLaws.{crash_kept, entries_of}
 use Rattle.recovery.specs.Images.{image_word, region_of, region_start, words_from}
 use Rattle.recovery.specs.Kept.{IsKeptAt, crash_of}

@@ -11,7 +11,7 @@ use Rattle.core_runs.proofs.Keeps.{run_kept}
 use Rattle.trace_text.specs.declared.trace.TraceLine.{TraceLine}
 use Rattle.trace_text.specs.declared.trace.TraceWhat.{TraceWhat}
 use Rattle.trace_text.specs.declared.trace.TraceWhat.TheVariants.{Event, Crash}
-use Rattle.trace_check.specs.GoodTraces.{IsGoodTrace, IsSafeTrace, Recovers, event_of, events_of}
+use Rattle.trace_check.specs.GoodTraces.{IsGoodTrace, IsSafeTrace, IsRecoveredAt, events_of_line, events_of}
 use Rattle.trace_check.specs.Lines.{Good, LeavesPlace, Passes}
 use Rattle.trace_check.proofs.Exact.{good_at, good_lawful, makes_one}
 use Rattle.trace_check.proofs.Leaving.{accepted, at_place, kept_at}
@@ -23,7 +23,7 @@ run_one instance (x ∷ xs) from b c m k =
     let same = makes_one instance x from m.0 k.0 m.1 k.1 in
     run_one instance xs k.0 b c (subst (λ (s : State). Run instance s xs b) same m.2) k.2
 
-runs_on : (instance : Instance) (what : TraceWhat) (from then_ to : State) (xs : List CoreEvent) → Passes instance what from then_ → Run instance then_ xs to → Run instance from (event_of what ++ xs) to
+runs_on : (instance : Instance) (what : TraceWhat) (from then_ to : State) (xs : List CoreEvent) → Passes instance what from then_ → Run instance then_ xs to → Run instance from (events_of_line what ++ xs) to
 runs_on instance (Event event) from then_ to xs passes run = (then_, passes, run)
 runs_on instance (Crash choice place) from then_ to xs passes run = subst (λ (s : State). Run instance s xs to) passes.1 run
 
@@ -33,12 +33,12 @@ run_of instance from (x ∷ xs) to good = runs_on instance x.what from good.0 to
 
 module _ (lines version : ℕ) (lawful : List ℕ → Type 0) (instance : Instance) (laws : ObjectLaws lines lawful instance.step) (shape : (words : List ℕ) → lawful words → slice_index words 0 ≡ version) (base : LawfulBase lines lawful instance.base) where
   -- the place that is left is recovered, and what is recovered is left
-  pub recovers_left : (s : State) (choice place : ℕ) → Lawful instance s → LeavesPlace instance s choice place → Recovers lines version lawful instance s choice place
+  pub recovers_left : (s : State) (choice place : ℕ) → Lawful instance s → LeavesPlace instance s choice place → IsRecoveredAt lines version lawful instance s choice place
   recovers_left s choice place law leaves =
       let r = image_left instance s choice lines law in
       record { image = r.0; left = r.1; accepted = accepted lines instance base.size.long s law choice r.0 r.1 version lawful laws shape base; is = at_place lines instance base.size.long s law choice r.0 r.1 place leaves }
 
-  pub left_recovered : (s : State) (choice place : ℕ) → Recovers lines version lawful instance s choice place → LeavesPlace instance s choice place
+  pub left_recovered : (s : State) (choice place : ℕ) → IsRecoveredAt lines version lawful instance s choice place → LeavesPlace instance s choice place
   left_recovered s choice place r = record {
     chain = r.left.chain;
     is_chain = r.left.is_chain;
@@ -53,10 +53,10 @@ module _ (lines version : ℕ) (lawful : List ℕ → Type 0) (instance : Instan
         let same = run_one instance (events_of (take n xs)) from r.0 s (run_of instance from (take n xs) r.0 r.1) run in
         let passes = subst (λ w. Passes instance w r.0 r.2) is r.3 in
         let lawful_there = good_lawful instance from (take n xs) r.0 law r.1 in
-        subst (λ (t : State). Recovers lines version lawful instance t choice place) same (recovers_left r.0 choice place lawful_there passes.0));
+        subst (λ (t : State). IsRecoveredAt lines version lawful instance t choice place) same (recovers_left r.0 choice place lawful_there passes.0));
   }
 
-  good_by : (what : TraceWhat) (from : State) (x : TraceLine) (xs : List TraceLine) (to : State) → x.what ≡ what → Run instance from (event_of what ++ events_of xs) to →
+  good_by : (what : TraceWhat) (from : State) (x : TraceLine) (xs : List TraceLine) (to : State) → x.what ≡ what → Run instance from (events_of_line what ++ events_of xs) to →
       ((choice place : ℕ) → what ≡ Crash choice place → LeavesPlace instance from choice place) → (then_ : State) × Passes instance what from then_ × Run instance then_ (events_of xs) to
   good_by (Event event) from x xs to is run leaves = run
   good_by (Crash choice place) from x xs to is run leaves = (from, (leaves choice place refl, refl), run)
@@ -71,7 +71,7 @@ module _ (lines version : ℕ) (lawful : List ℕ → Type 0) (instance : Instan
       } in
       (r.0, r.1, good_of r.0 xs to later)
 
-  -- each state of a good trace is lawful, and what its losses of power leave is kept
+  -- each state of a good trace is lawful, and what its crashes leave is kept
   pub safe_of : (from : State) (xs : List TraceLine) (to : State) → Lawful instance from → IsGoodTrace lines version lawful instance from xs to → IsSafeTrace lines lawful instance from xs
   safe_of from xs to law trace = record {
     states = λ n s run. run_kept instance from (events_of (take n xs)) s law run;

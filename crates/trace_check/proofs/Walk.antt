@@ -32,7 +32,7 @@ pub crashes_more : (xs : List TraceLine) (x : TraceLine) → crash_count (xs ++ 
 crashes_more [] x = omega arith
 crashes_more (y ∷ ys) x = (let rest = crashes_more ys x in omega arith)
 
--- so many lines are good and lead to what the core holds
+-- the first n lines are good and lead to what the core holds
 pub record Walked (instance : Instance) (from : State) (xs : List TraceLine) (n e c : ℕ) (core : Core) : Type 0 where
   pub callers : core.callers ≡ instance.callers
   pub base : core.base ≡ instance.base

@@ -1,4 +1,4 @@
--- What a loss of power leaves of a state, by choice.
+-- What a crash leaves of a state, by choice.
 use Rattle.std.specs.Prelude.{◌≡◌, ◌*◌, ◌%◌, ◌<◌, ℕ, List, length, slice_index}
 use Rattle.cx_core.specs.declared.entry.Image.{Image}
 use Rattle.cx_core.specs.Chain.{IsCodeChain}

@@ -11,7 +11,7 @@ use Rattle.trace_text.specs.declared.trace.TraceWhat.TheVariants.{Event, Crash}
 use Rattle.trace_check.specs.declared.check.Verdict.{Verdict}
 use Rattle.trace_check.specs.declared.check.Verdict.TheVariants.{Yes, Guard, Place}
 
--- the root that a loss of power leaves by choice names this place: the root is one of the codes from DUR on to CUR
+-- the root that a crash leaves by choice names this place: the root is one of the codes from DUR on to CUR
 pub record LeavesPlace (instance : Instance) (s : State) (choice place : ℕ) : Type 0 where
   pub chain : List ℕ
   pub is_chain : IsCodeChain s.words s.locals chain
@@ -27,7 +27,7 @@ abbrev pub Good : Instance → State → List TraceLine → State → Type 0
 Good instance from [] to = to ≡ from
 Good instance from (x ∷ xs) to = (then_ : State) × Passes instance x.what from then_ × Good instance then_ xs to
 
--- how many events and how many losses of power there are
+-- how many events and how many crashes there are
 abbrev pub one_event : TraceWhat → ℕ
 one_event (Event event) = 1
 one_event (Crash choice place) = 0
@@ -56,7 +56,7 @@ pub record FailsGuard (instance : Instance) (from : State) (xs : List TraceLine)
   pub is : x.what ≡ Event event
   pub fails : Allowed instance event state → ⊥
 
--- that line is a loss of power after which another place is recovered
+-- that line is a crash after which another place is recovered
 pub record FailsPlace (instance : Instance) (from : State) (xs : List TraceLine) (line found : ℕ) : Type 0 where
   pub n : ℕ
   pub x : TraceLine

@@ -18,16 +18,16 @@ use trace_text::{Trace, TraceWhat};
 /// What is found of a trace.
 #[derive(Clone, Copy, Debug, PartialEq, Eq, Drop)]
 pub enum Verdict {
-    /// It is good, with so many events and losses of power.
+    /// It is good; how many events and crashes it has.
     Yes { events: u64, crashes: u64 },
     /// The guard of the event of this line fails.
     Guard { line: u64 },
-    /// After the loss of power of this line another place is recovered.
+    /// After the crash of this line another place is recovered.
     Place { line: u64, found: u64 },
 }
 
-/// Checks a trace over an object, from the base with which its service opens. `Err` is want of memory. The time is that of the events,
-/// each as `apply` takes it, and for a loss of power a walk over the callers.
+/// Checks a trace over an object, from the base with which its service opens. `Err` means out of memory. The time is that of the events,
+/// each as `apply` takes it, and for a crash a walk over the callers.
 pub fn check_trace<O: Object>(
     alloc: Global,
     object: &O,

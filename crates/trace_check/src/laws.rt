@@ -1,4 +1,4 @@
-//! What a loss of power leaves of a state recovers at the place that a trace names. The law is the contract of a function that does
+//! What a crash leaves of a state recovers at the place that a trace names. The law is the contract of a function that does
 //! nothing.
 
 ghost use Rattle.std.specs.Prelude.{◌≡◌, ℕ};
@@ -14,7 +14,7 @@ ghost use Rattle.trace_check.specs.Lines.{LeavesPlace};
 use cx_base::Object;
 use cx_core::Base;
 
-/// What a loss of power leaves of a lawful state by choice is accepted as of the object's own version, at the place of the code that the
+/// What a crash leaves of a lawful state by choice is accepted as of the object's own version, at the place of the code that the
 /// choice takes. What is recovered is the full image after that place, at or above DUR's and each answer's.
 pub fn images_recover<O: Object>(object: &O, base: &Base)
     requires { LawfulBase (O.line_count object.now) (O.lawful object.now) base.now }

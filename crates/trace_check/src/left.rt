@@ -1,4 +1,4 @@
-//! The place that is recovered after a loss of power.
+//! The place that is recovered after a crash.
 
 ghost use Rattle.std.specs.Prelude.{◌≡◌, ◌%◌, ◌<◌, ◌≤◌, IfOk, length, vec_len};
 ghost use Rattle.cx_core.specs.Chain.{IsCodeChain};
@@ -13,7 +13,7 @@ use cx_core::{Local, WonCode};
 use seat_memory::lead_on;
 use std::alloc::{AllocError, Global};
 
-/// The place that is recovered from what a loss of power leaves of a state by choice. `Err` is want of memory.
+/// The place that is recovered from what a crash leaves of a state by choice. `Err` means out of memory.
 pub(crate) fn place_left<O: Object>(
     alloc: Global,
     object: &O,
@@ -29,7 +29,7 @@ pub(crate) fn place_left<O: Object>(
     Ok(root_place(core.callers(), code))
 }
 
-/// The codes published from the durable one on. `Err` is want of memory.
+/// The codes published from the durable one on. `Err` means out of memory.
 fn codes_of<O: Object>(alloc: Global, object: &O, core: &CoreState) -> Result<Vec<u64>, AllocError>
     requires { Lawful (instance_of core.now (O.step object.now) (O.only_reads object.now)) core.now.state }
     ensures { IfOk result (λ codes. IsCodeChain core.now.state.words core.now.state.locals codes.items) }
@@ -40,7 +40,7 @@ fn codes_of<O: Object>(alloc: Global, object: &O, core: &CoreState) -> Result<Ve
     Ok(codes)
 }
 
-/// The wins of callers that are not retired, of caller 0 first. `Err` is want of memory.
+/// The wins of callers that are not retired, of caller 0 first. `Err` means out of memory.
 fn wins_held(alloc: Global, locals: &[Local]) -> Result<Vec<WonCode>, AllocError>
     requires { length locals.now ≤ 8 }
     ensures wins { IfOk result (λ wins. wins.items ≡ wins_of locals.now) }

@@ -3,18 +3,18 @@ use Rattle.std.proofs.Common.{◌≡◌, ◌+◌, ◌<◌, ◌⊎◌, inl, inr, 
 use Rattle.std.proofs.lemmas.Option.{none-some, same_Some}
 use Rattle.std.specs.List.{slice_get}
 use Rattle.plain_text.specs.LineGrammar.{AddsAll, AreLinesOf}
-use Rattle.trace_text.specs.Judging.{head_is}
-use Rattle.trace_text.specs.Reading.{head_of, with_head, with_step}
-use Rattle.trace_text.specs.Traces.{IsKept, trace_grammar}
+use Rattle.trace_text.specs.Judging.{trace_head_is}
+use Rattle.trace_text.specs.Reading.{trace_head_of, with_head, with_step}
+use Rattle.trace_text.specs.Traces.{IsTraceWithin, trace_grammar}
 use Rattle.trace_text.specs.declared.trace.Trace.{Trace}
 use Rattle.trace_text.specs.declared.trace.TraceLine.{TraceLine}
 use Rattle.trace_text.specs.declared.trace.TraceLines.{TraceLines}
 use Rattle.trace_text.specs.declared.trace.TraceLines.TheVariants.{Nothing, Begun}
 use Rattle.trace_text.specs.declared.trace.TraceWhat.{TraceWhat}
 
-pub head_kept : (line : List ℕ) (head : ℕ × ℕ) → head_of line ≡ Some head → IsKept (with_head head)
+pub head_kept : (line : List ℕ) (head : ℕ × ℕ) → trace_head_of line ≡ Some head → IsTraceWithin (with_head head)
 head_kept line head e =
-    let is = head_is line head e in
+    let is = trace_head_is line head e in
     record { some = is.some; few = is.few; enough = is.enough; small = is.small; short = omega arith; numbered = λ n x at. absurd (none-some x at) }
 
 -- an item of a list with one more is one of the list, or the last
@@ -28,7 +28,7 @@ length-more : {X : Type 0} (xs : List X) (y : X) → length (xs ++ y ∷ []) ≡
 length-more [] y = refl
 length-more (x ∷ xs) y = (let rest = length-more xs y in omega arith)
 
-pub step_kept : (trace : Trace) (what : TraceWhat) → length trace.steps < 10000 → IsKept trace → IsKept (with_step trace what)
+pub step_kept : (trace : Trace) (what : TraceWhat) → length trace.steps < 10000 → IsTraceWithin trace → IsTraceWithin (with_step trace what)
 step_kept trace what few kept =
     let last : TraceLine = record { line = length trace.steps + 2; what = what } in
     record {

@@ -41,6 +41,6 @@ unfoldable pub reading_of : List ℕ → Option Op
 reading_of text = reading_by (first_word text) (rest_of text)
 
 -- what is asked for is read, and it keeps to the limits
-pub record IsRead (wanted read : Option Op) : Type 0 where
+pub record IsCommandRead (wanted read : Option Op) : Type 0 where
   pub is : read ≡ wanted
   pub within : IfSome read IsOp

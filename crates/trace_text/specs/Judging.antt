@@ -22,10 +22,10 @@ use Rattle.plain_text.proofs.LineByLine.{no_value}
 use Rattle.plain_text.proofs.Numerals.{number_of-decimal, decimal-number_of}
 use Rattle.plain_text.proofs.WordCuts.{decimal_unspaced, named, spaced, unspaced, word_alone, word_cut, word_is}
 use Rattle.trace_text.specs.Commands.{AsksReading, keyed_of, next_of, reading_by, reading_of}
-use Rattle.trace_text.specs.Kinds.{EndsIn, IsKindText, kind_name, kind_numbers, kind_with_one, kind_with_three, kind_with_two, kind_without, numbered, numbers_text, with_first, with_second, with_third}
-use Rattle.trace_text.specs.Reading.{below, caller_of, crash_of, event_of, head_behind, head_of, head_within, judged, kind_by, kind_of, load_behind, load_of, marked, place_of, raise_behind, raise_of, read_behind, what_behind, what_of, with_head, with_step}
-use Rattle.trace_text.specs.Reasons.{reason_for}
-use Rattle.trace_text.specs.Traces.{Adds, IsHeadLine, Says, trace_grammar}
+use Rattle.trace_text.specs.Kinds.{EndsKindLine, IsKindText, kind_name, kind_numbers, kind_with_one, kind_with_three, kind_with_two, kind_without, numbered, numbers_text, with_first, with_second, with_third}
+use Rattle.trace_text.specs.Reading.{below, caller_number_of, crash_line_of, event_of, trace_head_behind, trace_head_of, trace_head_within, judged_trace, kind_by, kind_of, load_behind, load_of, marked, place_in_text, raise_behind, raise_of, read_behind, what_behind, what_of, with_head, with_step}
+use Rattle.trace_text.specs.Reasons.{trace_reason_for}
+use Rattle.trace_text.specs.Traces.{AddsTraceLine, IsTraceHeadLine, SaysTraceLine, trace_grammar}
 use Rattle.trace_text.specs.declared.trace.TraceLines.{TraceLines}
 use Rattle.trace_text.specs.declared.trace.TraceLines.TheVariants.{Nothing, Begun}
 use Rattle.trace_text.specs.declared.trace.TraceReason.{TraceReason}
@@ -57,15 +57,15 @@ mapped : {A B : Type 0} (f : A → B) (o : Option A) (y : B) → option_map f o 
 mapped f None y e = absurd (none-some y e)
 mapped f (Some x) y e = (x, refl, same_Some (f x) y e)
 
--- ---- what is read of a first line, and of a loss of power, is what it says
+-- ---- what is read of a first line, and of a crash, is what it says
 
-within_is : (callers lines : ℕ) (head : ℕ × ℕ) → head_within callers lines ≡ Some head → IsHeadLine head (codes "trace " ++ (decimal callers ++ (codes " " ++ decimal lines)))
+within_is : (callers lines : ℕ) (head : ℕ × ℕ) → trace_head_within callers lines ≡ Some head → IsTraceHeadLine head (codes "trace " ++ (decimal callers ++ (codes " " ++ decimal lines)))
 within_is callers lines head e =
     let kept = cond_some (leb 1 callers && (leb callers 8 && (leb 64 lines && leb lines 16384))) (callers, lines) head e in
     let some = and_parts (leb 1 callers) (leb callers 8 && (leb 64 lines && leb lines 16384)) kept.0 in
     let few = and_parts (leb callers 8) (leb 64 lines && leb lines 16384) some.1 in
     let both = and_parts (leb 64 lines) (leb lines 16384) few.1 in
-    subst (λ (h : ℕ × ℕ). IsHeadLine h (codes "trace " ++ (decimal callers ++ (codes " " ++ decimal lines)))) kept.1 (record {
+    subst (λ (h : ℕ × ℕ). IsTraceHeadLine h (codes "trace " ++ (decimal callers ++ (codes " " ++ decimal lines)))) kept.1 (record {
       spelled = refl;
       some = leb-true 1 callers some.0;
       few = leb-true callers 8 few.0;
@@ -73,49 +73,49 @@ within_is callers lines head e =
       small = leb-true lines 16384 both.1;
     })
 
-behind_is : (text : List ℕ) (head : ℕ × ℕ) → head_behind text ≡ Some head → IsHeadLine head (codes "trace " ++ text)
-unfolding head_behind
+behind_is : (text : List ℕ) (head : ℕ × ℕ) → trace_head_behind text ≡ Some head → IsTraceHeadLine head (codes "trace " ++ text)
+unfolding trace_head_behind
 behind_is text head e =
-    option_and_then_some (λ callers. option_and_then (head_within callers) (option_and_then number_of (rest_of text))) (number_of (first_word text)) head e
-    (λ callers found others. option_and_then_some (head_within callers) (option_and_then number_of (rest_of text)) head others
+    option_and_then_some (λ callers. option_and_then (trace_head_within callers) (option_and_then number_of (rest_of text))) (number_of (first_word text)) head e
+    (λ callers found others. option_and_then_some (trace_head_within callers) (option_and_then number_of (rest_of text)) head others
     (λ lines found_lines kept. option_and_then_some number_of (rest_of text) lines found_lines (λ rest behind number.
     let spelled : text ≡ decimal callers ++ 32 ∷ decimal lines =
     spaced text rest behind ∙ ap (λ (word : List ℕ). word ++ 32 ∷ rest) (decimal-number_of (first_word text) callers found).0 ∙ ap (λ (t : List ℕ). decimal callers ++ 32 ∷ t) (decimal-number_of rest lines number).0 in
-    subst (λ (t : List ℕ). IsHeadLine head (codes "trace " ++ t)) (sym spelled) (within_is callers lines head kept))))
+    subst (λ (t : List ℕ). IsTraceHeadLine head (codes "trace " ++ t)) (sym spelled) (within_is callers lines head kept))))
 
-pub head_is : (line : List ℕ) (head : ℕ × ℕ) → head_of line ≡ Some head → IsHeadLine head line
-unfolding head_of
-head_is line head e =
-    let kept = named_first (is_word (codes "trace") (first_word line)) (option_and_then head_behind (rest_of line)) head e in
-    option_and_then_some head_behind (rest_of line) head kept.1
-    (λ rest behind is. subst (IsHeadLine head) (sym (named (codes "trace") line rest kept.0 behind)) (behind_is rest head is))
+pub trace_head_is : (line : List ℕ) (head : ℕ × ℕ) → trace_head_of line ≡ Some head → IsTraceHeadLine head line
+unfolding trace_head_of
+trace_head_is line head e =
+    let kept = named_first (is_word (codes "trace") (first_word line)) (option_and_then trace_head_behind (rest_of line)) head e in
+    option_and_then_some trace_head_behind (rest_of line) head kept.1
+    (λ rest behind is. subst (IsTraceHeadLine head) (sym (named (codes "trace") line rest kept.0 behind)) (behind_is rest head is))
 
-place_is : (text : List ℕ) (place : ℕ) → place_of text ≡ Some place → (text ≡ codes "place " ++ decimal place) × Fit place
-unfolding place_of
+place_is : (text : List ℕ) (place : ℕ) → place_in_text text ≡ Some place → (text ≡ codes "place " ++ decimal place) × Fit place
+unfolding place_in_text
 place_is text place e =
     let kept = named_first (is_word (codes "place") (first_word text)) (option_and_then number_of (rest_of text)) place e in
     option_and_then_some number_of (rest_of text) place kept.1 (λ rest behind is.
     let number = decimal-number_of rest place is in
     (named (codes "place") text rest kept.0 behind ∙ ap (λ (t : List ℕ). codes "place " ++ t) number.0, number.1))
 
-crash_is : (callers : ℕ) (text : List ℕ) (what : TraceWhat) → crash_of text ≡ Some what → Says callers what (codes "crash " ++ text)
-unfolding crash_of
+crash_is : (callers : ℕ) (text : List ℕ) (what : TraceWhat) → crash_line_of text ≡ Some what → SaysTraceLine callers what (codes "crash " ++ text)
+unfolding crash_line_of
 crash_is callers text what e =
-    option_and_then_some (λ choice. option_and_then (λ place. Some (Crash choice place)) (option_and_then place_of (rest_of text))) (number_of (first_word text)) what e
-    (λ choice found others. option_and_then_some (λ place. Some (Crash choice place)) (option_and_then place_of (rest_of text)) what others
-    (λ place found_place both. option_and_then_some place_of (rest_of text) place found_place (λ rest behind is.
+    option_and_then_some (λ choice. option_and_then (λ place. Some (Crash choice place)) (option_and_then place_in_text (rest_of text))) (number_of (first_word text)) what e
+    (λ choice found others. option_and_then_some (λ place. Some (Crash choice place)) (option_and_then place_in_text (rest_of text)) what others
+    (λ place found_place both. option_and_then_some place_in_text (rest_of text) place found_place (λ rest behind is.
     let one = decimal-number_of (first_word text) choice found in
     let two = place_is rest place is in
     let spelled : text ≡ decimal choice ++ (codes " place " ++ decimal place) =
     spaced text rest behind ∙ ap (λ (word : List ℕ). word ++ 32 ∷ rest) one.0 ∙ ap (λ (t : List ℕ). decimal choice ++ 32 ∷ t) two.0 in
-    subst (λ (w : TraceWhat). Says callers w (codes "crash " ++ text)) (same_Some (Crash choice place) what both)
+    subst (λ (w : TraceWhat). SaysTraceLine callers w (codes "crash " ++ text)) (same_Some (Crash choice place) what both)
     (ap (λ (t : List ℕ). codes "crash " ++ t) spelled, one.1, two.1))))
 
 -- ---- what is read of a kind's name and numbers is what they say
 
 -- the kind of this name, with these numbers and nothing behind them
 abbrev IsRow : List ℕ → List ℕ → Kind → Type 0
-IsRow name ns kind = (name ≡ kind_name kind) × (kind_numbers kind ≡ ns) × EndsIn kind []
+IsRow name ns kind = (name ≡ kind_name kind) × (kind_numbers kind ≡ ns) × EndsKindLine kind []
 
 row : (name found : List ℕ) (kind k : Kind) (ns : List ℕ) (others : Option Kind) → IsRow name ns kind → (others ≡ Some k → IsRow found ns k)
     → cond (is_word name found) (Some kind) others ≡ Some k → IsRow found ns k
@@ -226,7 +226,7 @@ numbered_is name (Some text) k e = first_is name text k e
 -- ---- what is read of a kind of step is what it says
 
 -- the text of a kind, by its parts
-as_kind : (kind : Kind) (text name numbers end_ : List ℕ) (ns : List ℕ) → text ≡ name ++ numbers → name ≡ kind_name kind → kind_numbers kind ≡ ns → numbers ≡ numbers_text ns ++ end_ → EndsIn kind end_ → All Fit ns → IsKindText kind text
+as_kind : (kind : Kind) (text name numbers end_ : List ℕ) (ns : List ℕ) → text ≡ name ++ numbers → name ≡ kind_name kind → kind_numbers kind ≡ ns → numbers ≡ numbers_text ns ++ end_ → EndsKindLine kind end_ → All Fit ns → IsKindText kind text
 as_kind kind text name numbers end_ ns cut is are spelled ends fits = record {
   end_ = end_;
   spelled = cut ∙ ap (λ (t : List ℕ). t ++ numbers) is ∙ ap (λ (t : List ℕ). kind_name kind ++ t) (spelled ∙ ap (λ (m : List ℕ). numbers_text m ++ end_) (sym are));
@@ -365,15 +365,15 @@ kind_is text kind e = subst (IsKindText kind) (sym (by_rest text (rest_of text) 
 
 -- ---- what is read of a further line is what it says
 
-event_is : (callers : ℕ) (word text : List ℕ) (caller : Option ℕ) (what : TraceWhat) → caller_of callers word ≡ caller → event_of caller text ≡ Some what
-    → Says callers what (word ++ 32 ∷ text)
-unfolding caller_of
+event_is : (callers : ℕ) (word text : List ℕ) (caller : Option ℕ) (what : TraceWhat) → caller_number_of callers word ≡ caller → event_of caller text ≡ Some what
+    → SaysTraceLine callers what (word ++ 32 ∷ text)
+unfolding caller_number_of
 event_is callers word text None what is e = absurd (none-some what e)
 event_is callers word text (Some caller) what is e =
     let kind = mapped (λ kind. Event (record { caller = caller; kind = kind })) (kind_of text) what e in
     option_and_then_some (below callers) (number_of word) caller is (λ number found kept.
     let small = cond_some (ltb number callers) number caller kept in
-    subst (λ (w : TraceWhat). Says callers w (word ++ 32 ∷ text)) kind.2 (
+    subst (λ (w : TraceWhat). SaysTraceLine callers w (word ++ 32 ∷ text)) kind.2 (
       text,
       kind_is text kind.0 kind.1,
       ap (λ (w : List ℕ). w ++ 32 ∷ text) ((decimal-number_of word number found).0 ∙ ap decimal small.1),
@@ -381,19 +381,19 @@ event_is callers word text (Some caller) what is e =
       subst (λ n. n < callers) small.1 (ltb-true number callers small.0),
     ))
 
-pub what_is : (callers : ℕ) (line : List ℕ) (what : TraceWhat) → what_of callers line ≡ Some what → Says callers what line
+pub what_is : (callers : ℕ) (line : List ℕ) (what : TraceWhat) → what_of callers line ≡ Some what → SaysTraceLine callers what line
 unfolding what_of what_behind
 what_is callers line what e =
     option_and_then_some (what_behind callers (first_word line)) (rest_of line) what e (λ text behind is.
-    subst (Says callers what) (sym (spaced line text behind)) (elim (cases_Bool (is_word (codes "crash") (first_word line))) [
-      | inl hit ↦ subst (λ (w : List ℕ). Says callers what (w ++ 32 ∷ text)) (sym (word_is (codes "crash") (first_word line) hit)) (crash_is callers text what (rw hit at is))
-      | inr miss ↦ event_is callers (first_word line) text (caller_of callers (first_word line)) what refl (rw miss at is)
+    subst (SaysTraceLine callers what) (sym (spaced line text behind)) (elim (cases_Bool (is_word (codes "crash") (first_word line))) [
+      | inl hit ↦ subst (λ (w : List ℕ). SaysTraceLine callers what (w ++ 32 ∷ text)) (sym (word_is (codes "crash") (first_word line) hit)) (crash_is callers text what (rw hit at is))
+      | inr miss ↦ event_is callers (first_word line) text (caller_number_of callers (first_word line)) what refl (rw miss at is)
     ]))
 
 -- ---- what a line says is read of it
 
-head_again : (line : List ℕ) (head : ℕ × ℕ) → IsHeadLine head line → head_of line ≡ Some head
-unfolding head_of head_behind
+head_again : (line : List ℕ) (head : ℕ × ℕ) → IsTraceHeadLine head line → trace_head_of line ≡ Some head
+unfolding trace_head_of trace_head_behind
 head_again line head is =
     let fits : head.0 < 2 ^ 64 = omega (arith, is.few) in
     let fits_too : head.1 < 2 ^ 64 = omega (arith, is.small) in
@@ -410,8 +410,8 @@ head_again line head is =
       le-leb head.1 16384 is.small,
     ) refl
 
-crash_again : (choice place : ℕ) → Fit choice → Fit place → crash_of (decimal choice ++ (codes " place " ++ decimal place)) ≡ Some (Crash choice place)
-unfolding crash_of place_of
+crash_again : (choice place : ℕ) → Fit choice → Fit place → crash_line_of (decimal choice ++ (codes " place " ++ decimal place)) ≡ Some (Crash choice place)
+unfolding crash_line_of place_in_text
 crash_again choice place fits fits_too =
     let cut = word_cut (decimal choice) (codes "place " ++ decimal place) (decimal_unspaced choice fits) in
     rw (cut.0, cut.1, number_of-decimal choice fits, number_of-decimal place fits_too) refl
@@ -541,8 +541,8 @@ number_no_crash n fits =
       | inr miss ↦ miss
     ]
 
-what_again : (callers : ℕ) (what : TraceWhat) (line : List ℕ) → Says callers what line → what_of callers line ≡ Some what
-unfolding what_of what_behind caller_of
+what_again : (callers : ℕ) (what : TraceWhat) (line : List ℕ) → SaysTraceLine callers what line → what_of callers line ≡ Some what
+unfolding what_of what_behind caller_number_of
 what_again callers (Crash choice place) line (spelled, fits, fits_too) = rw spelled (crash_again choice place fits fits_too)
 what_again callers (Event event) line (text, is, spelled, fits, small) =
     let cut = word_cut (decimal event.caller) text (decimal_unspaced event.caller fits) in
@@ -561,10 +561,10 @@ the_reason (Some x) found reason e = absurd cc
 not_full : (n : ℕ) → n < 10000 → leb 10000 n ≡ false
 not_full n few = elim (cases_Bool (leb 10000 n)) [ inl full ↦ (let h : 10000 ≤ n = leb-true 10000 n full in absurd (omega arith)) | inr room ↦ room ]
 
-sound : (before : TraceLines) (line : List ℕ) (after : TraceLines) → judged before line ≡ Ok after → Adds before line after
+sound : (before : TraceLines) (line : List ℕ) (after : TraceLines) → judged_trace before line ≡ Ok after → AddsTraceLine before line after
 sound Nothing line after e =
-    let head = mapped_ok (λ head. Begun (with_head head)) (head_of line) reasons.Trace after e in
-    (head.0, head_is line head.0 head.1, head.2)
+    let head = mapped_ok (λ head. Begun (with_head head)) (trace_head_of line) reasons.Trace after e in
+    (head.0, trace_head_is line head.0 head.1, head.2)
 sound (Begun trace) line after e =
     elim (cases_Bool (leb 10000 (length trace.steps))) [
       | inl full ↦ (let h : Err reasons.Events ≡ Ok after = rw full at e in absurd cc)
@@ -574,12 +574,12 @@ sound (Begun trace) line after e =
           (what.0, what_is trace.callers line what.0 what.1, leb-false 10000 (length trace.steps) room, what.2))
     ]
 
-complete : (before : TraceLines) (line : List ℕ) (after : TraceLines) → Adds before line after → judged before line ≡ Ok after
+complete : (before : TraceLines) (line : List ℕ) (after : TraceLines) → AddsTraceLine before line after → judged_trace before line ≡ Ok after
 complete Nothing line after (head, is, same) = rw (head_again line head is, same) refl
 complete (Begun trace) line after (what, says, few, same) = rw (not_full (length trace.steps) few, what_again trace.callers what line says, same) refl
 
-because : (before : TraceLines) (line : List ℕ) (reason : TraceReason) → judged before line ≡ Err reason → reason ≡ reason_for before
-because Nothing line reason e = the_reason (option_map (λ head. Begun (with_head head)) (head_of line)) reasons.Trace reason e
+because : (before : TraceLines) (line : List ℕ) (reason : TraceReason) → judged_trace before line ≡ Err reason → reason ≡ trace_reason_for before
+because Nothing line reason e = the_reason (option_map (λ head. Begun (with_head head)) (trace_head_of line)) reasons.Trace reason e
 because (Begun trace) line reason e =
     elim (cases_Bool (leb 10000 (length trace.steps))) [
       | inl full ↦ (let h : Err reasons.Events ≡ Err reason = rw full at e in rw full cc)
@@ -588,12 +588,12 @@ because (Begun trace) line reason e =
           rw room (the_reason (option_map (λ what. Begun (with_step trace what)) (what_of trace.callers line)) reasons.Event reason h))
     ]
 
-pub reads_traces : ReadsLines trace_grammar judged
+pub reads_traces : ReadsLines trace_grammar judged_trace
 reads_traces = record {
   sound = sound;
   complete = complete;
   refused = λ before line reason e. record {
-    none = λ after adds. no_value (judged before line) after reason (complete before line after adds) e;
+    none = λ after adds. no_value (judged_trace before line) after reason (complete before line after adds) e;
     because = because before line reason e;
   };
 }

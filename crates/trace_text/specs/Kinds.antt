@@ -77,16 +77,16 @@ numbers_text [] = []
 numbers_text (n ∷ ns) = codes " " ++ (decimal n ++ numbers_text ns)
 
 -- what stands behind the numbers: the mark of a refusal, or the command of the read that a raise names
-abbrev pub EndsIn : Kind → List ℕ → Type 0
-EndsIn (LoadWord r i true) end_ = end_ ≡ codes " refused"
-EndsIn (Raise code (Some words)) end_ =
+abbrev pub EndsKindLine : Kind → List ℕ → Type 0
+EndsKindLine (LoadWord r i true) end_ = end_ ≡ codes " refused"
+EndsKindLine (Raise code (Some words)) end_ =
     (op : Op) × (command : List ℕ) × AsksReading op command × (words ≡ op_words op) × (end_ ≡ codes " read " ++ command)
-EndsIn kind end_ = end_ ≡ []
+EndsKindLine kind end_ = end_ ≡ []
 
 pub record IsKindText (kind : Kind) (text : List ℕ) : Type 0 where
   pub end_ : List ℕ
   pub spelled : text ≡ kind_name kind ++ (numbers_text (kind_numbers kind) ++ end_)
-  pub ends : EndsIn kind end_
+  pub ends : EndsKindLine kind end_
   pub fits : All (λ n. n < 2 ^ 64) (kind_numbers kind)
 
 -- ---- how one is read

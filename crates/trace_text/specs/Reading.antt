@@ -18,25 +18,25 @@ use Rattle.trace_text.specs.declared.trace.TraceWhat.TheVariants.{Event, Crash}
 
 -- ---- the first line
 
-abbrev pub head_within : ℕ → ℕ → Option (ℕ × ℕ)
-head_within callers lines =
+abbrev pub trace_head_within : ℕ → ℕ → Option (ℕ × ℕ)
+trace_head_within callers lines =
     if nat_le 1 callers && (nat_le callers 8 && (nat_le 64 lines && nat_le lines 16384)) then Some (callers, lines) else None
 
-unfoldable pub head_behind : List ℕ → Option (ℕ × ℕ)
-head_behind text =
-    option_and_then (λ callers. option_and_then (head_within callers) (option_and_then number_of (rest_of text))) (number_of (first_word text))
+unfoldable pub trace_head_behind : List ℕ → Option (ℕ × ℕ)
+trace_head_behind text =
+    option_and_then (λ callers. option_and_then (trace_head_within callers) (option_and_then number_of (rest_of text))) (number_of (first_word text))
 
-unfoldable pub head_of : List ℕ → Option (ℕ × ℕ)
-head_of line = if is_word (codes "trace") (first_word line) then option_and_then head_behind (rest_of line) else None
+unfoldable pub trace_head_of : List ℕ → Option (ℕ × ℕ)
+trace_head_of line = if is_word (codes "trace") (first_word line) then option_and_then trace_head_behind (rest_of line) else None
 
--- ---- losses of power
+-- ---- crashes
 
-unfoldable pub place_of : List ℕ → Option ℕ
-place_of text = if is_word (codes "place") (first_word text) then option_and_then number_of (rest_of text) else None
+unfoldable pub place_in_text : List ℕ → Option ℕ
+place_in_text text = if is_word (codes "place") (first_word text) then option_and_then number_of (rest_of text) else None
 
-unfoldable pub crash_of : List ℕ → Option TraceWhat
-crash_of text =
-    option_and_then (λ choice. option_and_then (λ place. Some (Crash choice place)) (option_and_then place_of (rest_of text))) (number_of (first_word text))
+unfoldable pub crash_line_of : List ℕ → Option TraceWhat
+crash_line_of text =
+    option_and_then (λ choice. option_and_then (λ place. Some (Crash choice place)) (option_and_then place_in_text (rest_of text))) (number_of (first_word text))
 
 -- ---- events
 
@@ -78,15 +78,15 @@ kind_of text = kind_by (first_word text) (rest_of text)
 abbrev pub below : ℕ → ℕ → Option ℕ
 below end_ number = if nat_lt number end_ then Some number else None
 
-unfoldable pub caller_of : ℕ → List ℕ → Option ℕ
-caller_of callers word = option_and_then (below callers) (number_of word)
+unfoldable pub caller_number_of : ℕ → List ℕ → Option ℕ
+caller_number_of callers word = option_and_then (below callers) (number_of word)
 
 abbrev pub event_of : Option ℕ → List ℕ → Option TraceWhat
 event_of None text = None
 event_of (Some caller) text = option_map (λ kind. Event (record { caller = caller; kind = kind })) (kind_of text)
 
 unfoldable pub what_behind : ℕ → List ℕ → List ℕ → Option TraceWhat
-what_behind callers word text = if is_word (codes "crash") word then crash_of text else event_of (caller_of callers word) text
+what_behind callers word text = if is_word (codes "crash") word then crash_line_of text else event_of (caller_number_of callers word) text
 
 unfoldable pub what_of : ℕ → List ℕ → Option TraceWhat
 what_of callers line = option_and_then (what_behind callers (first_word line)) (rest_of line)
@@ -101,8 +101,8 @@ abbrev pub with_step : Trace → TraceWhat → Trace
 with_step trace what = record trace { steps = trace.steps ++ record { line = length trace.steps + 2; what = what } ∷ [] }
 
 -- what is said with one more line, or why it is refused
-abbrev pub judged : TraceLines → List ℕ → Result TraceLines TraceReason
-judged Nothing line = ok_or (option_map (λ head. Begun (with_head head)) (head_of line)) reasons.Trace
-judged (Begun trace) line =
+abbrev pub judged_trace : TraceLines → List ℕ → Result TraceLines TraceReason
+judged_trace Nothing line = ok_or (option_map (λ head. Begun (with_head head)) (trace_head_of line)) reasons.Trace
+judged_trace (Begun trace) line =
     if nat_le 10000 (length trace.steps) then Err reasons.Events
     else ok_or (option_map (λ what. Begun (with_step trace what)) (what_of trace.callers line)) reasons.Event

@@ -5,11 +5,11 @@ use Rattle.trace_text.specs.declared.trace.TraceLines.TheVariants.{Nothing, Begu
 use Rattle.trace_text.specs.declared.trace.TraceReason.{TraceReason}
 use Rattle.trace_text.specs.declared.trace.TraceReason.TheVariants as reasons
 
-abbrev pub reason_for : TraceLines → TraceReason
-reason_for Nothing = reasons.Trace
-reason_for (Begun trace) = if nat_le 10000 (length trace.steps) then reasons.Events else reasons.Event
+abbrev pub trace_reason_for : TraceLines → TraceReason
+trace_reason_for Nothing = reasons.Trace
+trace_reason_for (Begun trace) = if nat_le 10000 (length trace.steps) then reasons.Events else reasons.Event
 
-abbrev pub reason_text : TraceReason → List ℕ
-reason_text reasons.Trace = codes "trace"
-reason_text reasons.Events = codes "events"
-reason_text reasons.Event = codes "event"
+abbrev pub trace_reason_text : TraceReason → List ℕ
+trace_reason_text reasons.Trace = codes "trace"
+trace_reason_text reasons.Events = codes "events"
+trace_reason_text reasons.Event = codes "event"

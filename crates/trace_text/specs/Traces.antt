@@ -1,4 +1,4 @@
--- What a trace is, line by line: the first with its numbers, and one for each step and for each loss of power.
+-- What a trace is, line by line: the first with its numbers, and one for each step and for each crash.
 use Rattle.std.specs.Prelude.{◌≡◌, ◌⊎◌, ◌+◌, ◌^◌, ◌<◌, ◌≤◌, ℕ, List, [], ◌++◌, length, codes, Some, slice_get}
 use Rattle.std.specs.Fmt.{decimal}
 use Rattle.plain_text.specs.LineGrammar.{LineGrammar, IsFault, IsTextOf}
@@ -7,7 +7,7 @@ use Rattle.plain_text.specs.declared.reading.TextFault.{TextFault}
 use Rattle.plain_text.specs.declared.reading.TextFault.TheVariants.{Refused, Memory}
 use Rattle.trace_text.specs.Kinds.{IsKindText}
 use Rattle.trace_text.specs.Reading.{with_head, with_step}
-use Rattle.trace_text.specs.Reasons.{reason_for}
+use Rattle.trace_text.specs.Reasons.{trace_reason_for}
 use Rattle.trace_text.specs.declared.trace.Trace.{Trace}
 use Rattle.trace_text.specs.declared.trace.TraceLine.{TraceLine}
 use Rattle.trace_text.specs.declared.trace.TraceLines.{TraceLines}
@@ -18,34 +18,34 @@ use Rattle.trace_text.specs.declared.trace.TraceWhat.{TraceWhat}
 use Rattle.trace_text.specs.declared.trace.TraceWhat.TheVariants.{Event, Crash}
 
 -- `trace N L`: N callers of an object of L lines
-pub record IsHeadLine (head : ℕ × ℕ) (line : List ℕ) : Type 0 where
+pub record IsTraceHeadLine (head : ℕ × ℕ) (line : List ℕ) : Type 0 where
   pub spelled : line ≡ codes "trace " ++ (decimal head.0 ++ (codes " " ++ decimal head.1))
   pub some : 1 ≤ head.0
   pub few : head.0 ≤ 8
   pub enough : 64 ≤ head.1
   pub small : head.1 ≤ 16384
 
--- A further line of a trace of so many callers: `C KIND` with C below their number, or `crash CHOICE place P`.
-abbrev pub Says : ℕ → TraceWhat → List ℕ → Type 0
-Says callers (Event event) line =
+-- A further line of a trace of the given number of callers: `C KIND` with C below their number, or `crash CHOICE place P`.
+abbrev pub SaysTraceLine : ℕ → TraceWhat → List ℕ → Type 0
+SaysTraceLine callers (Event event) line =
     (text : List ℕ) × IsKindText event.kind text × (line ≡ decimal event.caller ++ (codes " " ++ text)) × (event.caller < 2 ^ 64) × (event.caller < callers)
-Says callers (Crash choice place) line =
+SaysTraceLine callers (Crash choice place) line =
     (line ≡ codes "crash " ++ (decimal choice ++ (codes " place " ++ decimal place))) × (choice < 2 ^ 64) × (place < 2 ^ 64)
 
 -- what is said with one more line: there are at most 10,000 behind the first
-abbrev pub Adds : TraceLines → List ℕ → TraceLines → Type 0
-Adds Nothing line after = (head : ℕ × ℕ) × IsHeadLine head line × (after ≡ Begun (with_head head))
-Adds (Begun trace) line after =
-    (what : TraceWhat) × Says trace.callers what line × (length trace.steps < 10000) × (after ≡ Begun (with_step trace what))
+abbrev pub AddsTraceLine : TraceLines → List ℕ → TraceLines → Type 0
+AddsTraceLine Nothing line after = (head : ℕ × ℕ) × IsTraceHeadLine head line × (after ≡ Begun (with_head head))
+AddsTraceLine (Begun trace) line after =
+    (what : TraceWhat) × SaysTraceLine trace.callers what line × (length trace.steps < 10000) × (after ≡ Begun (with_step trace what))
 
 -- Why a line is refused: nothing is said with it, and the reason is the first that fits.
-pub record IsReason (before : TraceLines) (line : List ℕ) (reason : TraceReason) : Type 0 where
-  pub none : (after : TraceLines) → Adds before line after → ⊥
-  pub because : reason ≡ reason_for before
+pub record IsTraceReason (before : TraceLines) (line : List ℕ) (reason : TraceReason) : Type 0 where
+  pub none : (after : TraceLines) → AddsTraceLine before line after → ⊥
+  pub because : reason ≡ trace_reason_for before
 
 -- the language of traces
 abbrev pub trace_grammar : LineGrammar TraceLines TraceReason
-trace_grammar = record { nothing = Nothing; Adds = Adds; IsReason = IsReason }
+trace_grammar = record { nothing = Nothing; Adds = AddsTraceLine; IsReason = IsTraceReason }
 
 -- a text is that of a trace
 abbrev pub IsTrace : List ℕ → Trace → Type 0
@@ -58,7 +58,7 @@ IsTraceFault text (Refused line reason) =
 IsTraceFault text Memory = Unit {0}
 
 -- a trace's numbers are within their limits, and each step has the number of its line, counted from 1
-pub record IsKept (trace : Trace) : Type 0 where
+pub record IsTraceWithin (trace : Trace) : Type 0 where
   pub some : 1 ≤ trace.callers
   pub few : trace.callers ≤ 8
   pub enough : 64 ≤ trace.lines
@@ -67,6 +67,6 @@ pub record IsKept (trace : Trace) : Type 0 where
   pub numbered : (n : ℕ) (x : TraceLine) → slice_get trace.steps n ≡ Some x → x.line ≡ n + 2
 
 -- what the lines so far keep to
-abbrev pub Keeps : TraceLines → Type 0
-Keeps Nothing = Unit {0}
-Keeps (Begun trace) = IsKept trace
+abbrev pub KeepsTraceLimits : TraceLines → Type 0
+KeepsTraceLimits Nothing = Unit {0}
+KeepsTraceLimits (Begun trace) = IsTraceWithin trace

@@ -2,17 +2,17 @@
 
 ghost use Rattle.std.specs.Prelude.{IfOk};
 ghost use Rattle.std.specs.Option.{option_copied};
-ghost use Rattle.trace_text.specs.Commands.{IsRead, keyed_of, next_of, reading_by, reading_of};
+ghost use Rattle.trace_text.specs.Commands.{IsCommandRead, keyed_of, next_of, reading_by, reading_of};
 
 use cx_base::Bytes;
 use doc_model::{Op, is_key};
 use plain_text::{is_word, split_word};
 use std::alloc::{AllocError, Global};
 
-/// The operation that a command asks for and that only reads. `Err` is want of memory.
+/// The operation that a command asks for and that only reads. `Err` means out of memory.
 #[tactic(auto, unfolding(crate::specs::Commands::reading_of))]
 pub(crate) fn read_reading(alloc: Global, text: &[u8]) -> Result<Option<Op>, AllocError>
-    ensures { IfOk result (IsRead (reading_of text.now)) }
+    ensures { IfOk result (IsCommandRead (reading_of text.now)) }
 {
     let (verb, rest) = split_word(text);
     read_by_verb(alloc, verb, rest)
@@ -21,7 +21,7 @@ pub(crate) fn read_reading(alloc: Global, text: &[u8]) -> Result<Option<Op>, All
 /// The same, by its verb and what stands behind it.
 #[tactic(auto, unfolding(crate::specs::Commands::reading_by))]
 fn read_by_verb(alloc: Global, verb: &[u8], rest: Option<&[u8]>) -> Result<Option<Op>, AllocError>
-    ensures { IfOk result (IsRead (reading_by verb.now (option_copied rest.entry))) }
+    ensures { IfOk result (IsCommandRead (reading_by verb.now (option_copied rest.entry))) }
 {
     if is_word(b"get", verb) {
         return read_get(alloc, rest);
@@ -39,7 +39,7 @@ fn read_by_verb(alloc: Global, verb: &[u8], rest: Option<&[u8]>) -> Result<Optio
 }
 
 fn read_get(alloc: Global, key: Option<&[u8]>) -> Result<Option<Op>, AllocError>
-    ensures { IfOk result (IsRead (keyed_of Op.Get (option_copied key.entry))) }
+    ensures { IfOk result (IsCommandRead (keyed_of Op.Get (option_copied key.entry))) }
 {
     match key {
         Some(key) if is_key(key) => Ok(Some(Op::Get {
@@ -50,7 +50,7 @@ fn read_get(alloc: Global, key: Option<&[u8]>) -> Result<Option<Op>, AllocError>
 }
 
 fn read_rev(alloc: Global, key: Option<&[u8]>) -> Result<Option<Op>, AllocError>
-    ensures { IfOk result (IsRead (keyed_of Op.Rev (option_copied key.entry))) }
+    ensures { IfOk result (IsCommandRead (keyed_of Op.Rev (option_copied key.entry))) }
 {
     match key {
         Some(key) if is_key(key) => Ok(Some(Op::Rev {
@@ -62,7 +62,7 @@ fn read_rev(alloc: Global, key: Option<&[u8]>) -> Result<Option<Op>, AllocError>
 
 /// Without a key, the operation asks for the least key of all.
 fn read_next(alloc: Global, key: Option<&[u8]>) -> Result<Option<Op>, AllocError>
-    ensures { IfOk result (IsRead (next_of (option_copied key.entry))) }
+    ensures { IfOk result (IsCommandRead (next_of (option_copied key.entry))) }
 {
     match key {
         None => Ok(Some(Op::Next {

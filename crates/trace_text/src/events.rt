@@ -2,7 +2,7 @@
 
 ghost use Rattle.std.specs.Prelude.{◌≡◌, IfOk};
 ghost use Rattle.std.specs.Option.{option_copied};
-ghost use Rattle.trace_text.specs.Reading.{below, caller_of, event_of, kind_by, kind_of, load_behind, load_of, marked, raise_behind, raise_of, what_behind, what_of};
+ghost use Rattle.trace_text.specs.Reading.{below, caller_number_of, event_of, kind_by, kind_of, load_behind, load_of, marked, raise_behind, raise_of, what_behind, what_of};
 
 use crate::commands::read_reading;
 use crate::heads::read_crash;
@@ -13,7 +13,7 @@ use doc_model::op_words;
 use plain_text::{is_word, number_of, split_word};
 use std::alloc::{AllocError, Global};
 
-/// What a line says that stands behind the first, in a trace of so many callers. `Err` is want of memory.
+/// What a line says that stands behind the first, in a trace of `callers` callers. `Err` means out of memory.
 #[tactic(auto, unfolding(crate::specs::Reading::what_of))]
 pub(crate) fn read_what(
     alloc: Global,
@@ -45,10 +45,10 @@ fn read_what_behind(
     read_event(alloc, read_caller(callers, word), text)
 }
 
-/// The caller that a word names, of so many.
-#[tactic(auto, unfolding(crate::specs::Reading::caller_of))]
+/// The caller that a word names, of `callers` callers.
+#[tactic(auto, unfolding(crate::specs::Reading::caller_number_of))]
 fn read_caller(callers: u32, word: &[u8]) -> Option<u32>
-    ensures { result ≡ caller_of callers word.now }
+    ensures { result ≡ caller_number_of callers word.now }
 {
     let caller = number_of(word)?;
     below(callers, caller)
@@ -65,7 +65,7 @@ fn below(end: u32, number: u64) -> Option<u32>
     }
 }
 
-/// A step of this caller, of the kind that stands behind it. `Err` is want of memory.
+/// A step of this caller, of the kind that stands behind it. `Err` means out of memory.
 fn read_event(
     alloc: Global,
     caller: Option<u32>,
@@ -82,7 +82,7 @@ fn read_event(
     Ok(Some(TraceWhat::Event(Event { caller, kind })))
 }
 
-/// A kind of step with its arguments. `Err` is want of memory.
+/// A kind of step with its arguments. `Err` means out of memory.
 #[tactic(auto, unfolding(crate::specs::Reading::kind_of))]
 fn read_kind(alloc: Global, text: &[u8]) -> Result<Option<Kind>, AllocError>
     ensures { IfOk result (λ kind. kind ≡ kind_of text.now) }
@@ -147,7 +147,7 @@ fn marked(r: u64, i: u64, mark: Option<&[u8]>) -> Option<Kind>
     }
 }
 
-/// What stands behind `raise`: `CODE`, with `read COMMAND` behind it where a read is named. `Err` is want of memory.
+/// What stands behind `raise`: `CODE`, with `read COMMAND` behind it where a read is named. `Err` means out of memory.
 #[tactic(auto, unfolding(crate::specs::Reading::raise_of))]
 fn read_raise(alloc: Global, rest: Option<&[u8]>) -> Result<Option<Kind>, AllocError>
     ensures { IfOk result (λ kind. kind ≡ raise_of (option_copied rest.entry)) }

@@ -1,7 +1,7 @@
-//! The first line, and the lines of losses of power.
+//! The first line, and the lines of crashes.
 
 ghost use Rattle.std.specs.Prelude.{◌≡◌};
-ghost use Rattle.trace_text.specs.Reading.{crash_of, head_behind, head_of, head_within, place_of};
+ghost use Rattle.trace_text.specs.Reading.{crash_line_of, trace_head_behind, trace_head_of, trace_head_within, place_in_text};
 
 use crate::trace::TraceWhat;
 use plain_text::{is_word, number_of, split_word};
@@ -14,9 +14,9 @@ const MIN_LINES: u64 = 64;
 const MAX_LINES: u64 = 16_384;
 
 /// The callers and the lines of the first line: `trace N L`.
-#[tactic(auto, unfolding(crate::specs::Reading::head_of))]
+#[tactic(auto, unfolding(crate::specs::Reading::trace_head_of))]
 pub(crate) fn read_head(line: &[u8]) -> Option<(u32, u64)>
-    ensures { result ≡ head_of line.now }
+    ensures { result ≡ trace_head_of line.now }
 {
     let (word, numbers) = split_word(line);
     if !is_word(b"trace", word) {
@@ -26,9 +26,9 @@ pub(crate) fn read_head(line: &[u8]) -> Option<(u32, u64)>
 }
 
 /// The same, from the number of callers on.
-#[tactic(auto, unfolding(crate::specs::Reading::head_behind))]
+#[tactic(auto, unfolding(crate::specs::Reading::trace_head_behind))]
 fn read_head_behind(text: &[u8]) -> Option<(u32, u64)>
-    ensures { result ≡ head_behind text.now }
+    ensures { result ≡ trace_head_behind text.now }
 {
     let (callers, lines) = split_word(text);
     let callers = number_of(callers)?;
@@ -38,7 +38,7 @@ fn read_head_behind(text: &[u8]) -> Option<(u32, u64)>
 
 /// The numbers of a first line, where they are within their limits.
 fn head_within(callers: u64, lines: u64) -> Option<(u32, u64)>
-    ensures { result ≡ head_within callers lines }
+    ensures { result ≡ trace_head_within callers lines }
 {
     if 1 <= callers && callers <= MOST_CALLERS && MIN_LINES <= lines && lines <= MAX_LINES {
         Some((callers as u32, lines))
@@ -48,9 +48,9 @@ fn head_within(callers: u64, lines: u64) -> Option<(u32, u64)>
 }
 
 /// What stands behind the word `crash`: `CHOICE place P`.
-#[tactic(auto, unfolding(crate::specs::Reading::crash_of))]
+#[tactic(auto, unfolding(crate::specs::Reading::crash_line_of))]
 pub(crate) fn read_crash(text: &[u8]) -> Option<TraceWhat>
-    ensures { result ≡ crash_of text.now }
+    ensures { result ≡ crash_line_of text.now }
 {
     let (choice, place) = split_word(text);
     let choice = number_of(choice)?;
@@ -59,9 +59,9 @@ pub(crate) fn read_crash(text: &[u8]) -> Option<TraceWhat>
 }
 
 /// A place with its word.
-#[tactic(auto, unfolding(crate::specs::Reading::place_of))]
+#[tactic(auto, unfolding(crate::specs::Reading::place_in_text))]
 fn read_place(text: &[u8]) -> Option<u64>
-    ensures { result ≡ place_of text.now }
+    ensures { result ≡ place_in_text text.now }
 {
     let (word, place) = split_word(text);
     if !is_word(b"place", word) {

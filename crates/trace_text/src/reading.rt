@@ -2,8 +2,8 @@
 
 ghost use Rattle.std.specs.Prelude.{◌≡◌, IfErr, IfOk, OnOk};
 ghost use Rattle.plain_text.specs.LineGrammar.{IsOkOr, outcome};
-ghost use Rattle.trace_text.specs.Reading.{judged, with_head};
-ghost use Rattle.trace_text.specs.Traces.{IsKept, IsTrace, IsTraceFault};
+ghost use Rattle.trace_text.specs.Reading.{judged_trace, with_head};
+ghost use Rattle.trace_text.specs.Traces.{IsTraceWithin, IsTrace, IsTraceFault};
 ghost use Rattle.trace_text.specs.declared.trace.TraceLines.TheVariants.{Begun};
 
 use crate::events::read_what;
@@ -16,7 +16,7 @@ use std::alloc::{AllocError, Global};
 /// The most lines behind the first.
 const MAX_STEPS: usize = 10_000;
 
-/// Reads a trace. It is Ok exactly for traces, unless memory is wanting. Other texts are refused by the first line with which the
+/// Reads a trace. It is Ok exactly for traces, unless memory runs out. Other texts are refused by the first line with which the
 /// lines so far are none, or by the first where there is no line.
 pub fn read_trace(alloc: Global, bytes: &[u8]) -> Result<Trace, TraceFault>
     // What is read is what the text says.
@@ -24,7 +24,7 @@ pub fn read_trace(alloc: Global, bytes: &[u8]) -> Result<Trace, TraceFault>
     // What a trace says is read.
     ensures only { (trace : Trace) → IsTrace bytes.now trace → IsOkOr trace result }
     // Its numbers are within their limits, and each step has the number of its line.
-    ensures kept { IfOk result IsKept }
+    ensures kept { IfOk result IsTraceWithin }
     // The line refused is the first with which the lines so far are none, with the first reason that fits.
     ensures refused { IfErr result (IsTraceFault bytes.now) }
 {
@@ -38,17 +38,17 @@ pub fn read_trace(alloc: Global, bytes: &[u8]) -> Result<Trace, TraceFault>
 }
 
 impl LineReader for TraceLines {
-    ghost use Rattle.trace_text.specs.Traces.{Keeps, trace_grammar};
-    ghost use Rattle.trace_text.specs.Reading.{judged};
+    ghost use Rattle.trace_text.specs.Traces.{KeepsTraceLimits, trace_grammar};
+    ghost use Rattle.trace_text.specs.Reading.{judged_trace};
     ghost use Rattle.trace_text.specs.Judging.{reads_traces};
 
     type Reason = TraceReason;
 
     ghost grammar = { trace_grammar };
 
-    ghost judged = { judged };
+    ghost judged = { judged_trace };
 
-    ghost Keeps = { Keeps };
+    ghost Keeps = { KeepsTraceLimits };
 
     /// Adds a line, or gives the reason for which it is refused.
     fn add_line(&mut self, alloc: Global, line: &[u8]) -> Result<Option<TraceReason>, AllocError> {
@@ -78,15 +78,15 @@ fn with_head(alloc: Global, callers: u32, lines: u64) -> Trace
     }
 }
 
-/// Adds a line behind the first, or gives the reason for which it is refused. After an `Err`, which is want of memory, the trace is of
-/// no use.
+/// Adds a line behind the first, or gives the reason for which it is refused. `Err` means out of memory; the trace is of no use
+/// then.
 fn add_step(
     alloc: Global,
     trace: &mut Trace,
     line: &[u8],
 ) -> Result<Option<TraceReason>, AllocError>
-    ensures value { IfOk result (λ refused. judged (Begun trace.old) line.now ≡ outcome refused (Begun trace.new)) }
-    ensures keeps { OnOk result (IsKept trace.old → IsKept trace.new) }
+    ensures value { IfOk result (λ refused. judged_trace (Begun trace.old) line.now ≡ outcome refused (Begun trace.new)) }
+    ensures keeps { OnOk result (IsTraceWithin trace.old → IsTraceWithin trace.new) }
 {
     let count = trace.steps.len();
     if count >= MAX_STEPS {

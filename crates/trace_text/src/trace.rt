@@ -11,7 +11,7 @@ use std::fmt;
 pub enum TraceWhat {
     /// A step of a caller.
     Event(Event),
-    /// A loss of power by this choice, after which this place is recovered.
+    /// A crash by this choice, after which this place is recovered.
     Crash { choice: u64, place: u64 },
 }
 
@@ -54,11 +54,11 @@ pub enum TraceReason {
 }
 
 impl TraceReason {
-    ghost use Rattle.trace_text.specs.Reasons.{reason_text};
+    ghost use Rattle.trace_text.specs.Reasons.{trace_reason_text};
 
     /// The reason as a word.
     pub fn word(self) -> &'static str
-        ensures { result.now ≡ reason_text self }
+        ensures { result.now ≡ trace_reason_text self }
     {
         match self {
             TraceReason::Trace => "trace",
@@ -70,9 +70,9 @@ impl TraceReason {
 
 impl fmt::Display for TraceReason {
     ghost use Rattle.std.specs.Prelude.{Some};
-    ghost use Rattle.trace_text.specs.Reasons.{reason_text};
+    ghost use Rattle.trace_text.specs.Reasons.{trace_reason_text};
 
-    ghost output = { λ reason. Some (reason_text reason) };
+    ghost output = { λ reason. Some (trace_reason_text reason) };
 
     fn fmt<W: fmt::Write>(&self, f: &mut fmt::Formatter<W>) -> fmt::Result {
         f.write_str(self.word())

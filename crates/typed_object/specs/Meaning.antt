@@ -51,7 +51,7 @@ module _ {Op Reply Store : Type 0} where
   IsReadAs m words None = AreOfNoReply m words
 
   -- an operation within the limits, which has these words
-  pub record IsOpOf (m : Meaning Op Reply Store) (words : List ℕ) (op : Op) : Type 0 where
+  pub record OpHasWords (m : Meaning Op Reply Store) (words : List ℕ) (op : Op) : Type 0 where
     pub limits : m.is_op op
     pub value : m.is_op_value op
     pub has : m.encoding.op_words op ≡ words

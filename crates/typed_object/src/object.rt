@@ -3,7 +3,7 @@
 ghost use Rattle.std.specs.Prelude.{◌≡◌, IfOk};
 ghost use Rattle.typed_object.specs.Meaning.{HasMeaning, IsReadAs, Meaning};
 
-use cx_base::Object;
+use cx_base::{Object, OpWords};
 use std::alloc::{AllocError, Global};
 
 /// An object whose operations and replies are values of types. Each image that it may have stands for a store, over which its
@@ -27,7 +27,7 @@ pub trait TypedObject: Object {
         ensures { result ≡ self.now };
 
     /// The words of an operation.
-    fn words_of(&self, op: &Self::Op) -> [u64; 144]
+    fn words_of(&self, op: &Self::Op) -> OpWords
         requires { (meaning self.now).is_op op.now }
         ensures { result ≡ (meaning self.now).encoding.op_words op.now };
 
@@ -35,8 +35,8 @@ pub trait TypedObject: Object {
     fn is_reading(&self, op: &Self::Op) -> bool
         ensures { result ≡ (meaning self.now).is_reading op.now };
 
-    /// The reply that has these words; nothing where none has. `Err` is want of memory.
-    fn reply_of(&self, alloc: Global, words: &[u64; 144]) -> Result<Option<Self::Reply>, AllocError>
+    /// The reply that has these words; nothing where none has. `Err` says that memory ran out.
+    fn reply_of(&self, alloc: Global, words: &OpWords) -> Result<Option<Self::Reply>, AllocError>
         ensures { IfOk result (IsReadAs (meaning self.now) words.now) };
 
     /// What the type says of each operation, as that a number has 64 bits.
@@ -47,7 +47,7 @@ pub trait TypedObject: Object {
     fn reply_is_a_value(&self, reply: &Self::Reply)
         ensures { (meaning self.now).is_reply_value reply.now };
 
-    /// The number of items in the store that a lawful image stands for. `Err` is want of memory.
+    /// The number of items in the store that a lawful image stands for. `Err` says that memory ran out.
     fn items_in(&self, alloc: Global, words: &[u64]) -> Result<u64, AllocError>
         requires { Self.lawful self.now words.now }
         ensures { IfOk result (λ n. (store : Store) → (meaning self.now).stands words.now store → n ≡ (meaning self.now).items store) };

@@ -6,18 +6,18 @@ use Rattle.doc_model.specs.Meaning.{pairs_below, pairs_above, with_pair}
 use Rattle.avl_words.specs.Tree.{Tree, Empty, Node, items, Balanced, size}
 use Rattle.avl_words.specs.Ways.{before, behind, spot, with_new}
 use Rattle.avl_words.proofs.Spots.{new_items, new_balanced}
-use Rattle.avl_words.specs.Changes.{IsBeside, CanPut as CanPutNode, Puts}
+use Rattle.avl_words.specs.Changes.{IsBeside, CanPut as CanPutNode, PutsNode}
 use Rattle.avl_words.specs.Lines.{word_of, line_count, with_word}
 use Rattle.avl_words.specs.Words.{root, Stands, times as tree_times}
 use Rattle.avl_words.specs.Exact.{tree_in, with_tree}
 use Rattle.avl_words.proofs.ExactWords.{tree_in_is}
 use Rattle.avl_words.proofs.ExactTrees.{AreThere, tree_header}
-use Rattle.index_checks.specs.Layout.{Place, lines_at, nodes_of, IsAt, Placed, Arranged, StandsFor, Head, head_of}
+use Rattle.index_checks.specs.Layout.{Place, lines_at, nodes_of, IsAt, Placed, Arranged, StandsFor, RevisionHead, head_of}
 use Rattle.index_checks.proofs.Arranging.{arranged_tree, tree_few}
 use Rattle.word_index.specs.Exact.{order_in, with_new_pair, with_one_more, with_added}
 use Rattle.word_index.specs.Fresh.{HasRoom, CanTake}
 use Rattle.word_index.specs.Insertion.{IsPairWritten, PairWritten, CanAdd, Adds}
-use Rattle.word_index.specs.Walk.{IsEnded}
+use Rattle.word_index.specs.Walk.{IsWalkEnded}
 use Rattle.word_index.proofs.Cutting.{times_middle, times_parts}
 use Rattle.index_checks.proofs.Texts.{key_small, document_small}
 use Rattle.word_index.proofs.ExactTaking.{IsPlain, new_pair_is}
@@ -45,7 +45,7 @@ pub add_room : (x : List ℕ) (version : ℕ) (store : Store) (s : StandsFor x v
 add_room x version store s pair l = (let e = lines_of_places x s.places store s.arranged.nodes.pairs in omega (arith, e, l))
 
 -- beside the tree
-apart_of : (z : List ℕ) (head : Head) (store : Store) (tree : Tree ℕ) (places : List Place) (given : List ℕ) (place : Place) (node : ℕ) → Arranged z head store tree places given (lines_at place) → node ≡ place.node → tree_times node tree ≡ 0
+apart_of : (z : List ℕ) (head : RevisionHead) (store : Store) (tree : Tree ℕ) (places : List Place) (given : List ℕ) (place : Place) (node : ℕ) → Arranged z head store tree places given (lines_at place) → node ≡ place.node → tree_times node tree ≡ 0
 apart_of z head store tree places given place node a e =
     let used = flat_map lines_at places in
     let once = a.once node in
@@ -61,7 +61,7 @@ apart_of z head store tree places given place node a e =
       self,
     )
 
-pub add_beside : (x : List ℕ) (pair : List ℕ × List ℕ) (nodes sides : List ℕ) (depth above version : ℕ) (store : Store) (s : StandsFor x version store) → IsEnded nodes sides (order_in pair.0 x) depth 0 above s.tree →
+pub add_beside : (x : List ℕ) (pair : List ℕ × List ℕ) (nodes sides : List ℕ) (depth above version : ℕ) (store : Store) (s : StandsFor x version store) → IsWalkEnded nodes sides (order_in pair.0 x) depth 0 above s.tree →
     (z : List ℕ) (revision node : ℕ) → IsPairWritten x z (head_of version s.last) store s.tree s.places pair revision node → IsBeside z nodes sides (order_in pair.0 x) depth node s.tree
 add_beside x pair nodes sides depth above version store s e z revision node p = record {
   header = (let some = s.arranged.sized.some in let long = p.long in omega arith);
@@ -171,7 +171,7 @@ can_put_node x z nodes sides depth revision node pair c w =
     let p = w (head_of 2 s.last) c.index.store s.tree s.places s.given s.arranged (add_room x 2 c.index.store s pair c.room) in
     record { order = order_in pair.0 x; tree = s.tree; beside = add_beside x pair nodes sides depth c.above 2 c.index.store s (c.spot 2 c.index.store s) z revision node p }
 
-pub add_few : (x z y nodes sides : List ℕ) (depth revision node n : ℕ) (pair : List ℕ × List ℕ) → CanAdd x nodes sides depth pair → PairWritten pair revision node x z → Puts nodes sides depth node z y → word_of y 0 5 ≡ n → n ≤ 2 ^ 32
+pub add_few : (x z y nodes sides : List ℕ) (depth revision node n : ℕ) (pair : List ℕ × List ℕ) → CanAdd x nodes sides depth pair → PairWritten pair revision node x z → PutsNode nodes sides depth node z y → word_of y 0 5 ≡ n → n ≤ 2 ^ 32
 add_few x z y nodes sides depth revision node n pair c w t e =
     let s = c.index.stands in
     let p = w (head_of 2 s.last) c.index.store s.tree s.places s.given s.arranged (add_room x 2 c.index.store s pair c.room) in
@@ -188,7 +188,7 @@ plain_of pair k d = record { key_short = k.short; document_short = d.short; key_
 written_of : (x z : List ℕ) (revision node : ℕ) (pair : List ℕ × List ℕ) → IsKey pair.0 → IsDocument pair.1 → CanTake x (pair_lines pair) → with_new_pair pair revision x ≡ (node, z) → PairWritten pair revision node x z
 written_of x z revision node pair k d can e = subst (λ (q : ℕ × List ℕ). PairWritten pair revision q.0 x q.1) e (new_pair_is pair revision x (plain_of pair k d) can)
 
-pub adds : (x z y v nodes sides : List ℕ) (depth revision node n : ℕ) (pair : List ℕ × List ℕ) → with_new_pair pair revision x ≡ (node, z) → Puts nodes sides depth node z y → word_of y 0 5 ≡ n → v ≡ with_word 0 5 (n + 1) y → Adds nodes sides depth pair revision x v
+pub adds : (x z y v nodes sides : List ℕ) (depth revision node n : ℕ) (pair : List ℕ × List ℕ) → with_new_pair pair revision x ≡ (node, z) → PutsNode nodes sides depth node z y → word_of y 0 5 ≡ n → v ≡ with_word 0 5 (n + 1) y → Adds nodes sides depth pair revision x v
 unfolding with_added with_one_more
 adds x z y v nodes sides depth revision node n pair new t e f above spot i room is_key is_document =
     let s = i.stands in

@@ -44,7 +44,7 @@ stands_empty ws version two sized header =
       revisions = All-nil _;
     }
 
--- so many words of the header are stored, and those behind the header are as they were
+-- the first words of the header, as many as given, are stored, and those behind the header are as they were
 pub record EmptySoFar (version at : ℕ) (before now : List ℕ) : Type 0 where
   pub front : take at now ≡ take at (version ∷ 0 ∷ 0 ∷ 1 ∷ replicate 4 0)
   pub behind : drop 8 now ≡ drop 8 before

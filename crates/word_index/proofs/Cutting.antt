@@ -12,7 +12,7 @@ use Rattle.avl_words.specs.Ways.{whole, before, behind, spot}
 use Rattle.avl_words.specs.Removal.{with_out, without}
 use Rattle.avl_words.proofs.Removing.{out_items, out_balanced}
 use Rattle.avl_words.proofs.Spots.{spot_whole}
-use Rattle.avl_words.specs.Changes.{IsThere, CanTake, Takes}
+use Rattle.avl_words.specs.Changes.{IsThere, CanTakeNode, TakesNode}
 use Rattle.avl_words.specs.Lines.{word_of, with_word}
 use Rattle.avl_words.specs.Words.{root, times as tree_times}
 use Rattle.avl_words.specs.Exact.{with_tree}
@@ -23,7 +23,7 @@ use Rattle.index_checks.proofs.LawfulWords.{store_is}
 use Rattle.index_checks.proofs.Lines.{all_left}
 use Rattle.index_checks.proofs.OneStore.{placed_append}
 use Rattle.word_index.specs.Changes.{SameLine, LoosePair, HasLoosePair}
-use Rattle.word_index.specs.Exact.{order_in, with_one_less, node_at, with_cut, is_key_in, with_pair_given, with_key_removed}
+use Rattle.word_index.specs.Exact.{order_in, with_one_less, node_at, with_node_cut, is_key_in, with_pair_given, with_key_removed}
 use Rattle.word_index.specs.Removal.{CanCut, Cuts}
 use Rattle.word_index.specs.Walk.{AtSpot}
 use Rattle.word_index.proofs.ExactGiving.{pair_is_given}
@@ -162,7 +162,7 @@ there_of ws key nodes sides depth node above version store s spot n = record {
   some = n;
 }
 
-pub can_take : (ws nodes sides : List ℕ) (depth node : ℕ) → CanCut ws nodes sides depth node → CanTake ws nodes sides depth node
+pub can_take : (ws nodes sides : List ℕ) (depth node : ℕ) → CanCut ws nodes sides depth node → CanTakeNode ws nodes sides depth node
 can_take ws nodes sides depth node c =
     record { order = order_in c.key ws; tree = c.index.stands.tree; there = there_of ws c.key nodes sides depth node c.above 2 c.index.store c.index.stands c.spot c.some }
 
@@ -170,7 +170,7 @@ place_in : (ws key nodes sides : List ℕ) (depth node above version : ℕ) (sto
     HasPlace ws key s.places store (walk_end (order_in key ws) s.tree).0 (walk_end (order_in key ws) s.tree).1 node
 place_in ws key nodes sides depth node above version store s spot n = spot_place ws key version store s nodes sides depth node above (spot version store s) n
 
-pub cut_count : (x z nodes sides : List ℕ) (depth node n : ℕ) → CanCut x nodes sides depth node → Takes nodes sides depth node x z → word_of z 0 5 ≡ n → 1 ≤ n
+pub cut_count : (x z nodes sides : List ℕ) (depth node n : ℕ) → CanCut x nodes sides depth node → TakesNode nodes sides depth node x z → word_of z 0 5 ≡ n → 1 ≤ n
 cut_count x z nodes sides depth node n c t e =
     let s = c.index.stands in
     let i = there_of x c.key nodes sides depth node c.above 2 c.index.store s c.spot c.some in
@@ -178,8 +178,8 @@ cut_count x z nodes sides depth node n c t e =
     let w = ap (λ v. word_of v 0 5) (t (order_in c.key x) s.tree i) in
     omega (arith, e, w, k)
 
-pub cuts : (x z w nodes sides : List ℕ) (depth node n : ℕ) → Takes nodes sides depth node x z → word_of z 0 5 ≡ n → w ≡ with_word 0 5 (n - 1) z → Cuts nodes sides depth node x w
-unfolding with_cut with_one_less
+pub cuts : (x z w nodes sides : List ℕ) (depth node n : ℕ) → TakesNode nodes sides depth node x z → word_of z 0 5 ≡ n → w ≡ with_word 0 5 (n - 1) z → Cuts nodes sides depth node x w
+unfolding with_node_cut with_one_less
 cuts x z w nodes sides depth node n t e f key above spot i some =
     let s = i.stands in
     let there = there_of x key nodes sides depth node above 2 i.store s spot some in
@@ -187,8 +187,8 @@ cuts x z w nodes sides depth node n t e f key above spot i some =
     ∙ ap (λ v. with_word 0 5 (word_of v 0 5 - 1) v) (t (order_in key x) s.tree there ∙ ap (λ u. with_tree (without (order_in key x) u) x) (sym (tree_in_is x s.tree (tree_of x 2 i.store s))))
 
 -- the words that the cut leaves
-pub cut_is : (x key : List ℕ) (version : ℕ) (store : Store) (s : StandsFor x version store) → with_cut key x ≡ with_one_less (with_tree (without (order_in key x) s.tree) x)
-unfolding with_cut
+pub cut_is : (x key : List ℕ) (version : ℕ) (store : Store) (s : StandsFor x version store) → with_node_cut key x ≡ with_one_less (with_tree (without (order_in key x) s.tree) x)
+unfolding with_node_cut
 cut_is x key version store s = ap (λ u. with_one_less (with_tree (without (order_in key x) u) x)) (tree_in_is x s.tree (tree_of x version store s))
 
 pub cut_pair : (x w nodes sides : List ℕ) (depth node : ℕ) → CanCut x nodes sides depth node → Cuts nodes sides depth node x w → HasLoosePair w node
@@ -218,15 +218,15 @@ removal_runs x y w v key nodes sides depth node above i e spot n t g =
     let h = place_in y key nodes sides depth node above 2 i.store i.stands spot n in
     let here : true ≡ is_key_in key x = removed_there y key 2 i.store i.stands node h ∙ ap (λ st. is_some (document_at key st)) (sym (store_is y 2 i.store i.stands)) ∙ ap (is_key_in key) e in (
       here,
-      g ∙ ap (with_pair_given node) (t key above spot i n) ∙ ap (λ m. with_pair_given m (with_cut key y)) (node_is y key nodes sides depth node above spot i)
-          ∙ ap (λ u. with_pair_given (node_at key u) (with_cut key u)) e ∙ ap (λ b. cond b (with_pair_given (node_at key x) (with_cut key x)) x) here,
+      g ∙ ap (with_pair_given node) (t key above spot i n) ∙ ap (λ m. with_pair_given m (with_node_cut key y)) (node_is y key nodes sides depth node above spot i)
+          ∙ ap (λ u. with_pair_given (node_at key u) (with_node_cut key u)) e ∙ ap (λ b. cond b (with_pair_given (node_at key x) (with_node_cut key x)) x) here,
     )
 
 pub no_removal_runs : (x y key nodes sides : List ℕ) (depth node above : ℕ) → IsIndex y → y ≡ x → AtSpot false key nodes sides depth node above y → node ≡ 0 → (false ≡ is_key_in key x) × (y ≡ with_key_removed key x)
 unfolding is_key_in with_key_removed
 no_removal_runs x y key nodes sides depth node above i e spot z =
     let here : false ≡ is_key_in key x = sym (ap is_some (spot_missing y key nodes sides depth node above spot z 2 i.store i.stands)) ∙ ap (λ st. is_some (document_at key st)) (sym (store_is y 2 i.store i.stands)) ∙ ap (is_key_in key) e in
-    (here, e ∙ ap (λ b. cond b (with_pair_given (node_at key x) (with_cut key x)) x) here)
+    (here, e ∙ ap (λ b. cond b (with_pair_given (node_at key x) (with_node_cut key x)) x) here)
 
 pub can_cut : (ws key nodes sides : List ℕ) (depth node above : ℕ) → AtSpot false key nodes sides depth node above ws → IsIndex ws → node ≢ 0 → CanCut ws nodes sides depth node
 can_cut ws key nodes sides depth node above s i n = record { key = key; above = above; spot = s; index = i; some = n }

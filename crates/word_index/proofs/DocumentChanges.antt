@@ -8,12 +8,12 @@ use Rattle.cx_base.specs.Packing.{packed}
 use Rattle.cx_base.specs.Store.{Store, blocks}
 use Rattle.avl_words.specs.Tree.{Tree}
 use Rattle.avl_words.specs.Lines.{word_of, with_word, IsWithin}
-use Rattle.index_checks.specs.Layout.{IsChain, Holds, Place, lines_at, Arranged, Head, Placed}
+use Rattle.index_checks.specs.Layout.{IsChain, Holds, Place, lines_at, Arranged, RevisionHead, Placed}
 use Rattle.index_checks.proofs.Lines.{all_left, all_right, lines_within, place_lines}
 use Rattle.index_checks.proofs.Texts.{blocks_are}
-use Rattle.word_index.specs.Changes.{SameLine, with_given, LooseChain, IsGiven}
+use Rattle.word_index.specs.Changes.{SameLine, with_line_given, LooseChain, IsGiven}
 use Rattle.word_index.specs.Exact.{with_chain_given, with_chain_filled, with_text, document_blocks, with_refilled, with_emptied, with_renewed, with_rewritten, with_replaced}
-use Rattle.word_index.specs.Fresh.{HasRoom, CanTake, IsWritten}
+use Rattle.word_index.specs.Fresh.{HasRoom, CanTake, IsChainWritten}
 use Rattle.word_index.specs.Rewriting.{HasLines, CanRewrite}
 use Rattle.word_index.proofs.Cutting.{times_middle}
 use Rattle.word_index.proofs.ExactGiving.{chain_is_given}
@@ -47,8 +47,8 @@ pub names_kept : (x : List ℕ) (node a b : ℕ) → SameNext x (with_word node 
 names_kept x node a b k = get_or-set_other (with_word node 5 a x) (8 * node + 6) (8 * k + 0) b 0 (omega arith) ∙ get_or-set_other x (8 * node + 5) (8 * k + 0) a 0 (omega arith)
 
 -- a chain given back leaves the number of the words
-given_keeps : (line : ℕ) (ws : List ℕ) → length (with_given line ws) ≡ length ws
-unfolding with_given
+given_keeps : (line : ℕ) (ws : List ℕ) → length (with_line_given line ws) ≡ length ws
+unfolding with_line_given
 given_keeps line ws =
     let w1 = with_word line 0 (word_of ws 0 2) ws in
     let w2 = with_word 0 2 line w1 in
@@ -56,7 +56,7 @@ given_keeps line ws =
 
 chain_keeps : (n line : ℕ) (ws : List ℕ) → length (with_chain_given n line ws) ≡ length ws
 chain_keeps zero line ws = refl
-chain_keeps (suc n) line ws = chain_keeps n (word_of ws line 0) (with_given line ws) ∙ given_keeps line ws
+chain_keeps (suc n) line ws = chain_keeps n (word_of ws line 0) (with_line_given line ws) ∙ given_keeps line ws
 
 -- one place for another, and loose lines
 balanced : (k : ℕ) (front rest : List Place) (place other : Place) (given loose now_loose : List ℕ) → times k (lines_at other) + times k now_loose ≡ times k (lines_at place) + times k loose →
@@ -74,19 +74,19 @@ balanced k front rest place other given loose now_loose e =
     )
 
 -- the pairs with a document in place of another
-pub record IsRewritten (now : List ℕ) (head : Head) (lower after : Store) (pair : List ℕ × List ℕ) (front rest : List Place) (place : Place) (revision : ℕ) : Type 0 where
+pub record IsRewritten (now : List ℕ) (head : RevisionHead) (lower after : Store) (pair : List ℕ × List ℕ) (front rest : List Place) (place : Place) (revision : ℕ) : Type 0 where
   pub tree : Tree ℕ
   pub lines : List ℕ
   pub given : List ℕ
   pub arranged : Arranged now head (lower ++ pair ∷ after) tree (front ++ with_lines place lines revision ∷ rest) given []
 
-node_within : (x : List ℕ) (head : Head) (store : Store) (tree : Tree ℕ) (front rest : List Place) (place : Place) (given loose : List ℕ) → Arranged x head store tree (front ++ place ∷ rest) given loose → All (IsWithin x) (lines_at place)
+node_within : (x : List ℕ) (head : RevisionHead) (store : Store) (tree : Tree ℕ) (front rest : List Place) (place : Place) (given loose : List ℕ) → Arranged x head store tree (front ++ place ∷ rest) given loose → All (IsWithin x) (lines_at place)
 node_within x head store tree front rest place given loose a =
     place_lines (IsWithin x) front rest place (all_left (IsWithin x) (flat_map lines_at (front ++ place ∷ rest)) given
     (all_left (IsWithin x) (flat_map lines_at (front ++ place ∷ rest) ++ given) loose (lines_within x head store tree (front ++ place ∷ rest) given loose a)))
 
 -- a pair gets a revision
-module _ (v y : List ℕ) (head : Head) (lower after : Store) (pair : List ℕ × List ℕ) (tree : Tree ℕ) (front rest : List Place) (place : Place) (given : List ℕ) (shape : Placed v front lower)
+module _ (v y : List ℕ) (head : RevisionHead) (lower after : Store) (pair : List ℕ × List ℕ) (tree : Tree ℕ) (front rest : List Place) (place : Place) (given : List ℕ) (shape : Placed v front lower)
     (a : Arranged y head (lower ++ pair ∷ after) tree (front ++ place ∷ rest) given []) (revision : ℕ) where
   told_words : IsRenewed y (with_word place.node 7 revision y) place place.document_lines pair.1 revision
   told_words =
@@ -283,7 +283,7 @@ module _ (x : List ℕ) (node : ℕ) (document : List ℕ) (c : CanRewrite x nod
   abbrev text : ℕ × List ℕ
   text = with_text (packed 128 document) (blocks document) 0 emptied
 
-  text_is : IsWritten emptied text.1 c.head (c.lower ++ (c.pair.0, []) ∷ c.after) c.tree (c.front ++ moved [] ∷ c.rest) text.0 (blocks document) 0 (packed 128 document) []
+  text_is : IsChainWritten emptied text.1 c.head (c.lower ++ (c.pair.0, []) ∷ c.after) c.tree (c.front ++ moved [] ∷ c.rest) text.0 (blocks document) 0 (packed 128 document) []
   text_is =
       text_is_written (packed 128 document) (blocks document) emptied emptied_can c.head (c.lower ++ (c.pair.0, []) ∷ c.after) c.tree (c.front ++ moved [] ∷ c.rest) given_is.loose.given []
       given_is.loose.arranged emptied_room

@@ -1,4 +1,4 @@
--- How the calls that replace a document come to the exact words.
+-- The calls that replace a document leave exactly the words that are defined.
 use Rattle.std.proofs.Common.{◌≡◌, ◌+◌, ◌*◌, ◌/◌, ◌≤◌, ◌==◌, ℕ, true, false, cond, List, length, sym, ap, ap₂, subst, ◌∙◌, arith}
 use Rattle.std.specs.Int.{div_ceil}
 use Rattle.std.proofs.Math.ListN.{length-set}

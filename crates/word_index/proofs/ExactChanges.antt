@@ -11,7 +11,7 @@ use Rattle.index_checks.specs.Reading.{revised_in}
 use Rattle.index_checks.proofs.LawfulWords.{store_is}
 use Rattle.index_checks.proofs.Revisions.{triples_of}
 use Rattle.word_index.specs.Changes.{IsRemoved}
-use Rattle.word_index.specs.Exact.{order_in, node_at, with_cut, with_pair_given, is_key_in, with_key_removed}
+use Rattle.word_index.specs.Exact.{order_in, node_at, with_node_cut, with_pair_given, is_key_in, with_key_removed}
 use Rattle.word_index.proofs.Cutting.{cut_is, removed_stands}
 use Rattle.word_index.proofs.Inserting.{missing_key, here_key, node_at_is}
 use Rattle.word_index.proofs.Splits.{without_nothing}
@@ -23,7 +23,7 @@ module _ (key x : List ℕ) (store : Store) (s : StandsFor x 2 store) where
   Stands w = StandsWith w s.last (without_key key store) (removed_at key (triples_of s.places store))
 
   -- without the key, by whether it was there
-  without_by : (b : Bool) → is_some (document_at key store) ≡ b → Stands (cond b (with_pair_given (node_at key x) (with_cut key x)) x)
+  without_by : (b : Bool) → is_some (document_at key store) ≡ b → Stands (cond b (with_pair_given (node_at key x) (with_node_cut key x)) x)
   without_by b e =
       let node = root (walk_end (order_in key x) s.tree).1 in
       elim (cases_eq node 0) [
@@ -34,15 +34,15 @@ module _ (key x : List ℕ) (store : Store) (s : StandsFor x 2 store) where
             let are = ap₂ triples_of m.split.places_are m.split.store_is in
             let told : triples_of s.places store ≡ removed_at key (triples_of s.places store) =
             are ∙ triples_apart x key m.split.front m.split.rest m.split.lower m.split.others m.split.placed_front m.below m.above ∙ ap (removed_at key) (sym are) in
-            subst (λ b. Stands (cond b (with_pair_given (node_at key x) (with_cut key x)) x)) f
+            subst (λ b. Stands (cond b (with_pair_given (node_at key x) (with_node_cut key x)) x)) f
             (subst (λ st. StandsWith x s.last st (removed_at key (triples_of s.places store))) same (subst (StandsWith x s.last store) told (stands_with x store s)))
         | inr n ↦
             let h = place_is_at x key 2 store s node refl n in
             let t : true ≡ b = sym (here_key x key key 2 store s node h) ∙ e in
-            let w = with_pair_given (node_at key x) (with_cut key x) in
+            let w = with_pair_given (node_at key x) (with_node_cut key x) in
             subst (λ b. Stands (cond b w x)) t
             (stands_again w s.last (without_key key store) (removed_at key (triples_of s.places store))
-            (removed_stands x key 2 store s node h w (ap (λ n. with_pair_given n (with_cut key x)) (sym (node_at_is x key key 2 store s)) ∙ ap (with_pair_given node) (cut_is x key 2 store s)))
+            (removed_stands x key 2 store s node h w (ap (λ n. with_pair_given n (with_node_cut key x)) (sym (node_at_is x key key 2 store s)) ∙ ap (with_pair_given node) (cut_is x key 2 store s)))
             (IsStore-without_key key store s.lawful) (removed_revisions (IsRevision (head_of 2 s.last)) key (triples_of s.places store) (revisions_of x store s)))
       ]
 

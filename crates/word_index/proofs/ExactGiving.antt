@@ -5,13 +5,13 @@ use Rattle.index_checks.proofs.Texts.{blocks_are}
 use Rattle.avl_words.specs.Lines.{with_word, word_of}
 use Rattle.word_index.proofs.Giving.{ChainSoFar, so_far_none, so_far_more, so_far_all, next_can_be_given}
 use Rattle.word_index.proofs.PairsGiven.{text_given, pair_given, has_document_text, has_key_text, node_can_be_given}
-use Rattle.word_index.specs.Changes.{with_given, LooseChain, ChainGiven, LooseText, TextGiven, HasLoosePair, PairGiven}
+use Rattle.word_index.specs.Changes.{with_line_given, LooseChain, ChainGiven, LooseText, TextGiven, HasLoosePair, PairGiven}
 use Rattle.word_index.specs.Exact.{with_chain_given, with_text_given, with_pair_given}
 use Rattle.cx_base.proofs.WordLemmas.{Words-at, Words-set}
 
 -- words among words
-pub given_words : (n : ℕ) (ws : List ℕ) (line : ℕ) → line < 2 ^ 64 → word_of ws 0 4 ≤ 2 ^ 32 → Words n ws → Words n (with_given line ws)
-unfolding with_given
+pub given_words : (n : ℕ) (ws : List ℕ) (line : ℕ) → line < 2 ^ 64 → word_of ws 0 4 ≤ 2 ^ 32 → Words n ws → Words n (with_line_given line ws)
+unfolding with_line_given
 given_words n ws line small few w =
     let w1 = with_word line 0 (word_of ws 0 2) ws in
     let w2 = with_word 0 2 line w1 in
@@ -22,13 +22,13 @@ module _ (first count : ℕ) (x : List ℕ) where
   chain_goes : (n i line : ℕ) (y : List ℕ) → i + n ≡ count → ChainSoFar first count i line x y → ChainGiven first count x (with_chain_given n line y)
   chain_goes zero i line y e r = so_far_all first count i line x y (omega arith) r
   chain_goes (suc n) i line y e r =
-      chain_goes n (i + 1) (word_of y line 0) (with_given line y) (omega arith) (so_far_more first count i line (word_of y line 0) x y (with_given line y) (omega arith) r refl refl)
+      chain_goes n (i + 1) (word_of y line 0) (with_line_given line y) (omega arith) (so_far_more first count i line (word_of y line 0) x y (with_line_given line y) (omega arith) r refl refl)
 
   chain_words_go : (k n i line : ℕ) (y : List ℕ) → i + n ≡ count → LooseChain x first count → ChainSoFar first count i line x y → line < 2 ^ 64 → Words k y → Words k (with_chain_given n line y)
   chain_words_go k zero i line y e h r small w = w
   chain_words_go k (suc n) i line y e h r small w =
       let can = next_can_be_given first count i line x y (omega arith) h r in
-      chain_words_go k n (i + 1) (word_of y line 0) (with_given line y) (omega arith) h (so_far_more first count i line (word_of y line 0) x y (with_given line y) (omega arith) r refl refl)
+      chain_words_go k n (i + 1) (word_of y line 0) (with_line_given line y) (omega arith) h (so_far_more first count i line (word_of y line 0) x y (with_line_given line y) (omega arith) r refl refl)
       (Words-at k y (8 * line + 0) w) (given_words k y line small can.few w)
 
   pub chain_is_given : ChainGiven first count x (with_chain_given count first x)
@@ -68,7 +68,7 @@ unfolding with_pair_given
 pair_is_given node x =
     let y = with_text_given node 5 x in
     let z = with_text_given node 3 y in
-    pair_given x y z (with_given node z) node (text_is_given node 5 x) (text_is_given node 3 y) refl
+    pair_given x y z (with_line_given node z) node (text_is_given node 5 x) (text_is_given node 3 y) refl
 
 pub pair_given_words : (k node : ℕ) (x : List ℕ) → HasLoosePair x node → node < 2 ^ 64 → Words k x → Words k (with_pair_given node x)
 unfolding with_pair_given

@@ -1,4 +1,4 @@
--- How the calls come to the exact words, step by step.
+-- The calls leave exactly the words that are defined, step by step.
 use Rattle.std.proofs.Common.{◌≡◌, ◌+◌, ◌-◌, ◌*◌, ◌/◌, ◌<◌, ◌==◌, ℕ, zero, suc, true, false, cond, List, [], ◌∷◌, length, get_or, map, zero-add, sym, ap, ap₂, ◌∙◌, arith}
 use Rattle.std.specs.Int.{div_ceil}
 use Rattle.std.specs.List.{range_with_len}
@@ -12,7 +12,7 @@ use Rattle.avl_words.specs.Lines.{with_word, word_of}
 use Rattle.index_checks.proofs.Texts.{blocks_are}
 use Rattle.word_index.proofs.Putting.{length_unpacked}
 use Rattle.word_index.specs.Packed.{IsPacked}
-use Rattle.word_index.specs.Changes.{with_given}
+use Rattle.word_index.specs.Changes.{with_line_given}
 use Rattle.word_index.specs.Exact.{with_chain_given, with_text_given, with_pair_given, line_to_take, with_line_taken, block_words, with_text, with_new_pair}
 use Rattle.word_index.specs.Fresh.{IsBlock}
 
@@ -20,7 +20,7 @@ use Rattle.word_index.specs.Fresh.{IsBlock}
 pub chain_begins : (count first : ℕ) (x y : List ℕ) → x ≡ y → with_chain_given (count - 0) first y ≡ with_chain_given count first x
 chain_begins count first x y e = (let z : count - 0 ≡ count = omega arith in ap (λ n. with_chain_given n first y) z ∙ ap (with_chain_given count first) (sym e))
 
-pub chain_goes_on : (count i line next : ℕ) (y z target : List ℕ) → i < count → with_chain_given (count - i) line y ≡ target → word_of y line 0 ≡ next → z ≡ with_given line y → with_chain_given (count - (i + 1)) next z ≡ target
+pub chain_goes_on : (count i line next : ℕ) (y z target : List ℕ) → i < count → with_chain_given (count - i) line y ≡ target → word_of y line 0 ≡ next → z ≡ with_line_given line y → with_chain_given (count - (i + 1)) next z ≡ target
 chain_goes_on count i line next y z target l r word is =
     let less : count - i ≡ suc (count - (i + 1)) = omega arith in
     ap (λ n. with_chain_given (count - (i + 1)) n z) (sym word) ∙ ap (with_chain_given (count - (i + 1)) (word_of y line 0)) is ∙ ap (λ n. with_chain_given n line y) (sym less) ∙ r
@@ -36,9 +36,9 @@ text_runs node at first len count x y z e first_is len_is counted is =
     let blocks : count ≡ (word_of x node (at + 1) + 55) / 56 = counted ∙ sym (blocks_are len) ∙ ap (λ n. (n + 55) / 56) (sym len_here) in
     is ∙ ap (with_chain_given count first) e ∙ ap (λ n. with_chain_given n first x) blocks ∙ ap (λ n. with_chain_given ((word_of x node (at + 1) + 55) / 56) n x) (sym first_here)
 
-pub pair_runs : (node : ℕ) (x y z w : List ℕ) → y ≡ with_text_given node 5 x → z ≡ with_text_given node 3 y → w ≡ with_given node z → w ≡ with_pair_given node x
+pub pair_runs : (node : ℕ) (x y z w : List ℕ) → y ≡ with_text_given node 5 x → z ≡ with_text_given node 3 y → w ≡ with_line_given node z → w ≡ with_pair_given node x
 unfolding with_pair_given
-pair_runs node x y z w d k is = is ∙ ap (with_given node) (k ∙ ap (with_text_given node 3) d)
+pair_runs node x y z w d k is = is ∙ ap (with_line_given node) (k ∙ ap (with_text_given node 3) d)
 
 -- a line taken
 pub new_line_runs : (x y z : List ℕ) (head line : ℕ) → y ≡ x → word_of y 0 2 ≡ head → head ≡ 0 → (word_of y 0 3 ≡ line) × (z ≡ with_word 0 3 (line + 1) y) → (line ≡ line_to_take x) × (z ≡ with_line_taken x)

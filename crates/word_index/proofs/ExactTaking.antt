@@ -108,7 +108,7 @@ module _ (k : ℕ) (text : List ℕ) (count : ℕ) (x : List ℕ) (can : CanTake
   pub text_words : Words k x → ((with_text text count 0 x).0 < 2 ^ 64) × Words k (with_text text count 0 x).1
   text_words w = text_words_go count 0 0 x (omega arith) (written_none text count x x refl) (lit< tt) w
 
--- a pair of bytes, at most so many
+-- a key and a document of bytes, each no longer than its limit
 pub record IsPlain (pair : List ℕ × List ℕ) : Type 0 where
   pub key_short : length pair.0 ≤ 64
   pub document_short : length pair.1 ≤ 1024

@@ -8,9 +8,9 @@ use Rattle.cx_base.specs.Store.{Store}
 use Rattle.avl_words.specs.Lines.{IsWithin, with_word, word_of, IsPartLength}
 use Rattle.index_checks.proofs.Lines.{all_left, all_right, lines_there, lines_within}
 use Rattle.index_checks.proofs.Totals.{few_given}
-use Rattle.index_checks.specs.Layout.{IsChain, Place, lines_at, Nodes, Arranged, Head}
+use Rattle.index_checks.specs.Layout.{IsChain, Place, lines_at, Nodes, Arranged, RevisionHead}
 use Rattle.word_index.proofs.Frames.{times, times_append, times_cons, times_self, absent, stored_elsewhere, same_then, chain_same, nodes_same}
-use Rattle.word_index.specs.Changes.{SameLine, with_given, CanGive, IsLoose, LooseChain, ChainGiven}
+use Rattle.word_index.specs.Changes.{SameLine, with_line_given, CanGive, IsLoose, LooseChain, ChainGiven}
 use Rattle.avl_words.specs.Tree.{Tree}
 
 -- a line that stands first among the loose ones stands nowhere else
@@ -37,8 +37,8 @@ stands_alone line end used given loose once =
 
 -- the words after a line is given back
 module _ (ws : List ℕ) (line : ℕ) (some : 1 ≤ line) (within : 8 * line + 8 ≤ length ws) where
-  pub given_elsewhere : (other : ℕ) → other ≢ line → 1 ≤ other → SameLine ws (with_given line ws) other
-  unfolding with_given
+  pub given_elsewhere : (other : ℕ) → other ≢ line → 1 ≤ other → SameLine ws (with_line_given line ws) other
+  unfolding with_line_given
   given_elsewhere other ne above =
       let w1 = with_word line 0 (word_of ws 0 2) ws in
       let w2 = with_word 0 2 line w1 in
@@ -47,46 +47,46 @@ module _ (ws : List ℕ) (line : ℕ) (some : 1 ≤ line) (within : 8 * line + 8
       (same_then ws w1 w2 other (stored_elsewhere ws line 0 (word_of ws 0 2) other (omega arith) ne) (stored_elsewhere w1 0 2 line other (omega arith) zero_apart))
       (stored_elsewhere w2 0 4 (word_of ws 0 4 + 1) other (omega arith) zero_apart)
 
-  pub given_header : (i : ℕ) → i < 8 → i ≢ 2 → i ≢ 4 → get_or (with_given line ws) i 0 ≡ get_or ws i 0
-  unfolding with_given
+  pub given_header : (i : ℕ) → i < 8 → i ≢ 2 → i ≢ 4 → get_or (with_line_given line ws) i 0 ≡ get_or ws i 0
+  unfolding with_line_given
   given_header i l two four =
       let w1 = with_word line 0 (word_of ws 0 2) ws in
       let w2 = with_word 0 2 line w1 in
       get_or-set_other w2 4 i (word_of ws 0 4 + 1) 0 four ∙ get_or-set_other w1 2 i line 0 two ∙ get_or-set_other ws (8 * line + 0) i (word_of ws 0 2) 0 (omega arith)
 
-  pub given_head : get_or (with_given line ws) 2 0 ≡ line
-  unfolding with_given
+  pub given_head : get_or (with_line_given line ws) 2 0 ≡ line
+  unfolding with_line_given
   given_head =
       let w1 = with_word line 0 (word_of ws 0 2) ws in
       let w2 = with_word 0 2 line w1 in
       let long : 2 < length w1 = omega (arith, length-set ws (8 * line + 0) (word_of ws 0 2)) in
       get_or-set_other w2 4 2 (word_of ws 0 4 + 1) 0 (omega arith) ∙ get_or-set_same w1 2 line 0 long
 
-  pub given_number : get_or (with_given line ws) 4 0 ≡ get_or ws 4 0 + 1
-  unfolding with_given
+  pub given_number : get_or (with_line_given line ws) 4 0 ≡ get_or ws 4 0 + 1
+  unfolding with_line_given
   given_number =
       let w1 = with_word line 0 (word_of ws 0 2) ws in
       let w2 = with_word 0 2 line w1 in
       let long : 4 < length w2 = omega (arith, length-set w1 2 line, length-set ws (8 * line + 0) (word_of ws 0 2)) in
       get_or-set_same w2 4 (word_of ws 0 4 + 1) 0 long
 
-  pub given_next : word_of (with_given line ws) line 0 ≡ get_or ws 2 0
-  unfolding with_given
+  pub given_next : word_of (with_line_given line ws) line 0 ≡ get_or ws 2 0
+  unfolding with_line_given
   given_next =
       let w1 = with_word line 0 (word_of ws 0 2) ws in
       let w2 = with_word 0 2 line w1 in
       let long : 8 * line + 0 < length ws = omega arith in
       get_or-set_other w2 4 (8 * line + 0) (word_of ws 0 4 + 1) 0 (omega arith) ∙ get_or-set_other w1 2 (8 * line + 0) line 0 (omega arith) ∙ get_or-set_same ws (8 * line + 0) (word_of ws 0 2) 0 long
 
-  pub given_long : length (with_given line ws) ≡ length ws
-  unfolding with_given
+  pub given_long : length (with_line_given line ws) ≡ length ws
+  unfolding with_line_given
   given_long =
       let w1 = with_word line 0 (word_of ws 0 2) ws in
       let w2 = with_word 0 2 line w1 in
       length-set w2 4 (word_of ws 0 4 + 1) ∙ length-set w1 2 line ∙ length-set ws (8 * line + 0) (word_of ws 0 2)
 
 -- lines that are there and are not this one are as they were
-pub others_same : (ws : List ℕ) (line : ℕ) (lines : List ℕ) → 1 ≤ line → 8 * line + 8 ≤ length ws → All (λ x. x ≢ line) lines → All (λ x. 1 ≤ x) lines → All (SameLine ws (with_given line ws)) lines
+pub others_same : (ws : List ℕ) (line : ℕ) (lines : List ℕ) → 1 ≤ line → 8 * line + 8 ≤ length ws → All (λ x. x ≢ line) lines → All (λ x. 1 ≤ x) lines → All (SameLine ws (with_line_given line ws)) lines
 others_same ws line lines some within apart above = λ k d l. given_elsewhere ws line some within (get_or lines k d) (apart k d l) (above k d l)
 
 pub moved_line : (x line : ℕ) (used given loose : List ℕ) → times x (used ++ (line ∷ given) ++ loose) ≡ times x (used ++ given ++ (line ∷ loose))
@@ -104,8 +104,8 @@ moved_line x line used given loose =
 one_more : (n : ℕ) → n + 1 ≡ suc n
 one_more n = omega arith
 
-pub give_arranged : (ws : List ℕ) (head : Head) (store : Store) (tree : Tree ℕ) (places : List Place) (given loose : List ℕ) (line : ℕ) → Arranged ws head store tree places given (line ∷ loose) →
-    Arranged (with_given line ws) head store tree places (line ∷ given) loose × All (SameLine ws (with_given line ws)) loose
+pub give_arranged : (ws : List ℕ) (head : RevisionHead) (store : Store) (tree : Tree ℕ) (places : List Place) (given loose : List ℕ) (line : ℕ) → Arranged ws head store tree places given (line ∷ loose) →
+    Arranged (with_line_given line ws) head store tree places (line ∷ given) loose × All (SameLine ws (with_line_given line ws)) loose
 give_arranged ws head store tree places given loose line a =
     let used = flat_map lines_at places in
     let alone = stands_alone line (word_of ws 0 3) used given loose (a.once line) in
@@ -114,7 +114,7 @@ give_arranged ws head store tree places given loose line a =
     let back = all_right (λ x. 1 ≤ x) (used ++ given) (line ∷ loose) there in
     let some = All-head (λ x. 1 ≤ x) line loose back in
     let within = All-head (IsWithin ws) line loose (all_right (IsWithin ws) (used ++ given) (line ∷ loose) (lines_within ws head store tree places given (line ∷ loose) a)) in
-    let now = with_given line ws in
+    let now = with_line_given line ws in
     let header = given_header ws line some within in
     let same_used = others_same ws line used some within alone.not_used (all_left (λ x. 1 ≤ x) used given front) in
     let same_given = others_same ws line given some within alone.not_given (all_right (λ x. 1 ≤ x) used given front) in
@@ -138,7 +138,7 @@ give_arranged ws head store tree places given loose line a =
     )
 
 -- a chain of loose lines, some of which are given back
-pub record Partly (before now : List ℕ) (head : Head) (store : Store) (tree : Tree ℕ) (places : List Place) (others : List ℕ) (i line count : ℕ) : Type 0 where
+pub record Partly (before now : List ℕ) (head : RevisionHead) (store : Store) (tree : Tree ℕ) (places : List Place) (others : List ℕ) (i line count : ℕ) : Type 0 where
   pub rest : List ℕ
   pub loose : IsLoose now head store tree places rest others
   pub chain : IsChain now line rest
@@ -147,7 +147,7 @@ pub record Partly (before now : List ℕ) (head : Head) (store : Store) (tree : 
 
 abbrev pub ChainSoFar : ℕ → ℕ → ℕ → ℕ → List ℕ → List ℕ → Type 0
 ChainSoFar first count i line before now =
-    (head : Head) (store : Store) (tree : Tree ℕ) (places : List Place) (lines others : List ℕ) → IsLoose before head store tree places lines others → IsChain before first lines → count ≡ length lines →
+    (head : RevisionHead) (store : Store) (tree : Tree ℕ) (places : List Place) (lines others : List ℕ) → IsLoose before head store tree places lines others → IsChain before first lines → count ≡ length lines →
     Partly before now head store tree places others i line count
 
 pub so_far_none : (first count : ℕ) (x y : List ℕ) → x ≡ y → ChainSoFar first count 0 first x y
@@ -161,7 +161,7 @@ so_far_none first count x y e head store tree places lines others loose chain co
     })
 
 -- the next line is there
-part_within : (x y : List ℕ) (head : Head) (store : Store) (tree : Tree ℕ) (places : List Place) (others rest given : List ℕ) (i line count : ℕ) → i < count → i + length rest ≡ count →
+part_within : (x y : List ℕ) (head : RevisionHead) (store : Store) (tree : Tree ℕ) (places : List Place) (others rest given : List ℕ) (i line count : ℕ) → i < count → i + length rest ≡ count →
     Arranged y head store tree places given (rest ++ others) → IsChain y line rest → CanGive y line
 part_within x y head store tree places others [] given i line count l e a c = absurd (omega arith)
 part_within x y head store tree places others (r ∷ rest) given i line count l e a c = record {
@@ -178,30 +178,30 @@ next_can_be_given first count i line x y l h r =
 pub all_same_then : (x y z lines : List ℕ) → All (SameLine x y) lines → All (SameLine y z) lines → All (SameLine x z) lines
 all_same_then x y z lines p q = λ k d l. same_then x y z (get_or lines k d) (p k d l) (q k d l)
 
-part_more : (x y z : List ℕ) (head : Head) (store : Store) (tree : Tree ℕ) (places : List Place) (others rest given : List ℕ) (i line next count : ℕ) → i < count → i + length rest ≡ count →
-    Arranged y head store tree places given (rest ++ others) → IsChain y line rest → All (SameLine x y) others → word_of y line 0 ≡ next → z ≡ with_given line y →
+part_more : (x y z : List ℕ) (head : RevisionHead) (store : Store) (tree : Tree ℕ) (places : List Place) (others rest given : List ℕ) (i line next count : ℕ) → i < count → i + length rest ≡ count →
+    Arranged y head store tree places given (rest ++ others) → IsChain y line rest → All (SameLine x y) others → word_of y line 0 ≡ next → z ≡ with_line_given line y →
     Partly x z head store tree places others (i + 1) next count
 part_more x y z head store tree places others [] given i line next count l e a c same word is = absurd (omega arith)
 part_more x y z head store tree places others (r ∷ rest) given i line next count l e a c same word is =
     let given_now = give_arranged y head store tree places given (rest ++ others) r a in
-    let now : z ≡ with_given r y = is ∙ ap (λ q. with_given q y) c.0 in
-    let rest_same = all_left (SameLine y (with_given r y)) rest others given_now.1 in
-    let others_same = all_right (SameLine y (with_given r y)) rest others given_now.1 in
+    let now : z ≡ with_line_given r y = is ∙ ap (λ q. with_line_given q y) c.0 in
+    let rest_same = all_left (SameLine y (with_line_given r y)) rest others given_now.1 in
+    let others_same = all_right (SameLine y (with_line_given r y)) rest others given_now.1 in
     let after : word_of y r 0 ≡ next = ap (λ q. word_of y q 0) (sym c.0) ∙ word in
     subst (λ w. Partly x w head store tree places others (i + 1) next count) (sym now) (record {
       rest = rest;
       loose = record { given = r ∷ given; arranged = given_now.0 };
-      chain = subst (λ q. IsChain (with_given r y) q rest) after (chain_same y (with_given r y) rest (word_of y r 0) rest_same c.1);
+      chain = subst (λ q. IsChain (with_line_given r y) q rest) after (chain_same y (with_line_given r y) rest (word_of y r 0) rest_same c.1);
       left = omega arith;
-      same = all_same_then x y (with_given r y) others same others_same;
+      same = all_same_then x y (with_line_given r y) others same others_same;
     })
 
-pub so_far_more : (first count i line next : ℕ) (x y z : List ℕ) → i < count → ChainSoFar first count i line x y → word_of y line 0 ≡ next → z ≡ with_given line y → ChainSoFar first count (i + 1) next x z
+pub so_far_more : (first count i line next : ℕ) (x y z : List ℕ) → i < count → ChainSoFar first count i line x y → word_of y line 0 ≡ next → z ≡ with_line_given line y → ChainSoFar first count (i + 1) next x z
 so_far_more first count i line next x y z l r word is head store tree places lines others loose chain counted =
     let p = r head store tree places lines others loose chain counted in
     part_more x y z head store tree places others p.rest p.loose.given i line next count l p.left p.loose.arranged p.chain p.same word is
 
-none_left : (x y : List ℕ) (head : Head) (store : Store) (tree : Tree ℕ) (places : List Place) (others rest given : List ℕ) (i count : ℕ) → i ≡ count → i + length rest ≡ count →
+none_left : (x y : List ℕ) (head : RevisionHead) (store : Store) (tree : Tree ℕ) (places : List Place) (others rest given : List ℕ) (i count : ℕ) → i ≡ count → i + length rest ≡ count →
     Arranged y head store tree places given (rest ++ others) → Arranged y head store tree places given (others ++ [])
 none_left x y head store tree places others [] given i count e l a = subst (Arranged y head store tree places given) (sym (append-nil others)) a
 none_left x y head store tree places others (r ∷ rest) given i count e l a = absurd (omega arith)

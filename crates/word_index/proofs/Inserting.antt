@@ -17,7 +17,7 @@ use Rattle.index_checks.proofs.Totals.{all_lines}
 use Rattle.word_index.specs.Exact.{document_blocks, order_in, with_new_pair, with_one_more, with_added, node_at, with_replaced, with_written, is_key_in, with_document, inserted_in}
 use Rattle.word_index.specs.Answers.{IsNodeOf}
 use Rattle.word_index.specs.Fresh.{CanTake}
-use Rattle.word_index.specs.Insertion.{Inserts, CanAdd, CanWrite, WritesAt, IsKnown, PutsDocument}
+use Rattle.word_index.specs.Insertion.{Inserts, CanAdd, CanWrite, WritesAt, IsInsertKnown, PutsDocument}
 use Rattle.word_index.specs.declared.insertion.Inserted.{Inserted}
 use Rattle.word_index.specs.declared.insertion.Inserted.TheVariants.{New, Replaced, NoRoom}
 use Rattle.word_index.specs.Rewriting.{CanRewrite}
@@ -32,7 +32,7 @@ use Rattle.word_index.proofs.Splits.{above_split, below_split, above_behind, bel
 use Rattle.word_index.proofs.KeyPlaces.{tree_of, walk_end, IsMissing, HasPlace, none_at, place_is_at, place_node, spot_node}
 use Rattle.index_checks.proofs.Revisions.{triples_of, triples_read}
 use Rattle.word_index.proofs.Triples.{Triple, HasTriples, StandsWith, written_at, triples_replaced, raised, stands_again, written_revisions, revisions_of}
-use Rattle.doc_model.specs.Revisions.{RevisedStore, next_revision, written}
+use Rattle.doc_model.specs.Revisions.{RevisedStore, next_revision, store_written}
 use Rattle.std.specs.List.{All}
 
 -- the store with the document, where the walk ended at nothing, and where it ended at the key's node
@@ -188,7 +188,7 @@ module _ (key document x : List ℕ) (is_key : IsKey key) (is_document : IsDocum
 
   -- and the revisions
   revised_by : (i : IsIndex x) (b : Bool) → has_room (line_count x) (with_pair key document (store_in x)) ≡ b →
-      revised_in (cond b (with_word 0 6 next (with_written key document next x)) x) ≡ cond b (written key document (revised_in x)) (revised_in x)
+      revised_in (cond b (with_word 0 6 next (with_written key document next x)) x) ≡ cond b (store_written key document (revised_in x)) (revised_in x)
   unfolding revised_in
   revised_by i true e =
       let room = subst (λ st. has_room (line_count x) (with_pair key document st) ≡ true) (store_is x 2 i.store i.stands) e in
@@ -196,7 +196,7 @@ module _ (key document x : List ℕ) (is_key : IsKey key) (is_document : IsDocum
       (put_stands i.store i.stands room).revised ∙ ap make (sym (triples_read x 2 i.store i.stands))
   revised_by i false e = refl
 
-  pub document_revised : IsIndex x → revised_in (with_document key document x) ≡ cond (has_room (line_count x) (with_pair key document (store_in x))) (written key document (revised_in x)) (revised_in x)
+  pub document_revised : IsIndex x → revised_in (with_document key document x) ≡ cond (has_room (line_count x) (with_pair key document (store_in x))) (store_written key document (revised_in x)) (revised_in x)
   unfolding with_document
   document_revised i = revised_by i (has_room (line_count x) (with_pair key document (store_in x))) refl
 
@@ -208,7 +208,7 @@ pub record IsCounted (used old more total : ℕ) : Type 0 where
   pub below : old ≤ used
   pub sum : used - old + more ≡ total
 
-module _ {x key nodes sides : List ℕ} {depth node above used old lines : ℕ} (document : List ℕ) (k : IsKnown key nodes sides depth node above used old lines x) where
+module _ {x key nodes sides : List ℕ} {depth node above used old lines : ℕ} (document : List ℕ) (k : IsInsertKnown key nodes sides depth node above used old lines x) where
   pub counted : IsCounted used old (pair_lines (key, document)) (lines_of (with_pair key document k.index.store))
   counted =
       let store = k.index.store in

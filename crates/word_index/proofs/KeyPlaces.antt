@@ -11,19 +11,19 @@ use Rattle.cx_base.specs.Store.{Store, KeysRise, IsStore, key_cmp, IsKey, IsDocu
 use Rattle.doc_model.specs.Meaning.{document_at, pairs_above}
 use Rattle.doc_model.proofs.Order.{filter_none, ties_itself, same_key, above_from_greater, below_both, greater_from_above}
 use Rattle.avl_words.specs.Tree.{Tree, Empty, Node, items, size}
-use Rattle.avl_words.specs.Ways.{Turn, whole, before, behind, spot, Cut, Ends}
+use Rattle.avl_words.specs.Ways.{Turn, whole, before, behind, spot, IsCutBy, WayEnds}
 use Rattle.avl_words.proofs.Spots.{IsBetween, parted, spot_whole, spot_ends, spot_items, top_between, size_is}
 use Rattle.avl_words.specs.Lines.{word_of, IsWithin}
 use Rattle.avl_words.specs.Words.{root, Stands, IsTree}
 use Rattle.avl_words.proofs.Walks.{stands_at, goes_right, goes_left, way_ends, way_ended, way_ends_same, way_ended_same, few_on_way, few_at_node, deep_none}
-use Rattle.index_checks.specs.Layout.{Place, lines_at, nodes_of, IsAt, Placed, Arranged, StandsFor, IsIndex, Head, head_of}
+use Rattle.index_checks.specs.Layout.{Place, lines_at, nodes_of, IsAt, Placed, Arranged, StandsFor, IsIndex, RevisionHead, head_of}
 use Rattle.index_checks.proofs.Arranging.{arranged_tree}
 use Rattle.index_checks.proofs.Lines.{all_left, all_right, all_middle, lines_there, lines_within, place_lines}
 use Rattle.index_checks.proofs.OneStore.{placed_count}
 use Rattle.index_checks.proofs.Texts.{text_is, key_small}
 use Rattle.word_index.specs.Answers.{IsNodeOf, IsFound}
 use Rattle.word_index.specs.Exact.{order_in}
-use Rattle.word_index.specs.Walk.{HasNode, AtSpot, FewVisits, OnWay, toward, walk_order, IsFirst, IsPassing, IsEnded, IsFirstNode, Walked}
+use Rattle.word_index.specs.Walk.{HasNode, AtSpot, FewVisits, OnWay, toward, walk_order, IsFirst, IsPassing, IsWalkEnded, IsFirstNode, Walked}
 use Rattle.word_index.proofs.Frames.{all_nodes}
 use Rattle.word_index.proofs.NodeReads.{node_key}
 use Rattle.word_index.proofs.Splits.{all_above, document_there, document_missing}
@@ -51,7 +51,7 @@ module _ (ws key : List ℕ) where
       (order_at_place ws key p q n.0 (All-head (λ p. IsKey p.0) q store keys) ∙ above_after (key_cmp k key) k refl ne q.0 (All-head (λ p. key_cmp k p.0 ≡ Less) q store above))
       (all_above_nodes k places store n.1 (All-tail (λ p. IsKey p.0) q store keys) ne (All-tail (λ p. key_cmp k p.0 ≡ Less) q store above))
 
-  pub cut_nodes : (places : List Place) (store : Store) → Placed ws places store → KeysRise store → All (λ p. IsKey p.0) store → Cut (order_in key ws) (nodes_of places)
+  pub cut_nodes : (places : List Place) (store : Store) → Placed ws places store → KeysRise store → All (λ p. IsKey p.0) store → IsCutBy (order_in key ws) (nodes_of places)
   cut_nodes [] [] n r keys = tt
   cut_nodes [] (q ∷ store) n r keys = absurd n
   cut_nodes (p ∷ places) [] n r keys = absurd n
@@ -115,7 +115,7 @@ split_at ws (p ∷ places) (q ∷ store) (x ∷ xs) ys n e =
     }
 
 -- a pair of a store at a place
-pub node_there : (ws : List ℕ) (head : Head) (store lower others : Store) (tree : Tree ℕ) (places front rest : List Place) (given loose : List ℕ) (node : ℕ) (place : Place) (pair : List ℕ × List ℕ) →
+pub node_there : (ws : List ℕ) (head : RevisionHead) (store lower others : Store) (tree : Tree ℕ) (places front rest : List Place) (given loose : List ℕ) (node : ℕ) (place : Place) (pair : List ℕ × List ℕ) →
     Arranged ws head store tree places given loose → IsStore store → places ≡ front ++ place ∷ rest → store ≡ lower ++ pair ∷ others → node ≡ place.node → IsAt ws place pair → IsNodeOf ws node pair
 node_there ws head store lower others tree places front rest given loose node place pair a lawful p s e is = record {
   place = place;
@@ -130,7 +130,7 @@ node_there ws head store lower others tree places front rest given loose node pl
 }
 
 -- the first of some pairs
-pub first_node : (ws : List ℕ) (head : Head) (store lower others : Store) (tree : Tree ℕ) (places front rest : List Place) (given loose : List ℕ) (node : ℕ) (nodes : List ℕ) →
+pub first_node : (ws : List ℕ) (head : RevisionHead) (store lower others : Store) (tree : Tree ℕ) (places front rest : List Place) (given loose : List ℕ) (node : ℕ) (nodes : List ℕ) →
     Arranged ws head store tree places given loose → IsStore store → places ≡ front ++ rest → store ≡ lower ++ others → Placed ws rest others → nodes_of rest ≡ nodes → IsFirst node nodes → All (λ n. 1 ≤ n) nodes → IsFirstNode ws node others
 first_node ws head store lower [] tree places front [] given loose node [] a lawful p s n e f some = f
 first_node ws head store lower [] tree places front [] given loose node (m ∷ nodes) a lawful p s n e f some = absurd (let g : ⊥ = cc in g)
@@ -197,12 +197,12 @@ rises_before (q ∷ lower) pair after r =
     All-cons (λ p. key_cmp p.0 pair.0 ≡ Less) q lower (All-head (λ p. key_cmp q.0 p.0 ≡ Less) pair after (all_right (λ p. key_cmp q.0 p.0 ≡ Less) lower (pair ∷ after) r.0)) (rises_before lower pair after r.1)
 
 -- a walk past a key
-cut_past : (order : ℕ → Ordering) (xs : List ℕ) → Cut order xs → Cut (λ n. toward true (order n)) xs
+cut_past : (order : ℕ → Ordering) (xs : List ℕ) → IsCutBy order xs → IsCutBy (λ n. toward true (order n)) xs
 cut_past order [] c = tt
 cut_past order (x ∷ xs) c =
     (λ ne. All-weaker (λ y. order y ≡ Greater) (λ y. toward true (order y) ≡ Greater) (λ y e. ap (toward true) e) xs (c.0 (λ l. ne (ap (toward true) l))), cut_past order xs c.1)
 
-cut_by : (past : Bool) (order : ℕ → Ordering) (xs : List ℕ) → Cut order xs → Cut (λ n. toward past (order n)) xs
+cut_by : (past : Bool) (order : ℕ → Ordering) (xs : List ℕ) → IsCutBy order xs → IsCutBy (λ n. toward past (order n)) xs
 cut_by false order xs c = c
 cut_by true order xs c = cut_past order xs c
 
@@ -215,8 +215,8 @@ module _ (ws : List ℕ) (version : ℕ) (store : Store) (s : StandsFor ws versi
   pairs_counted = size_is s.tree ∙ ap length s.arranged.nodes.in_order ∙ placed_count ws s.places store s.arranged.nodes.pairs
 
   module _ (past : Bool) (key : List ℕ) where
-    pub cut_tree : Cut (walk_order past key ws) (items s.tree)
-    cut_tree = cut_by past (order_in key ws) (items s.tree) (subst (Cut (order_in key ws)) (sym s.arranged.nodes.in_order) (cut_nodes ws key s.places store s.arranged.nodes.pairs s.lawful.rising s.lawful.keys))
+    pub cut_tree : IsCutBy (walk_order past key ws) (items s.tree)
+    cut_tree = cut_by past (order_in key ws) (items s.tree) (subst (IsCutBy (order_in key ws)) (sym s.arranged.nodes.in_order) (cut_nodes ws key s.places store s.arranged.nodes.pairs s.lawful.rising s.lawful.keys))
 
     -- a node that the walk passes is that of a pair
     at_node : (way : List (Turn ℕ)) (here : Tree ℕ) (node : ℕ) → whole way here ≡ s.tree → node ≡ root here → node ≢ 0 → (pair : List ℕ × List ℕ) × IsNodeOf ws node pair
@@ -259,14 +259,14 @@ module _ (ws : List ℕ) (version : ℕ) (store : Store) (s : StandsFor ws versi
     step nodes sides d node above next side after order p room nl sl n is ne less more left right word =
         step_by nodes sides d node above next side after (toward past order) p room nl sl n (order_here node order (passing_node nodes sides d node above p n) is) ne less more left right word
 
-    pub ends_none : (nodes sides : List ℕ) (d node above : ℕ) → IsPassing nodes sides (walk_order past key ws) d node above s.tree → node ≡ 0 → IsEnded nodes sides (walk_order past key ws) d node above s.tree
+    pub ends_none : (nodes sides : List ℕ) (d node above : ℕ) → IsPassing nodes sides (walk_order past key ws) d node above s.tree → node ≡ 0 → IsWalkEnded nodes sides (walk_order past key ws) d node above s.tree
     ends_none nodes sides d node above p z = record {
       at = way_ends ws (walk_order past key ws) s.tree tree_of nodes sides d node p.on z;
       above_is = subst (λ w. IsFirst above (behind w)) (sym (way_ended ws (walk_order past key ws) s.tree tree_of nodes sides d node p.on z)) p.above_is;
     }
 
     pub ends_same : (nodes sides : List ℕ) (d node above : ℕ) (order : Ordering) → IsPassing nodes sides (walk_order past key ws) d node above s.tree → node ≢ 0 → ((pair : List ℕ × List ℕ) → IsNodeOf ws node pair → order ≡ key_cmp pair.0 key) → toward past order ≡ Equal →
-        IsEnded nodes sides (walk_order past key ws) d node above s.tree
+        IsWalkEnded nodes sides (walk_order past key ws) d node above s.tree
     ends_same nodes sides d node above order p n is q =
         let e = order_here node order (passing_node nodes sides d node above p n) is ∙ q in
         record {
@@ -327,7 +327,7 @@ module _ (ws : List ℕ) (past : Bool) (key nodes sides : List ℕ) (d node abov
   passing_on next side after order w room nl sl n is ne less more left right word version store s =
       step ws version store s past key nodes sides d node above next side after order (w version store s) room nl sl n is ne less more left right word
 
--- so many visits, counted from some number on
+-- n visits, which are few, counted from some number on
 pub few_counted : (ws : List ℕ) (a b n : ℕ) → FewVisits n ws → b ≡ a + n → FewVisits (b - a) ws
 few_counted ws a b n f e = subst (λ k. FewVisits k ws) (let g : n ≡ b - a = omega arith in g) f
 
@@ -359,7 +359,7 @@ none_at ws key version store s e =
       above = above_pairs ws key sp.rest sp.others sp.placed_rest other_keys (subst (All (λ n. order_in key ws n ≡ Greater)) (sym sp.rest_nodes) b.higher);
     }
 
-pub spot_none : (ws key nodes sides : List ℕ) (d node above version : ℕ) (store : Store) (s : StandsFor ws version store) → IsEnded nodes sides (order_in key ws) d node above s.tree → node ≡ 0 → IsMissing ws key s.places store (spot (order_in key ws) [] s.tree).0
+pub spot_none : (ws key nodes sides : List ℕ) (d node above version : ℕ) (store : Store) (s : StandsFor ws version store) → IsWalkEnded nodes sides (order_in key ws) d node above s.tree → node ≡ 0 → IsMissing ws key s.places store (spot (order_in key ws) [] s.tree).0
 spot_none ws key nodes sides d node above version store s e z = none_at ws key version store s (sym z ∙ e.at.node_is)
 
 -- or at the node of the key
@@ -374,7 +374,7 @@ pub record HasPlace (ws key : List ℕ) (places : List Place) (store : Store) (w
   pub above : All (λ p. key_cmp key p.0 ≡ Less) at.after
 
 module _ (ws key : List ℕ) (version : ℕ) (store : Store) (s : StandsFor ws version store) where
-  place_at : (way : List (Turn ℕ)) (here : Tree ℕ) (node : ℕ) → whole way here ≡ s.tree → node ≡ root here → node ≢ 0 → Ends (order_in key ws) here → HasPlace ws key s.places store way here node
+  place_at : (way : List (Turn ℕ)) (here : Tree ℕ) (node : ℕ) → whole way here ≡ s.tree → node ≡ root here → node ≢ 0 → WayEnds (order_in key ws) here → HasPlace ws key s.places store way here node
   place_at way Empty node w e n ends = absurd (n e)
   place_at way (Node l x r) node w e n ends =
       let h = here_at ws s.places store (before way ++ items l) node (items r ++ behind way) s.arranged.nodes.pairs
@@ -396,14 +396,14 @@ module _ (ws key : List ℕ) (version : ℕ) (store : Store) (s : StandsFor ws v
   pub place_is_at : (node : ℕ) → node ≡ root (spot (order_in key ws) [] s.tree).1 → node ≢ 0 → HasPlace ws key s.places store (spot (order_in key ws) [] s.tree).0 (spot (order_in key ws) [] s.tree).1 node
   place_is_at node e n = place_at (spot (order_in key ws) [] s.tree).0 (spot (order_in key ws) [] s.tree).1 node (spot_whole (order_in key ws) [] s.tree) e n (spot_ends (order_in key ws) [] s.tree)
 
-  pub spot_place : (nodes sides : List ℕ) (d node above : ℕ) → IsEnded nodes sides (order_in key ws) d node above s.tree → node ≢ 0 → HasPlace ws key s.places store (spot (order_in key ws) [] s.tree).0 (spot (order_in key ws) [] s.tree).1 node
+  pub spot_place : (nodes sides : List ℕ) (d node above : ℕ) → IsWalkEnded nodes sides (order_in key ws) d node above s.tree → node ≢ 0 → HasPlace ws key s.places store (spot (order_in key ws) [] s.tree).0 (spot (order_in key ws) [] s.tree).1 node
   spot_place nodes sides d node above e n = place_is_at node e.at.node_is n
 
 abbrev pub walk_end : (ℕ → Ordering) → Tree ℕ → List (Turn ℕ) × Tree ℕ
 walk_end order t = spot order [] t
 
 -- a walk past a key ends at nothing
-pub never_same : (key ws : List ℕ) (here : Tree ℕ) (node : ℕ) → node ≡ root here → Ends (walk_order true key ws) here → node ≡ 0
+pub never_same : (key ws : List ℕ) (here : Tree ℕ) (node : ℕ) → node ≡ root here → WayEnds (walk_order true key ws) here → node ≡ 0
 never_same key ws Empty node e n = e
 never_same key ws (Node l x r) node e n = absurd (by_order (order_in key ws x) n)
   where

@@ -8,7 +8,7 @@ use Rattle.cx_base.proofs.PackingLemmas.{packed_byte}
 use Rattle.cx_base.specs.Packing.{byte_at, packed_at, packed, unpacked}
 use Rattle.cx_base.specs.Store.{key_cmp, IsKey}
 use Rattle.avl_words.specs.Lines.{IsWithin, word_of}
-use Rattle.index_checks.specs.Blocks.{HasWords}
+use Rattle.index_checks.specs.Blocks.{HasChainWords}
 use Rattle.index_checks.specs.Layout.{Holds}
 use Rattle.index_checks.proofs.BlockReads.{chain_first, chain_next}
 use Rattle.index_checks.proofs.Texts.{key_small}
@@ -24,7 +24,7 @@ two_lines : (at bytes lines : ℕ) → 7 ≤ at → at < (bytes + 7) / 8 → lin
 two_lines at bytes lines seven l e = omega arith
 
 -- the first block, and the second
-pub first_within : (ws : List ℕ) (first at : ℕ) → ((count : ℕ) × (at < count) × HasWords ws first count) → IsWithin ws first
+pub first_within : (ws : List ℕ) (first at : ℕ) → ((count : ℕ) × (at < count) × HasChainWords ws first count) → IsWithin ws first
 first_within ws first at c =
     let h = c.2 in
     let used : at < (length h.bytes + 7) / 8 = subst (λ n. at < n) h.counted c.1 in
@@ -34,7 +34,7 @@ second_is : (ws : List ℕ) (first second : ℕ) (lines bytes : List ℕ) → Ho
 second_is ws first second lines bytes h some e =
     sym e ∙ ap (λ x. word_of ws x 0) (chain_first ws lines first h.chain) ∙ chain_next ws lines first 0 h.chain some
 
-pub second_within : (ws : List ℕ) (first second at : ℕ) → 7 ≤ at → ((count : ℕ) × (at < count) × HasWords ws first count) → word_of ws first 0 ≡ second → IsWithin ws second
+pub second_within : (ws : List ℕ) (first second at : ℕ) → 7 ≤ at → ((count : ℕ) × (at < count) × HasChainWords ws first count) → word_of ws first 0 ≡ second → IsWithin ws second
 second_within ws first second at seven c e =
     let h = c.2 in
     let used : at < (length h.bytes + 7) / 8 = subst (λ n. at < n) h.counted c.1 in
@@ -64,7 +64,7 @@ word_of_second ws first second at v seven s e lines bytes h used =
 packed_word : (bytes : List ℕ) (k : ℕ) → k < 8 → get_or (packed 8 bytes) k 0 ≡ packed_at bytes k
 packed_word bytes k b = get_or-map-range_with_len (packed_at bytes) 0 8 k k 0 b (zero-add k)
 
--- so many words of a node's key are those of another key
+-- the first words of a node's key, as many as given, are those of another key
 pub record Compared (node first len at : ℕ) (mine ws : List ℕ) : Type 0 where
   pub first_is : word_of ws node 3 ≡ first
   pub len_is : word_of ws node 4 ≡ len
@@ -90,7 +90,7 @@ module _ (node first len at : ℕ) (mine ws : List ℕ) (c : Compared node first
       (words_bytes (packed 8 pair.0) mine at (λ k b. packed_word pair.0 k (omega (arith, few, b)) ∙ c.alike pair is k b))
       ∙ ap (λ k. key_cmp k (unpacked mine_len mine)) (whole_key pair is)
 
-  pub compared_chain : HasNode ws node → at < (len + 7) / 8 → (count : ℕ) × (at < count) × HasWords ws first count
+  pub compared_chain : HasNode ws node → at < (len + 7) / 8 → (count : ℕ) × (at < count) × HasChainWords ws first count
   compared_chain h l = (
     (length h.pair.0 + 7) / 8,
     subst (λ n. at < (n + 7) / 8) (long_is h.pair h.is) l,

@@ -8,12 +8,12 @@ use Rattle.index_checks.specs.Reading.{text_at}
 use Rattle.cx_base.specs.Store.{IsKey}
 use Rattle.avl_words.specs.Lines.{IsWithin, word_of}
 use Rattle.index_checks.proofs.Lines.{all_left, all_right}
-use Rattle.index_checks.specs.Blocks.{IsText, HasText}
+use Rattle.index_checks.specs.Blocks.{IsTextAt, HasText}
 use Rattle.index_checks.specs.Layout.{Holds}
 use Rattle.word_index.specs.Answers.{IsNodeOf, IsPackOf}
 use Rattle.word_index.specs.Walk.{HasNode}
 
-pub key_text : (ws : List ℕ) (node : ℕ) (pair : List ℕ × List ℕ) (is : IsNodeOf ws node pair) → IsText ws node 3 is.place.key_lines pair.0
+pub key_text : (ws : List ℕ) (node : ℕ) (pair : List ℕ × List ℕ) (is : IsNodeOf ws node pair) → IsTextAt ws node 3 is.place.key_lines pair.0
 key_text ws node pair is =
     let place = is.place in
     let lines = All-tail (IsWithin ws) place.node (place.key_lines ++ place.document_lines) is.within in
@@ -24,7 +24,7 @@ key_text ws node pair is =
       within = all_left (IsWithin ws) place.key_lines place.document_lines lines;
     }
 
-pub document_text : (ws : List ℕ) (node : ℕ) (pair : List ℕ × List ℕ) (is : IsNodeOf ws node pair) → IsText ws node 5 is.place.document_lines pair.1
+pub document_text : (ws : List ℕ) (node : ℕ) (pair : List ℕ × List ℕ) (is : IsNodeOf ws node pair) → IsTextAt ws node 5 is.place.document_lines pair.1
 document_text ws node pair is =
     let place = is.place in
     let lines = All-tail (IsWithin ws) place.node (place.key_lines ++ place.document_lines) is.within in

@@ -7,15 +7,15 @@ use Rattle.cx_base.specs.Store.{Store}
 use Rattle.avl_words.specs.Lines.{IsWithin, word_of}
 use Rattle.index_checks.proofs.Lines.{all_left, all_right, lines_within}
 use Rattle.index_checks.proofs.Totals.{few_given}
-use Rattle.index_checks.specs.Blocks.{IsText}
-use Rattle.index_checks.specs.Layout.{IsChain, Holds, Place, lines_at, Arranged, Head}
+use Rattle.index_checks.specs.Blocks.{IsTextAt}
+use Rattle.index_checks.specs.Layout.{IsChain, Holds, Place, lines_at, Arranged, RevisionHead}
 use Rattle.word_index.proofs.Frames.{times, times_append, times_cons, holds_same}
 use Rattle.word_index.proofs.Giving.{give_arranged}
-use Rattle.word_index.specs.Changes.{SameLine, with_given, CanGive, IsLoose, ChainGiven, LooseText, TextGiven, LoosePair, HasLoosePair, PairGiven}
+use Rattle.word_index.specs.Changes.{SameLine, with_line_given, CanGive, IsLoose, ChainGiven, LooseText, TextGiven, LoosePair, HasLoosePair, PairGiven}
 use Rattle.avl_words.specs.Tree.{Tree}
 
 -- loose lines in another order
-pub reordered : (ws : List ℕ) (head : Head) (store : Store) (tree : Tree ℕ) (places : List Place) (given loose other : List ℕ) → ((x : ℕ) → times x other ≡ times x loose) →
+pub reordered : (ws : List ℕ) (head : RevisionHead) (store : Store) (tree : Tree ℕ) (places : List Place) (given loose other : List ℕ) → ((x : ℕ) → times x other ≡ times x loose) →
     Arranged ws head store tree places given loose → Arranged ws head store tree places given other
 reordered ws head store tree places given loose other same a = record {
   sized = a.sized;
@@ -31,7 +31,7 @@ reordered ws head store tree places given loose other same a = record {
   no_seventh = a.no_seventh;
 }
 
-pub loose_within : (ws : List ℕ) (head : Head) (store : Store) (tree : Tree ℕ) (places : List Place) (given loose : List ℕ) → Arranged ws head store tree places given loose → All (IsWithin ws) loose
+pub loose_within : (ws : List ℕ) (head : RevisionHead) (store : Store) (tree : Tree ℕ) (places : List Place) (given loose : List ℕ) → Arranged ws head store tree places given loose → All (IsWithin ws) loose
 loose_within ws head store tree places given loose a = all_right (IsWithin ws) (flat_map lines_at places ++ given) loose (lines_within ws head store tree places given loose a)
 
 -- the blocks of a text
@@ -58,14 +58,14 @@ document_first x place =
       times_append x place.key_lines place.document_lines,
     )
 
-pub loose_document : (ws : List ℕ) (node : ℕ) (head : Head) (store : Store) (tree : Tree ℕ) (places : List Place) (place : Place) (pair : List ℕ × List ℕ) → LoosePair ws node head store tree places place pair →
-    IsLoose ws head store tree places place.document_lines (place.node ∷ place.key_lines) × IsText ws node 5 place.document_lines pair.1
+pub loose_document : (ws : List ℕ) (node : ℕ) (head : RevisionHead) (store : Store) (tree : Tree ℕ) (places : List Place) (place : Place) (pair : List ℕ × List ℕ) → LoosePair ws node head store tree places place pair →
+    IsLoose ws head store tree places place.document_lines (place.node ∷ place.key_lines) × IsTextAt ws node 5 place.document_lines pair.1
 loose_document ws node head store tree places place pair p =
     let a = reordered ws head store tree places p.loose.given (lines_at place ++ []) (place.document_lines ++ (place.node ∷ place.key_lines)) (λ x. document_first x place) p.loose.arranged in
     let within = loose_within ws head store tree places p.loose.given (place.document_lines ++ (place.node ∷ place.key_lines)) a in
     let others = all_right (IsWithin ws) place.document_lines (place.node ∷ place.key_lines) within in (
       record { given = p.loose.given; arranged = a },
-      subst (λ n. IsText ws n 5 place.document_lines pair.1) (sym p.here) (record {
+      subst (λ n. IsTextAt ws n 5 place.document_lines pair.1) (sym p.here) (record {
         holds = p.is.document;
         long = p.is.document_length;
         node_within = All-head (IsWithin ws) place.node place.key_lines others;
@@ -77,8 +77,8 @@ key_first : (x : ℕ) (place : Place) → times x (place.key_lines ++ (place.nod
 key_first x place =
     omega (arith, times_append x place.key_lines (place.node ∷ []), times_cons x place.node [], times_append x (place.node ∷ place.key_lines) [], times_cons x place.node place.key_lines)
 
-pub loose_key : (x y : List ℕ) (node : ℕ) (head : Head) (store : Store) (tree : Tree ℕ) (places : List Place) (place : Place) (pair : List ℕ × List ℕ) → LoosePair x node head store tree places place pair → TextGiven node 5 x y →
-    IsLoose y head store tree places place.key_lines (place.node ∷ []) × IsText y node 3 place.key_lines pair.0
+pub loose_key : (x y : List ℕ) (node : ℕ) (head : RevisionHead) (store : Store) (tree : Tree ℕ) (places : List Place) (place : Place) (pair : List ℕ × List ℕ) → LoosePair x node head store tree places place pair → TextGiven node 5 x y →
+    IsLoose y head store tree places place.key_lines (place.node ∷ []) × IsTextAt y node 3 place.key_lines pair.0
 loose_key x y node head store tree places place pair p t =
     let d = loose_document x node head store tree places place pair p in
     let g = t head store tree places place.document_lines (place.node ∷ place.key_lines) pair.1 d.0 d.1 in
@@ -87,7 +87,7 @@ loose_key x y node head store tree places place pair p t =
     let node_same = All-head (SameLine x y) place.node place.key_lines g.same in
     let key_same = All-tail (SameLine x y) place.node place.key_lines g.same in (
       record { given = g.loose.given; arranged = a },
-      subst (λ n. IsText y n 3 place.key_lines pair.0) (sym p.here) (record {
+      subst (λ n. IsTextAt y n 3 place.key_lines pair.0) (sym p.here) (record {
         holds = subst (λ f. Holds y f place.key_lines pair.0) (sym (node_same 3 (omega arith))) (holds_same x y (word_of x place.node 3) place.key_lines pair.0 key_same p.is.key);
         long = node_same 4 (omega arith) ∙ p.is.key_length;
         node_within = All-head (IsWithin y) place.node [] (all_right (IsWithin y) place.key_lines (place.node ∷ []) within);
@@ -95,7 +95,7 @@ loose_key x y node head store tree places place pair p t =
       }),
     )
 
-pub loose_node : (x y z : List ℕ) (node : ℕ) (head : Head) (store : Store) (tree : Tree ℕ) (places : List Place) (place : Place) (pair : List ℕ × List ℕ) → LoosePair x node head store tree places place pair →
+pub loose_node : (x y z : List ℕ) (node : ℕ) (head : RevisionHead) (store : Store) (tree : Tree ℕ) (places : List Place) (place : Place) (pair : List ℕ × List ℕ) → LoosePair x node head store tree places place pair →
     TextGiven node 5 x y → TextGiven node 3 y z → IsLoose z head store tree places (place.node ∷ []) []
 loose_node x y z node head store tree places place pair p t u =
     let k = loose_key x y node head store tree places place pair p t in
@@ -109,11 +109,11 @@ node_can_be_given x y z node h t u =
       few = few_given z h.head h.store h.tree h.places l.given (h.place.node ∷ []) l.arranged;
     }
 
-pub pair_given : (x y z w : List ℕ) (node : ℕ) → TextGiven node 5 x y → TextGiven node 3 y z → w ≡ with_given node z → PairGiven node x w
+pub pair_given : (x y z w : List ℕ) (node : ℕ) → TextGiven node 5 x y → TextGiven node 3 y z → w ≡ with_line_given node z → PairGiven node x w
 pair_given x y z w node t u is head store tree places place pair p =
     let l = loose_node x y z node head store tree places place pair p t u in
     let g = give_arranged z head store tree places l.given [] place.node l.arranged in
-    let now : w ≡ with_given place.node z = is ∙ ap (λ n. with_given n z) p.here in
+    let now : w ≡ with_line_given place.node z = is ∙ ap (λ n. with_line_given n z) p.here in
     subst (λ v. IsLoose v head store tree places [] []) (sym now) (record { given = place.node ∷ l.given; arranged = g.0 })
 
 pub has_document_text : (ws : List ℕ) (node : ℕ) → HasLoosePair ws node → LooseText ws node 5

@@ -13,7 +13,7 @@ use Rattle.avl_words.specs.Lines.{IsWithin, word_of}
 use Rattle.index_checks.proofs.BlockReads.{word_at_past}
 use Rattle.index_checks.proofs.Lines.{all_left, all_right}
 use Rattle.index_checks.proofs.Totals.{all_lines}
-use Rattle.index_checks.specs.Layout.{Holds, Place, lines_at, Placed, Arranged, Head}
+use Rattle.index_checks.specs.Layout.{Holds, Place, lines_at, Placed, Arranged, RevisionHead}
 use Rattle.word_index.proofs.Frames.{times, times_append, times_cons, holds_same}
 use Rattle.word_index.proofs.PairsGiven.{reordered, loose_within}
 use Rattle.word_index.proofs.Taking.{from_one}
@@ -21,7 +21,7 @@ use Rattle.word_index.proofs.Writing.{fill_arranged}
 use Rattle.word_index.specs.Answers.{IsPackOf}
 use Rattle.word_index.specs.Packed.{IsPacked}
 use Rattle.word_index.specs.Changes.{SameLine}
-use Rattle.word_index.specs.Fresh.{CanTake, LineTaken, LineFilled, IsWritten, TextWritten}
+use Rattle.word_index.specs.Fresh.{CanTake, LineTaken, LineFilled, IsChainWritten, TextWritten}
 use Rattle.word_index.specs.Insertion.{PairWritten}
 use Rattle.avl_words.specs.Tree.{Tree}
 
@@ -66,8 +66,8 @@ pub count_blocks : (len count bytes : ℕ) → count ≡ len / 56 + min 1 (len %
 count_blocks len count bytes c e = omega arith
 
 -- written words hold the bytes packed in them
-pub written_holds : (x y : List ℕ) (head : Head) (store : Store) (tree : Tree ℕ) (places : List Place) (first count n len : ℕ) (words bytes loose : List ℕ) → IsPackOf n len words bytes → length bytes ≤ 8 * n → count ≡ div_ceil len 56 →
-    (w : IsWritten x y head store tree places first count 0 words loose) → Holds y first w.lines bytes
+pub written_holds : (x y : List ℕ) (head : RevisionHead) (store : Store) (tree : Tree ℕ) (places : List Place) (first count n len : ℕ) (words bytes loose : List ℕ) → IsPackOf n len words bytes → length bytes ≤ 8 * n → count ≡ div_ceil len 56 →
+    (w : IsChainWritten x y head store tree places first count 0 words loose) → Holds y first w.lines bytes
 written_holds x y head store tree places first count n len words bytes loose p short counted w = record {
   chain = w.chain;
   enough = w.counted ∙ count_blocks len count (length bytes) counted p.long;
@@ -79,7 +79,7 @@ pairs_of_lines : (store : Store) → length store ≤ lines_of store
 pairs_of_lines [] = omega arith
 pairs_of_lines (q ∷ store) = omega (arith, pairs_of_lines store, sum_by-cons pair_lines q store)
 
-pub few_pairs : (ws : List ℕ) (head : Head) (store : Store) (tree : Tree ℕ) (places : List Place) (given loose : List ℕ) → Arranged ws head store tree places given loose → word_of ws 0 5 ≤ 2 ^ 32
+pub few_pairs : (ws : List ℕ) (head : RevisionHead) (store : Store) (tree : Tree ℕ) (places : List Place) (given loose : List ℕ) → Arranged ws head store tree places given loose → word_of ws 0 5 ≤ 2 ^ 32
 few_pairs ws head store tree places given loose a =
     omega (arith, pairs_of_lines store, lines_of_places ws places store a.nodes.pairs, all_lines ws head store tree places given loose a, a.pair_count, a.end_to, a.sized.few)
 

@@ -12,7 +12,7 @@ use Rattle.avl_words.specs.Words.{root, Stands, times as tree_times}
 use Rattle.avl_words.specs.Exact.{with_tree}
 use Rattle.avl_words.proofs.ExactTrees.{AreThere, tree_long, tree_header, tree_words_far, tree_words_other, tree_root, tree_stands}
 use Rattle.avl_words.proofs.Frames.{stands_same}
-use Rattle.index_checks.specs.Layout.{IsChain, Place, lines_at, nodes_of, Placed, Arranged, Head}
+use Rattle.index_checks.specs.Layout.{IsChain, Place, lines_at, nodes_of, Placed, Arranged, RevisionHead}
 use Rattle.index_checks.proofs.Lines.{lines_there, lines_within}
 use Rattle.word_index.specs.Changes.{SameLine}
 use Rattle.word_index.proofs.Frames.{times, times_append, times_cons, times_self, chain_same, placed_same, nodes_and_blocks, blocks_of, SameNode, found, tree_lines}
@@ -51,7 +51,7 @@ pub at_most_once : (x end n : ℕ) → n ≡ cond (leb 1 x && ltb x end) 1 0 →
 at_most_once x end n e = grind (arith, nat_tests)
 
 -- other places of the same lines, and another tree over their nodes
-module _ (ws : List ℕ) (head : Head) (store more : Store) (tree t : Tree ℕ) (places others : List Place) (given loose now_loose : List ℕ)
+module _ (ws : List ℕ) (head : RevisionHead) (store more : Store) (tree t : Tree ℕ) (places others : List Place) (given loose now_loose : List ℕ)
     (a : Arranged ws head store tree places given loose) (in_order : items t ≡ nodes_of others) (same : (x : ℕ) → times x (flat_map lines_at others ++ given ++ now_loose) ≡ times x (flat_map lines_at places ++ given ++ loose)) where
   pub present : (x : ℕ) → times x (flat_map lines_at others ++ given ++ now_loose) ≢ 0 → (1 ≤ x) × IsWithin ws x
   present x n =

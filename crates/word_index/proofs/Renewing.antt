@@ -7,7 +7,7 @@ use Rattle.avl_words.specs.Tree.{Tree, Empty, Node, height}
 use Rattle.avl_words.specs.Lines.{word_of, IsPartLength}
 use Rattle.avl_words.specs.Words.{root, IsNode, Stands, times as tree_times}
 use Rattle.avl_words.proofs.Frames.{times_other}
-use Rattle.index_checks.specs.Layout.{IsChain, Holds, Place, lines_at, nodes_of, IsAt, Placed, Arranged, Head}
+use Rattle.index_checks.specs.Layout.{IsChain, Holds, Place, lines_at, nodes_of, IsAt, Placed, Arranged, RevisionHead}
 use Rattle.index_checks.proofs.OneStore.{placed_append}
 use Rattle.word_index.specs.Changes.{SameLine}
 use Rattle.word_index.proofs.Cutting.{times_middle}
@@ -60,7 +60,7 @@ pub record IsRenewed (x now : List ℕ) (place : Place) (lines document : List �
   pub counted : word_of now place.node 6 ≡ length document
   pub told : word_of now place.node 7 ≡ revision
 
-module _ (v x : List ℕ) (head : Head) (lower after : Store) (pair : List ℕ × List ℕ) (tree : Tree ℕ) (front rest : List Place) (place : Place) (given loose : List ℕ) (shape : Placed v front lower)
+module _ (v x : List ℕ) (head : RevisionHead) (lower after : Store) (pair : List ℕ × List ℕ) (tree : Tree ℕ) (front rest : List Place) (place : Place) (given loose : List ℕ) (shape : Placed v front lower)
     (a : Arranged x head (lower ++ pair ∷ after) tree (front ++ place ∷ rest) given loose) where
   whole : (k : ℕ) → times k (flat_map lines_at front) + times k (lines_at place) + times k (flat_map lines_at rest) + times k given + times k loose ≡ times k (flat_map lines_at (front ++ place ∷ rest) ++ given ++ loose)
   whole k =

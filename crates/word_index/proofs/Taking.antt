@@ -8,15 +8,15 @@ use Rattle.cx_base.specs.Store.{Store}
 use Rattle.avl_words.specs.Lines.{IsWithin, with_word, word_of, IsPartLength}
 use Rattle.index_checks.proofs.Lines.{all_left, all_right, lines_there, lines_within}
 use Rattle.index_checks.proofs.Totals.{all_lines}
-use Rattle.index_checks.specs.Layout.{IsChain, Place, lines_at, Nodes, Arranged, Head}
+use Rattle.index_checks.specs.Layout.{IsChain, Place, lines_at, Nodes, Arranged, RevisionHead}
 use Rattle.word_index.proofs.Frames.{times, times_append, times_cons, stored_elsewhere, same_then, chain_same, nodes_same}
 use Rattle.word_index.proofs.Giving.{moved_line}
 use Rattle.word_index.specs.Changes.{SameLine}
-use Rattle.word_index.specs.Fresh.{HasRoom, CanTake, IsTaken, LineTaken}
+use Rattle.word_index.specs.Fresh.{HasRoom, CanTake, AreLinesTaken, LineTaken}
 use Rattle.avl_words.specs.Tree.{Tree}
 
 -- the lists of lines that are from 1 on
-pub from_one : (ws : List ℕ) (said : Head) (store : Store) (tree : Tree ℕ) (places : List Place) (given loose : List ℕ) → Arranged ws said store tree places given loose →
+pub from_one : (ws : List ℕ) (said : RevisionHead) (store : Store) (tree : Tree ℕ) (places : List Place) (given loose : List ℕ) → Arranged ws said store tree places given loose →
     All (λ x. 1 ≤ x) (flat_map lines_at places) × All (λ x. 1 ≤ x) given × All (λ x. 1 ≤ x) loose
 from_one ws said store tree places given loose a =
     let used = flat_map lines_at places in
@@ -31,8 +31,8 @@ header_stored ws i v lines l some = λ k d below. stored_elsewhere ws 0 i v (get
 one_more_end : (k end m : ℕ) → 1 ≤ end → m ≡ cond (leb 1 k && ltb k end) 1 0 → m + cond (eqb end k) 1 0 ≡ cond (leb 1 k && ltb k (end + 1)) 1 0
 one_more_end k end m some e = grind (arith, nat_tests)
 
-pub new_taken : (x : List ℕ) (said : Head) (store : Store) (tree : Tree ℕ) (places : List Place) (given loose : List ℕ) (line : ℕ) → Arranged x said store tree places given loose → HasRoom x places loose 1 →
-    word_of x 0 2 ≡ 0 → word_of x 0 3 ≡ line → IsTaken x (with_word 0 3 (line + 1) x) said store tree places (line ∷ []) loose
+pub new_taken : (x : List ℕ) (said : RevisionHead) (store : Store) (tree : Tree ℕ) (places : List Place) (given loose : List ℕ) (line : ℕ) → Arranged x said store tree places given loose → HasRoom x places loose 1 →
+    word_of x 0 2 ≡ 0 → word_of x 0 3 ≡ line → AreLinesTaken x (with_word 0 3 (line + 1) x) said store tree places (line ∷ []) loose
 new_taken x said store tree places (g ∷ given) loose line a room none end =
     absurd (let some = All-head (λ y. 1 ≤ y) g given (from_one x said store tree places (g ∷ given) loose a).1 in omega (arith, some, a.given_back.0, none))
 new_taken x said store tree places [] loose line a room none end =
@@ -69,11 +69,11 @@ new_taken x said store tree places [] loose line a room none end =
       long = long;
     }
 
-pub given_taken : (x : List ℕ) (said : Head) (store : Store) (tree : Tree ℕ) (places : List Place) (given loose : List ℕ) (head : ℕ) → Arranged x said store tree places given loose →
-    (head ≡ 0 → ⊥) → word_of x 0 2 ≡ head → IsTaken x (with_word 0 4 (word_of x 0 4 - 1) (with_word 0 2 (word_of x head 0) x)) said store tree places (head ∷ []) loose
+pub given_taken : (x : List ℕ) (said : RevisionHead) (store : Store) (tree : Tree ℕ) (places : List Place) (given loose : List ℕ) (head : ℕ) → Arranged x said store tree places given loose →
+    (head ≡ 0 → ⊥) → word_of x 0 2 ≡ head → AreLinesTaken x (with_word 0 4 (word_of x 0 4 - 1) (with_word 0 2 (word_of x head 0) x)) said store tree places (head ∷ []) loose
 given_taken x said store tree places [] loose head a some is = absurd (some (sym is ∙ a.given_back))
 given_taken x said store tree places (g ∷ given) loose head a some is =
-    subst (λ h. IsTaken x (with_word 0 4 (word_of x 0 4 - 1) (with_word 0 2 (word_of x h 0) x)) said store tree places (h ∷ []) loose) (sym a.given_back.0 ∙ is) (
+    subst (λ h. AreLinesTaken x (with_word 0 4 (word_of x 0 4 - 1) (with_word 0 2 (word_of x h 0) x)) said store tree places (h ∷ []) loose) (sym a.given_back.0 ∙ is) (
     let w = with_word 0 2 (word_of x g 0) x in
     let y = with_word 0 4 (word_of x 0 4 - 1) w in
     let used = flat_map lines_at places in
@@ -108,7 +108,7 @@ given_taken x said store tree places (g ∷ given) loose head a some is =
 pub end_small : (x : List ℕ) (more : ℕ) → CanTake x more → word_of x 0 3 ≤ 2 ^ 32
 end_small x more c = omega (arith, c.arranged.end_to, c.arranged.sized.few)
 
-head_known : (x : List ℕ) (said : Head) (store : Store) (tree : Tree ℕ) (places : List Place) (given loose : List ℕ) (head : ℕ) → Arranged x said store tree places given loose → (head ≡ 0 → ⊥) → word_of x 0 2 ≡ head →
+head_known : (x : List ℕ) (said : RevisionHead) (store : Store) (tree : Tree ℕ) (places : List Place) (given loose : List ℕ) (head : ℕ) → Arranged x said store tree places given loose → (head ≡ 0 → ⊥) → word_of x 0 2 ≡ head →
     IsWithin x head × (1 ≤ word_of x 0 4)
 head_known x said store tree places [] loose head a some is = absurd (some (sym is ∙ a.given_back))
 head_known x said store tree places (g ∷ given) loose head a some is =
@@ -124,10 +124,10 @@ new_line x y z head line e is none r said store tree places given loose a room =
     let last : word_of x 0 3 ≡ line = subst (λ w. word_of w 0 3 ≡ line) e r.0 in
     let first : word_of x 0 2 ≡ 0 = subst (λ w. word_of w 0 2 ≡ 0) e (subst (λ n. word_of y 0 2 ≡ n) none is) in
     let now : z ≡ with_word 0 3 (line + 1) x = subst (λ w. z ≡ with_word 0 3 (line + 1) w) e r.1 in
-    subst (λ w. IsTaken x w said store tree places (line ∷ []) loose) (sym now) (new_taken x said store tree places given loose line a room first last)
+    subst (λ w. AreLinesTaken x w said store tree places (line ∷ []) loose) (sym now) (new_taken x said store tree places given loose line a room first last)
 
 pub given_line : (x y z : List ℕ) (head : ℕ) → y ≡ x → word_of y 0 2 ≡ head → (head ≡ 0 → ⊥) → z ≡ with_word 0 4 (word_of y 0 4 - 1) (with_word 0 2 (word_of y head 0) y) → LineTaken head x z
 given_line x y z head e is some r said store tree places given loose a room =
     let first : word_of x 0 2 ≡ head = subst (λ w. word_of w 0 2 ≡ head) e is in
     let now = subst (λ w. z ≡ with_word 0 4 (word_of w 0 4 - 1) (with_word 0 2 (word_of w head 0) w)) e r in
-    subst (λ w. IsTaken x w said store tree places (head ∷ []) loose) (sym now) (given_taken x said store tree places given loose head a some first)
+    subst (λ w. AreLinesTaken x w said store tree places (head ∷ []) loose) (sym now) (given_taken x said store tree places given loose head a some first)

@@ -11,7 +11,7 @@ use Rattle.cx_base.specs.Store.{Store, IsStore, key_cmp}
 use Rattle.doc_model.specs.Revisions.{RevisedStore, revision_at, next_revision, triples_below, triples_above}
 use Rattle.avl_words.specs.Tree.{Tree}
 use Rattle.avl_words.specs.Lines.{word_of, with_word, IsPartLength}
-use Rattle.index_checks.specs.Layout.{IsChain, Place, lines_at, Placed, Nodes, Head, head_of, IsRevision, Arranged, StandsFor}
+use Rattle.index_checks.specs.Layout.{IsChain, Place, lines_at, Placed, Nodes, RevisionHead, head_of, IsRevision, Arranged, StandsFor}
 use Rattle.index_checks.specs.Lawful.{head_in}
 use Rattle.index_checks.specs.Reading.{revised_in}
 use Rattle.index_checks.proofs.Revisions.{triples_of, all_triples, all_places, triples_read, last_read}
@@ -108,7 +108,7 @@ module _ (ws key : List ℕ) (front rest : List Place) (lower others : Store) (p
         triples_append ws front (other ∷ rest) lower ((key, document) ∷ others) placed ∙ sym (ap₂ (λ a b. a ++ ((key, document), other.revision) ∷ b) behind_below behind_above)
 
 -- words in which pairs stand, with these revisions
-pub record HasTriples (words : List ℕ) (head : Head) (store : Store) (triples : List Triple) : Type 0 where
+pub record HasTriples (words : List ℕ) (head : RevisionHead) (store : Store) (triples : List Triple) : Type 0 where
   pub tree : Tree ℕ
   pub places : List Place
   pub given : List ℕ
@@ -121,7 +121,7 @@ pub record IsHeaded (before now : List ℕ) : Type 0 where
   pub header : (i : ℕ) → i ≢ 0 → i ≢ 6 → get_or now i 0 ≡ get_or before i 0
   pub lines : (lines : List ℕ) → All (λ x. 1 ≤ x) lines → All (SameLine before now) lines
 
-pub headed_arranged : (x y : List ℕ) (head : Head) (store : Store) (tree : Tree ℕ) (places : List Place) (given loose : List ℕ) → IsHeaded x y → Arranged x head store tree places given loose → Arranged y (head_in y) store tree places given loose
+pub headed_arranged : (x y : List ℕ) (head : RevisionHead) (store : Store) (tree : Tree ℕ) (places : List Place) (given loose : List ℕ) → IsHeaded x y → Arranged x head store tree places given loose → Arranged y (head_in y) store tree places given loose
 headed_arranged x y head store tree places given loose h a =
     let some = from_one x head store tree places given loose a in
     let end = h.header 3 (omega arith) (omega arith) in
@@ -139,7 +139,7 @@ headed_arranged x y head store tree places given loose h a =
       no_seventh = h.header 7 (omega arith) (omega arith) ∙ a.no_seventh;
     }
 
-raised_arranged : (x : List ℕ) (head : Head) (store : Store) (tree : Tree ℕ) (places : List Place) (given loose : List ℕ) (last : ℕ) → Arranged x head store tree places given loose →
+raised_arranged : (x : List ℕ) (head : RevisionHead) (store : Store) (tree : Tree ℕ) (places : List Place) (given loose : List ℕ) (last : ℕ) → Arranged x head store tree places given loose →
     Arranged (with_word 0 6 last x) (head_of head.version last) store tree places given loose
 raised_arranged x head store tree places given loose last a =
     let y = with_word 0 6 last x in
@@ -148,7 +148,7 @@ raised_arranged x head store tree places given loose last a =
     subst (λ h. Arranged y h store tree places given loose) (ap₂ head_of version raised) (headed_arranged x y head store tree places given loose
     (record { long = length-set x 6 last; header = λ i zero six. get_or-set_other x 6 i last 0 six; lines = λ lines some. header_stored x 6 last lines (omega arith) some }) a)
 
-pub raised : (x : List ℕ) (head : Head) (store : Store) (triples : List Triple) (last : ℕ) → HasTriples x head store triples → HasTriples (with_word 0 6 last x) (head_of head.version last) store triples
+pub raised : (x : List ℕ) (head : RevisionHead) (store : Store) (triples : List Triple) (last : ℕ) → HasTriples x head store triples → HasTriples (with_word 0 6 last x) (head_of head.version last) store triples
 raised x head store triples last h = record { tree = h.tree; places = h.places; given = h.given; arranged = raised_arranged x head store h.tree h.places h.given [] last h.arranged; told = h.told }
 
 -- words that stand for a store in version 2, and the revisions that are read off them

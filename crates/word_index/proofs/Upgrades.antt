@@ -11,8 +11,8 @@ use Rattle.avl_words.specs.Tree.{Tree, Empty, Node, size, items}
 use Rattle.avl_words.specs.Exact.{tree_at}
 use Rattle.avl_words.specs.Lines.{word_of, with_word}
 use Rattle.index_checks.specs.Lawful.{IsLawful, head_in}
-use Rattle.index_checks.specs.Layout.{Place, Placed, nodes_of, Head, head_of, IsRevision, Arranged, StandsFor}
-use Rattle.index_checks.specs.Order.{in_order, HasTree, IsNoted, AreNoted, to_come}
+use Rattle.index_checks.specs.Layout.{Place, Placed, nodes_of, RevisionHead, head_of, IsRevision, Arranged, StandsFor}
+use Rattle.index_checks.specs.Order.{nodes_in_order, HasTree, IsLeftPassed, AreNoted, to_come}
 use Rattle.index_checks.specs.Reading.{StandsForRevised}
 use Rattle.index_checks.proofs.Arranging.{arranged_tree, arranged_nodes}
 use Rattle.index_checks.proofs.OneStore.{placed_append, placed_count}
@@ -49,7 +49,7 @@ first_given (q ∷ store) =
     All-cons (λ (t : Triple). IsRevision (head_of 2 1) t.1) (q, 1) (map (λ pair. (pair, 1)) store) here (first_given store)
 
 -- one pair after the other gets its first revision
-firsts_told : (y : List ℕ) (head : Head) (tree : Tree ℕ) (given : List ℕ) (front rest : List Place) (lower others : Store) → Placed y front lower → Placed y rest others → Arranged y head (lower ++ others) tree (front ++ rest) given [] →
+firsts_told : (y : List ℕ) (head : RevisionHead) (tree : Tree ℕ) (given : List ℕ) (front rest : List Place) (lower others : Store) → Placed y front lower → Placed y rest others → Arranged y head (lower ++ others) tree (front ++ rest) given [] →
     Arranged (with_first_revisions (nodes_of rest) y) head (lower ++ others) tree (front ++ map first_at rest) given []
 firsts_told y head tree given front [] lower others n m a = a
 firsts_told y head tree given front (p ∷ rest) lower [] n m a = absurd m
@@ -95,10 +95,10 @@ module _ (x : List ℕ) (store : Store) (s : StandsFor x 1 store) where
       let t = arranged_tree ws (head_of 2 1) store s.tree s.places s.given [] headed in
       tree_of ws (word_of ws 0 1) (size s.tree) (record { tree = s.tree; stands = t.stands; balanced = t.balanced; root_is = sym t.root_is; counted = refl }) t.few
 
-  pub header_order : in_order (word_of (with_header x) 0 1) (with_header x) ≡ in_order (word_of x 0 1) x
+  pub header_order : nodes_in_order (word_of (with_header x) 0 1) (with_header x) ≡ nodes_in_order (word_of x 0 1) x
   header_order = sym (arranged_nodes (with_header x) (head_of 2 1) store s.tree s.places s.given [] headed) ∙ arranged_nodes x (head_of 1 s.last) store s.tree s.places s.given [] s.arranged
 
-  pub header_count : length (in_order (word_of (with_header x) 0 1) (with_header x)) ≡ word_of (with_header x) 0 5
+  pub header_count : length (nodes_in_order (word_of (with_header x) 0 1) (with_header x)) ≡ word_of (with_header x) 0 5
   header_count =
       let ws = with_header x in
       sym (ap length (arranged_nodes ws (head_of 2 1) store s.tree s.places s.given [] headed)) ∙ placed_count ws s.places store headed.nodes.pairs ∙ sym headed.pair_count
@@ -120,7 +120,7 @@ first_words n (node ∷ nodes) ws w = first_words n nodes (with_word node 7 1 ws
 
 upgraded_words : (x : List ℕ) (n : ℕ) → Words n x → Words n (upgraded_in x)
 unfolding upgraded_in
-upgraded_words x n w = first_words n (in_order (word_of x 0 1) x) _ (Words-set n (with_word 0 0 2 x) 6 1 (lit< tt) (Words-set n x 0 2 (lit< tt) w))
+upgraded_words x n w = first_words n (nodes_in_order (word_of x 0 1) x) _ (Words-set n (with_word 0 0 2 x) 6 1 (lit< tt) (Words-set n x 0 2 (lit< tt) w))
 
 pub is_migrated : (x : List ℕ) → IsMigrated x (upgraded_in x)
 is_migrated x = record { pairs = upgraded_stands x; words = upgraded_words x }
@@ -139,17 +139,17 @@ module _ (ws : List ℕ) (node : ℕ) where
       let make : Tree ℕ → Tree ℕ → Tree ℕ = λ l r. cond (eqb line 0) Empty (Node l line r) in
       ap₂ make (tree_same n (word_of after line 0) ∙ ap (λ k. tree_at n k ws) (link_same line 0 (omega arith))) (tree_same n (word_of after line 1) ∙ ap (λ k. tree_at n k ws) (link_same line 1 (omega arith)))
 
-  order_same : (line : ℕ) → in_order line after ≡ in_order line ws
-  unfolding in_order
+  order_same : (line : ℕ) → nodes_in_order line after ≡ nodes_in_order line ws
+  unfolding nodes_in_order
   order_same line = ap items (tree_same 64 line)
 
   pub to_come_same : (nodes : List ℕ) (depth : ℕ) → to_come after nodes depth ≡ to_come ws nodes depth
   to_come_same nodes zero = refl
   to_come_same nodes (suc depth) =
       let k = get_or nodes depth 0 in
-      ap₂ (λ a b. k ∷ (a ++ b)) (order_same (word_of after k 1) ∙ ap (λ line. in_order line ws) (link_same k 1 (omega arith))) (to_come_same nodes depth)
+      ap₂ (λ a b. k ∷ (a ++ b)) (order_same (word_of after k 1) ∙ ap (λ line. nodes_in_order line ws) (link_same k 1 (omega arith))) (to_come_same nodes depth)
 
-  noted_same : (line level : ℕ) → IsNoted ws line level → IsNoted after line level
+  noted_same : (line level : ℕ) → IsLeftPassed ws line level → IsLeftPassed after line level
   noted_same line level n =
       let long = length-set ws (8 * node + 7) 1 in
       record {
@@ -174,6 +174,6 @@ pub upgrade_ends : (ws all last : List ℕ) → with_first_revisions all ws ≡ 
 upgrade_ends ws [] last e z = e
 upgrade_ends ws (node ∷ all) last e z = absurd (omega arith)
 
-pub upgrade_begins : (x : List ℕ) (all : List ℕ) → IsLawful x 1 → all ≡ in_order (word_of (with_header x) 0 1) (with_header x) → with_first_revisions all (with_header x) ≡ upgraded_in x
+pub upgrade_begins : (x : List ℕ) (all : List ℕ) → IsLawful x 1 → all ≡ nodes_in_order (word_of (with_header x) 0 1) (with_header x) → with_first_revisions all (with_header x) ≡ upgraded_in x
 unfolding upgraded_in with_header
 upgrade_begins x all l e = ap (λ ns. with_first_revisions ns (with_word 0 6 1 (with_word 0 0 2 x))) (e ∙ header_order x l.0 l.1)

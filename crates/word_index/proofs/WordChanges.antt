@@ -21,7 +21,7 @@ use Rattle.index_checks.specs.Reading.{store_in}
 use Rattle.index_checks.proofs.LawfulWords.{store_is}
 use Rattle.index_checks.proofs.Texts.{document_small}
 use Rattle.word_index.specs.Changes.{HasLoosePair}
-use Rattle.word_index.specs.Exact.{order_in, node_at, block_words, with_chain_filled, document_blocks, with_refilled, with_emptied, with_renewed, with_rewritten, with_replaced, with_written, with_new_pair, with_one_more, with_added, with_one_less, with_cut, with_pair_given, is_key_in, with_document, with_key_removed}
+use Rattle.word_index.specs.Exact.{order_in, node_at, block_words, with_chain_filled, document_blocks, with_refilled, with_emptied, with_renewed, with_rewritten, with_replaced, with_written, with_new_pair, with_one_more, with_added, with_one_less, with_node_cut, with_pair_given, is_key_in, with_document, with_key_removed}
 use Rattle.word_index.specs.Fresh.{CanTake}
 use Rattle.word_index.specs.Rewriting.{CanRewrite}
 use Rattle.word_index.proofs.Adding.{add_room, plain_of, added_there, added_size, added_pairs}
@@ -186,7 +186,7 @@ module _ (key document x : List ℕ) (i : IsIndex x) (is_key : IsKey key) (is_do
 
 -- a key taken out
 module _ (key x : List ℕ) (k : ℕ) (w : Words k x) (version : ℕ) (store : Store) (s : StandsFor x version store) where
-  cut_words : (node : ℕ) → node ≡ root (walk_end (order_in key x) s.tree).1 → node ≢ 0 → Words k (with_pair_given node (with_cut key x))
+  cut_words : (node : ℕ) → node ≡ root (walk_end (order_in key x) s.tree).1 → node ≢ 0 → Words k (with_pair_given node (with_node_cut key x))
   unfolding with_one_less
   cut_words node e n =
       let h = place_is_at x key version store s node e n in
@@ -202,12 +202,12 @@ module _ (key x : List ℕ) (k : ℕ) (w : Words k x) (version : ℕ) (store : S
       subst (λ u. Words k (with_pair_given node u)) (sym (cut_is x key version store s))
       (pair_given_words k node now loose (omega (arith, within, short)) (Words-set k (with_tree t x) (8 * 0 + 5) _ (omega (arith, fits)) tree))
 
-  pub removed_by : (b : Bool) → is_some (document_at key store) ≡ b → Words k (cond b (with_pair_given (node_at key x) (with_cut key x)) x)
+  pub removed_by : (b : Bool) → is_some (document_at key store) ≡ b → Words k (cond b (with_pair_given (node_at key x) (with_node_cut key x)) x)
   removed_by false e = w
   removed_by true e =
       let node = root (walk_end (order_in key x) s.tree).1 in
       let ne : node ≢ 0 = λ z. absurd (let f : true ≡ false = sym e ∙ missing_key x key key version store s (none_at x key version store s (sym z)) in let g : ⊥ = cc in g) in
-      subst (λ n. Words k (with_pair_given n (with_cut key x))) (node_at_is x key key version store s) (cut_words node refl ne)
+      subst (λ n. Words k (with_pair_given n (with_node_cut key x))) (node_at_is x key key version store s) (cut_words node refl ne)
 
 pub removed_words : (key x : List ℕ) → IsIndex x → (k : ℕ) → Words k x → Words k (with_key_removed key x)
 unfolding is_key_in with_key_removed

@@ -6,17 +6,17 @@ use Rattle.std.proofs.lemmas.List.Elements.{All-head}
 use Rattle.cx_base.specs.Store.{Store}
 use Rattle.avl_words.specs.Lines.{IsWithin, word_of, IsPartLength}
 use Rattle.index_checks.proofs.Lines.{all_left, all_right}
-use Rattle.index_checks.specs.Layout.{IsChain, Place, lines_at, Nodes, Arranged, Head}
+use Rattle.index_checks.specs.Layout.{IsChain, Place, lines_at, Nodes, Arranged, RevisionHead}
 use Rattle.word_index.proofs.Frames.{chain_same, nodes_same}
 use Rattle.word_index.proofs.Giving.{stands_alone, all_same_then}
 use Rattle.word_index.proofs.PairsGiven.{loose_within}
 use Rattle.word_index.proofs.Taking.{from_one}
 use Rattle.word_index.specs.Changes.{SameLine}
-use Rattle.word_index.specs.Fresh.{HasRoom, CanTake, LineTaken, LineFilled, IsBlock, IsWritten, TextWritten}
+use Rattle.word_index.specs.Fresh.{HasRoom, CanTake, LineTaken, LineFilled, IsBlock, IsChainWritten, TextWritten}
 use Rattle.avl_words.specs.Tree.{Tree}
 
 -- a loose line that is filled
-pub fill_arranged : (x y : List ℕ) (head : Head) (store : Store) (tree : Tree ℕ) (places : List Place) (given loose content : List ℕ) (line : ℕ) → Arranged x head store tree places given (line ∷ loose) → LineFilled line content x y →
+pub fill_arranged : (x y : List ℕ) (head : RevisionHead) (store : Store) (tree : Tree ℕ) (places : List Place) (given loose content : List ℕ) (line : ℕ) → Arranged x head store tree places given (line ∷ loose) → LineFilled line content x y →
     Arranged y head store tree places given (line ∷ loose) × All (SameLine x y) loose
 fill_arranged x y head store tree places given loose content line a f =
     let used = flat_map lines_at places in
@@ -44,12 +44,12 @@ fill_arranged x y head store tree places given loose content line a f =
 -- words of which the last blocks are written
 abbrev pub WrittenSoFar : List ℕ → ℕ → ℕ → ℕ → List ℕ → List ℕ → Type 0
 WrittenSoFar words count j next before now =
-    (head : Head) (store : Store) (tree : Tree ℕ) (places : List Place) (given loose : List ℕ) → Arranged before head store tree places given loose → HasRoom before places loose count →
-    IsWritten before now head store tree places next j (7 * (count - j)) words loose
+    (head : RevisionHead) (store : Store) (tree : Tree ℕ) (places : List Place) (given loose : List ℕ) → Arranged before head store tree places given loose → HasRoom before places loose count →
+    IsChainWritten before now head store tree places next j (7 * (count - j)) words loose
 
 pub written_none : (words : List ℕ) (count : ℕ) (x y : List ℕ) → x ≡ y → WrittenSoFar words count 0 0 x y
 written_none words count x y e head store tree places given loose a room =
-    subst (λ w. IsWritten x w head store tree places 0 0 (7 * (count - 0)) words loose) e (record {
+    subst (λ w. IsChainWritten x w head store tree places 0 0 (7 * (count - 0)) words loose) e (record {
       lines = [];
       taken = record { given = given; arranged = a; same = λ k d l i b. refl; long = refl };
       chain = refl;
@@ -126,4 +126,4 @@ pub written_all : (words : List ℕ) (count j next : ℕ) (x y : List ℕ) → j
 written_all words count j next x y e r head store tree places given loose a room =
     let p = r head store tree places given loose a room in
     let none : 7 * (count - j) ≡ 0 = omega arith in
-    subst (λ n. IsWritten x y head store tree places next n 0 words loose) e (subst (λ n. IsWritten x y head store tree places next j n words loose) none p)
+    subst (λ n. IsChainWritten x y head store tree places next n 0 words loose) e (subst (λ n. IsChainWritten x y head store tree places next j n words loose) none p)

@@ -2,8 +2,8 @@
 use Rattle.std.specs.Prelude.{◌≡◌, ◌^◌, ◌+◌, ◌<◌, ◌≤◌, ℕ, List, ◌++◌, [], length, All, Bool, is_some}
 use Rattle.cx_base.specs.Store.{Store}
 use Rattle.avl_words.specs.Lines.{IsWithin, word_of, with_word}
-use Rattle.index_checks.specs.Blocks.{IsText}
-use Rattle.index_checks.specs.Layout.{IsChain, Place, lines_at, IsAt, Head, Arranged, StandsFor}
+use Rattle.index_checks.specs.Blocks.{IsTextAt}
+use Rattle.index_checks.specs.Layout.{IsChain, Place, lines_at, IsAt, RevisionHead, Arranged, StandsFor}
 use Rattle.doc_model.specs.Meaning.{document_at, without_key}
 use Rattle.avl_words.specs.Tree.{Tree}
 
@@ -12,8 +12,8 @@ abbrev pub SameLine : List ℕ → List ℕ → ℕ → Type 0
 SameLine before now line = (i : ℕ) → i < 8 → word_of now line i ≡ word_of before line i
 
 -- a line is put in front of the given-back lines
-unfoldable pub with_given : ℕ → List ℕ → List ℕ
-with_given line words = with_word 0 4 (word_of words 0 4 + 1) (with_word 0 2 line (with_word line 0 (word_of words 0 2) words))
+unfoldable pub with_line_given : ℕ → List ℕ → List ℕ
+with_line_given line words = with_word 0 4 (word_of words 0 4 + 1) (with_word 0 2 line (with_word line 0 (word_of words 0 2) words))
 
 -- the line can be given back
 pub record CanGive (words : List ℕ) (line : ℕ) : Type 0 where
@@ -21,13 +21,13 @@ pub record CanGive (words : List ℕ) (line : ℕ) : Type 0 where
   pub few : word_of words 0 4 ≤ 2 ^ 32
 
 -- the first lines of a chain are loose, and so are others
-pub record IsLoose (words : List ℕ) (head : Head) (store : Store) (tree : Tree ℕ) (places : List Place) (lines others : List ℕ) : Type 0 where
+pub record IsLoose (words : List ℕ) (head : RevisionHead) (store : Store) (tree : Tree ℕ) (places : List Place) (lines others : List ℕ) : Type 0 where
   pub given : List ℕ
   pub arranged : Arranged words head store tree places given (lines ++ others)
 
 -- a chain of loose lines
 pub record LooseChain (words : List ℕ) (first count : ℕ) : Type 0 where
-  pub head : Head
+  pub head : RevisionHead
   pub store : Store
   pub tree : Tree ℕ
   pub places : List Place
@@ -38,18 +38,18 @@ pub record LooseChain (words : List ℕ) (first count : ℕ) : Type 0 where
   pub counted : count ≡ length lines
 
 -- a chain of loose lines is given back, and the other loose lines are as they were
-pub record IsGiven (before now : List ℕ) (head : Head) (store : Store) (tree : Tree ℕ) (places : List Place) (others : List ℕ) : Type 0 where
+pub record IsGiven (before now : List ℕ) (head : RevisionHead) (store : Store) (tree : Tree ℕ) (places : List Place) (others : List ℕ) : Type 0 where
   pub loose : IsLoose now head store tree places others []
   pub same : All (SameLine before now) others
 
 abbrev pub ChainGiven : ℕ → ℕ → List ℕ → List ℕ → Type 0
 ChainGiven first count before now =
-    (head : Head) (store : Store) (tree : Tree ℕ) (places : List Place) (lines others : List ℕ) → IsLoose before head store tree places lines others → IsChain before first lines → count ≡ length lines →
+    (head : RevisionHead) (store : Store) (tree : Tree ℕ) (places : List Place) (lines others : List ℕ) → IsLoose before head store tree places lines others → IsChain before first lines → count ≡ length lines →
     IsGiven before now head store tree places others
 
 -- the blocks that a node names by its words at and at + 1, all loose
 pub record LooseText (words : List ℕ) (node at : ℕ) : Type 0 where
-  pub head : Head
+  pub head : RevisionHead
   pub store : Store
   pub tree : Tree ℕ
   pub places : List Place
@@ -57,21 +57,21 @@ pub record LooseText (words : List ℕ) (node at : ℕ) : Type 0 where
   pub others : List ℕ
   pub bytes : List ℕ
   pub loose : IsLoose words head store tree places lines others
-  pub text : IsText words node at lines bytes
+  pub text : IsTextAt words node at lines bytes
 
 abbrev pub TextGiven : ℕ → ℕ → List ℕ → List ℕ → Type 0
 TextGiven node at before now =
-    (head : Head) (store : Store) (tree : Tree ℕ) (places : List Place) (lines others bytes : List ℕ) → IsLoose before head store tree places lines others → IsText before node at lines bytes →
+    (head : RevisionHead) (store : Store) (tree : Tree ℕ) (places : List Place) (lines others bytes : List ℕ) → IsLoose before head store tree places lines others → IsTextAt before node at lines bytes →
     IsGiven before now head store tree places others
 
 -- a pair that stands at a place of its own, beside the pairs of a store
-pub record LoosePair (words : List ℕ) (node : ℕ) (head : Head) (store : Store) (tree : Tree ℕ) (places : List Place) (place : Place) (pair : List ℕ × List ℕ) : Type 0 where
+pub record LoosePair (words : List ℕ) (node : ℕ) (head : RevisionHead) (store : Store) (tree : Tree ℕ) (places : List Place) (place : Place) (pair : List ℕ × List ℕ) : Type 0 where
   pub loose : IsLoose words head store tree places (lines_at place) []
   pub here : node ≡ place.node
   pub is : IsAt words place pair
 
 pub record HasLoosePair (words : List ℕ) (node : ℕ) : Type 0 where
-  pub head : Head
+  pub head : RevisionHead
   pub store : Store
   pub tree : Tree ℕ
   pub places : List Place
@@ -81,7 +81,7 @@ pub record HasLoosePair (words : List ℕ) (node : ℕ) : Type 0 where
 
 abbrev pub PairGiven : ℕ → List ℕ → List ℕ → Type 0
 PairGiven node before now =
-    (head : Head) (store : Store) (tree : Tree ℕ) (places : List Place) (place : Place) (pair : List ℕ × List ℕ) → LoosePair before node head store tree places place pair → IsLoose now head store tree places [] []
+    (head : RevisionHead) (store : Store) (tree : Tree ℕ) (places : List Place) (place : Place) (pair : List ℕ × List ℕ) → LoosePair before node head store tree places place pair → IsLoose now head store tree places [] []
 
 -- The words after stand for the store without the key, and the answer is whether the key was there.
 pub record IsWithout (now : List ℕ) (store : Store) (key : List ℕ) (found : Bool) : Type 0 where

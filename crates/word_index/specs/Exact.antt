@@ -13,7 +13,7 @@ use Rattle.avl_words.specs.Exact.{tree_in, with_tree}
 use Rattle.avl_words.specs.Words.{root}
 use Rattle.index_checks.specs.Reading.{text_at, store_in}
 use Rattle.avl_words.specs.Lines.{with_word, word_of, line_count}
-use Rattle.word_index.specs.Changes.{with_given}
+use Rattle.word_index.specs.Changes.{with_line_given}
 use Rattle.word_index.specs.declared.insertion.Inserted.{Inserted}
 use Rattle.word_index.specs.declared.insertion.Inserted.TheVariants.{New, Replaced, NoRoom}
 
@@ -21,10 +21,10 @@ use Rattle.word_index.specs.declared.insertion.Inserted.TheVariants.{New, Replac
 unfoldable pub with_empty_header : ℕ → List ℕ → List ℕ
 with_empty_header version words = (version ∷ 0 ∷ 0 ∷ 1 ∷ replicate 4 0) ++ drop 8 words
 
--- a chain of so many lines is given back
+-- a chain of the given number of lines is given back
 abbrev pub with_chain_given : ℕ → ℕ → List ℕ → List ℕ
 with_chain_given zero line words = words
-with_chain_given (suc n) line words = with_chain_given n (word_of words line 0) (with_given line words)
+with_chain_given (suc n) line words = with_chain_given n (word_of words line 0) (with_line_given line words)
 
 -- the blocks that a node names are given back
 unfoldable pub with_text_given : ℕ → ℕ → List ℕ → List ℕ
@@ -32,7 +32,7 @@ with_text_given node at words = with_chain_given ((word_of words node (at + 1) +
 
 -- a node is given back, after the blocks of its document and of its key
 unfoldable pub with_pair_given : ℕ → List ℕ → List ℕ
-with_pair_given node words = with_given node (with_text_given node 3 (with_text_given node 5 words))
+with_pair_given node words = with_line_given node (with_text_given node 3 (with_text_given node 5 words))
 
 -- the line that is taken next: the first given-back one, or else the first never given
 unfoldable pub line_to_take : List ℕ → ℕ
@@ -48,7 +48,7 @@ with_line_taken words =
 unfoldable pub block_words : ℕ → List ℕ → ℕ → List ℕ
 block_words next text from = next ∷ map (λ i. slice_index text (from + i)) (range_with_len 0 7)
 
--- The first so many blocks of a text are written into lines taken for them, the last of them first, in front of a
+-- The first blocks of a text, as many as given, are written into lines taken for them, the last of them first, in front of a
 -- chain; with the first line of the chain.
 abbrev pub with_text : List ℕ → ℕ → ℕ → List ℕ → ℕ × List ℕ
 with_text text zero next words = (next, words)
@@ -84,8 +84,8 @@ unfoldable pub node_at : List ℕ → List ℕ → ℕ
 node_at key words = root (spot (order_in key words) [] (tree_in words)).1
 
 -- the node of a key is taken out of the tree
-unfoldable pub with_cut : List ℕ → List ℕ → List ℕ
-with_cut key words = with_one_less (with_tree (without (order_in key words) (tree_in words)) words)
+unfoldable pub with_node_cut : List ℕ → List ℕ → List ℕ
+with_node_cut key words = with_one_less (with_tree (without (order_in key words) (tree_in words)) words)
 
 -- the blocks of a chain get the words of a text, from one on; each goes on naming the next
 abbrev pub with_chain_filled : List ℕ → ℕ → ℕ → ℕ → List ℕ → List ℕ
@@ -145,4 +145,4 @@ inserted_in key document words =
 -- a key is taken out, where it is there, and its lines are given back
 unfoldable pub with_key_removed : List ℕ → List ℕ → List ℕ
 with_key_removed key words =
-    if is_key_in key words then with_pair_given (node_at key words) (with_cut key words) else words
+    if is_key_in key words then with_pair_given (node_at key words) (with_node_cut key words) else words

@@ -3,16 +3,16 @@ use Rattle.std.specs.Prelude.{◌≡◌, ◌≢◌, ◌+◌, ◌*◌, ◌/◌, �
 use Rattle.std.specs.List.{flat_map}
 use Rattle.cx_base.specs.Store.{Store}
 use Rattle.avl_words.specs.Lines.{word_of, line_count}
-use Rattle.index_checks.specs.Layout.{IsChain, Place, lines_at, Head, Arranged}
+use Rattle.index_checks.specs.Layout.{IsChain, Place, lines_at, RevisionHead, Arranged}
 use Rattle.word_index.specs.Changes.{SameLine}
 use Rattle.avl_words.specs.Tree.{Tree}
 
--- so many lines more can be taken, beside those of the places and the loose ones; line 0 is not one of them
+-- the given number of further lines can be taken, beside those of the places and the loose ones; line 0 is not one of them
 abbrev pub HasRoom : List ℕ → List Place → List ℕ → ℕ → Type 0
 HasRoom words places loose more = length (flat_map lines_at places) + length loose + more + 1 ≤ line_count words
 
 pub record CanTake (words : List ℕ) (more : ℕ) : Type 0 where
-  pub head : Head
+  pub head : RevisionHead
   pub store : Store
   pub tree : Tree ℕ
   pub places : List Place
@@ -22,7 +22,7 @@ pub record CanTake (words : List ℕ) (more : ℕ) : Type 0 where
   pub room : HasRoom words places loose more
 
 -- lines are loose now, and the other loose lines are as they were
-pub record IsTaken (before now : List ℕ) (head : Head) (store : Store) (tree : Tree ℕ) (places : List Place) (taken loose : List ℕ) : Type 0 where
+pub record AreLinesTaken (before now : List ℕ) (head : RevisionHead) (store : Store) (tree : Tree ℕ) (places : List Place) (taken loose : List ℕ) : Type 0 where
   pub given : List ℕ
   pub arranged : Arranged now head store tree places given (taken ++ loose)
   pub same : All (SameLine before now) loose
@@ -30,7 +30,7 @@ pub record IsTaken (before now : List ℕ) (head : Head) (store : Store) (tree :
 
 abbrev pub LineTaken : ℕ → List ℕ → List ℕ → Type 0
 LineTaken line before now =
-    (head : Head) (store : Store) (tree : Tree ℕ) (places : List Place) (given loose : List ℕ) → Arranged before head store tree places given loose → HasRoom before places loose 1 → IsTaken before now head store tree places (line ∷ []) loose
+    (head : RevisionHead) (store : Store) (tree : Tree ℕ) (places : List Place) (given loose : List ℕ) → Arranged before head store tree places given loose → HasRoom before places loose 1 → AreLinesTaken before now head store tree places (line ∷ []) loose
 
 -- what a line is filled with, and that nothing else changes
 pub record LineFilled (line : ℕ) (content before now : List ℕ) : Type 0 where
@@ -44,15 +44,15 @@ pub record IsBlock (next : ℕ) (words : List ℕ) (from : ℕ) (content : List 
   pub rest : (i : ℕ) → i < 7 → slice_index content (1 + i) ≡ slice_index words (from + i)
   pub long : length content ≡ 8
 
--- words stand in a chain of so many new lines
-pub record IsWritten (before now : List ℕ) (head : Head) (store : Store) (tree : Tree ℕ) (places : List Place) (first count from : ℕ) (words loose : List ℕ) : Type 0 where
+-- words stand in a chain of `count` new lines
+pub record IsChainWritten (before now : List ℕ) (head : RevisionHead) (store : Store) (tree : Tree ℕ) (places : List Place) (first count from : ℕ) (words loose : List ℕ) : Type 0 where
   pub lines : List ℕ
-  pub taken : IsTaken before now head store tree places lines loose
+  pub taken : AreLinesTaken before now head store tree places lines loose
   pub chain : IsChain now first lines
   pub counted : length lines ≡ count
   pub content : (i : ℕ) → i < 7 * count → word_of now (slice_index lines (i / 7)) (1 + i % 7) ≡ slice_index words (from + i)
 
 abbrev pub TextWritten : List ℕ → ℕ → ℕ → List ℕ → List ℕ → Type 0
 TextWritten words count first before now =
-    (head : Head) (store : Store) (tree : Tree ℕ) (places : List Place) (given loose : List ℕ) → Arranged before head store tree places given loose → HasRoom before places loose count →
-    IsWritten before now head store tree places first count 0 words loose
+    (head : RevisionHead) (store : Store) (tree : Tree ℕ) (places : List Place) (given loose : List ℕ) → Arranged before head store tree places given loose → HasRoom before places loose count →
+    IsChainWritten before now head store tree places first count 0 words loose

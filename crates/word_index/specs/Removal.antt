@@ -1,7 +1,7 @@
 -- The node at the end of a walk to its key is taken out.
 use Rattle.std.specs.Prelude.{◌≡◌, ◌≢◌, ℕ, false, List}
 use Rattle.index_checks.specs.Layout.{IsIndex}
-use Rattle.word_index.specs.Exact.{with_cut, with_pair_given}
+use Rattle.word_index.specs.Exact.{with_node_cut, with_pair_given}
 use Rattle.word_index.specs.Walk.{AtSpot}
 
 pub record CanCut (words nodes sides : List ℕ) (depth node : ℕ) : Type 0 where
@@ -13,7 +13,7 @@ pub record CanCut (words nodes sides : List ℕ) (depth node : ℕ) : Type 0 whe
 
 abbrev pub Cuts : List ℕ → List ℕ → ℕ → ℕ → List ℕ → List ℕ → Type 0
 Cuts nodes sides depth node before now =
-    (key : List ℕ) (above : ℕ) → AtSpot false key nodes sides depth node above before → IsIndex before → node ≢ 0 → now ≡ with_cut key before
+    (key : List ℕ) (above : ℕ) → AtSpot false key nodes sides depth node above before → IsIndex before → node ≢ 0 → now ≡ with_node_cut key before
 
 -- and its lines are given back
 abbrev pub TakesOut : List ℕ → List ℕ → ℕ → ℕ → List ℕ → List ℕ → Type 0

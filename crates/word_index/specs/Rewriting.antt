@@ -3,10 +3,10 @@ use Rattle.std.specs.Prelude.{◌≡◌, ◌≢◌, ◌↔◌, ◌+◌, ◌≤�
 use Rattle.cx_base.specs.Store.{Store, blocks, pair_lines, lines_of}
 use Rattle.avl_words.specs.Tree.{Tree}
 use Rattle.avl_words.specs.Lines.{word_of, line_count, IsWithin}
-use Rattle.index_checks.specs.Layout.{IsChain, Place, Placed, Head, Arranged}
+use Rattle.index_checks.specs.Layout.{IsChain, Place, Placed, RevisionHead, Arranged}
 use Rattle.word_index.specs.Exact.{document_blocks}
 
--- a chain of so many lines that are there
+-- a chain of `count` lines that are there
 pub record HasLines (words : List ℕ) (first count : ℕ) : Type 0 where
   pub lines : List ℕ
   pub chain : IsChain words first lines
@@ -15,7 +15,7 @@ pub record HasLines (words : List ℕ) (first count : ℕ) : Type 0 where
 
 -- the pair of a node, with room for a document in place of its own
 pub record CanRewrite (words : List ℕ) (node : ℕ) (document : List ℕ) : Type 0 where
-  pub head : Head
+  pub head : RevisionHead
   pub tree : Tree ℕ
   pub lower : Store
   pub after : Store

@@ -5,7 +5,7 @@ use Rattle.cx_base.specs.Store.{Store}
 use Rattle.doc_model.specs.Revisions.{RevisedStore}
 use Rattle.avl_words.specs.Lines.{with_word, word_of}
 use Rattle.index_checks.specs.Layout.{StandsFor}
-use Rattle.index_checks.specs.Order.{in_order}
+use Rattle.index_checks.specs.Order.{nodes_in_order}
 use Rattle.index_checks.specs.Reading.{StandsForRevised}
 
 -- the pairs of these nodes get revision 1
@@ -15,7 +15,7 @@ with_first_revisions (node ∷ nodes) words = with_first_revisions nodes (with_w
 
 -- each pair gets revision 1, which is the last one given, and the version becomes 2
 unfoldable pub upgraded_in : List ℕ → List ℕ
-upgraded_in words = with_first_revisions (in_order (word_of words 0 1) words) (with_word 0 6 1 (with_word 0 0 2 words))
+upgraded_in words = with_first_revisions (nodes_in_order (word_of words 0 1) words) (with_word 0 6 1 (with_word 0 0 2 words))
 
 -- a store whose pairs all have revision 1, which is the last one given
 abbrev pub first_revisions : Store → RevisedStore

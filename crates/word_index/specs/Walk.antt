@@ -38,7 +38,7 @@ pub record IsPassing (nodes sides : List ℕ) (order : ℕ → Ordering) (depth 
   pub on : IsOnWay nodes sides order depth node t
   pub above_is : IsFirst above (behind on.way)
 
-pub record IsEnded (nodes sides : List ℕ) (order : ℕ → Ordering) (depth node above : ℕ) (t : Tree ℕ) : Type 0 where
+pub record IsWalkEnded (nodes sides : List ℕ) (order : ℕ → Ordering) (depth node above : ℕ) (t : Tree ℕ) : Type 0 where
   pub at : IsSpot nodes sides order depth node t
   pub above_is : IsFirst above (behind (spot order [] t).0)
 
@@ -47,7 +47,7 @@ abbrev pub OnWay : Bool → List ℕ → List ℕ → List ℕ → ℕ → ℕ �
 OnWay past key nodes sides depth node above words = (version : ℕ) (store : Store) (s : StandsFor words version store) → IsPassing nodes sides (walk_order past key words) depth node above s.tree
 
 abbrev pub AtSpot : Bool → List ℕ → List ℕ → List ℕ → ℕ → ℕ → ℕ → List ℕ → Type 0
-AtSpot past key nodes sides depth node above words = (version : ℕ) (store : Store) (s : StandsFor words version store) → IsEnded nodes sides (walk_order past key words) depth node above s.tree
+AtSpot past key nodes sides depth node above words = (version : ℕ) (store : Store) (s : StandsFor words version store) → IsWalkEnded nodes sides (walk_order past key words) depth node above s.tree
 
 -- The same for a walk of which no way is kept: so far down some way, and at the end of some way.
 pub record OnSomeWay (past : Bool) (key : List ℕ) (depth node above : ℕ) (words : List ℕ) : Type 0 where

@@ -5,7 +5,7 @@ ghost use Rattle.cx_base.specs.Calls.{Finds};
 ghost use Rattle.cx_base.specs.Packing.{unpacked};
 ghost use Rattle.cx_base.specs.Store.{Store};
 ghost use Rattle.doc_model.specs.Meaning.{pairs_above};
-ghost use Rattle.avl_words.specs.Lines.{CanLoad};
+ghost use Rattle.avl_words.specs.Lines.{IsLoadable};
 ghost use Rattle.index_checks.specs.Layout.{IsIndex, StandsFor};
 ghost use Rattle.word_index.specs.Answers.{IsFoundIn, IsLeast, IsNodeOf, IsPackOf};
 ghost use Rattle.word_index.specs.Walk.{HasNode, Walks};
@@ -23,7 +23,7 @@ pub fn find<M: Memory, L: Ledger>(
     key: &Key,
     visits: &mut Steps<L>,
 ) -> Result<Option<u64>, Halt>
-    requires { CanLoad M.Memory mem.old IsIndex }
+    requires { IsLoadable M.Memory mem.old IsIndex }
     ensures { Walks M.Memory mem.old mem.new result (visits.new - visits.old) (λ found ws. IsFoundIn ws (unpacked key.now.len key.now.words) found) }
 {
     let end = reach(mem, key, false, visits)?;
@@ -40,7 +40,7 @@ pub fn least_above<M: Memory, L: Ledger>(
     key: &Key,
     visits: &mut Steps<L>,
 ) -> Result<Option<Key>, Halt>
-    requires { CanLoad M.Memory mem.old IsIndex }
+    requires { IsLoadable M.Memory mem.old IsIndex }
     ensures { Walks M.Memory mem.old mem.new result (visits.new - visits.old) (λ found ws. (version : ℕ) (store : Store) → StandsFor ws version store → IsLeast found (pairs_above (unpacked key.now.len key.now.words) store)) }
 {
     let end = reach(mem, key, true, visits)?;
@@ -54,7 +54,7 @@ pub fn least_above<M: Memory, L: Ledger>(
 /// Reads the packed document of a node that `find` gave on these words into words that are 0, and gives the number of its bytes.
 /// `Halt` comes only where no access is left.
 pub fn read_document<M: Memory>(mem: &mut M, node: u64, into: &mut [u64]) -> Result<u64, Halt>
-    requires memory { CanLoad M.Memory mem.old (λ ws. HasNode ws node) }
+    requires memory { IsLoadable M.Memory mem.old (λ ws. HasNode ws node) }
     requires zero { into.old ≡ replicate 128 0 }
     ensures { Finds M.Memory mem.old mem.new result (λ len ws. (pair : List ℕ × List ℕ) → IsNodeOf ws node pair → IsPackOf 128 len into.new pair.1) }
 {

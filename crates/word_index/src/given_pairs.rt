@@ -3,7 +3,7 @@
 ghost use Rattle.std.specs.Prelude.{◌≡◌, ◌<◌, IfOk};
 ghost use Rattle.cx_base.specs.Calls.{Changes};
 ghost use Rattle.cx_base.specs.Memory.{Becomes};
-ghost use Rattle.avl_words.specs.Lines.{CanStore};
+ghost use Rattle.avl_words.specs.Lines.{IsStorable};
 ghost use Rattle.word_index.specs.Changes.{LooseText, TextGiven, HasLoosePair, PairGiven};
 ghost use Rattle.word_index.specs.Exact.{with_text_given, with_pair_given};
 
@@ -11,9 +11,9 @@ use crate::given_back::{give_back, give_chain};
 use avl_words::word;
 use cx_base::{Halt, Memory};
 
-/// Gives back the blocks that a node names by its words `at` and `at + 1`.
+/// Gives back the blocks that a node names by its words `at` and `at + 1`. `Halt` comes only where no access is left.
 pub fn give_text<M: Memory>(mem: &mut M, node: u64, at: u64) -> Result<(), Halt>
-    requires memory { CanStore M.Memory mem.old (λ ws. LooseText ws node at) }
+    requires memory { IsStorable M.Memory mem.old (λ ws. LooseText ws node at) }
     requires at { at < 7 }
     ensures changes { Changes M.Memory mem.old mem.new result (λ _. TextGiven node at) }
     ensures exact { IfOk result (λ _. Becomes (M.stands mem.old) (M.stands mem.new) (λ old now. now ≡ with_text_given node at old)) }
@@ -23,9 +23,9 @@ pub fn give_text<M: Memory>(mem: &mut M, node: u64, at: u64) -> Result<(), Halt>
     give_chain(mem, first, len.div_ceil(56))
 }
 
-/// Gives back the node and the blocks of a pair that is out of the nodes.
+/// Gives back the node and the blocks of a pair that is out of the nodes. `Halt` comes only where no access is left.
 pub fn give_pair<M: Memory>(mem: &mut M, node: u64) -> Result<(), Halt>
-    requires { CanStore M.Memory mem.old (λ ws. HasLoosePair ws node) }
+    requires { IsStorable M.Memory mem.old (λ ws. HasLoosePair ws node) }
     ensures changes { Changes M.Memory mem.old mem.new result (λ _. PairGiven node) }
     ensures exact { IfOk result (λ _. Becomes (M.stands mem.old) (M.stands mem.new) (λ old now. now ≡ with_pair_given node old)) }
 {

@@ -6,13 +6,13 @@ ghost use Rattle.cx_base.specs.Memory.{Becomes};
 ghost use Rattle.cx_base.specs.Packing.{unpacked};
 ghost use Rattle.cx_base.specs.Store.{Store, lines_of, pair_lines};
 ghost use Rattle.doc_model.specs.Revisions.{next_revision};
-ghost use Rattle.avl_words.specs.Lines.{CanLoad, CanStore, word_of};
+ghost use Rattle.avl_words.specs.Lines.{IsLoadable, IsStorable, word_of};
 ghost use Rattle.index_checks.specs.Layout.{IsIndex, StandsFor};
 ghost use Rattle.word_index.specs.Answers.{IsPackedPair, IsNodeOf};
 ghost use Rattle.word_index.specs.Packed.{IsPacked};
 ghost use Rattle.word_index.specs.Exact.{with_new_pair};
 ghost use Rattle.word_index.specs.Fresh.{CanTake};
-ghost use Rattle.word_index.specs.Insertion.{PairWritten, CanAdd, Adds, CanWrite, WritesAt, LinesAt, IsKnown, PutsDocument};
+ghost use Rattle.word_index.specs.Insertion.{PairWritten, CanAdd, Adds, CanWrite, WritesAt, LinesAt, IsInsertKnown, PutsDocument};
 ghost use Rattle.word_index.specs.Walk.{HasNode, FewVisits, Walked};
 
 use crate::rewriting::exchange;
@@ -41,7 +41,7 @@ fn lines_of_pair(key: &Key, doc: &Doc<'_>) -> u64
 
 /// The lines that the pair of a node takes.
 fn lines_of_node<M: Memory>(mem: &mut M, node: u64) -> Result<u64, Halt>
-    requires { CanLoad M.Memory mem.old (λ ws. HasNode ws node) }
+    requires { IsLoadable M.Memory mem.old (λ ws. HasNode ws node) }
     ensures { Finds M.Memory mem.old mem.new result (λ n ws. (pair : List ℕ × List ℕ) → IsNodeOf ws node pair → n ≡ pair_lines pair) }
 {
     let key = word(mem, node, 4)?;
@@ -51,7 +51,7 @@ fn lines_of_node<M: Memory>(mem: &mut M, node: u64) -> Result<u64, Halt>
 
 /// The lines that the pair of a node takes, 0 where there is no node.
 fn lines_at<M: Memory>(mem: &mut M, node: u64) -> Result<u64, Halt>
-    requires { CanLoad M.Memory mem.old (λ ws. node ≢ 0 → HasNode ws node) }
+    requires { IsLoadable M.Memory mem.old (λ ws. node ≢ 0 → HasNode ws node) }
     ensures { Finds M.Memory mem.old mem.new result (λ n. LinesAt node n) }
 {
     if node == 0 {
@@ -63,7 +63,7 @@ fn lines_at<M: Memory>(mem: &mut M, node: u64) -> Result<u64, Halt>
 
 /// The lines that the store takes.
 fn lines_in_use<M: Memory>(mem: &mut M) -> Result<u64, Halt>
-    requires { CanLoad M.Memory mem.old IsIndex }
+    requires { IsLoadable M.Memory mem.old IsIndex }
     ensures { Finds M.Memory mem.old mem.new result (λ n ws. (version : ℕ) (store : Store) → StandsFor ws version store → n ≡ lines_of store) }
 {
     let end = word(mem, 0, 3)?;
@@ -73,7 +73,7 @@ fn lines_in_use<M: Memory>(mem: &mut M) -> Result<u64, Halt>
 
 /// Writes a node, as a leaf, and the blocks of a pair with a revision into new lines, and gives the node.
 fn write_pair<M: Memory>(mem: &mut M, key: &Key, doc: &Doc<'_>, revision: u64) -> Result<u64, Halt>
-    requires memory { CanStore M.Memory mem.old (λ ws. CanTake ws (pair_lines (unpacked key.now.len key.now.words, unpacked doc.now.len doc.now.words.now))) }
+    requires memory { IsStorable M.Memory mem.old (λ ws. CanTake ws (pair_lines (unpacked key.now.len key.now.words, unpacked doc.now.len doc.now.words.now))) }
     requires key { IsPacked 8 key.now.len key.now.words }
     ensures changes { Changes M.Memory mem.old mem.new result (λ node. PairWritten (unpacked key.now.len key.now.words, unpacked doc.now.len doc.now.words.now) revision node) }
     ensures exact { IfOk result (λ node. Becomes (M.stands mem.old) (M.stands mem.new) (λ old now. with_new_pair (unpacked key.now.len key.now.words, unpacked doc.now.len doc.now.words.now) revision old ≡ (node, now))) }
@@ -97,7 +97,7 @@ fn put_pair<M: Memory>(
     doc: &Doc<'_>,
     revision: u64,
 ) -> Result<(), Halt>
-    requires memory { CanStore M.Memory mem.old (λ ws. CanAdd ws way.now.nodes way.now.sides way.now.depth (unpacked key.now.len key.now.words, unpacked doc.now.len doc.now.words.now)) }
+    requires memory { IsStorable M.Memory mem.old (λ ws. CanAdd ws way.now.nodes way.now.sides way.now.depth (unpacked key.now.len key.now.words, unpacked doc.now.len doc.now.words.now)) }
     requires key { IsPacked 8 key.now.len key.now.words }
     ensures { Changes M.Memory mem.old mem.new result (λ _. Adds way.now.nodes way.now.sides way.now.depth (unpacked key.now.len key.now.words, unpacked doc.now.len doc.now.words.now) revision) }
 {
@@ -116,7 +116,7 @@ fn add<M: Memory>(
     doc: &Doc<'_>,
     revision: u64,
 ) -> Result<(), Halt>
-    requires memory { CanStore M.Memory mem.old (λ ws. CanAdd ws way.now.nodes way.now.sides way.now.depth (unpacked key.now.len key.now.words, unpacked doc.now.len doc.now.words.now)) }
+    requires memory { IsStorable M.Memory mem.old (λ ws. CanAdd ws way.now.nodes way.now.sides way.now.depth (unpacked key.now.len key.now.words, unpacked doc.now.len doc.now.words.now)) }
     requires key { IsPacked 8 key.now.len key.now.words }
     ensures { Changes M.Memory mem.old mem.new result (λ _. Adds way.now.nodes way.now.sides way.now.depth (unpacked key.now.len key.now.words, unpacked doc.now.len doc.now.words.now) revision) }
 {
@@ -129,7 +129,7 @@ fn add<M: Memory>(
 
 /// The revision that the next write gives.
 fn next_revision<M: Memory>(mem: &mut M) -> Result<u64, Halt>
-    requires { CanLoad M.Memory mem.old IsIndex }
+    requires { IsLoadable M.Memory mem.old IsIndex }
     ensures { Finds M.Memory mem.old mem.new result (λ revision ws. revision ≡ next_revision (word_of ws 0 6)) }
 {
     let last = word(mem, 0, 6)?;
@@ -146,7 +146,7 @@ fn write_at<M: Memory>(
     alike: bool,
     revision: u64,
 ) -> Result<Inserted, Halt>
-    requires memory { CanStore M.Memory mem.old (λ ws. CanWrite ws way.now.nodes way.now.sides way.now.depth node alike (unpacked key.now.len key.now.words, unpacked doc.now.len doc.now.words.now)) }
+    requires memory { IsStorable M.Memory mem.old (λ ws. CanWrite ws way.now.nodes way.now.sides way.now.depth node alike (unpacked key.now.len key.now.words, unpacked doc.now.len doc.now.words.now)) }
     requires key { IsPacked 8 key.now.len key.now.words }
     ensures { Changes M.Memory mem.old mem.new result (WritesAt way.now.nodes way.now.sides way.now.depth node (unpacked key.now.len key.now.words, unpacked doc.now.len doc.now.words.now) revision) }
 {
@@ -159,7 +159,7 @@ fn write_at<M: Memory>(
     Ok(Inserted::Replaced)
 }
 
-/// Puts a document at a key, where there is room, at the node that the walk to it ended at; of so many lines some are in use, and some are
+/// Puts a document at a key, where there is room, at the node that the walk to it ended at; of `lines` lines `used` are in use, of which `old` are
 /// of the old pair.
 fn put_at<M: Memory>(
     mem: &mut M,
@@ -171,7 +171,7 @@ fn put_at<M: Memory>(
     used: u64,
     old: u64,
 ) -> Result<Inserted, Halt>
-    requires memory { CanStore M.Memory mem.old (IsKnown (unpacked key.now.len key.now.words) way.now.nodes way.now.sides way.now.depth end.node end.above used old lines) }
+    requires memory { IsStorable M.Memory mem.old (IsInsertKnown (unpacked key.now.len key.now.words) way.now.nodes way.now.sides way.now.depth end.node end.above used old lines) }
     requires pair { IsPackedPair key.now doc.now.len doc.now.words.now }
     ensures { Changes M.Memory mem.old mem.new result (PutsDocument (unpacked key.now.len key.now.words) (unpacked doc.now.len doc.now.words.now)) }
 {
@@ -186,7 +186,7 @@ fn put_at<M: Memory>(
     Ok(inserted)
 }
 
-/// Puts a document at a key, in words of so many lines. `NoRoom` comes exactly where the store would then need more
+/// Puts a document at a key, in the words of `lines` lines. `NoRoom` comes exactly where the store would then need more
 /// than `lines - 1` lines. Any other answer gives the pair the next revision, which becomes the last one given. `Halt` comes
 /// only where no access is left; the words may then be anything. The bound on visits holds of the words before, and where the
 /// call halts of some words that may have been there.
@@ -197,7 +197,7 @@ pub fn insert<M: Memory, L: Ledger>(
     doc: &Doc<'_>,
     visits: &mut Steps<L>,
 ) -> Result<Inserted, Halt>
-    requires memory { CanStore M.Memory mem.old IsIndex }
+    requires memory { IsStorable M.Memory mem.old IsIndex }
     requires lines { M.size mem.old ≡ 8 * lines }
     requires pair { IsPackedPair key.now doc.now.len doc.now.words.now }
     ensures changes { Changes M.Memory mem.old mem.new result (PutsDocument (unpacked key.now.len key.now.words) (unpacked doc.now.len doc.now.words.now)) }

@@ -5,7 +5,7 @@ ghost use Rattle.std.specs.Prelude.{◌≡◌, ℕ, List, if◌then◌else◌};
 ghost use Rattle.cx_base.specs.Memory.{Words};
 ghost use Rattle.cx_base.specs.Store.{IsKey, IsDocument};
 ghost use Rattle.doc_model.specs.Meaning.{with_pair, has_room};
-ghost use Rattle.doc_model.specs.Revisions.{written, removed};
+ghost use Rattle.doc_model.specs.Revisions.{store_written, removed};
 ghost use Rattle.avl_words.specs.Lines.{line_count};
 ghost use Rattle.index_checks.specs.Layout.{IsIndex};
 ghost use Rattle.index_checks.specs.Reading.{store_in, revised_in};
@@ -18,7 +18,7 @@ ghost use Rattle.word_index.specs.Insertion.{Inserts};
 pub fn documents_are_put()
     ensures stands { (key document words : List ℕ) (n : ℕ) → IsIndex words → Words n words → IsKey key → IsDocument document → Inserts key document (inserted_in key document words) words (with_document key document words) }
     ensures words { (key document words : List ℕ) (n : ℕ) → IsIndex words → Words n words → IsKey key → IsDocument document → Words n (with_document key document words) }
-    ensures revised { (key document words : List ℕ) → IsIndex words → IsKey key → IsDocument document → revised_in (with_document key document words) ≡ (if has_room (line_count words) (with_pair key document (store_in words)) then written key document (revised_in words) else revised_in words) }
+    ensures revised { (key document words : List ℕ) → IsIndex words → IsKey key → IsDocument document → revised_in (with_document key document words) ≡ (if has_room (line_count words) (with_pair key document (store_in words)) then store_written key document (revised_in words) else revised_in words) }
 {}
 
 /// The words that a key taken out leaves: they stand for the store without it, with the revisions as they were, and are as many words of

@@ -1,7 +1,9 @@
-//! An ordered index over the words of a memory: pairs of a key and a document, in a balanced tree of nodes and in
-//! lines of 8 words.
+//! An ordered map from keys to documents in one run of words, with no pointers and no allocator: such words can be copied, flushed, put into a redo
+//! log and recovered as they are. All replicas have to agree word by word, so what a call leaves is a function of the words before it.
 //!
-//! A balanced tree of pairs. What is said holds for every pair that stands, over any memory.
+//! Each pair is a node of an AVL tree (`avl_words`) and has one line of 8 words, which is a cache line. Keys and documents stand in chains of lines;
+//! lines that are given back form a list, from which new ones are taken first. Where a change might store a word twice, it goes through a write
+//! buffer. What is said here holds over any memory, for each pair of words that it may have held first and may hold now.
 //!
 //! - `find`, `least_above`, `count` and `read_document` answer what the list of pairs answers, and leave the words: `done`, `kept`. The node
 //!   that `find` gives tells the key's revision, which `rev_at` reads; `last_revision` reads the last one that was given.

@@ -5,7 +5,7 @@ ghost use Rattle.std.specs.Ordering.{nat_cmp};
 ghost use Rattle.cx_base.specs.Calls.{Finds};
 ghost use Rattle.cx_base.specs.Packing.{unpacked};
 ghost use Rattle.cx_base.specs.Store.{Store, key_cmp};
-ghost use Rattle.avl_words.specs.Lines.{CanLoad, word_of};
+ghost use Rattle.avl_words.specs.Lines.{IsLoadable, word_of};
 ghost use Rattle.index_checks.specs.Layout.{IsIndex, StandsFor};
 ghost use Rattle.index_checks.specs.Reading.{revised_in};
 ghost use Rattle.word_index.specs.Answers.{IsPackOf, IsNodeOf};
@@ -18,33 +18,33 @@ use cx_base::{Halt, Memory, Steps};
 use std::cmp::Ordering;
 use std::sync::ledger::Ledger;
 
-/// The number of pairs.
+/// The number of pairs. `Halt` comes only where no access is left.
 pub fn count<M: Memory>(mem: &mut M) -> Result<u64, Halt>
-    requires { CanLoad M.Memory mem.old IsIndex }
+    requires { IsLoadable M.Memory mem.old IsIndex }
     ensures { Finds M.Memory mem.old mem.new result (λ n ws. (version : ℕ) (store : Store) → StandsFor ws version store → n ≡ length store) }
 {
     word(mem, 0, 5)
 }
 
-/// The last revision that was given.
+/// The last revision that was given. `Halt` comes only where no access is left.
 pub fn last_revision<M: Memory>(mem: &mut M) -> Result<u64, Halt>
-    requires { CanLoad M.Memory mem.old IsIndex }
+    requires { IsLoadable M.Memory mem.old IsIndex }
     ensures { Finds M.Memory mem.old mem.new result (λ last ws. last ≡ (revised_in ws).last) }
 {
     word(mem, 0, 6)
 }
 
-/// The revision of the pair of a node that `find` gave on these words.
+/// The revision of the pair of a node that `find` gave on these words. `Halt` comes only where no access is left.
 pub fn rev_at<M: Memory>(mem: &mut M, node: u64) -> Result<u64, Halt>
-    requires { CanLoad M.Memory mem.old (λ ws. HasNode ws node) }
+    requires { IsLoadable M.Memory mem.old (λ ws. HasNode ws node) }
     ensures { Finds M.Memory mem.old mem.new result (λ revision ws. revision ≡ word_of ws node 7) }
 {
     word(mem, node, 7)
 }
 
-/// The key of a node.
+/// The key of a node. `Halt` comes only where no access is left.
 pub fn key_at<M: Memory>(mem: &mut M, node: u64) -> Result<Key, Halt>
-    requires { CanLoad M.Memory mem.old (λ ws. HasNode ws node) }
+    requires { IsLoadable M.Memory mem.old (λ ws. HasNode ws node) }
     ensures { Finds M.Memory mem.old mem.new result (λ key ws. (pair : List ℕ × List ℕ) → IsNodeOf ws node pair → IsPackOf 8 key.len key.words pair.0) }
 {
     let mut words = [0; 8];
@@ -54,7 +54,7 @@ pub fn key_at<M: Memory>(mem: &mut M, node: u64) -> Result<Key, Halt>
 
 /// How the length of a node's key compares with a number.
 fn order_of_lengths<M: Memory>(mem: &mut M, node: u64, len: u64) -> Result<Ordering, Halt>
-    requires { CanLoad M.Memory mem.old (λ ws. HasNode ws node) }
+    requires { IsLoadable M.Memory mem.old (λ ws. HasNode ws node) }
     ensures { Finds M.Memory mem.old mem.new result (λ order ws. (pair : List ℕ × List ℕ) → IsNodeOf ws node pair → order ≡ nat_cmp (length pair.0) len) }
 {
     let mine = word(mem, node, 4)?;
@@ -63,7 +63,7 @@ fn order_of_lengths<M: Memory>(mem: &mut M, node: u64, len: u64) -> Result<Order
 
 /// How the key of a node compares with another key. Its words are compared where they stand, up to the first that differs.
 fn order_of_all<M: Memory>(mem: &mut M, node: u64, key: &Key) -> Result<Ordering, Halt>
-    requires { CanLoad M.Memory mem.old (λ ws. HasNode ws node) }
+    requires { IsLoadable M.Memory mem.old (λ ws. HasNode ws node) }
     ensures { Finds M.Memory mem.old mem.new result (λ order ws. (pair : List ℕ × List ℕ) → IsNodeOf ws node pair → order ≡ key_cmp pair.0 (unpacked key.now.len key.now.words)) }
 {
     let first = word(mem, node, 3)?;
@@ -79,7 +79,7 @@ fn order_of_all<M: Memory>(mem: &mut M, node: u64, key: &Key) -> Result<Ordering
 }
 
 /// The same, which is one visit: a walk sees the keys of nodes in no other way. The length is loaded only where the other key ends before a byte
-/// differs, which saves a load at most visits; a key of more than 56 bytes is then compared anew.
+/// differs, which saves a load at most visits; a key of more than 56 bytes is then compared anew. `Halt` comes only where no access is left.
 #[inline(always)]
 pub fn order_at<M: Memory, L: Ledger>(
     mem: &mut M,
@@ -87,7 +87,7 @@ pub fn order_at<M: Memory, L: Ledger>(
     key: &Key,
     visits: &mut Steps<L>,
 ) -> Result<Ordering, Halt>
-    requires { CanLoad M.Memory mem.old (λ ws. HasNode ws node) }
+    requires { IsLoadable M.Memory mem.old (λ ws. HasNode ws node) }
     ensures counted { visits.new ≡ visits.old + 1 }
     ensures finds { Finds M.Memory mem.old mem.new result (λ order ws. (pair : List ℕ × List ℕ) → IsNodeOf ws node pair → order ≡ key_cmp pair.0 (unpacked key.now.len key.now.words)) }
 {

@@ -4,7 +4,7 @@ ghost use Rattle.std.specs.Prelude.{◌≡◌, ◌-◌, IfOk};
 ghost use Rattle.cx_base.specs.Calls.{Changes};
 ghost use Rattle.cx_base.specs.Memory.{Becomes};
 ghost use Rattle.cx_base.specs.Packing.{unpacked};
-ghost use Rattle.avl_words.specs.Lines.{CanStore};
+ghost use Rattle.avl_words.specs.Lines.{IsStorable};
 ghost use Rattle.index_checks.specs.Layout.{IsIndex};
 ghost use Rattle.word_index.specs.Exact.{is_key_in, with_key_removed};
 ghost use Rattle.word_index.specs.Removal.{CanCut, Cuts, TakesOut};
@@ -20,7 +20,7 @@ use write_buffer::{Held, WriteBuffer, store_held};
 
 /// Takes the node at the end of a way out of the tree.
 fn cut<M: Memory>(mem: &mut M, way: &mut Way, node: u64) -> Result<(), Halt>
-    requires { CanStore M.Memory mem.old (λ ws. CanCut ws way.old.nodes way.old.sides way.old.depth node) }
+    requires { IsStorable M.Memory mem.old (λ ws. CanCut ws way.old.nodes way.old.sides way.old.depth node) }
     ensures { Changes M.Memory mem.old mem.new result (λ _. Cuts way.old.nodes way.old.sides way.old.depth node) }
 {
     take_node(mem, way, node)?;
@@ -31,7 +31,7 @@ fn cut<M: Memory>(mem: &mut M, way: &mut Way, node: u64) -> Result<(), Halt>
 
 /// Takes the node at the end of a way out of the tree, and gives its lines back.
 fn cut_pair<M: Memory>(mem: &mut M, way: &mut Way, node: u64) -> Result<(), Halt>
-    requires { CanStore M.Memory mem.old (λ ws. CanCut ws way.old.nodes way.old.sides way.old.depth node) }
+    requires { IsStorable M.Memory mem.old (λ ws. CanCut ws way.old.nodes way.old.sides way.old.depth node) }
     ensures { Changes M.Memory mem.old mem.new result (λ _. TakesOut way.old.nodes way.old.sides way.old.depth node) }
 {
     cut(mem, way, node)?;
@@ -41,7 +41,7 @@ fn cut_pair<M: Memory>(mem: &mut M, way: &mut Way, node: u64) -> Result<(), Halt
 
 /// The same over a write buffer. Its room covers each change in at most 16,384 lines, so that there each word that changes is stored once.
 fn take_out<M: Memory>(mem: &mut M, way: &mut Way, node: u64) -> Result<(), Halt>
-    requires { CanStore M.Memory mem.old (λ ws. CanCut ws way.old.nodes way.old.sides way.old.depth node) }
+    requires { IsStorable M.Memory mem.old (λ ws. CanCut ws way.old.nodes way.old.sides way.old.depth node) }
     ensures { Changes M.Memory mem.old mem.new result (λ _. TakesOut way.old.nodes way.old.sides way.old.depth node) }
 {
     let mut held = Held::none();
@@ -58,7 +58,7 @@ pub fn remove<M: Memory, L: Ledger>(
     key: &Key,
     visits: &mut Steps<L>,
 ) -> Result<bool, Halt>
-    requires { CanStore M.Memory mem.old IsIndex }
+    requires { IsStorable M.Memory mem.old IsIndex }
     ensures changes { Changes M.Memory mem.old mem.new result (λ there old now. (there ≡ is_key_in (unpacked key.now.len key.now.words) old) × (now ≡ with_key_removed (unpacked key.now.len key.now.words) old)) }
     ensures visits { IfOk result (λ _. Becomes (M.stands mem.old) (M.stands mem.new) (λ old now. FewVisits (visits.new - visits.old) old)) }
     ensures walked { Walked (M.stands mem.old) (visits.new - visits.old) }

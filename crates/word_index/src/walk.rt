@@ -4,7 +4,7 @@ ghost use Rattle.std.specs.Prelude.{◌≡◌, ◌-◌, false};
 ghost use Rattle.std.specs.declared.cmp.Ordering.TheVariants.{Less, Greater};
 ghost use Rattle.cx_base.specs.Calls.{Finds};
 ghost use Rattle.cx_base.specs.Packing.{unpacked};
-ghost use Rattle.avl_words.specs.Lines.{CanLoad};
+ghost use Rattle.avl_words.specs.Lines.{IsLoadable};
 ghost use Rattle.index_checks.specs.Layout.{IsIndex};
 ghost use Rattle.word_index.specs.Walk.{AtEnd, AtSpot, VisitsFew, Walks, toward};
 
@@ -52,14 +52,14 @@ fn above_after(side: u64, node: u64, above: u64) -> u64
     if side == 0 { node } else { above }
 }
 
-/// Walks to the place of a key, or past it, and keeps no way, which a reading does not need.
+/// Walks to the place of a key, or past it, and keeps no way, which a reading does not need. `Halt` comes only where no access is left.
 pub fn reach<M: Memory, L: Ledger>(
     mem: &mut M,
     key: &Key,
     past: bool,
     visits: &mut Steps<L>,
 ) -> Result<End, Halt>
-    requires { CanLoad M.Memory mem.old IsIndex }
+    requires { IsLoadable M.Memory mem.old IsIndex }
     ensures { Walks M.Memory mem.old mem.new result (visits.new - visits.old) (λ end. AtEnd past (unpacked key.now.len key.now.words) end.node end.above) }
 {
     let mut above = 0;
@@ -87,7 +87,7 @@ fn seek<M: Memory, L: Ledger>(
     visits: &mut Steps<L>,
     way: &mut Way,
 ) -> Result<End, Halt>
-    requires { CanLoad M.Memory mem.old IsIndex }
+    requires { IsLoadable M.Memory mem.old IsIndex }
     ensures { Walks M.Memory mem.old mem.new result (visits.new - visits.old) (λ end. AtSpot past (unpacked key.now.len key.now.words) way.new.nodes way.new.sides way.new.depth end.node end.above) }
 {
     let mut above = 0;
@@ -113,14 +113,14 @@ fn seek<M: Memory, L: Ledger>(
 }
 
 /// Walks to the place of a key that is put in or taken out, and keeps the way down. Whether it halts or not, its visits are few for words that
-/// may have been there.
+/// may have been there. `Halt` comes only where no access is left.
 pub fn seek_place<M: Memory, L: Ledger>(
     mem: &mut M,
     key: &Key,
     visits: &mut Steps<L>,
     way: &mut Way,
 ) -> Result<End, Halt>
-    requires { CanLoad M.Memory mem.old IsIndex }
+    requires { IsLoadable M.Memory mem.old IsIndex }
     ensures finds { Finds M.Memory mem.old mem.new result (λ end. AtSpot false (unpacked key.now.len key.now.words) way.new.nodes way.new.sides way.new.depth end.node end.above) }
     ensures visits { VisitsFew M.Memory mem.old mem.new (visits.new - visits.old) }
 {

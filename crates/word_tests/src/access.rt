@@ -2,7 +2,7 @@
 
 ghost use Rattle.std.specs.Prelude.{◌≡◌, ◌*◌, ◌^◌, ◌≤◌, IsTrue, IfOk, OnOk};
 ghost use Rattle.cx_base.specs.Memory.{Always};
-ghost use Rattle.doc_store.specs.ExactStep.{IsImage};
+ghost use Rattle.doc_store.specs.ExactStep.{IsImageOfStore};
 
 use crate::counting::{Counting, counted_words};
 use crate::holds::holds;
@@ -39,10 +39,10 @@ pub(crate) fn on_key(kind: u64, n: u64, document: &[u8]) -> [u64; 144] {
 fn put_rising<M: Memory>(store: &DocStore, mem: &mut M, from: u64, to: u64) -> Result<(), Halt>
     requires size { M.size mem.old ≡ 8 * store.now.lines }
     requires writable { IsTrue (M.writable mem.old) }
-    requires lawful { Always (M.stands mem.old) (IsImage store.now.lines) }
+    requires lawful { Always (M.stands mem.old) (IsImageOfStore store.now.lines) }
     ensures size { M.size mem.new ≡ 8 * store.now.lines }
     ensures writable { IsTrue (M.writable mem.new) }
-    ensures lawful { OnOk result (Always (M.stands mem.new) (IsImage store.now.lines)) }
+    ensures lawful { OnOk result (Always (M.stands mem.new) (IsImageOfStore store.now.lines)) }
 {
     for n in from..to {
         asked(store, mem, &on_key(PUT, n, &LETTERS[..16]))?;
@@ -50,7 +50,7 @@ fn put_rising<M: Memory>(store: &DocStore, mem: &mut M, from: u64, to: u64) -> R
     Ok(())
 }
 
-/// The most loads that a get of one of the first so many keys takes, after they are put in rising order.
+/// The most loads that a get of one of the first `keys` keys takes, after they are put in rising order.
 fn most_loads<M: Memory>(store: &DocStore, mem: &mut Counting<M>, keys: u64) -> Result<u64, Halt>
     requires size { M.size mem.old.inner ≡ 8 * store.now.lines }
     requires writable { IsTrue (M.writable mem.old.inner) }
@@ -74,7 +74,7 @@ fn height_in(words: &[u64]) -> Option<u64> {
         .copied()
 }
 
-/// Whether each get among so many rising keys loads no more than so many words.
+/// Whether each get among `keys` rising keys loads no more words than the limit.
 fn loads_few<M: Memory>(store: &DocStore, mem: &mut Counting<M>, keys: u64, limit: u64) -> bool
     requires size { M.size mem.old.inner ≡ 8 * store.now.lines }
     requires writable { IsTrue (M.writable mem.old.inner) }
@@ -232,10 +232,10 @@ fn is_limited<M: Memory>(
 ) -> Result<bool, Halt>
     requires size { M.size mem.old.inner ≡ 8 * store.now.lines }
     requires writable { IsTrue (M.writable mem.old.inner) }
-    requires lawful { Always (M.stands mem.old.inner) (IsImage store.now.lines) }
+    requires lawful { Always (M.stands mem.old.inner) (IsImageOfStore store.now.lines) }
     ensures size { M.size mem.new.inner ≡ 8 * store.now.lines }
     ensures writable { IsTrue (M.writable mem.new.inner) }
-    ensures lawful { IfOk result (λ _. Always (M.stands mem.new.inner) (IsImage store.now.lines)) }
+    ensures lawful { IfOk result (λ _. Always (M.stands mem.new.inner) (IsImageOfStore store.now.lines)) }
 {
     let (keys, kind, n, document, limits) = row;
     put_rising(store, mem, there, *keys)?;
@@ -268,7 +268,7 @@ fn are_within_limits<M: Memory>(
     Ok(true)
 }
 
-/// Whether each row's operation is within its limits, in so many lines.
+/// Whether each row's operation is within its limits, in `lines` lines.
 fn are_limited(alloc: Global, lines: u64, rows: &[Limited]) -> Result<bool, AllocError>
     requires some { 1 ≤ lines }
     requires few { lines ≤ 2 ^ 14 }

@@ -209,7 +209,7 @@ fn first_other_format(alloc: Global) -> Result<Option<u64>, AllocError> {
     Ok(None)
 }
 
-// Whether a step on the opening image is done with so many accesses left.
+// Whether a step on the opening image is done with `left` accesses left.
 fn is_done(alloc: Global, op: &[u64; 144], left: u64) -> Result<Option<bool>, AllocError> {
     let Ok(words) = opening(alloc, None)? else {
         return Ok(None);
@@ -220,7 +220,7 @@ fn is_done(alloc: Global, op: &[u64; 144], left: u64) -> Result<Option<bool>, Al
     Ok(Some(stepped(words, Some(left), op).is_ok()))
 }
 
-// The first limit below 4 under which a step that needs so many accesses halts, or does not, otherwise.
+// The first limit below 4 under which a step that needs `needs` accesses halts where it should not, or does not where it should.
 fn first_other_run(alloc: Global, op: &[u64; 144], needs: u64) -> Result<Option<u64>, AllocError> {
     for left in 0..4 {
         if is_done(alloc, op, left)? != Some(needs <= left) {
@@ -300,7 +300,7 @@ const PUT: [([u64; 8], u64); 3] = [
     ([0, 0, 3, 4, 5, 0, 0, 0], 5),
 ];
 
-// Whether so many accesses are answered so.
+// Whether these words are put with `left` accesses left, or refused, as wanted.
 fn is_put(
     alloc: Global,
     words: &[u64; 8],
@@ -338,7 +338,7 @@ fn words_over_a_memory(rt: HostRuntime) -> Result<(), Fail> {
 // The text that goes through.
 const TEXT: &[u8; 8] = b"abcdefgh";
 
-// What a call answers: so many bytes, or that it failed.
+// What a call answers: a number of bytes, or this where it failed.
 const FAILED: usize = usize::MAX;
 
 // Bytes a call, calls that fail, the room, and what the calls answer.

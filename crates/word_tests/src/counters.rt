@@ -198,7 +198,7 @@ fn told<O: Object, M: Memory>(
     }
 }
 
-// 512 words that say nothing, with so many accesses allowed.
+// 512 words that say nothing, with this many accesses allowed.
 fn memory(alloc: Global, left: Option<u64>) -> Result<VecMemory, AllocError>
     ensures { IfOk result (λ m. length m.words.items ≡ 512) }
 {
@@ -233,7 +233,7 @@ const ACCESSES: [(Op, u64); 6] = [
     (Op::Other, 0),
 ];
 
-// Whether a step is done with so many accesses for `format` and the step; `None` where `format` halts.
+// Whether a step is done with `left` accesses for `format` and the step; `None` where `format` halts.
 fn is_done(alloc: Global, op: Op, left: u64) -> Result<Option<bool>, AllocError> {
     let object = counters();
     let mut memory = memory(alloc, Some(left))?;
@@ -287,7 +287,7 @@ const IMAGES: [(usize, usize, u64, bool); 7] = [
     (0, 1, 0, false),
 ];
 
-// Whether so many words of 0, behind the version and with that word at the place, are an image.
+// Whether `len` words of 0, behind the version and with that word at the place, are an image.
 fn is_image(alloc: Global, len: usize, at: usize, word: u64) -> Result<bool, AllocError> {
     let mut words = vec![in alloc; 0; len]?;
     for (place, value) in [(0, 1), (at, word)] {

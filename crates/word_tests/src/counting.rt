@@ -64,7 +64,7 @@ const NO_STORES: WordStores = WordStores {
     now: u64::MAX,
 };
 
-/// A memory of so many lines of words that say nothing, counted.
+/// A memory of `lines` lines of words that say nothing, counted.
 pub(crate) fn counted_words(alloc: Global, lines: u64) -> Result<Counting<VecMemory>, AllocError>
     requires { lines ≤ 2 ^ 14 }
     ensures { IfOk result (λ c. length c.inner.words.items ≡ 8 * lines) }

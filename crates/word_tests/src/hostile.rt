@@ -385,7 +385,7 @@ fn told(version: u64, lie: Lie) -> Option<[u64; 168]> {
     Some(words)
 }
 
-// Whether so many words of the image of a version with its lie, up to all, are lawful.
+// Whether the first `count` words of the image of a version with its lie, or all of them, are lawful.
 fn is_lawful(
     alloc: Global,
     version: u64,

@@ -67,7 +67,7 @@ pub fn put<M: Memory, L: Ledger>(
     Ok(done)
 }
 
-// Puts a document of so many bytes that are all the same.
+// Puts a document of `len` bytes that are all the same.
 fn put_same<M: Memory, L: Ledger>(
     memory: &mut M,
     key: &[u8],
@@ -184,7 +184,7 @@ fn revisions<M: Memory, L: Ledger>(
 
 // A call, and what it answers.
 enum Call {
-    // a document of so many bytes that are all the same is put
+    // a document of this many bytes that are all the same is put
     Put(u8, usize, Inserted),
     Take(bool),
     // the number of pairs, and the first byte of the least key above

@@ -79,7 +79,7 @@ fn scrambled(mut seed: u64) -> [u64; WORDS] {
     words
 }
 
-// Whether the kernel marks the lines that differ as the plain program does, in so many lines, and no mark behind them.
+// Whether the kernel marks the lines that differ as the plain program does, in `lines` lines, and no mark behind them.
 fn differ_as_plain(a: &[u64; WORDS], b: &[u64; WORDS], lines: usize) -> bool
     requires { lines ≤ 40 }
 {

@@ -1,4 +1,9 @@
-//! Tests of memories of words, lines, media, objects, the index and the document store. It has tests alone.
+//! A proof says that a call keeps its contract, and neither that the contract is the one that was wanted nor that a call succeeds: one that always
+//! answers out of memory keeps its contract too. So the lowest layers are called here as a user calls them: memories of words, lines, media, objects,
+//! the index and the document store.
+//!
+//! Rows that were worked by hand, hostile images and mixed commands are compared with slow, plain programs, and each access to a memory is refused in
+//! turn. The crate has tests alone.
 #![tactic(auto)]
 
 #[cfg(test)]

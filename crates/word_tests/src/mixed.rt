@@ -2,7 +2,7 @@
 
 ghost use Rattle.std.specs.Prelude.{◌≡◌, ◌*◌, ◌<◌, IsTrue, IfOk};
 ghost use Rattle.cx_base.specs.Memory.{Always};
-ghost use Rattle.doc_store.specs.ExactStep.{IsImage};
+ghost use Rattle.doc_store.specs.ExactStep.{IsImageOfStore};
 
 use crate::holds::holds;
 use crate::rows::{LETTERS, asked, laid_out, meant, memory, opened, same_reply, words_of};
@@ -110,10 +110,10 @@ fn both<M: Memory>(
 ) -> Result<bool, AllocError>
     requires size { M.size mem.old ≡ 8 * store.now.lines }
     requires writable { IsTrue (M.writable mem.old) }
-    requires lawful { Always (M.stands mem.old) (IsImage store.now.lines) }
+    requires lawful { Always (M.stands mem.old) (IsImageOfStore store.now.lines) }
     ensures size { M.size mem.new ≡ 8 * store.now.lines }
     ensures writable { IsTrue (M.writable mem.new) }
-    ensures lawful { IfOk result (λ same. IsTrue same → Always (M.stands mem.new) (IsImage store.now.lines)) }
+    ensures lawful { IfOk result (λ same. IsTrue same → Always (M.stands mem.new) (IsImageOfStore store.now.lines)) }
 {
     match asked(store, mem, words) {
         Ok(reply) => is_meant(alloc, pairs, store.lines(), words, &reply),
@@ -121,7 +121,7 @@ fn both<M: Memory>(
     }
 }
 
-/// Whether both, empty before, answer so many commands the same.
+/// Whether both, empty before, give the same answers to `commands` commands.
 fn are_same<M: Memory>(
     alloc: Global,
     store: &DocStore,
@@ -172,7 +172,7 @@ fn twenty_thousand_commands_as_in_the_list(rt: HostRuntime) -> Result<(), Fail> 
     Ok(())
 }
 
-/// Whether a command is done in an image that is lawful, with so many accesses.
+/// Whether a command is done in an image that is lawful, with `left` accesses left.
 fn is_done(
     alloc: Global,
     store: &DocStore,

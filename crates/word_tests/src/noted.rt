@@ -19,7 +19,7 @@ pub struct Noted {
 }
 
 impl Noted {
-    /// A memory of these words that allows so many accesses.
+    /// A memory of these words that allows `room` accesses.
     pub fn of(alloc: Global, words: Vec<u64>, room: usize) -> Result<Noted, AllocError>
         ensures { IfOk result (λ m. (m.notes.items ≡ []) × (length m.words.items ≡ length words.items)) }
     {

@@ -1,7 +1,7 @@
 //! Every order in which seven keys can be put in and taken out, with a look at the image after each command.
 
 ghost use Rattle.std.specs.Prelude.{◌≡◌, IsTrue, IfOk};
-ghost use Rattle.doc_store.specs.ExactStep.{IsImage};
+ghost use Rattle.doc_store.specs.ExactStep.{IsImageOfStore};
 
 use crate::holds::holds;
 use crate::mixed::accesses;
@@ -79,7 +79,7 @@ fn holds_those(
     image: &[u64],
     there: &[bool; 7],
 ) -> Result<bool, AllocError>
-    ensures { IfOk result (λ yes. IsTrue yes → IsImage store.now.lines image.now) }
+    ensures { IfOk result (λ yes. IsTrue yes → IsImageOfStore store.now.lines image.now) }
 {
     if !store.check(alloc, image)? {
         return Ok(false);

@@ -2,7 +2,7 @@
 
 ghost use Rattle.std.specs.Prelude.{◌≡◌, ◌*◌, IsTrue, IfOk};
 ghost use Rattle.cx_base.specs.Memory.{Always};
-ghost use Rattle.doc_store.specs.ExactStep.{IsImage};
+ghost use Rattle.doc_store.specs.ExactStep.{IsImageOfStore};
 
 use crate::holds::holds;
 use crate::rows::{Row, asked, words_of};
@@ -82,10 +82,10 @@ fn an_image_of_version_1_is_upgraded(rt: HostRuntime) -> Result<(), Fail> {
 fn is_answered<M: Memory>(store: &DocStore, mem: &mut M, row: &(Row, Row)) -> bool
     requires size { M.size mem.old ≡ 8 * store.now.lines }
     requires writable { IsTrue (M.writable mem.old) }
-    requires lawful { Always (M.stands mem.old) (IsImage store.now.lines) }
+    requires lawful { Always (M.stands mem.old) (IsImageOfStore store.now.lines) }
     ensures size { M.size mem.new ≡ 8 * store.now.lines }
     ensures writable { IsTrue (M.writable mem.new) }
-    ensures lawful { IsTrue result → Always (M.stands mem.new) (IsImage store.now.lines) }
+    ensures lawful { IsTrue result → Always (M.stands mem.new) (IsImageOfStore store.now.lines) }
 {
     match asked(store, mem, &words_of(row.0)) {
         Ok(reply) => reply == words_of(row.1),
@@ -97,7 +97,7 @@ fn is_answered<M: Memory>(store: &DocStore, mem: &mut M, row: &(Row, Row)) -> bo
 fn are_answered_in<M: Memory>(store: &DocStore, mem: &mut M, rows: &[(Row, Row)]) -> bool
     requires size { M.size mem.old ≡ 8 * store.now.lines }
     requires writable { IsTrue (M.writable mem.old) }
-    requires lawful { Always (M.stands mem.old) (IsImage store.now.lines) }
+    requires lawful { Always (M.stands mem.old) (IsImageOfStore store.now.lines) }
 {
     for row in rows {
         if !is_answered(store, mem, row) {

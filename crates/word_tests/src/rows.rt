@@ -2,7 +2,7 @@
 
 ghost use Rattle.std.specs.Prelude.{◌≡◌, ◌≤◌, ◌*◌, ◌^◌, IsTrue, IfOk, OnOk, length, replicate};
 ghost use Rattle.cx_base.specs.Memory.{Always};
-ghost use Rattle.doc_store.specs.ExactStep.{IsImage};
+ghost use Rattle.doc_store.specs.ExactStep.{IsImageOfStore};
 
 use crate::holds::holds;
 use cx_base::{Halt, Memory, Object, VecMemory};
@@ -107,7 +107,7 @@ pub(crate) fn same_reply(one: &Reply, other: &Reply) -> bool {
         && number_of(one) == number_of(other)
 }
 
-/// What the plain program answers to words in so many lines, and nothing where they are no operation's.
+/// What the plain program answers to words in `lines` lines, and nothing where they are no operation's.
 pub(crate) fn meant(
     alloc: Global,
     pairs: &mut Pairs,
@@ -143,10 +143,10 @@ pub(crate) fn asked<M: Memory>(
 ) -> Result<[u64; 144], Halt>
     requires size { M.size mem.old ≡ 8 * store.now.lines }
     requires writable { IsTrue (M.writable mem.old) }
-    requires lawful { Always (M.stands mem.old) (IsImage store.now.lines) }
+    requires lawful { Always (M.stands mem.old) (IsImageOfStore store.now.lines) }
     ensures size { M.size mem.new ≡ 8 * store.now.lines }
     ensures writable { IsTrue (M.writable mem.new) }
-    ensures lawful { IfOk result (λ _. Always (M.stands mem.new) (IsImage store.now.lines)) }
+    ensures lawful { IfOk result (λ _. Always (M.stands mem.new) (IsImageOfStore store.now.lines)) }
 {
     store.run(mem, op)
 }
@@ -157,7 +157,7 @@ pub(crate) fn opened<M: Memory>(store: &DocStore, mem: &mut M) -> Result<(), Hal
     requires writable { IsTrue (M.writable mem.old) }
     ensures size { M.size mem.new ≡ 8 * store.now.lines }
     ensures writable { IsTrue (M.writable mem.new) }
-    ensures lawful { OnOk result (Always (M.stands mem.new) (IsImage store.now.lines)) }
+    ensures lawful { OnOk result (Always (M.stands mem.new) (IsImageOfStore store.now.lines)) }
 {
     store.format(mem)
 }
@@ -172,10 +172,10 @@ fn is_answered<M: Memory>(
 ) -> Result<bool, AllocError>
     requires size { M.size mem.old ≡ 8 * store.now.lines }
     requires writable { IsTrue (M.writable mem.old) }
-    requires lawful { Always (M.stands mem.old) (IsImage store.now.lines) }
+    requires lawful { Always (M.stands mem.old) (IsImageOfStore store.now.lines) }
     ensures size { M.size mem.new ≡ 8 * store.now.lines }
     ensures writable { IsTrue (M.writable mem.new) }
-    ensures lawful { IfOk result (λ yes. IsTrue yes → Always (M.stands mem.new) (IsImage store.now.lines)) }
+    ensures lawful { IfOk result (λ yes. IsTrue yes → Always (M.stands mem.new) (IsImageOfStore store.now.lines)) }
 {
     let op = words_of(row.0);
     match asked(store, mem, &op) {
@@ -208,7 +208,7 @@ fn both_answer<M: Memory>(
     Ok(true)
 }
 
-/// A memory of so many lines of words that say nothing.
+/// A memory of `lines` lines of words that say nothing.
 pub(crate) fn memory(alloc: Global, lines: u64) -> Result<VecMemory, AllocError>
     requires { lines ≤ 2 ^ 14 }
     ensures { IfOk result (λ m. length m.words.items ≡ 8 * lines) }
@@ -217,7 +217,7 @@ pub(crate) fn memory(alloc: Global, lines: u64) -> Result<VecMemory, AllocError>
     Ok(VecMemory::of(words, None))
 }
 
-/// Whether each row is answered as told in so many lines, by the plain program from these pairs on.
+/// Whether each row is answered as told in `lines` lines, by the plain program from these pairs on.
 pub(crate) fn are_answered_with(
     alloc: Global,
     lines: u64,
@@ -231,7 +231,7 @@ pub(crate) fn are_answered_with(
     both_answer(alloc, &DocStore::of(lines), &mut mem, pairs, rows)
 }
 
-/// Whether each row is answered as told in so many lines.
+/// Whether each row is answered as told in `lines` lines.
 pub(crate) fn are_answered(
     alloc: Global,
     lines: u64,

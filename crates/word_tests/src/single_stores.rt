@@ -2,7 +2,7 @@
 
 ghost use Rattle.std.specs.Prelude.{◌≡◌, ◌*◌, ◌^◌, ◌≤◌, IsTrue, OnOk};
 ghost use Rattle.cx_base.specs.Memory.{Always};
-ghost use Rattle.doc_store.specs.ExactStep.{IsImage};
+ghost use Rattle.doc_store.specs.ExactStep.{IsImageOfStore};
 
 use crate::access::{DEL, PUT, has_height, key_of, on_key};
 use crate::counting::{Counting, WordStores, counted_words};
@@ -45,12 +45,12 @@ fn counted(words: &mut [WordStores], so_far: Stores) -> Stores {
     sum
 }
 
-/// Whether there are more stores than so many, each of another word, which it changes.
+/// Whether there are more stores than `more_than`, each of another word, which it changes.
 fn are_single(stores: &Stores, more_than: u64) -> bool {
     stores.again == 0 && stores.needless == 0 && stores.all > more_than
 }
 
-/// The stores of so many mixed commands.
+/// The stores of `commands` mixed commands.
 fn stores_of<M: Memory>(
     store: &DocStore,
     mem: &mut Counting<M>,
@@ -70,7 +70,7 @@ fn stores_of<M: Memory>(
     Ok(sum)
 }
 
-/// Whether so many mixed commands in so many lines make more stores than so many, each of a word that it changes.
+/// Whether `commands` mixed commands in `lines` lines make more stores than `more_than`, each of a word that it changes.
 fn store_once(alloc: Global, lines: u64, commands: u64, more_than: u64) -> Result<bool, AllocError>
     requires some { 1 ≤ lines }
     requires few { lines ≤ 2 ^ 14 }
@@ -168,10 +168,10 @@ fn on_long_key(kind: u64, n: u64, document: &[u8]) -> [u64; 144] {
 fn put_short<M: Memory>(store: &DocStore, mem: &mut M, trees: &[Smallest]) -> Result<(), Halt>
     requires size { M.size mem.old ≡ 8 * store.now.lines }
     requires writable { IsTrue (M.writable mem.old) }
-    requires lawful { Always (M.stands mem.old) (IsImage store.now.lines) }
+    requires lawful { Always (M.stands mem.old) (IsImageOfStore store.now.lines) }
     ensures size { M.size mem.new ≡ 8 * store.now.lines }
     ensures writable { IsTrue (M.writable mem.new) }
-    ensures lawful { OnOk result (Always (M.stands mem.new) (IsImage store.now.lines)) }
+    ensures lawful { OnOk result (Always (M.stands mem.new) (IsImageOfStore store.now.lines)) }
 {
     for tree in trees {
         asked(store, mem, &on_key(PUT, tree.root(), b"x"))?;
@@ -190,7 +190,7 @@ fn grown<M: Memory>(
     requires writable { IsTrue (M.writable mem.old) }
     ensures size { M.size mem.new ≡ 8 * store.now.lines }
     ensures writable { IsTrue (M.writable mem.new) }
-    ensures lawful { OnOk result (Always (M.stands mem.new) (IsImage store.now.lines)) }
+    ensures lawful { OnOk result (Always (M.stands mem.new) (IsImageOfStore store.now.lines)) }
 {
     opened(store, mem)?;
     asked(store, mem, &on_long_key(PUT, root, &LETTERS[..1024]))?;

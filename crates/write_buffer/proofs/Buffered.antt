@@ -5,7 +5,7 @@ use Rattle.std.proofs.lemmas.List.{length-set, get_or-set_same, get_or-set_other
 use Rattle.cx_base.specs.Memory.{Words, Loaded, Stored, Same, Always, Becomes}
 use Rattle.cx_base.specs.WordLaws.{Words-set, Words-at}
 use Rattle.cx_base.proofs.MemoryLemmas.{always_at_most}
-use Rattle.write_buffer.specs.Buffering.{IsFree, Covers, IsHeld, Shows}
+use Rattle.write_buffer.specs.Buffering.{IsFree, Covers, IsHeldBack, Shows}
 
 -- a number put into a list
 there : (xs : List ℕ) (n v : ℕ) → n < length xs → slice_index (slice_set xs n v) n ≡ v
@@ -86,7 +86,7 @@ put_back xs i v w e = set-set xs i v w ∙ ap (slice_set xs i) (sym e) ∙ set-g
 module _ {Key : Type 0} where
   -- where no pair behind is new, what is held back stays so
   pub held_on : {old new : Key → List ℕ → Type 0} (size size' count : ℕ) (places found values : List ℕ) → size' ≡ size → ((key : Key) (u : List ℕ) → new key u → old key u) →
-      IsHeld old size count places found values → IsHeld new size' count places found values
+      IsHeldBack old size count places found values → IsHeldBack new size' count places found values
   held_on size size' count places found values e back h = record {
     few = h.few;
     places_long = h.places_long;
@@ -99,7 +99,7 @@ module _ {Key : Type 0} where
   }
 
   -- nothing is held back
-  pub held_none : {stands : Key → List ℕ → Type 0} (size : ℕ) (places found values : List ℕ) → length places ≡ 192 → length found ≡ 192 → length values ≡ 192 → IsHeld stands size 0 places found values
+  pub held_none : {stands : Key → List ℕ → Type 0} (size : ℕ) (places found values : List ℕ) → length places ≡ 192 → length found ≡ 192 → length values ≡ 192 → IsHeldBack stands size 0 places found values
   held_none size places found values p f v = record {
     few = omega arith;
     places_long = p;
@@ -113,7 +113,7 @@ module _ {Key : Type 0} where
 
   -- one word more
   pub held_more : {stands : Key → List ℕ → Type 0} (size count at x : ℕ) (places found values : List ℕ) → count < 192 → at < size → x < 2 ^ 64 → IsFree places count at → Always stands (λ u. slice_index u at ≡ x) →
-      IsHeld stands size count places found values → IsHeld stands size (count + 1) (slice_set places count at) (slice_set found count x) (slice_set values count x)
+      IsHeldBack stands size count places found values → IsHeldBack stands size (count + 1) (slice_set places count at) (slice_set found count x) (slice_set values count x)
   held_more size count at x places found values room inside fits free known h =
       let p : count < length places = (let e = h.places_long in omega (arith, e, room)) in
       let f : count < length found = (let e = h.found_long in omega (arith, e, room)) in
@@ -153,7 +153,7 @@ module _ {Key : Type 0} where
 
   -- another value for one
   pub held_put : {stands : Key → List ℕ → Type 0} (size count i v : ℕ) (places found values : List ℕ) → i < count → v < 2 ^ 64 →
-      IsHeld stands size count places found values → IsHeld stands size count places found (slice_set values i v)
+      IsHeldBack stands size count places found values → IsHeldBack stands size count places found (slice_set values i v)
   held_put size count i v places found values l fits h = record {
     few = h.few;
     places_long = h.places_long;
@@ -171,7 +171,7 @@ module _ {Key : Type 0} where
 
   -- a free word is stored to behind
   pub held_stored : {old new : Key → List ℕ → Type 0} (size size' count at v : ℕ) (places found values : List ℕ) → size' ≡ size → IsFree places count at → Stored at v old new →
-      IsHeld old size count places found values → IsHeld new size' count places found values
+      IsHeldBack old size count places found values → IsHeldBack new size' count places found values
   held_stored size size' count at v places found values e free d h = record {
     few = h.few;
     places_long = h.places_long;
@@ -187,7 +187,7 @@ module _ {Key : Type 0} where
 
   -- a load behind gives the word that was found there
   pub found_there : {old new : Key → List ℕ → Type 0} (size count i at x : ℕ) (places found values : List ℕ) → i < count → slice_index places i ≡ at →
-      ∥ ((key : Key) × (now : List ℕ) × new key now) ∥₁ → IsHeld old size count places found values → Loaded at x old new → x ≡ slice_index found i
+      ∥ ((key : Key) × (now : List ℕ) × new key now) ∥₁ → IsHeldBack old size count places found values → Loaded at x old new → x ≡ slice_index found i
   found_there {new = new} size count i at x places found values l e some h d =
       let f = slice_index found i in
       let same : Always new (λ _. x ≡ f) = λ key u s. (let p = d.back key u s in sym p.1 ∙ ap (slice_index u) (sym e) ∙ h.known key u p.0 i l) in
@@ -211,7 +211,7 @@ module _ {Key : Type 0} where
   }
 
   -- a load of a free word, which is held back from then on
-  pub shows_push : {old new : Key → List ℕ → Type 0} (size count at x : ℕ) (places found values : List ℕ) → count < 192 → IsHeld old size count places found values → IsFree places count at → Loaded at x old new →
+  pub shows_push : {old new : Key → List ℕ → Type 0} (size count at x : ℕ) (places found values : List ℕ) → count < 192 → IsHeldBack old size count places found values → IsFree places count at → Loaded at x old new →
       Loaded at x (Shows old size count places values) (Shows new size (count + 1) (slice_set places count at) (slice_set values count x))
   shows_push size count at x places found values room h free d =
       let p : count < length places = (let e = h.places_long in omega (arith, e, room)) in
@@ -231,7 +231,7 @@ module _ {Key : Type 0} where
 
   -- a load of a word that is held back
   pub shows_held : {old new : Key → List ℕ → Type 0} (size count i at x : ℕ) (places found values : List ℕ) → i < count → slice_index places i ≡ at → x ≡ slice_index found i →
-      IsHeld old size count places found values → Loaded at x old new → Loaded at (slice_index values i) (Shows old size count places values) (Shows new size count places values)
+      IsHeldBack old size count places found values → Loaded at x old new → Loaded at (slice_index values i) (Shows old size count places values) (Shows new size count places values)
   shows_held size count i at x places found values l e same h d = record {
     back = λ key now s. (
         let p = d.back key s.under s.stood in
@@ -246,7 +246,7 @@ module _ {Key : Type 0} where
 
   -- a store to a word that is held back
   pub shows_put : {old new : Key → List ℕ → Type 0} (size count i at x v : ℕ) (places found values : List ℕ) → i < count → v < 2 ^ 64 → slice_index places i ≡ at → x ≡ slice_index found i →
-      IsHeld old size count places found values → Loaded at x old new → Stored at v (Shows old size count places values) (Shows new size count places (slice_set values i v))
+      IsHeldBack old size count places found values → Loaded at x old new → Stored at v (Shows old size count places values) (Shows new size count places (slice_set values i v))
   shows_put size count i at x v places found values l fits e same h d =
       let few : count ≤ length values = (let f = h.few in let long = h.values_long in omega (arith, f, long)) in
       let inside : at < size = subst (λ n. n < size) e (h.within i l) in
@@ -357,7 +357,7 @@ module _ {Key : Type 0} where
 
 module _ {Key : Type 0} where
   -- the same of all pairs that stand
-  pub becomes_stored : {old mid new : Key → List ℕ → Type 0} (size i count : ℕ) (places found values : List ℕ) → i < count → IsHeld old size count places found values →
+  pub becomes_stored : {old mid new : Key → List ℕ → Type 0} (size i count : ℕ) (places found values : List ℕ) → i < count → IsHeldBack old size count places found values →
       ((key : Key) (now : List ℕ) → mid key now → Words size now) → Becomes old mid (Covers i places values) → Stored (slice_index places i) (slice_index values i) mid new → Becomes old new (Covers (i + 1) places values)
   becomes_stored size i count places found values l h words b d = record {
     from = λ key now s. (
@@ -367,7 +367,7 @@ module _ {Key : Type 0} where
         (p.0, p.1, subst (λ xs. Covers (i + 1) places values p.0 xs) (sym q.2) (covers_stored i count places values p.0 q.0 l within h.apart p.2)));
   }
 
-  pub becomes_kept : {old mid : Key → List ℕ → Type 0} (size i count : ℕ) (places found values : List ℕ) → i < count → slice_index values i ≡ slice_index found i → IsHeld old size count places found values →
+  pub becomes_kept : {old mid : Key → List ℕ → Type 0} (size i count : ℕ) (places found values : List ℕ) → i < count → slice_index values i ≡ slice_index found i → IsHeldBack old size count places found values →
       Becomes old mid (Covers i places values) → Becomes old mid (Covers (i + 1) places values)
   becomes_kept size i count places found values l same h b = record {
     from = λ key now s. (let p = b.from key now s in (p.0, p.1, covers_kept i count places found values p.0 now l same (h.known key p.0 p.1 i l) h.apart p.2));

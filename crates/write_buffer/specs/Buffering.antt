@@ -14,11 +14,11 @@ pub record BufferFixed (Name Fixed : Type 0) : Type 0 where
   pub inner : Fixed
   pub whole : ℕ
 
--- none of the first so many places is this one
+-- none of the first `count` places is this one
 abbrev pub IsFree : List ℕ → ℕ → ℕ → Type 0
 IsFree places count at = (i : ℕ) → i < count → slice_index places i ≢ at
 
--- the hint of each of the first so many places is set: the one of the place modulo 256
+-- the hint of each of the first `count` places is set: the one of the place modulo 256
 pub record AreHinted (places : List ℕ) (count : ℕ) (hints : List ℕ) : Type 0 where
   pub few : length hints ≡ 256
   pub set : (i : ℕ) → i < count → 1 ≤ slice_index hints (slice_index places i % 256)
@@ -29,8 +29,8 @@ pub record Covers (count : ℕ) (places values under now : List ℕ) : Type 0 wh
   pub held : (i : ℕ) → i < count → slice_index now (slice_index places i) ≡ slice_index values i
   pub free : (at : ℕ) → IsFree places count at → slice_index now at ≡ slice_index under at
 
--- The words held back of so many: each once, with what stands behind it.
-pub record IsHeld {Key : Type 0} (stands : Key → List ℕ → Type 0) (size count : ℕ) (places found values : List ℕ) : Type 0 where
+-- `count` words are held back: each once, with what stands behind it in the memory.
+pub record IsHeldBack {Key : Type 0} (stands : Key → List ℕ → Type 0) (size count : ℕ) (places found values : List ℕ) : Type 0 where
   pub few : count ≤ 192
   pub places_long : length places ≡ 192
   pub found_long : length found ≡ 192
@@ -51,7 +51,7 @@ module _ {Key : Type 0} where
   pub shows_words : {stands : Key → List ℕ → Type 0} (size count : ℕ) (places values : List ℕ) → (key : Key) (now : List ℕ) → Shows stands size count places values key now → Words size now
   shows_words size count places values key now s = s.words
 
--- the first so many words held back, put over the words behind one by one
+-- the first words held back, as many as given, put over the words behind one by one
 abbrev covered : ℕ → List ℕ → List ℕ → List ℕ → List ℕ
 covered zero places values under = under
 covered (suc n) places values under = slice_set (covered n places values under) (slice_index places n) (slice_index values n)
@@ -87,7 +87,7 @@ covered_words size (suc n) places values under small w =
 
 module _ {Key : Type 0} where
   -- some pair stands, since one does behind it
-  pub shows_some : {stands : Key → List ℕ → Type 0} (size count : ℕ) (places found values : List ℕ) → IsHeld stands size count places found values →
+  pub shows_some : {stands : Key → List ℕ → Type 0} (size count : ℕ) (places found values : List ℕ) → IsHeldBack stands size count places found values →
       ((key : Key) (now : List ℕ) → stands key now → Words size now) →
       ∥ ((key : Key) × (now : List ℕ) × stands key now) ∥₁ →
       ∥ ((key : Key) × (now : List ℕ) × Shows stands size count places values key now) ∥₁

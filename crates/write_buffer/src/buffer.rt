@@ -2,7 +2,7 @@
 
 ghost use Rattle.std.specs.Prelude.{◌≡◌, ◌<◌, ◌≤◌, ℕ, IsTrue};
 ghost use Rattle.cx_base.specs.Calls.{Changes};
-ghost use Rattle.write_buffer.specs.Buffering.{IsHeld, Shows, Covers, BufferFixed, shows_some, shows_words};
+ghost use Rattle.write_buffer.specs.Buffering.{IsHeldBack, Shows, Covers, BufferFixed, shows_some, shows_words};
 
 use crate::held::Held;
 use cx_base::{Halt, Memory};
@@ -16,12 +16,12 @@ pub struct WriteBuffer<'a, M: Memory> {
     pub inner: &'a mut M,
     pub line: u64,
     pub held: &'a mut Held,
-    ghost is: { IsHeld (M.stands inner.now) (M.size inner.now) held.now.count held.now.places held.now.found held.now.values },
+    ghost is: { IsHeldBack (M.stands inner.now) (M.size inner.now) held.now.count held.now.places held.now.found held.now.values },
 }
 
 impl<'a, M: Memory> WriteBuffer<'a, M> {
-    /// A buffer that holds nothing back yet, with the line whose words are all held back beside line 0. What it holds back stands where its
-    /// caller has it, whatever was there.
+    /// A buffer that holds nothing back yet, with the line whose words are all held back beside line 0. What it holds back is
+    /// kept in `held`, whatever was there.
     pub fn over(inner: &'a mut M, line: u64, held: &'a mut Held) -> WriteBuffer<'a, M>
         ensures name { result.inner.ghost_name ≡ inner.entry.ghost_name }
         ensures held_name { result.held.ghost_name ≡ held.entry.ghost_name }
@@ -86,7 +86,7 @@ impl<M: Memory> Memory for WriteBuffer<'_, M> {
 /// Stores the words that are held back from a memory, each that differs once. `Halt` comes only where no access is left.
 pub fn store_held<M: Memory>(mem: &mut M, held: &Held) -> Result<(), Halt>
     requires writable { IsTrue (M.writable mem.old) }
-    requires held { IsHeld (M.stands mem.old) (M.size mem.old) held.now.count held.now.places held.now.found held.now.values }
+    requires held { IsHeldBack (M.stands mem.old) (M.size mem.old) held.now.count held.now.places held.now.found held.now.values }
     ensures { Changes M.Memory mem.old mem.new result (λ _. Covers held.now.count held.now.places held.now.values) }
 {
     for i in 0..held.count {

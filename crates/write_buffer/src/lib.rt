@@ -1,4 +1,8 @@
-//! A write buffer over a memory: what is stored to words that may be stored again is held back, and stored once.
+//! An operation on a balanced tree stores some words more than once: links, heights, and counts of the header. Over a replica each store is a step,
+//! and a pair of the redo log.
+//!
+//! So a memory that is put over another holds such stores back, as a write-back cache does, and stores each word once in the end, with its last
+//! value. It has room for 192 words; what does not fit is passed on at once.
 //!
 //! - A buffer over a memory is a memory: words that are held back stand in front of those behind, each access is one access of the memory
 //!   behind, and what is stored to a word that is held back is not stored there: `Memory for WriteBuffer`.

@@ -3,8 +3,8 @@ use Rattle.std.specs.Prelude.{vec_capacity}
 use Rattle.std.specs.List.{range_with_len}
 use Rattle.cx_rule.specs.Running.{Running}
 use Rattle.cx_service.specs.declared.close.Handed.{Handed}
-use Rattle.seat_pool.specs.Gathering.{IsHandedOf, number_of}
-use Rattle.seat_pool.specs.Pooling.{total}
+use Rattle.seat_pool.specs.Gathering.{IsHandedOf, handed_number}
+use Rattle.seat_pool.specs.Pooling.{total_weight}
 use Rattle.c_sessions.specs.Closings.{ClosesTo}
 use Rattle.c_sessions.specs.Handing.{HasTaken}
 use Rattle.c_sessions.specs.declared.handover.Handover.{Handover}
@@ -46,7 +46,7 @@ in_order-callers-requires-clause-numbers g c =
     let count : c.deref-2.result.now.callers ≡ r.callers = ap (λ (h : Handover _). h.callers) c.deref-2.ensures ∙ c.requires.1.count in
     let found = c.len.ensures in let least = c.if-len-deref.false in
     let many : r.callers ≤ length c.gather-service.result.1.items = omega (arith, count, found, least, c.gather-service.result.1.ok) in
-    subst (λ (q : Running _). (h : ℕ → ℕ) → total (λ (x : Handed). h (number_of x)) c.gather-service.result.1.items ≡ total h (range_with_len 0 q.callers)) (sym same)
+    subst (λ (q : Running _). (h : ℕ → ℕ) → total_weight (λ (x : Handed). h (handed_number x)) c.gather-service.result.1.items ≡ total_weight h (range_with_len 0 q.callers)) (sym same)
     (has_all r c.deref.result.now c.gather-service.new.pass c.gather-service.result.0 c.gather-service.result.1.items c.learn.ensures.all.0 has many c.learn.ensures.all.1)
 
 pub in_order-callers-requires-clause-out : goal.in_order-callers-requires-clause-out

@@ -3,7 +3,7 @@ use Rattle.std.specs.List.{range_with_len}
 use Rattle.std.proofs.lemmas.List.{length-map}
 use Rattle.std.proofs.lemmas.List.FromFn.{length-range_with_len}
 use Rattle.cx_rule.specs.Running.{Running}
-use Rattle.c_sessions.specs.Sessions.{number_in}
+use Rattle.c_sessions.specs.Sessions.{caller_number_in}
 use Rattle.c_sessions.proofs.Numbers.{as_many, number_of}
 use Rattle.c_sessions.proofs.opening.open_from.Goals as goal
 
@@ -19,7 +19,7 @@ pub returns-in-Ok-shared : goal.returns-in-Ok-shared
 returns-in-Ok-shared g c =
     let started = c.in-Ok-start.ensures in
     let sessions = c.in-Ok-shared.sessions.items in
-    let numbers : map number_in sessions ≡ range_with_len 0 c.args.callers =
+    let numbers : map caller_number_in sessions ≡ range_with_len 0 c.args.callers =
     c.in-Ok-shared.ensures.numbers ∙ started.all.numbers ∙ ap (λ (r : Running g.row.O.Denot). range_with_len 0 r.callers) started.is in
     record {
       all = as_many sessions (range_with_len 0 c.args.callers) numbers ∙ length-range_with_len 0 c.args.callers;

@@ -1,8 +1,7 @@
-use Rattle.std.proofs.Common.{subst}
+use Rattle.std.proofs.Common.{refl, subst}
 use Rattle.cx_service.specs.CatchUps.{CatchUpHalted}
-use Rattle.seat_pool.specs.declared.lent.Lent.{Lent}
 use Rattle.client_pool.specs.Lending.{KeepsStopped}
-use Rattle.client_pool.proofs.Lends.{caught_on, caught_stopped, given_back, given_since, idle_back}
+use Rattle.client_pool.proofs.Lends.{caught_given, caught_stopped, idle_back, returned}
 use Rattle.client_pool.proofs.catch_up.see.Goals as goal
 
 pub give-requires-clause-caller : goal.give-requires-clause-caller
@@ -12,19 +11,15 @@ give-requires-clause-caller g c =
 
 pub returns-in-Caught : goal.returns-in-Caught
 returns-in-Caught g c =
-    let r = c.args.pool.now.service in
-    let table = c.args.pool.now.line.table.shared.table_id in
     let out = c.take_for-caller.ensures in
-    let mid = c.take_for-caller.new.lent in
     let x = c.take_for-caller.result in
     let y = c.in-Caught.back in
     let caught = c.in-Caught.ensures in
-    let after : Lent = record { pass = c.give.new.pass; kept = mid.kept } in
     record {
-      given = given_since r table c.args.lent.now mid after out.same (given_back r table mid after x y out.out (caught_on r x y caught.caller caught.keeps) out.out.none c.give.ensures.0 c.give.ensures.1);
+      given = caught_given c.args.pool.now.service c.args.pool.now.line.table.shared.table_id c.args.lent.now c.take_for-caller.new.lent _ out.same x y out.out caught.caller caught.keeps refl c.give.ensures.0 c.give.ensures.1;
       asked = x;
-      kept = out.first.kept;
       now = y;
+      returns = returned c.args.pool.now.service c.args.pool.now.line.table.shared.table_id c.args.lent.now c.take_for-caller.new.lent _ x y out.same out.first out.out c.give.ensures.1;
       caught = caught;
     }
 
@@ -35,19 +30,15 @@ give-requires-in-Behind-clause-caller g c =
 
 pub returns-in-Behind : goal.returns-in-Behind
 returns-in-Behind g c =
-    let r = c.args.pool.now.service in
-    let table = c.args.pool.now.line.table.shared.table_id in
     let out = c.take_for-caller.ensures in
-    let mid = c.take_for-caller.new.lent in
     let x = c.take_for-caller.result in
     let y = c.in-Behind.back in
     let behind = c.in-Behind.ensures in
-    let after : Lent = record { pass = c.give-in-Behind.new.pass; kept = mid.kept } in
     record {
-      given = given_since r table c.args.lent.now mid after out.same (given_back r table mid after x y out.out (caught_on r x y behind.caller behind.keeps) out.out.none c.give-in-Behind.ensures.0 c.give-in-Behind.ensures.1);
+      given = caught_given c.args.pool.now.service c.args.pool.now.line.table.shared.table_id c.args.lent.now c.take_for-caller.new.lent _ out.same x y out.out behind.caller behind.keeps refl c.give-in-Behind.ensures.0 c.give-in-Behind.ensures.1;
       asked = x;
-      kept = out.first.kept;
       now = y;
+      returns = returned c.args.pool.now.service c.args.pool.now.line.table.shared.table_id c.args.lent.now c.take_for-caller.new.lent _ x y out.same out.first out.out c.give-in-Behind.ensures.1;
       behind = behind;
     }
 

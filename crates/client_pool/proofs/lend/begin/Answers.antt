@@ -1,5 +1,5 @@
 use Rattle.std.proofs.Common.{subst, sym}
-use Rattle.client_pool.specs.Lending.{HaltsLooking, KeepsStopped}
+use Rattle.client_pool.specs.Lending.{HaltsBesideQueue, KeepsStopped}
 use Rattle.client_pool.proofs.Lends.{comes_first, looking_stopped, out_on}
 use Rattle.client_pool.proofs.lend.begin.Goals as goal
 
@@ -25,5 +25,5 @@ returns-in-Ended g c =
     let first = c.take_for-caller.result in
     let after = c.keep_stopped.new.lent in
     let kept = c.keep_stopped.ensures in
-    subst (λ l. KeepsStopped r table (HaltsLooking r) c.args.lent.now after l) (sym kept.linked)
+    subst (λ l. KeepsStopped r table (HaltsBesideQueue r) c.args.lent.now after l) (sym kept.linked)
     (looking_stopped r table c.args.lent.now mid after out.same first out.first kept.kept.0 first c.in-Ended.stopped (comes_first r first out.out.holds.idle.caller) out.out c.in-Ended.ensures kept.kept.1)

@@ -1,7 +1,7 @@
 use Rattle.std.proofs.Common.{refl, subst, sym}
 use Rattle.seat_pool.specs.declared.lent.Lent.{Lent}
-use Rattle.client_pool.specs.Lending.{Enters, IsOut, MaySettle, ShowsRead}
-use Rattle.client_pool.proofs.Lends.{comes_first, comes_reading, out_on, read_settles, read_shown}
+use Rattle.client_pool.specs.Lending.{EntersRead, IsOut, MaySettle, Returns, ShowsRead}
+use Rattle.client_pool.proofs.Lends.{comes_first, comes_reading, out_on, read_settles, read_shown, returns}
 use Rattle.client_pool.proofs.look.look.Goals as goal
 use Rattle.client_pool.proofs.look.look.Goals.{in-Queued, in-Full, in-Worn, in-Halted}
 
@@ -9,6 +9,7 @@ pub loop-init : goal.loop-init
 loop-init g c = record { same = refl; since = comes_first c.args.pool.now.service c.args.caller c.requires.out.0.holds.idle.caller }
 
 pub returns-then-seen-floor : goal.returns-then-seen-floor
+unfolding read_shown
 returns-then-seen-floor g c =
     let r = c.args.pool.now.service in
     let table = c.args.pool.now.line.table.shared.table_id in
@@ -16,9 +17,11 @@ returns-then-seen-floor g c =
     let x = c.loop.caller in
     let out = out_on r table c.args.lent.now c.args.caller x c.requires.out.0 i.since.idle in
     let after : Lent = record { pass = c.give.new.pass; kept = c.loop.lent.kept } in
-    subst (λ (l : Lent). ShowsRead r table c.args.op.now c.args.floor c.args.caller l after c.in-Read.seen) i.same
-    (read_shown r table c.args.op.now c.args.floor c.loop.lent after c.args.caller x c.in-Read.back c.in-Read.seen (subst (λ (l : Lent). IsOut r table l x) (sym i.same) out) i.since c.if-seen-floor.true c.in-Read.ensures
-    (subst (λ (l : Lent). IsOut r table l x) (sym i.same) out).none c.give.ensures.0 c.give.ensures.1)
+    let still = subst (λ (l : Lent). IsOut r table l x) (sym i.same) out in
+    subst (λ (l : Lent). (shows : ShowsRead r table c.args.op.now c.args.floor c.args.caller l after c.in-Read.seen) × Returns l after shows.now) i.same (
+      read_shown r table c.args.op.now c.args.floor c.loop.lent after c.args.caller x c.in-Read.back c.in-Read.seen still i.since c.if-seen-floor.true c.in-Read.ensures still.none c.give.ensures.0 c.give.ensures.1,
+      returns r table c.loop.lent after x c.in-Read.back still c.give.ensures.1,
+    )
 
 pub loop-preserved : goal.loop-preserved
 loop-preserved g c = record {
@@ -34,7 +37,7 @@ settle-requires-clause-updated g c =
     let x = c.loop.caller in
     let i = c.loop.invariant in
     let out = out_on r table c.args.lent.now c.args.caller x c.requires.out.0 i.since.idle in
-    let P = Enters r op x in
+    let P = EntersRead r op x in
     subst (λ (l : Lent). MaySettle r l c.match-read.updated) (sym i.same)
     (read_settles r table op c.args.lent.now x out c.match-read.updated (
     elim c.match-read.branch [

@@ -2,7 +2,7 @@ use Rattle.std.proofs.Common.{◌≡◌, ◌∙◌, ◌+◌, ◌-◌, ◌<◌, a
 use Rattle.crossbeam_queue.specs.Passes.{view}
 use Rattle.seat_pool.specs.Pooling.{limits_at}
 use Rattle.seat_pool.specs.declared.hand.Hand.{Hand}
-use Rattle.client_pool.specs.Pools.{IsPlaced}
+use Rattle.client_pool.specs.Pools.{AreCallersPlaced}
 use Rattle.client_pool.specs.declared.client.Client.{Client}
 use Rattle.client_pool.specs.declared.client.Closing.{Closing}
 use Rattle.client_pool.proofs.Opening.{AreMade, all_made, made_more, placed_more, rest_of}
@@ -41,8 +41,8 @@ returns g c =
     let last : Client = record { number = m.number; floor = m.floor; caught_up = m.caught_up; answers = m.answers; lent = m.lent; closing = Some closing } in
     let items = c.push_reserved-2.new.self.items in
     let short : count - 1 < 1024 = (let most = c.requires.count.1 in omega (arith, most)) in
-    let placed = placed_more r table (count - 1) (view c.loop-number.pass) (view c.new_client-last.new.pass) (subst (λ k. IsPlaced r k (view c.loop-number.pass)) n i.placed) short made.pass.1 in
-    let rest = (let most = c.requires.count.1 in rest_of r table count (view c.new_client-last.new.pass) (subst (λ k. IsPlaced r k (view c.new_client-last.new.pass)) more placed) (omega (arith, most))) in
+    let placed = placed_more r table (count - 1) (view c.loop-number.pass) (view c.new_client-last.new.pass) (subst (λ k. AreCallersPlaced r k (view c.loop-number.pass)) n i.placed) short made.pass.1 in
+    let rest = (let most = c.requires.count.1 in rest_of r table count (view c.new_client-last.new.pass) (subst (λ k. AreCallersPlaced r k (view c.new_client-last.new.pass)) more placed) (omega (arith, most))) in
     let limits = limits_at (view c.args.pass).home in
     all_made r table limits count c.loop-number.clients.items items last closing c.push_reserved-2.ensures.items refl
     (subst (λ k. AreMade r table limits k items) more (made_more r table limits (limits_at (view c.loop-number.pass).home) (count - 1) c.loop-number.clients.items items last m (subst (λ k. AreMade r table limits k c.loop-number.clients.items) n i.made) c.push_reserved-2.ensures.items made.client i.limits refl refl refl refl))

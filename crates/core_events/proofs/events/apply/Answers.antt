@@ -3,7 +3,7 @@ use Rattle.std.proofs.lemmas.Option.{slice_get_read}
 use Rattle.std.specs.List.{slice_get}
 use Rattle.core_events.specs.Told.{Tells}
 use Rattle.cx_core.specs.declared.local.Local.{Local}
-use Rattle.cx_core.specs.Events.{Applied, Did}
+use Rattle.cx_core.specs.Events.{IsMadeOrRefused, Did}
 use Rattle.cx_core.specs.Merge.{history_of, scene_of}
 use Rattle.cx_core.specs.State.{Core, State, instance_of}
 use Rattle.core_events.proofs.EventLemmas.{applied, did_here, IfOk-then, step-follows, still_kept}
@@ -55,5 +55,5 @@ returns-clause-ok g c =
     rw (← c.state.view_is, over_all s.words.len c.step.new.words s.words.items (c.step.auto.words ∙ c.deref_mut.ensures.len), ← c.deref_mut.ensures.value)
     (IfOk-then c.step.result
     (λ made. Did made instance (scene_of instance before) event.kind l c.step.new.local c.step.new.words)
-    (λ made. Applied made instance event before (record { words = c.step.new.words; locals = set before.locals event.caller c.step.new.local }))
+    (λ made. IsMadeOrRefused made instance event before (record { words = c.step.new.words; locals = set before.locals event.caller c.step.new.local }))
     did (λ made d. applied made instance event before c.step.new.words l c.step.new.local at d))

@@ -1,4 +1,4 @@
-use Rattle.core_root.proofs.ChainLaws.{chain_image}
+use Rattle.core_replica.proofs.ChainLaws.{chain_image}
 use Rattle.core_runs.proofs.chain.chains_name_images.Goals as goal
 
 pub returns : goal.returns

@@ -1,4 +1,4 @@
-use Rattle.core_root.proofs.StoreLaws.{chain_left}
+use Rattle.core_replica.proofs.StoreLaws.{chain_left}
 use Rattle.core_runs.proofs.chain.events_leave_the_chain.Goals as goal
 
 pub returns : goal.returns

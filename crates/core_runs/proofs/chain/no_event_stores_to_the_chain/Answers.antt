@@ -1,4 +1,4 @@
-use Rattle.core_root.proofs.StoreLaws.{chain_leaves}
+use Rattle.core_replica.proofs.StoreLaws.{chain_leaves}
 use Rattle.core_runs.proofs.chain.no_event_stores_to_the_chain.Goals as goal
 
 pub returns : goal.returns

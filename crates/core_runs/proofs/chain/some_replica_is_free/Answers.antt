@@ -1,4 +1,4 @@
-use Rattle.core_root.proofs.FreeLaws.{some_free}
+use Rattle.core_replica.proofs.FreeLaws.{some_free}
 use Rattle.core_runs.proofs.chain.some_replica_is_free.Goals as goal
 
 pub returns : goal.returns

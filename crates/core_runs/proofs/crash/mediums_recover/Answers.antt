@@ -1,4 +1,4 @@
-use Rattle.core_answers.proofs.CrashLaws.{medium_image}
+use Rattle.core_replica.proofs.CrashLaws.{medium_image}
 use Rattle.core_runs.proofs.WholeLaws.{crash_kept}
 use Rattle.core_runs.proofs.crash.mediums_recover.Goals as goal
 

@@ -1,6 +1,6 @@
 use Rattle.cx_core.specs.Crash.{recovered}
 use Rattle.cx_core.specs.State.{Instance}
-use Rattle.core_answers.proofs.BaseLaws.{kept_lawful}
+use Rattle.core_replica.proofs.BaseLaws.{kept_lawful}
 use Rattle.core_runs.proofs.WholeLaws.{crash_kept, entries_of}
 use Rattle.core_runs.proofs.crash.recovered_bases_are_lawful.Goals as goal
 

@@ -8,7 +8,7 @@ use Rattle.cx_service.specs.Closes.{seats_of}
 use Rattle.life_records.specs.Journal.{IsByTicket, IsRecordOf}
 use Rattle.life_records.specs.Told.{IsTold}
 use Rattle.life_records.specs.Works.{AreWorks}
-use Rattle.life_laws.proofs.TypedSteps.{typed_steps}
+use Rattle.life_records.proofs.TypedSteps.{typed_steps}
 use Rattle.life_records.specs.Records.{JournalLine, LifeRecord}
 use Rattle.cx_lives.specs.Gathering.{HasNever}
 use Rattle.cx_lives.proofs.Gathering.{gathered_seats, locals_in, locals_long, numbered, seats_long}
@@ -64,7 +64,7 @@ returns g c =
     let laws = c.journals_are_told.ensures in
     let still = laws.works (g.O.TypedObject.meaning c.args.service.object).encoding life place history ls f.lines.entries.items journal f.lines.reads.items f.ends.stops.items f.ends.fulls.items works left.merged sorted in
     let clients : length ls ≡ c.clients-clients.result = omega (arith, c.clients-clients.ensures, locals_long handed, c.in_ok-handed.ensures.all, c.in_ok-works.ensures.len, c.args.callers.ok.0, c.requires.clients) in
-    let made : LifeRecord g.row.O-Reply.Denot = record { clients = c.clients-clients.result; from = c.in-Ok.remains.first; journal = c.of.result; reads = c.of-2.result; stops = c.of-3.result; fulls = c.of-4.result; choice = c.choice-choice.result; kept = 0; documents = 0 } in
+    let made : LifeRecord g.row.O-Reply.Denot = record { clients = c.clients-clients.result; from = c.in-Ok.remains.first; journal = c.of.result; reads = c.of-2.result; stops = c.of-3.result; fulls = c.of-4.result; choice = c.choice-choice.result; kept = 0; items = 0 } in
     let is : IsRecordOf place ls journal f.lines.reads.items f.ends.stops.items f.ends.fulls.items made = record {
       clients = sym clients;
       from = left.first;

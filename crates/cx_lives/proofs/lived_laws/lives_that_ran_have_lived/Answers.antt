@@ -6,7 +6,7 @@ use Rattle.life_records.specs.Ended.{IsEnded}
 use Rattle.recovery.specs.Images.{IsReadable}
 use Rattle.recovery.specs.Kept.{IsKeptBy, IsOpened, crash_of}
 use Rattle.recovery.specs.Recovery.{IsRecovered}
-use Rattle.life_laws.specs.Meanings.{object_instance}
+use Rattle.life_records.specs.Meanings.{object_instance}
 use Rattle.cx_lives.proofs.Legality.{Closed, closed_now, closed_of, kept_in, lived, opened_of, recorded}
 use Rattle.cx_lives.proofs.lived_laws.lives_that_ran_have_lived.Goals as goal
 

@@ -1,6 +1,6 @@
 use Rattle.std.proofs.Common.{List, ◌++◌, ◌∷◌, [], sym, subst, Some}
 use Rattle.cx_rule.specs.Ending.{Ending}
-use Rattle.life_laws.specs.Begins.{nothing_begun}
+use Rattle.life_records.specs.Begins.{nothing_begun}
 use Rattle.life_records.specs.declared.record.LifeRecord.{LifeRecord}
 use Rattle.cx_lives.specs.Lives.{HaveLived, begun_by}
 use Rattle.cx_lives.proofs.Appending.{last_base, lived_then}

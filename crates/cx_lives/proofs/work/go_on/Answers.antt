@@ -1,11 +1,11 @@
 use Rattle.std.proofs.Common.{subst, sym}
 use Rattle.cx_lives.specs.Ends.{IsWorkOf}
-use Rattle.cx_lives.specs.Works.{IsFullLeft, IsLeftOf, ServedOf}
+use Rattle.cx_lives.specs.Works.{IsFullLeft, IsClientLeft, ServedOf}
 use Rattle.cx_lives.proofs.Turning.{given_up_work}
 use Rattle.cx_lives.proofs.work.go_on.Goals as goal
 
 pub serve_on-requires-clause-left : goal.serve_on-requires-clause-left
-serve_on-requires-clause-left g c = λ κs lives. subst (λ k. IsLeftOf (g.O.TypedObject.meaning c.args.service.now.object) c.args.life.now c.args.service.now k c.loop.left) (sym c.loop.invariant.served.lists.by) c.loop.invariant
+serve_on-requires-clause-left g c = λ κs lives. subst (λ k. IsClientLeft (g.O.TypedObject.meaning c.args.service.now.object) c.args.life.now c.args.service.now k c.loop.left) (sym c.loop.invariant.served.lists.by) c.loop.invariant
 
 pub returns-then-has_stopped-clause-work : goal.returns-then-has_stopped-clause-work
 returns-then-has_stopped-clause-work g c =

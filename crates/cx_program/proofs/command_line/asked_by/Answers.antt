@@ -1,5 +1,5 @@
 use Rattle.std.proofs.Common.{◌≡◌, ◌∙◌, sym, ap, subst, map, string_bytes, codes, ℕ, List, [], ◌∷◌, arith}
-use Rattle.cx_program.specs.Commands.{command_of}
+use Rattle.cx_program.specs.Commands.{command_asked}
 use Rattle.cx_program.specs.Words.{IsLoadOf, IsPoolOf}
 use Rattle.cx_program.proofs.Forms.{are_of_load, are_of_pool, none_of_load, none_of_pool, one_two_or_four, one_word}
 use Rattle.cx_program.proofs.command_line.asked_by.Goals as goal
@@ -21,7 +21,7 @@ returns-in-None-read c =
 pub returns-in-len1 : goal.returns-in-len1
 returns-in-len1 c =
     let are : map string_bytes c.args.words.now ≡ string_bytes c.word-item.result ∷ [] = one_word c.args.words.now c.word-item.result (omega (arith, c.in-len1.len_at_least, c.in-len1.len_below)) c.word-item.is in
-    subst (λ (words : List (List ℕ)). (command_of c.asked_alone.result).asked words) (ap (λ (word : List ℕ). word ∷ []) c.as_str.ensures.value ∙ sym are) c.asked_alone.ensures
+    subst (λ (words : List (List ℕ)). (command_asked c.asked_alone.result).asked words) (ap (λ (word : List ℕ). word ∷ []) c.as_str.ensures.value ∙ sym are) c.asked_alone.ensures
 
 pub returns-in_default : goal.returns-in_default
 returns-in_default c asked asks = absurd (one_two_or_four c.args.words.now c.requires (λ one. omega (arith, one)) (λ two. omega (arith, two)) (λ four. omega (arith, four)))

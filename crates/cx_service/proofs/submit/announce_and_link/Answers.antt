@@ -3,10 +3,10 @@ use Rattle.std.proofs.lemmas.Result.{IfOk-weaker, on_err_weaker}
 use Rattle.cx_core.specs.QueueEvents.{IsIdle, cell_of}
 use Rattle.cx_rule.specs.Running.{instance_at}
 use Rattle.cx_rule.specs.Seats.{IsAtLimit, Seated}
-use Rattle.mutation_queue.specs.Links.{EndsBy, HaltsTry, Tried}
+use Rattle.mutation_queue.specs.Links.{EndsBy, HaltsTry, MakesTries, Tried}
 use Rattle.cx_service.specs.Callers.{unlinked}
 use Rattle.cx_service.specs.Submits.{EntersIn}
-use Rattle.cx_service.proofs.Announced.{halted_in, if_any_err}
+use Rattle.cx_service.proofs.Announced.{both_ok, halted_in, if_any_err}
 use Rattle.cx_service.proofs.Entering.{answered_still, beside_submit, entered, halts, halts_linking, no_sets_read, stale, tries_of}
 use Rattle.cx_service.proofs.Looking.{cur_caller, cur_loaded, enters_then, halted_then, tries_then, writing_then}
 use Rattle.cx_service.proofs.submit.announce_and_link.Goals as goal
@@ -21,7 +21,7 @@ returns-in_err-_cur-clause-halted g c =
     if_any_err c.from_residual.result (
       (halts c.args.shared.now s t (ap beside_submit halted.same) (146 + 2 * c.args.tries) c.requires.caller (ap (λ (x : Seated). x.known.local.own) halted.same) (ap (λ (x : Seated). x.known.times.linked) halted.same) (omega (arith, front)) (let cur = ap (λ (x : Seated). x.known.local.seen_cur) halted.same in omega (arith, cur)) (omega (arith, steps))
           (λ k within idle. record { free = ap (λ (x : Seated). x.known.local.seen_free) halted.same; scans = ap (λ (x : Seated). x.known.local.scans) halted.same })
-          (subst (λ (x : Seated). IsAtLimit x.known.local) (sym halted.same) halted.limit)),
+          (subst (λ (x : Seated). IsAtLimit x.known.local) (sym halted.same) halted.limit) (omega (arith, steps))),
       inl (record {
         cell = c.args.cell;
         within = c.requires.cell.0;
@@ -74,10 +74,10 @@ returns-clause-entered g c =
     let first = cur_loaded (instance_at r g.O.Object.step g.O.Object.only_reads) s at c.in_ok-_cur._cur made.made made.told.most made.allowed in
     let caller = cur_caller r (instance_at r g.O.Object.step g.O.Object.only_reads) s at c.in_ok-_cur._cur made.made made.told.most made.allowed c.requires.caller in
     let done = c.in_ok-announce.ensures.announced in
-    IfOk-weaker c.link.result (Tried r.callers c.args.cell tries t v) (EntersIn 1 (146 + 2 * tries) r op tries s v)
+    IfOk-weaker c.link.result (λ tried. Tried r.callers c.args.cell tries t v tried × MakesTries r.callers c.args.cell tries t v tried) (EntersIn 1 (146 + 2 * tries) r op tries s v)
     (λ tried links. enters_then r 1 s (stale at) first op 0 1 tries (145 + 2 * tries) (146 + 2 * tries) v tried (omega arith) (let one = ap (λ (x : Seated). x.known.local.steps) made.made in omega (arith, one))
     (entered r c.args.cell op (stale at) t caller c.requires.cell.0 c.told-op done.cell done.others done.rest tries (145 + 2 * tries) v tried links done.allowed (omega (arith, done.most, c.link.ensures.leaves.steps)) (let count = done.count in omega (arith, count))))
-    c.link.ensures.tried
+    (both_ok c.link.result (Tried r.callers c.args.cell tries t v) (MakesTries r.callers c.args.cell tries t v) c.link.ensures.tried c.link.ensures.made)
 
 pub returns-clause-halted : goal.returns-clause-halted
 returns-clause-halted g c =
@@ -95,7 +95,7 @@ returns-clause-halted g c =
     on_err_weaker c.link.result
     (λ halted. (
       halted_then r 1 s (stale at) first (145 + 2 * tries) (146 + 2 * tries) (unlinked v) (omega arith)
-          (halts_linking r c.args.cell op (stale at) t caller c.requires.cell.0 c.told-op done.cell done.others done.rest v halted.0 (145 + 2 * tries) (omega (arith, done.most, c.link.ensures.leaves.steps)) halted.1),
+          (halts_linking r c.args.cell op (stale at) t caller c.requires.cell.0 c.told-op done.cell done.others done.rest v halted.0 (145 + 2 * tries) (omega (arith, done.most, c.link.ensures.leaves.steps)) halted.1 (let count = done.count in omega (arith, count))),
       inr (tries_then r 1 s (stale at) first 0 1 (EndsBy r.callers tries (HaltsTry r.callers)) v (let one = ap (λ (x : Seated). x.known.local.steps) made.made in omega (arith, one))
           (tries_of r c.args.cell op (stale at) t caller c.requires.cell.0 c.told-op done.cell done.others done.rest (EndsBy r.callers tries (HaltsTry r.callers)) v (let count = done.count in omega (arith, count)) halted.2)),
     ))

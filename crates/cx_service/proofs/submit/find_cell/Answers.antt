@@ -43,5 +43,6 @@ returns-clause-halted g c =
       limit = h.limit;
       used = c.in_default.ensures.none.0 refl;
       looking = looking_then (r.callers + 2) (r.callers + 3) s t c.give_again.new.seat (omega arith) (ap (λ (x : Seated). x.known.local.scans) step.made) (ap (λ (x : Seated). x.known.local.steps) step.made) h.looking;
+      since = (let one = ap (λ (x : Seated). x.known.local.steps) step.made in omega (arith, one, h.since));
     })
     c.give_again.ensures.halted

@@ -1,7 +1,7 @@
 use Rattle.std.proofs.Common.{refl, arith}
 use Rattle.cx_rule.specs.Running.{instance_at}
 use Rattle.cx_service.proofs.Announced.{if_any_err}
-use Rattle.cx_service.proofs.Looking.{collect_ends, collect_halts, may_collect, names_holder, ticket_small}
+use Rattle.cx_service.proofs.Looking.{collect_ends, collect_halts, collect_on, may_collect, names_holder, ticket_small}
 use Rattle.cx_service.proofs.submit.give_again.Goals as goal
 
 pub overflow_add-tickets : goal.overflow_add-tickets
@@ -42,4 +42,5 @@ returns-in_err-found-clause-halted g c =
       limit = halted.limit;
       used = c.requires.used;
       looking = collect_halts c.args.shared.now.callers _ c.args.seat.now c.collect.new.seat c.requires.used halted;
+      since = collect_on c.args.shared.now.callers _ c.args.seat.now c.collect.new.seat halted;
     })

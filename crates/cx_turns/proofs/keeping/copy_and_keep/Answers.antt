@@ -2,7 +2,7 @@ use Rattle.std.proofs.Common.{ap, subst, sym, ◌∙◌}
 use Rattle.cx_base.specs.Codes.{root_place_of}
 use Rattle.cx_core.specs.State.{one_more}
 use Rattle.cx_rule.specs.Seats.{Seated}
-use Rattle.cx_turns.specs.Keeping.{Guards, IsBehind}
+use Rattle.cx_turns.specs.Keeping.{Guards, IsBehindRing}
 use Rattle.cx_turns.specs.Turns.{beside_turn}
 use Rattle.cx_turns.proofs.Kept.{behind_current, copied_image, kept_at, protected_image, turn_refused}
 use Rattle.cx_turns.proofs.keeping.copy_and_keep.Goals as goal
@@ -40,7 +40,7 @@ give_up-requires-clause-stale g c =
     let new = c.guard.new.seat in
     let r = c.in_ok-renew_listed.ensures in
     let e = c.in_ok-guard.ensures in
-    let behind : IsBehind t.callers mid new = subst (Guards t.callers c.args.ticket mid new) c.if-branch.false e.guarded in
+    let behind : IsBehindRing t.callers mid new = subst (Guards t.callers c.args.ticket mid new) c.if-branch.false e.guarded in
     let ends = behind_current t.callers mid new behind (r.renewed.placed (root_place_of t.callers old.known.local.seen_cur) c.requires.source.place ∙ ap (λ (s : Seated). root_place_of t.callers s.known.local.seen_cur) (sym r.renewed.rest)) (ap (λ (s : Seated). s.known.local.fresh) r.renewed.rest ∙ c.requires.source.fresh) in
     ends.1
 
@@ -52,7 +52,7 @@ returns-clause-kept g c =
     let new = c.guard.new.seat in
     let r = c.in_ok-renew_listed.ensures in
     let e = c.in_ok-guard.ensures in
-    let behind : IsBehind t.callers mid new = subst (Guards t.callers c.args.ticket mid new) c.if-branch.false e.guarded in
+    let behind : IsBehindRing t.callers mid new = subst (Guards t.callers c.args.ticket mid new) c.if-branch.false e.guarded in
     let ends = behind_current t.callers mid new behind (r.renewed.placed (root_place_of t.callers old.known.local.seen_cur) c.requires.source.place ∙ ap (λ (s : Seated). root_place_of t.callers s.known.local.seen_cur) (sym r.renewed.rest)) (ap (λ (s : Seated). s.known.local.fresh) r.renewed.rest ∙ c.requires.source.fresh) in
     let last = c.in_ok-give_up.ensures in
     turn_refused old c.give_up.new.seat (last.turns.rest ∙ ap beside_turn e.leaves.rest ∙ ap beside_turn r.renewed.rest) last.ended (last.met ∙ ends.0 ∙ ap one_more (ap (λ (s : Seated). s.known.local.met) r.renewed.rest))

@@ -2,6 +2,8 @@ use Rattle.std.proofs.Common.{ap, refl}
 use Rattle.cx_rule.specs.Seats.{Seated}
 use Rattle.cx_turns.proofs.Bringing.{brings_around}
 use Rattle.cx_turns.proofs.Renewed.{finished}
+use Rattle.cx_core.specs.declared.kinds.Kind.TheVariants.{Downgrade}
+use Rattle.cx_turns.proofs.Stepping.{on_step, on_then}
 use Rattle.cx_turns.proofs.preparing.finish.Goals as goal
 
 pub returns-clause-prepared : goal.returns-clause-prepared
@@ -15,3 +17,8 @@ returns-clause-prepared g c =
 pub returns-clause-by_sets : goal.returns-clause-by_sets
 returns-clause-by_sets g c =
     brings_around c.args.seat.now c.args.seat.now c.bring_up.new.seat c.downgrade.new.seat refl c.in_ok-bring_up.ensures.by_sets (ap (λ (s : Seated). s.known.sets) c.in_ok-held.ensures.made.made.made)
+
+pub returns-clause-since : goal.returns-clause-since
+returns-clause-since g c =
+    let made = c.in_ok-held.ensures.made in
+    on_then c.args.seat.now c.bring_up.new.seat c.downgrade.new.seat c.bring_up.ensures.since (on_step c.args.shared.now g.O.Object.step g.O.Object.only_reads (Downgrade c.args.held.replica) made.found c.bring_up.new.seat c.downgrade.new.seat made.made)

@@ -1,5 +1,6 @@
 use Rattle.std.proofs.Common.{subst, sym}
 use Rattle.mutation_queue.specs.Entries.{ReadsEntry}
+use Rattle.cx_turns.proofs.Stepping.{on_entry}
 use Rattle.cx_turns.proofs.replaying.read_next.Goals as goal
 
 pub returns-clause-read : goal.returns-clause-read
@@ -13,3 +14,6 @@ returns-clause-read g c =
       noted = e.entry.each next o.caller o.words;
       fits = e.entry.fits;
     }
+
+pub returns-clause-since : goal.returns-clause-since
+returns-clause-since g c = on_entry c.in_ok-caller.caller c.args.ticket c.entry.new.into c.args.seat.now c.entry.new.seat c.in_ok-caller.ensures.read

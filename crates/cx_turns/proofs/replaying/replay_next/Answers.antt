@@ -3,6 +3,7 @@ use Rattle.cx_rule.specs.Seats.{Seated}
 use Rattle.replica_sets.specs.Offered.{ReplaysOffered}
 use Rattle.cx_turns.proofs.Bringing.{brings_at, brings_none}
 use Rattle.cx_turns.proofs.ReadEntries.{applied_alone, may_still}
+use Rattle.cx_turns.proofs.Stepping.{on_then}
 use Rattle.cx_turns.proofs.Working.{counted_same, replay_held}
 use Rattle.cx_turns.proofs.replaying.replay_next.Goals as goal
 
@@ -20,6 +21,7 @@ returns-then-done g c =
       counted = counted_same c.args.scratch.now.taken c.args.scratch.now.taken c.args.seat.now mid refl (ap (λ (s : Seated). s.known.sets) e.rest);
       by_sets = brings_none c.args.seat.now mid (ap (λ (s : Seated). s.known.sets) e.rest);
       keeps = record { seat = e.still.of; rest = replay_held c.args.held.now.replica c.args.seat.now mid e.rest };
+      since = e.since;
     }
 
 pub step_own-requires : goal.step_own-requires
@@ -45,6 +47,7 @@ returns-then-own_entry g c =
       counted = counted_same c.args.scratch.now.taken c.step_own.new.scratch.taken c.args.seat.now last f.count.0 (f.count.1 ∙ ap (λ (s : Seated). s.known.sets) e.rest);
       by_sets = brings_none c.args.seat.now last (f.count.1 ∙ ap (λ (s : Seated). s.known.sets) e.rest);
       keeps = record { seat = f.keeps.seat; rest = f.keeps.rest ∙ replay_held c.args.held.now.replica c.args.seat.now mid e.rest };
+      since = on_then c.args.seat.now mid last e.since f.since;
     }
 
 pub replay_another-requires : goal.replay_another-requires
@@ -75,4 +78,11 @@ returns g c =
       counted = λ was. c.in_ok-replay_another.ensures.counted (counted_same taken taken c.args.seat.now mid refl (ap (λ (s : Seated). s.known.sets) e.rest) was);
       by_sets = brings_at c.args.at c.args.seat.now mid last (ap (λ (s : Seated). s.known.sets) e.rest) c.in_ok-replay_another.ensures.by_sets;
       keeps = record { seat = f.seat; rest = f.rest ∙ replay_held c.args.held.now.replica c.args.seat.now mid e.rest };
+      since = on_then c.args.seat.now mid last e.since c.replay_another.ensures.since;
     }
+
+pub returns-in_err-step_own-clause-since : goal.returns-in_err-step_own-clause-since
+returns-in_err-step_own-clause-since g c = on_then c.args.seat.now c.replay_own.new.seat c.step_own.new.seat c.replay_own.ensures.leaves.since c.step_own.ensures.since
+
+pub returns-in_err-replay_another-clause-since : goal.returns-in_err-replay_another-clause-since
+returns-in_err-replay_another-clause-since g c = on_then c.args.seat.now c.replay_own.new.seat c.replay_another.new.seat c.replay_own.ensures.leaves.since c.replay_another.ensures.since

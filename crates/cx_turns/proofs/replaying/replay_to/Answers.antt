@@ -3,6 +3,7 @@ use Rattle.std.proofs.lemmas.Bool.{false≢true}
 use Rattle.cx_core.specs.RingEvents.{Protects}
 use Rattle.cx_rule.specs.Seats.{Seated}
 use Rattle.cx_turns.proofs.Bringing.{brings_none, brings_then}
+use Rattle.cx_turns.proofs.Stepping.{on_then}
 use Rattle.replica.proofs.Replaying.{image_from}
 use Rattle.cx_turns.proofs.replaying.replay_to.Goals as goal
 
@@ -18,6 +19,7 @@ loop-at-init g c =
       replied = λ own. absurd (false≢true own);
       counted = λ was. was;
       brought = brings_none c.args.seat.now c.args.seat.now refl;
+      since = omega arith;
       work = refl;
     }
 
@@ -38,5 +40,6 @@ loop-at-preserved g c =
       replied = e.applied.replied;
       counted = λ was. e.counted (i.counted was);
       brought = brings_then c.args.seat.now c.loop-at.seat c.replay_next.new.seat i.brought e.by_sets;
+      since = on_then c.args.seat.now c.loop-at.seat c.replay_next.new.seat i.since c.replay_next.ensures.since;
       work = rest ∙ i.work;
     }

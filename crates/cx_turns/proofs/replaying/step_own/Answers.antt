@@ -28,4 +28,5 @@ returns g c =
       applied = record { ready = a.ready; replied = λ _ first now f. ap (λ n. slot_reply n now) (number ∙ sym c.requires.found.caller_is) ∙ a.replied first now f };
       count = (refl, ap (λ (s : Seated). s.known.sets) e.rest);
       keeps = record { seat = e.seat; rest = replay_own c.args.held.now.replica old now e.rest };
+      since = c.step_and_offer.ensures.since;
     }

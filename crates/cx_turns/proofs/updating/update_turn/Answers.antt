@@ -5,6 +5,7 @@ use Rattle.cx_turns.specs.Bringing.{BringsIn}
 use Rattle.cx_turns.proofs.Bringing.{brings_around}
 use Rattle.cx_turns.specs.Preparing.{Prepares, TriesPrepare}
 use Rattle.cx_turns.proofs.Answered.{answered_turn, halted_turn, if_any_err, prepared_ready}
+use Rattle.cx_turns.proofs.Stepping.{on_then}
 use Rattle.cx_turns.proofs.updating.update_turn.Goals as goal
 
 pub hand_over-requires-clause-ready : goal.hand_over-requires-clause-ready
@@ -37,3 +38,9 @@ returns-clause-by_sets g c =
     let s = c.args.seat.now in
     let mid = c.prepare.new.seat in
     brings_around s s mid c.hand_over.new.seat refl (subst (BringsIn {X = Right} s mid) c.in-Some.is c.in_ok-held.ensures.by_sets) (ap (λ (x : Seated). x.known.sets) c.hand_over.ensures.turns.rest)
+
+pub returns-in_err-hand_over-clause-since : goal.returns-in_err-hand_over-clause-since
+returns-in_err-hand_over-clause-since g c = on_then c.args.seat.now c.prepare.new.seat c.hand_over.new.seat c.prepare.ensures.since c.hand_over.ensures.since
+
+pub returns-clause-since : goal.returns-clause-since
+returns-clause-since g c = on_then c.args.seat.now c.prepare.new.seat c.hand_over.new.seat c.prepare.ensures.since c.hand_over.ensures.since

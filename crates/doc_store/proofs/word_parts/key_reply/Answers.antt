@@ -4,7 +4,7 @@ use Rattle.cx_base.specs.Packing.{packed}
 use Rattle.doc_model.specs.Words.{words_in, words_with}
 use Rattle.doc_store.proofs.word_parts.key_reply.Goals as goal
 
--- a reply that is a key of so many bytes, in these words
+-- a reply that is a key of `len` bytes, in these words
 abbrev headed : ℕ → List ℕ → List ℕ
 headed len words = 10 ∷ len ∷ 0 ∷ 0 ∷ 0 ∷ 0 ∷ 0 ∷ 0 ∷ (words ++ replicate 128 0)
 

@@ -2,7 +2,7 @@ use Rattle.std.proofs.Common.{rules, ◌≡◌, ◌∙◌, sym, ap, ap₂, ◌++
 use Rattle.std.specs.Int.{w128}
 use Rattle.std.proofs.Math.Seq.{take-suc}
 use Rattle.std.proofs.lemmas.Int.{ints}
-use Rattle.doc_text.specs.Summary.{integer_sum, number_in}
+use Rattle.doc_text.specs.Summary.{integer_sum, document_number}
 use Rattle.doc_text.proofs.Sums.{integer_sum-push}
 use Rattle.doc_text.proofs.load_summary.sum_of.Goals as goal
 
@@ -16,7 +16,7 @@ loop-pair-preserved c =
     let on : k + 1 ≡ suc k = omega arith in
     let next : take (k + 1) c.args.pairs.now ≡ take k c.args.pairs.now ++ c.pair-item.result ∷ [] =
     ap (λ (n : ℕ). take n c.args.pairs.now) on ∙ take-suc c.args.pairs.now k c.pair-item.result c.loop-pair-test.true ∙ ap (λ (x : (List ℕ × List ℕ) × ℕ). take k c.args.pairs.now ++ x ∷ []) (sym c.pair-item.is) in
-    let more : integer_sum (take (k + 1) c.args.pairs.now) ≡ integer_sum (take k c.args.pairs.now) +ℤ number_in c.pair-item.result =
+    let more : integer_sum (take (k + 1) c.args.pairs.now) ≡ integer_sum (take k c.args.pairs.now) +ℤ document_number c.pair-item.result =
     ap integer_sum next ∙ integer_sum-push (take k c.args.pairs.now) c.pair-item.result in
     let small : SFits w64 c.number_in.result = search rules in
     let added : to_z w128 (of_z w128 (to_z w128 c.loop-pair.sum-bits +ℤ to_z w128 (of_z w128 c.from-sum.result))) ≡ to_z w128 c.loop-pair.sum-bits +ℤ c.number_in.result =

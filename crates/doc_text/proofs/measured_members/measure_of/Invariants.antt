@@ -5,7 +5,7 @@ use Rattle.doc_text.specs.Measure.{AreMeasured}
 use Rattle.doc_text.proofs.Measures.{members_weight}
 use Rattle.doc_text.proofs.measured_members.measure_of.Given as goal
 
--- what was added up, and what the entries that are left come to
+-- what was added up, and what the entries that are left add
 abbrev pub invariant-loop-key : goal.invariant-loop-key
 invariant-loop-key l =
     (ms : Members) → AreMeasured l.members.entries ms

@@ -1,5 +1,5 @@
 use Rattle.std.proofs.Common.{ap, ◌∙◌, arith}
-use Rattle.fifo_model.specs.Words.{is_item}
+use Rattle.fifo_object.specs.Words.{is_item}
 use Rattle.fifo_object.proofs.Runs.{part_of}
 use Rattle.fifo_object.proofs.fifo.has_item.Goals as goal
 

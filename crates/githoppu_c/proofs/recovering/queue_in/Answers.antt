@@ -10,5 +10,5 @@ pub returns-in-Ok-clause-told : goal.returns-in-Ok-clause-told
 returns-in-Ok-clause-told c =
     let words = c.args.words.now in
     let lines = lines_in words in
-    taken IsQueueReply (IsTakenUp 16 (IsFifo lines) no_old_format words) (IsWordsFault 16 (IsFifo lines) no_old_format words) c.in-Ok.base c.with_queue_replies.result
-    (subst (λ n. IsTakenUp 16 (IsFifo n) no_old_format words c.in-Ok.base) (c.of.ensures ∙ c.requires.lines) c.in-Ok.ensures.told) tt c.with_queue_replies.ensures
+    taken IsQueueReply (IsTakenUp 16 (IsFifo lines) no_old_format words) (IsWordsFault 16 (IsFifo lines) no_old_format words) c.in-Ok.base c.with_replies.result
+    (subst (λ n. IsTakenUp 16 (IsFifo n) no_old_format words c.in-Ok.base) (c.of.ensures ∙ c.requires.lines) c.in-Ok.ensures.told) tt c.with_replies.ensures

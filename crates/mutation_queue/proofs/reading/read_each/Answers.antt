@@ -7,7 +7,7 @@ use Rattle.cx_table.proofs.Runs.{take_set}
 use Rattle.mutation_queue.proofs.EntryReads.{halts_among, none_ends, none_read, read_one}
 use Rattle.mutation_queue.proofs.reading.read_each.Goals as goal
 
--- so many words were read
+-- i words were read
 so_far : (into : List ℕ) (i : ℕ) → length into ≡ 145 → i < 145 → i ≡ length (take i into)
 so_far into i long below = omega (arith, length-take i into)
 

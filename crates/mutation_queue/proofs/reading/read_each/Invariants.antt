@@ -4,7 +4,7 @@ use Rattle.cx_table.specs.Running.{IsSeatOf}
 use Rattle.mutation_queue.specs.Entries.{EndsAfter, with_read}
 use Rattle.mutation_queue.proofs.reading.read_each.Given as goal
 
--- the words so far were read, and no step came to the limit
+-- the words so far were read, and no step reached the limit
 abbrev pub invariant-loop-i : goal.invariant-loop-i
 invariant-loop-i g l = record {
   seat : l.seat ≡ with_read (l.cell / 16) l.ticket (take l.i l.into) l.fn.seat;

@@ -1,4 +1,4 @@
-use Rattle.life_laws.proofs.TypedSteps.{typed_steps}
+use Rattle.life_records.proofs.TypedSteps.{typed_steps}
 use Rattle.pool_lives.proofs.Legal.{legal_life, told_in}
 use Rattle.pool_lives.proofs.laws.told_pools_have_lived.Goals as goal
 

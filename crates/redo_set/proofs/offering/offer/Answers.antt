@@ -1,10 +1,11 @@
-use Rattle.std.proofs.Common.{◌≡◌, ◌+◌, ◌*◌, ◌≤◌, inl, inr, ℕ, List, slice_index, sym, subst, arith}
+use Rattle.std.proofs.Common.{◌≡◌, ◌+◌, ◌*◌, ◌≤◌, inl, inr, ℕ, List, slice_index, ap, sym, subst, arith}
 use Rattle.std.proofs.lemmas.Option.{slice_get-get_or}
 use Rattle.cx_core.specs.QueueEvents.{cell_of}
 use Rattle.cx_rule.specs.Running.{IsSeatOf, instance_at}
 use Rattle.cx_rule.specs.Seats.{Seated}
 use Rattle.redo_set.specs.Offering.{OffersSet}
 use Rattle.redo_set.proofs.Offerings.{HasWritten, no_cell, offered_now, offers_still, put_can, tells_written, writes_of, writes_still, written_kept, written_more, written_none}
+use Rattle.redo_set.proofs.Takings.{one_since}
 use Rattle.redo_set.proofs.offering.offer.Goals as goal
 
 pub loop-i-init : goal.loop-i-init
@@ -13,7 +14,7 @@ loop-i-init g c =
     let cells = c.number.ensures.cells in
     let small = c.requires.may.can.0 in
     let shape = cells.each c.args.cell (cell_of s.known.local c.args.cell) (slice_get-get_or s.known.local.cells c.args.cell no_cell (omega (arith, small, cells.count))) in
-    record { written = written_none s c.args.cell c.requires.may.can cells c.args.set.now shape.set; of = c.requires.may.of }
+    record { written = written_none s c.args.cell c.requires.may.can cells c.args.set.now shape.set; of = c.requires.may.of; since = omega arith }
 
 pub write_differing-requires : goal.write_differing-requires
 write_differing-requires g c =
@@ -37,6 +38,10 @@ loop-i-preserved g c =
         | inr made ↦ written_more s c.args.cell can cells instance c.args.set.now i c.word.result c.loop-i.seat c.write_differing.new.seat (omega (arith, c.loop-i-test.true, c.len.ensures.few)) c.word.ensures c.loop-i.invariant.written made.made
       ];
       of = elim c.in_ok-write_differing.ensures.made [ inl same ↦ subst (IsSeatOf c.args.shared.now) (sym same.1) c.loop-i.invariant.of | inr made ↦ made.seat ];
+      since = elim c.in_ok-write_differing.ensures.made [
+        | inl same ↦ (let is = ap (λ (x : Seated). x.known.local.steps) same.1 in let was = c.loop-i.invariant.since in omega (arith, is, was))
+        | inr made ↦ one_since s c.loop-i.seat c.write_differing.new.seat c.loop-i.invariant.since (ap (λ (x : Seated). x.known.local.steps) made.made)
+      ];
     }
 
 -- all words were written
@@ -77,3 +82,18 @@ returns-clause-offered g c = offers g c
 
 pub returns-clause-has : goal.returns-clause-has
 returns-clause-has g c = offers_still c.args.seat.now c.args.cell c.requires.may.can c.number.ensures.cells c.args.ticket c.args.set.now c.offer.new.seat (offers g c)
+
+pub returns-in_err-write_differing-clause-since : goal.returns-in_err-write_differing-clause-since
+returns-in_err-write_differing-clause-since g c =
+    let same = ap (λ (x : Seated). x.known.local.steps) c.in_err-write_differing.ensures.halted.same in
+    let was = c.loop-i.invariant.since in
+    omega (arith, same, was)
+
+pub returns-in_err-offer-clause-since : goal.returns-in_err-offer-clause-since
+returns-in_err-offer-clause-since g c =
+    let same = ap (λ (x : Seated). x.known.local.steps) c.in_err-offer.ensures.halted.same in
+    let was = c.loop-i.invariant.since in
+    omega (arith, same, was)
+
+pub returns-clause-since : goal.returns-clause-since
+returns-clause-since g c = one_since c.args.seat.now c.loop-i.seat c.offer.new.seat c.loop-i.invariant.since (ap (λ (x : Seated). x.known.local.steps) c.in_ok-offer.ensures.made.made)

@@ -7,7 +7,7 @@ use Rattle.cx_rule.specs.Running.{instance_at}
 use Rattle.cx_rule.specs.Seats.{Seated}
 use Rattle.redo_set.specs.Taking.{set_notes, sets_read}
 use Rattle.redo_set.proofs.Results.{on_err}
-use Rattle.redo_set.proofs.Takings.{looked_is, notes_then, put_behind, read_one, read_whole, reading_so, unoffered_is, whole_noted}
+use Rattle.redo_set.proofs.Takings.{looked_is, notes_then, one_since, put_behind, read_one, read_whole, reading_so, unoffered_is, whole_noted}
 use Rattle.redo_set.proofs.taking.take.Goals as goal
 
 pub returns-clause-taken : goal.returns-clause-taken
@@ -105,3 +105,32 @@ returns-in_err-read_words-clause-due g c =
 
 pub returns-clause-looked : goal.returns-clause-looked
 returns-clause-looked g c = c.in_ok-found.ensures.made.allowed
+
+pub returns-in_err-found-clause-since : goal.returns-in_err-found-clause-since
+returns-in_err-found-clause-since g c = (let same = ap (λ (s : Seated). s.known.local.steps) c.in_err-found.ensures.halted.same in omega (arith, same))
+
+pub returns-then-not-names-clause-since : goal.returns-then-not-names-clause-since
+returns-then-not-names-clause-since g c =
+    let s = c.args.seat.now in
+    one_since s s c.load_offer.new.seat (omega arith) (ap (λ (x : Seated). x.known.local.steps) c.in_ok-found.ensures.made.made)
+
+pub returns-in_err-count-clause-since : goal.returns-in_err-count-clause-since
+returns-in_err-count-clause-since g c =
+    let s = c.args.seat.now in
+    one_since s s c.read_set.new.seat (omega arith) (ap (λ (x : Seated). x.known.local.steps) (c.in_err-count.ensures.halted.same ∙ c.in_ok-found.ensures.made.made))
+
+pub returns-in_err-read_words-clause-since : goal.returns-in_err-read_words-clause-since
+returns-in_err-read_words-clause-since g c =
+    let s = c.args.seat.now in
+    let one = one_since s s c.load_offer.new.seat (omega arith) (ap (λ (x : Seated). x.known.local.steps) c.in_ok-found.ensures.made.made) in
+    let two = one_since s c.load_offer.new.seat c.read_set.new.seat one (ap (λ (x : Seated). x.known.local.steps) c.in_ok-count.ensures.made.made) in
+    let more = c.read_words.ensures.since in
+    omega (arith, two, more)
+
+pub returns-clause-since : goal.returns-clause-since
+returns-clause-since g c =
+    let s = c.args.seat.now in
+    let one = one_since s s c.load_offer.new.seat (omega arith) (ap (λ (x : Seated). x.known.local.steps) c.in_ok-found.ensures.made.made) in
+    let two = one_since s c.load_offer.new.seat c.read_set.new.seat one (ap (λ (x : Seated). x.known.local.steps) c.in_ok-count.ensures.made.made) in
+    let more = c.read_words.ensures.since in
+    omega (arith, two, more)

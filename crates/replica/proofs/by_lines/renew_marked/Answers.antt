@@ -1,6 +1,8 @@
-use Rattle.std.proofs.Common.{rules, arith, refl, ◌∙◌}
+use Rattle.std.proofs.Common.{◌≡◌, rules, arith, refl, ap, ◌∙◌}
+use Rattle.cx_core.specs.State.{one_more}
+use Rattle.cx_rule.specs.Seats.{Seated}
 use Rattle.replica.proofs.Listing.{listed_from}
-use Rattle.replica.proofs.Renewing.{renewed_held, renewed_image, renewed_place}
+use Rattle.replica.proofs.Renewing.{released_steps, renewed_held, renewed_image, renewed_place}
 use Rattle.replica.proofs.by_lines.renew_marked.Goals as goal
 
 pub release_listed-requires-clause-listed : goal.release_listed-requires-clause-listed
@@ -32,3 +34,27 @@ returns-clause-renewed g c =
       placed = λ p has. renewed_place lines t step reads lawful c.args.held.now c.args.source found mid last both released p place (made.copied.loaded (0, p) has);
       rest = search rules;
     }
+
+pub returns-in_err-release_listed-clause-steps : goal.returns-in_err-release_listed-clause-steps
+returns-in_err-release_listed-clause-steps g c =
+    let before = c.copy_marked.ensures.bound in
+    let most = ap (λ (s : Seated). s.known.local.steps) c.in_err-release_listed.ensures.step.halted.same in
+    omega (arith, before, most)
+
+pub returns-clause-steps : goal.returns-clause-steps
+returns-clause-steps g c =
+    let before = c.copy_marked.ensures.bound in
+    let most : c.release_listed.new.seat.known.local.steps ≡ one_more c.copy_marked.new.seat.known.local.steps = ap (λ (s : Seated). s.known.local.steps) c.in_ok-release_listed.ensures.step.made.made ∙ released_steps c.args.source.replica c.copy_marked.new.seat.known.local in
+    omega (arith, before, most)
+
+pub returns-in_err-release_listed-clause-since : goal.returns-in_err-release_listed-clause-since
+returns-in_err-release_listed-clause-since g c =
+    let before = c.copy_marked.ensures.leaves.since in
+    let same = ap (λ (s : Seated). s.known.local.steps) c.in_err-release_listed.ensures.step.halted.same in
+    omega (arith, before, same)
+
+pub returns-clause-since : goal.returns-clause-since
+returns-clause-since g c =
+    let before = c.copy_marked.ensures.leaves.since in
+    let one : c.release_listed.new.seat.known.local.steps ≡ one_more c.copy_marked.new.seat.known.local.steps = ap (λ (s : Seated). s.known.local.steps) c.in_ok-release_listed.ensures.step.made.made ∙ released_steps c.args.source.replica c.copy_marked.new.seat.known.local in
+    omega (arith, before, one)

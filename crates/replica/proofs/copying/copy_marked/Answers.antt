@@ -11,6 +11,8 @@ loop-line-init g c = record {
   both = c.requires;
   copied = copied_none (skips_by c.args.all c.args.marks.now) (region_words (g.O.Object.line_count c.args.shared.now.object)) c.args.seat.now.known;
   counts = omega arith;
+  bound = omega arith;
+  since = omega arith;
   rest = refl;
   within = omega arith;
   begins = inl refl;
@@ -58,6 +60,8 @@ loop-line-preserved g c =
       copied = subst (λ n. IsCopiedTo (skips_by c.args.all c.args.marks.now) n (region_words lines) c.args.seat.now.known c.copy_unskipped.new.seat.known) next
           (c.in_ok-copy_unskipped.ensures.copied (region_words lines) c.args.seat.now.known (omega (arith, long, count, c.piece_lines-count.ensures.left)) was.copied);
       counts = loads_on (16 * line) (2 * length (take (8 * some) c.loop-line.held_words)) (16 * (line + some)) c.args.seat.now.known c.loop-line.seat.known c.copy_unskipped.new.seat.known (omega (arith, long)) was.counts c.in_ok-copy_unskipped.ensures.steps;
+      bound = (let before = was.bound in let most = c.copy_unskipped.ensures.bound in omega (arith, before, most, long));
+      since = (let before = was.since in let more = c.copy_unskipped.ensures.leaves.since in omega (arith, before, more));
       rest = c.copy_unskipped.ensures.leaves.rest ∙ was.rest;
       within = c.piece_lines-count.ensures.left;
       begins = piece_next line some _ c.piece_lines-count.ensures.first c.piece_lines-count.ensures.more was.begins c.loop-line-test.true;
@@ -83,3 +87,19 @@ returns-clause-steps g c =
     let count = c.lines-lines.ensures.value ∙ c.requires.exclusive.sized.lines_are in
     let all : 16 * c.loop-line.line ≡ 2 * region_words lines = omega (arith, c.loop-line.invariant.within, c.loop-line-test.false, count) in
     subst (λ n. LoadsAtMost n c.args.seat.now.known c.loop-line.seat.known) all c.loop-line.invariant.counts
+
+pub returns-in_err-copy_unskipped-clause-bound : goal.returns-in_err-copy_unskipped-clause-bound
+returns-in_err-copy_unskipped-clause-bound g c =
+    let some = c.piece_lines-count.result in
+    let count = c.lines-lines.ensures.value ∙ c.requires.exclusive.sized.lines_are in
+    let within : 8 * some ≤ length c.loop-line.held_words = omega (arith, c.piece_lines-count.ensures.few, c.loop-line.invariant.held_long) in
+    let long = length-take-le (8 * some) c.loop-line.held_words within in
+    let before = c.loop-line.invariant.bound in
+    let most = c.copy_unskipped.ensures.bound in
+    omega (arith, before, most, long, count, c.piece_lines-count.ensures.left)
+
+pub returns-clause-bound : goal.returns-clause-bound
+returns-clause-bound g c =
+    let count = c.lines-lines.ensures.value ∙ c.requires.exclusive.sized.lines_are in
+    let most = c.loop-line.invariant.bound in
+    omega (arith, most, c.loop-line.invariant.within, c.loop-line-test.false, count)

@@ -1,5 +1,6 @@
 use Rattle.std.proofs.Common.{◌≡◌, ◌-◌, ◌*◌, ◌%◌, ◌≤◌, ◌⊎◌, length}
 use Rattle.cx_core.specs.Region.{region_words}
+use Rattle.cx_table.specs.GapMarks.{StepsBy, StepsOn}
 use Rattle.replica.specs.Copies.{HoldsBoth, IsCopiedTo, LoadsAtMost, beside_copy, skips_by}
 use Rattle.replica.proofs.copying.copy_marked.Given as goal
 
@@ -9,6 +10,8 @@ invariant-loop-line g l = record {
   both : HoldsBoth (g.O.Object.line_count l.shared.object) l.shared (g.O.Object.lawful l.shared.object) (g.O.Object.step l.shared.object) l.seat l.held l.source;
   copied : IsCopiedTo (skips_by l.all l.marks) (8 * l.line) (region_words (g.O.Object.line_count l.shared.object)) l.fn.seat.known l.seat.known;
   counts : LoadsAtMost (16 * l.line) l.fn.seat.known l.seat.known;
+  bound : StepsBy (24 * l.line) l.fn.seat l.seat;
+  since : StepsOn l.fn.seat l.seat;
   rest : beside_copy l.seat ≡ beside_copy l.fn.seat;
   within : l.line ≤ l.lines;
   begins : (l.line ≡ 0) ⊎ ((l.line % 8 ≡ 1) ⊎ (l.line ≡ l.lines));

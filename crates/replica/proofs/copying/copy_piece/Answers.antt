@@ -20,6 +20,8 @@ loop-line-init g c =
       seen = λ i least below. now.loaded.seen i least (omega (arith, below));
       copied = λ skips region first below kept copied. subst (λ n. IsCopiedTo skips n region first c.load_piece.new.seat.known) none (now.loaded.copied skips region first (omega (arith, below)) (λ i least under. absurd (omega (arith, least, under))) copied);
       counts = loads_most (2 * length c.args.held_words.now) c.args.seat.now.known c.load_piece.new.seat.known now.steps;
+      bound = (let most = now.steps.0 in omega (arith, most));
+      since = now.leaves.since;
       rest = now.leaves.rest;
     }
 
@@ -46,6 +48,8 @@ loop-line-preserved g c =
             seen = subst (λ (k : Known). AreSeen from (8 * (line + 1)) n us vs k) (sym knows) (λ i least below. after.stored.seen i (omega (arith, least)) below);
             copied = subst (λ (k : Known). CopiesOn from (from + 8 * (line + 1)) before k) (sym knows) (on_stored_line from line before known w.store_line.new.seat.known was.copied after.stored.copied);
             counts = subst (λ (k : Known). LoadsAtMost most before k) (sym knows) (loads_on most 0 most before known w.store_line.new.seat.known (omega arith) was.counts after.steps);
+            bound = (let is = ap (λ (k : Known). k.local.steps) knows in let before = was.bound in let most = after.bound in omega (arith, is, before, most));
+            since = (let is = ap (λ (s : Seated). s.known.local.steps) now in let before = was.since in let more = after.leaves.since in omega (arith, is, before, more));
             rest = ap beside_copy now ∙ after.leaves.rest ∙ was.rest;
           })
       | else-differs-line w ↦ (
@@ -59,6 +63,8 @@ loop-line-preserved g c =
             seen = subst (λ (k : Known). AreSeen from (8 * (line + 1)) n us vs k) (sym knows) (λ i least below. was.seen i (omega (arith, least)) below);
             copied = subst (λ (k : Known). CopiesOn from (from + 8 * (line + 1)) before k) (sym knows) (on_same_line us vs from line n before known in_line none was.seen was.copied);
             counts = subst (λ (k : Known). LoadsAtMost most before k) (sym knows) was.counts;
+            bound = (let same = ap (λ (k : Known). k.local.steps) knows in let most = was.bound in omega (arith, same, most));
+            since = (let is = ap (λ (s : Seated). s.known.local.steps) now in let before = was.since in omega (arith, is, before));
             rest = ap beside_copy now ∙ was.rest;
           })
     ]
@@ -83,3 +89,17 @@ returns-in_err-store_line-clause-steps g c =
 
 pub returns-clause-steps : goal.returns-clause-steps
 returns-clause-steps g c = c.loop-line.invariant.counts
+
+pub returns-in_err-load_piece-clause-bound : goal.returns-in_err-load_piece-clause-bound
+returns-in_err-load_piece-clause-bound g c = (let fewer = c.in_err-load_piece.ensures.steps.0 in omega (arith, fewer))
+
+pub returns-in_err-store_line-clause-bound : goal.returns-in_err-store_line-clause-bound
+returns-in_err-store_line-clause-bound g c =
+    let before = c.loop-line.invariant.bound in
+    let most = c.store_line.ensures.bound in
+    omega (arith, before, most, c.loop-line-test.true)
+
+pub returns-clause-bound : goal.returns-clause-bound
+returns-clause-bound g c =
+    let most = c.loop-line.invariant.bound in
+    omega (arith, most, c.loop-line-test.false, c.loop-line.auto.line-end)

@@ -1,4 +1,5 @@
 use Rattle.std.proofs.Common.{◌≡◌, ◌+◌, ◌*◌, length}
+use Rattle.cx_table.specs.GapMarks.{StepsBy, StepsOn}
 use Rattle.replica.specs.Copies.{AreSeen, CopiesOn, HoldsBoth, LoadsAtMost, beside_copy}
 use Rattle.replica.proofs.copying.copy_piece.Given as goal
 
@@ -9,5 +10,7 @@ invariant-loop-line g l = record {
   seen : AreSeen l.from (8 * l.line) (length l.held_words) l.held_words l.source_words l.seat.known;
   copied : CopiesOn l.from (l.from + 8 * l.line) l.fn.seat.known l.seat.known;
   counts : LoadsAtMost (2 * length l.fn.held_words) l.fn.seat.known l.seat.known;
+  bound : StepsBy (2 * length l.fn.held_words + 8 * l.line) l.fn.seat l.seat;
+  since : StepsOn l.fn.seat l.seat;
   rest : beside_copy l.seat ≡ beside_copy l.fn.seat;
 }

@@ -59,7 +59,7 @@ returns-in_err-load_run-clause-leaves g c =
     let mid = c.load_run.new.seat in
     let halted = c.in_err-load_run.ensures.halted in
     let one = has_run lines t step reads lawful h s c.replica.result from (take halted.n c.load_run.new.into) first mid c.requires.both halted.run in
-    record { both = one.both; rest = one.rest }
+    record { both = one.both; since = one.since; rest = one.rest }
 
 pub returns-in_err-load_run-clause-steps : goal.returns-in_err-load_run-clause-steps
 returns-in_err-load_run-clause-steps g c =
@@ -101,7 +101,7 @@ returns-in_err-load_run-2-clause-leaves g c =
     let one = has_run lines t step reads lawful h s c.replica.result from c.load_run.new.into first mid c.requires.both c.in_ok-load_run.ensures.made in
     let halted = c.in_err-load_run-2.ensures.halted in
     let two = has_run lines t step reads lawful h s c.replica-2.result from (take halted.n c.load_run-2.new.into) mid c.load_run-2.new.seat one.both halted.run in
-    record { both = two.both; rest = two.rest ∙ one.rest }
+    record { both = two.both; since = (let before = one.since in let more = two.since in omega (arith, before, more)); rest = two.rest ∙ one.rest }
 
 pub returns-in_err-load_run-2-clause-steps : goal.returns-in_err-load_run-2-clause-steps
 returns-in_err-load_run-2-clause-steps g c =
@@ -145,7 +145,7 @@ returns-clause-leaves g c =
     let mid = c.load_run.new.seat in
     let one = has_run lines t step reads lawful h s c.replica.result from c.load_run.new.into first mid c.requires.both c.in_ok-load_run.ensures.made in
     let two = has_run lines t step reads lawful h s c.replica-2.result from c.load_run-2.new.into mid c.load_run-2.new.seat one.both c.in_ok-load_run-2.ensures.made in
-    record { both = two.both; rest = two.rest ∙ one.rest }
+    record { both = two.both; since = (let before = one.since in let more = two.since in omega (arith, before, more)); rest = two.rest ∙ one.rest }
 
 pub returns-clause-steps : goal.returns-clause-steps
 returns-clause-steps g c =

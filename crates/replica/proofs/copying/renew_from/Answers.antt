@@ -1,5 +1,7 @@
-use Rattle.std.proofs.Common.{rules, arith, ◌∙◌}
-use Rattle.replica.proofs.Renewing.{renewed_held, renewed_image, renewed_place}
+use Rattle.std.proofs.Common.{◌≡◌, rules, arith, ap, ◌∙◌}
+use Rattle.cx_core.specs.State.{one_more}
+use Rattle.cx_rule.specs.Seats.{Seated}
+use Rattle.replica.proofs.Renewing.{released_steps, renewed_held, renewed_image, renewed_place}
 use Rattle.replica.proofs.copying.renew_from.Goals as goal
 
 pub returns-clause-renewed : goal.returns-clause-renewed
@@ -25,3 +27,27 @@ returns-clause-renewed g c =
       placed = λ p has. renewed_place lines t step reads lawful c.args.held.now c.args.source found mid last both made p (copied.agree 0 (omega arith)) (copied.loaded (0, p) has);
       rest = search rules;
     }
+
+pub returns-in_err-release_copied-clause-steps : goal.returns-in_err-release_copied-clause-steps
+returns-in_err-release_copied-clause-steps g c =
+    let before = c.copy_from.ensures.bound in
+    let most = ap (λ (s : Seated). s.known.local.steps) c.in_err-release_copied.ensures.step.halted.same in
+    omega (arith, before, most)
+
+pub returns-clause-steps : goal.returns-clause-steps
+returns-clause-steps g c =
+    let before = c.copy_from.ensures.bound in
+    let most : c.release_copied.new.seat.known.local.steps ≡ one_more c.copy_from.new.seat.known.local.steps = ap (λ (s : Seated). s.known.local.steps) c.in_ok-release_copied.ensures.step.made.made ∙ released_steps c.args.source.replica c.copy_from.new.seat.known.local in
+    omega (arith, before, most)
+
+pub returns-in_err-release_copied-clause-since : goal.returns-in_err-release_copied-clause-since
+returns-in_err-release_copied-clause-since g c =
+    let before = c.copy_from.ensures.leaves.since in
+    let same = ap (λ (s : Seated). s.known.local.steps) c.in_err-release_copied.ensures.step.halted.same in
+    omega (arith, before, same)
+
+pub returns-clause-since : goal.returns-clause-since
+returns-clause-since g c =
+    let before = c.copy_from.ensures.leaves.since in
+    let one : c.release_copied.new.seat.known.local.steps ≡ one_more c.copy_from.new.seat.known.local.steps = ap (λ (s : Seated). s.known.local.steps) c.in_ok-release_copied.ensures.step.made.made ∙ released_steps c.args.source.replica c.copy_from.new.seat.known.local in
+    omega (arith, before, one)

@@ -34,6 +34,8 @@ loop-i-preserved g c =
             copied = subst (λ (k : Known). CopiesOn start (c.args.from + (i + 1)) before k) (sym knows)
                 (on_over instance c.args.held.now.replica us vs start c.args.from i n before known (omega arith) below w.if-held_words-i.true was.seen was.copied);
             counts = subst (λ (k : Known). LoadsAtMost 0 before k) (sym knows) (loads_on 0 0 0 before known (known_after instance (StoreWord c.args.held.now.replica (c.args.from + i) (slice_index vs i)) known 0) refl was.counts (store_counts instance c.args.held.now.replica (c.args.from + i) (slice_index vs i) known));
+            bound = (let one = ap (λ (k : Known). k.local.steps) knows in let most = was.bound in omega (arith, one, most));
+            since = (let is = ap (λ (s : Seated). s.known.local.steps) now in let before = was.since in let more = after.leaves.since in omega (arith, is, before, more));
             rest = ap beside_copy now ∙ after.leaves.rest ∙ was.rest;
           })
       | else-held_words-i w ↦ (
@@ -44,6 +46,8 @@ loop-i-preserved g c =
             seen = subst (λ (k : Known). AreSeen c.args.from (i + 1) n us vs k) (sym knows) (λ k least within. was.seen k (omega (arith, least)) within);
             copied = subst (λ (k : Known). CopiesOn start (c.args.from + (i + 1)) before k) (sym knows) (on_same us vs start c.args.from i n before known below w.if-held_words-i.false was.seen was.copied);
             counts = subst (λ (k : Known). LoadsAtMost 0 before k) (sym knows) was.counts;
+            bound = (let same = ap (λ (k : Known). k.local.steps) knows in let most = was.bound in omega (arith, same, most));
+            since = (let is = ap (λ (s : Seated). s.known.local.steps) now in let before = was.since in omega (arith, is, before));
             rest = ap beside_copy now ∙ was.rest;
           })
     ]
@@ -74,3 +78,14 @@ returns-in_err-store_copied-clause-steps g c =
     } in
     at_err _ c.from_residual.result (EndsCopy 0 region c.args.seat.now.known c.store_copied.new.seat.known) c.from_residual.ensures.1
     (λ e. inr (subst (λ (s : Seated). SomeDiffers region s.known) (sym c.in_err-store_copied.ensures.halted.same) differs))
+
+pub returns-in_err-store_copied-clause-bound : goal.returns-in_err-store_copied-clause-bound
+returns-in_err-store_copied-clause-bound g c =
+    let same = ap (λ (s : Seated). s.known.local.steps) c.in_err-store_copied.ensures.halted.same in
+    let most = c.loop-i.invariant.bound in
+    omega (arith, same, most, c.loop-i-test.true)
+
+pub returns-clause-bound : goal.returns-clause-bound
+returns-clause-bound g c =
+    let most = c.loop-i.invariant.bound in
+    omega (arith, most, c.loop-i-test.false, c.loop-i.auto.i-end)

@@ -1,4 +1,5 @@
-use Rattle.std.proofs.Common.{◌≡◌, ◌+◌, length}
+use Rattle.std.proofs.Common.{◌≡◌, ◌+◌, ◌≤◌, length}
+use Rattle.cx_table.specs.GapMarks.{StepsOn}
 use Rattle.replica.specs.Copies.{AreSeen, CopiesOn, HoldsBoth, LoadsAtMost, beside_copy}
 use Rattle.replica.proofs.copying.store_line.Given as goal
 
@@ -9,5 +10,7 @@ invariant-loop-i g l = record {
   seen : AreSeen l.from l.i (length l.held_words) l.held_words l.source_words l.seat.known;
   copied : CopiesOn (l.from + l.first) (l.from + l.i) l.fn.seat.known l.seat.known;
   counts : LoadsAtMost 0 l.fn.seat.known l.seat.known;
+  bound : l.seat.known.local.steps + l.first ≤ l.fn.seat.known.local.steps + l.i;
+  since : StepsOn l.fn.seat l.seat;
   rest : beside_copy l.seat ≡ beside_copy l.fn.seat;
 }

@@ -4,7 +4,7 @@ use Rattle.cx_core.specs.Rights.{held_dirty}
 use Rattle.cx_rule.specs.Seats.{Seated}
 use Rattle.replica.proofs.Persisting.{none_left, persisted_image}
 use Rattle.replica.specs.Flushes.{Persists}
-use Rattle.replica.specs.Replays.{IsImage}
+use Rattle.replica.specs.Replays.{IsHeldImage}
 use Rattle.replica.proofs.flushing.flush.Goals as goal
 
 pub returns-clause-clean : goal.returns-clause-clean
@@ -25,5 +25,5 @@ pub returns-clause-image : goal.returns-clause-image
 returns-clause-image g c image =
     let t = c.args.shared.now in
     let mid = c.loop-at.seat in
-    subst (λ (s : Seated). IsImage (g.O.Object.line_count t.object) (g.O.Object.lawful t.object) t.base (g.O.Object.step t.object) s.known) (sym c.in_default.ensures.same)
+    subst (λ (s : Seated). IsHeldImage (g.O.Object.line_count t.object) (g.O.Object.lawful t.object) t.base (g.O.Object.step t.object) s.known) (sym c.in_default.ensures.same)
     (persisted_image g.O.Object t c.args.held.now c.args.seat.now mid c.loop-at.invariant image)

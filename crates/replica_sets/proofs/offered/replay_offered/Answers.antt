@@ -1,11 +1,11 @@
-use Rattle.std.proofs.Common.{◌+◌, ◌++◌, ◌<◌, ◌∙◌, ap, inl, refl, subst, sym}
+use Rattle.std.proofs.Common.{◌+◌, ◌++◌, ◌<◌, ◌∙◌, ap, arith, inl, refl, subst, sym}
 use Rattle.core_queue.specs.NotedSets.{IsNotedSet}
 use Rattle.cx_core.specs.RingEvents.{Protects}
 use Rattle.cx_rule.specs.Fitting.{IsSetWithin, has_of}
 use Rattle.cx_rule.specs.Seats.{Seated}
 use Rattle.redo_set.specs.Taking.{CountsTaken, sets_read}
 use Rattle.replica_sets.specs.Storing.{set_stores}
-use Rattle.replica_sets.proofs.Ready.{leaves_looked, leaves_stored, leaves_taken, ready_looked, ready_taken, ready_untaken, stored_since}
+use Rattle.replica_sets.proofs.Ready.{leaves_looked, leaves_stored, leaves_taken, ready_looked, ready_taken, ready_untaken, since_taken, stored_since}
 use Rattle.replica_sets.proofs.offered.replay_offered.Goals as goal
 
 pub take-requires : goal.take-requires
@@ -40,6 +40,7 @@ returns-then-not-taken g c =
       counted = kept ∙ ap (λ (s : Seated). s.known.sets) looked.seat;
       brought = tt;
       leaves = leaves_taken t replica c.args.seat.now mid c.take.new.seat (leaves_looked t replica _ c.args.seat.now mid looked.of looked.seat) c.take.ensures.seat c.take.ensures.leaves;
+      since = since_taken _ c.args.seat.now mid c.take.new.seat looked.seat c.take.ensures.since;
     }
 
 pub store_set-requires : goal.store_set-requires
@@ -95,4 +96,17 @@ returns g c =
         stores = stored_since g.O.Object t c.args.held.now c.args.ticket _ c.args.seat.now mid c.take.new.seat c.store_set.new.seat c.take.new.into looked.seat c.take.ensures.leaves c.in_ok-store_set.ensures.done;
       };
       leaves = leaves_stored t replica c.args.seat.now c.take.new.seat c.store_set.new.seat (leaves_taken t replica c.args.seat.now mid c.take.new.seat (leaves_looked t replica _ c.args.seat.now mid looked.of looked.seat) c.take.ensures.seat c.take.ensures.leaves) e.still.of e.rest;
+      since = (let one = since_taken _ c.args.seat.now mid c.take.new.seat looked.seat c.take.ensures.since in let more = e.since in omega (arith, one, more));
     }
+
+pub returns-in_err-cell-clause-since : goal.returns-in_err-cell-clause-since
+returns-in_err-cell-clause-since g c = (let same = ap (λ (s : Seated). s.known.local.steps) c.in_err-cell.ensures.halted.same in omega (arith, same))
+
+pub returns-in_err-taken-clause-since : goal.returns-in_err-taken-clause-since
+returns-in_err-taken-clause-since g c = since_taken _ c.args.seat.now c.see_cell.new.seat c.take.new.seat c.in_ok-cell.ensures.made.seat c.take.ensures.since
+
+pub returns-in_err-store_set-clause-since : goal.returns-in_err-store_set-clause-since
+returns-in_err-store_set-clause-since g c =
+    let one = since_taken _ c.args.seat.now c.see_cell.new.seat c.take.new.seat c.in_ok-cell.ensures.made.seat c.take.ensures.since in
+    let more = c.store_set.ensures.leaves.since in
+    omega (arith, one, more)

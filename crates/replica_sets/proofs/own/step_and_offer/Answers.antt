@@ -1,4 +1,4 @@
-use Rattle.std.proofs.Common.{◌+◌, ◌∙◌, ap}
+use Rattle.std.proofs.Common.{◌+◌, ◌∙◌, ap, arith}
 use Rattle.cx_core.specs.QueueEvents.{cell_of}
 use Rattle.replica_sets.specs.Own.{HasApplied}
 use Rattle.replica_sets.proofs.Ready.{applied_offered, leaves_held, leaves_set}
@@ -36,3 +36,15 @@ returns-clause-leaves g c =
     let e = c.apply_noting.ensures.leaves in
     let offered = c.in_ok-offer.ensures.offered in
     leaves_set t replica c.args.seat.now mid c.offer.new.seat c.in-Some.cell offered.set (c.args.ticket + 1) c.offer.new.seat.known.local.steps (leaves_held t replica c.args.seat.now mid e.still.of e.rest) c.offer.ensures.seat offered.seat
+
+pub returns-in_err-offer-clause-since : goal.returns-in_err-offer-clause-since
+returns-in_err-offer-clause-since g c =
+    let before = c.apply_noting.ensures.leaves.since in
+    let more = c.offer.ensures.since in
+    omega (arith, before, more)
+
+pub returns-clause-since : goal.returns-clause-since
+returns-clause-since g c =
+    let before = c.apply_noting.ensures.leaves.since in
+    let more = c.offer.ensures.since in
+    omega (arith, before, more)

@@ -29,7 +29,7 @@ loop-m-preserved g c =
       few = i.few;
       done = Becomes-store i.done e.done (λ first x y s r. stored_more m (set c.args.seat.now) x y c.set_word-at.result c.set_word-v.result r
           (c.set_word-at.ensures ∙ ap (λ (s : Seated). slice_index (set s) (2 * m + 1)) same) (c.set_word-v.ensures ∙ ap (λ (s : Seated). slice_index (set s) (2 * m + 2)) same));
-      leaves = record { still = e.leaves.still; begun = e.leaves.begun; within = e.leaves.within; rest = e.leaves.rest ∙ same };
+      leaves = record { still = e.leaves.still; begun = e.leaves.begun; within = e.leaves.within; since = (let before = i.leaves.since in let more = e.leaves.since in omega (arith, before, more)); rest = e.leaves.rest ∙ same };
     }
 
 pub returns-clause-done : goal.returns-clause-done

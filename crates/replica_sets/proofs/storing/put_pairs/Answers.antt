@@ -16,7 +16,7 @@ loop-m-init g c =
       few = c.len-m-end.ensures.few;
       done = Becomes-weaker (Becomes-same _) (λ first x y s same. sym same);
       stores = no_stores c.args.seat.now.known.accesses c.args.set.now;
-      leaves = record { still = c.requires.held; begun = c.requires.begun; within = c.steps-steps.ensures.within; rest = refl };
+      leaves = record { still = c.requires.held; begun = c.requires.begun; within = c.steps-steps.ensures.within; since = omega arith; rest = refl };
     }
 
 pub put_pair-requires-clause-at : goal.put_pair-requires-clause-at
@@ -36,7 +36,7 @@ loop-m-preserved g c =
       few = i.few;
       done = Becomes-store i.done e.done (λ first x y s r. stored_more m set x y c.pair-at.result.0 c.pair-at.result.1 r c.pair-at.ensures.at c.pair-at.ensures.value);
       stores = stores_more m set c.pair-at.result.0 c.pair-at.result.1 c.args.seat.now.known.accesses c.loop-m.seat.known.accesses c.put_pair.new.seat.known.accesses i.stores e.stores c.pair-at.ensures.at c.pair-at.ensures.value;
-      leaves = record { still = e.leaves.still; begun = e.leaves.begun; within = e.leaves.within; rest = e.leaves.rest ∙ i.leaves.rest };
+      leaves = record { still = e.leaves.still; begun = e.leaves.begun; within = e.leaves.within; since = (let before = i.leaves.since in let more = e.leaves.since in omega (arith, before, more)); rest = e.leaves.rest ∙ i.leaves.rest };
     }
 
 pub returns : goal.returns

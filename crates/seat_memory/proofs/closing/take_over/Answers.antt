@@ -3,7 +3,7 @@ use Rattle.std.proofs.lemmas.Bool.{cases_eq}
 use Rattle.std.proofs.lemmas.Option.{same_Some, slice_get-get_or}
 use Rattle.std.specs.List.{slice_get}
 use Rattle.cx_core.specs.declared.local.WonCode.{WonCode}
-use Rattle.seat_memory.specs.Wins.{IsTaken}
+use Rattle.seat_memory.specs.Wins.{IsWinTaken}
 use Rattle.seat_memory.proofs.Chaining.{among_item, taken_out}
 use Rattle.seat_memory.proofs.closing.take_over.Goals as goal
 
@@ -18,7 +18,7 @@ returns-then-index-before c =
     let found : slice_get wins i ≡ Some c.index.result.now = slice_get-get_or wins i c.index.result.now within ∙ ap (λ x. Some x) (sym c.index.ensures) in
     let over = ap (λ (x : WonCode). x.before) (same_Some w c.index.result.now (sym at ∙ found)) ∙ c.if-index-before.true in
     let fewer : length c.remove.new.self.items + 1 ≡ length wins = omega (arith, c.remove.ensures.len, c.remove.new.self.ok.0, c.loop-i.wins.ok.0) in
-    subst (λ ws. IsTaken c.args.before w.code ws c.remove.new.self.items) c.loop-i.invariant.same
+    subst (λ ws. IsWinTaken c.args.before w.code ws c.remove.new.self.items) c.loop-i.invariant.same
     (taken_out wins i c.args.before w c.remove.new.self.items at over c.remove.ensures.items fewer)
 
 pub loop-i-preserved : goal.loop-i-preserved

@@ -2,7 +2,7 @@ use Rattle.std.proofs.Common.{◌∙◌, ◌∷◌, [], ap, arith, refl, subst, 
 use Rattle.crossbeam_queue.specs.Passes.{view}
 use Rattle.cx_service.specs.declared.close.Handed.TheVariants.{Idle}
 use Rattle.seat_pool.specs.Gathering.{IsGathering}
-use Rattle.seat_pool.specs.Pooling.{total}
+use Rattle.seat_pool.specs.Pooling.{total_weight}
 use Rattle.seat_pool.specs.declared.hand.Hand.{Hand}
 use Rattle.seat_pool.proofs.Gatherings.{as_held, as_many, drained, still_gathering}
 use Rattle.seat_pool.proofs.Poolings.{total_both}
@@ -39,8 +39,8 @@ loop-preserved g c =
     let same = c.push_reserved.ensures.capacity in record {
       pass = c.take.ensures.pass;
       gathering = subst (λ ys. IsGathering r before w ys) (sym c.push_reserved.ensures.items) (still_gathering r before v w c.loop.gathered.items x c.loop.invariant.gathering told.0 told.2);
-      more = λ f. (let grown = ap (total f) c.push_reserved.ensures.items in omega (arith, grown, c.loop.invariant.more f, total_both f c.loop.gathered.items (Idle x ∷ [])));
-      idle = λ f none. (let grown = ap (total f) c.push_reserved.ensures.items in omega (arith, grown, none x, c.loop.invariant.idle f none, total_both f c.loop.gathered.items (Idle x ∷ [])));
+      more = λ f. (let grown = ap (total_weight f) c.push_reserved.ensures.items in omega (arith, grown, c.loop.invariant.more f, total_both f c.loop.gathered.items (Idle x ∷ [])));
+      idle = λ f none. (let grown = ap (total_weight f) c.push_reserved.ensures.items in omega (arith, grown, none x, c.loop.invariant.idle f none, total_both f c.loop.gathered.items (Idle x ∷ [])));
       room = omega (arith, room, same);
     }
 

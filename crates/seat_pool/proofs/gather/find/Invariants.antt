@@ -1,6 +1,6 @@
 use Rattle.std.proofs.Common.{◌≡◌, take}
-use Rattle.seat_pool.specs.Gathering.{number_of, one_at}
-use Rattle.seat_pool.specs.Pooling.{total}
+use Rattle.seat_pool.specs.Gathering.{handed_number, one_at}
+use Rattle.seat_pool.specs.Pooling.{total_weight}
 use Rattle.seat_pool.proofs.gather.find.Given as goal
 
 -- the first callers have other numbers
@@ -8,5 +8,5 @@ abbrev pub invariant-loop-handed : goal.invariant-loop-handed
 invariant-loop-handed l = record {
   place : l.place ≡ l.handed-index;
   items : l.handed-items ≡ l.gathered.items;
-  none : total (λ g. one_at l.wanted (number_of g)) (take l.handed-index l.gathered.items) ≡ 0;
+  none : total_weight (λ g. one_at l.wanted (handed_number g)) (take l.handed-index l.gathered.items) ≡ 0;
 }

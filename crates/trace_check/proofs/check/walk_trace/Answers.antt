@@ -1,6 +1,6 @@
 use Rattle.std.proofs.Common.{◌≡◌, ◌+◌, ◌<◌, ℕ, Bool, true, false, get_or, length, List, ap, refl, sym, subst, arith, rules}
 use Rattle.cx_core.specs.declared.kinds.Kind.TheVariants.{WriteCell}
-use Rattle.cx_core.specs.Events.{Allowed, Applied, Makes}
+use Rattle.cx_core.specs.Events.{Allowed, IsMadeOrRefused, Makes}
 use Rattle.cx_core.specs.State.{Core, Instance, State, instance_of, opening_state}
 use Rattle.core_runs.proofs.Keeps.{opening_lawful}
 use Rattle.trace_text.specs.declared.trace.TraceLine.{TraceLine}
@@ -40,8 +40,8 @@ returns-then-not-branch g c =
     let same : instance_of core instance.step instance.reads ≡ instance = λ i. record { callers = walked.callers i; base = walked.base i; step = instance.step; reads = instance.reads } in
     let applied = c.in_ok-apply-in-Event.ensures.ok in
     let off : c.in_ok-apply-in-Event.field-0 ≡ false = search rules in
-    let refused : Applied false (instance_of core instance.step instance.reads) c.in-Event.event core.state c.apply.new.state.state =
-    subst (λ (b : Bool). Applied b (instance_of core instance.step instance.reads) c.in-Event.event core.state c.apply.new.state.state) off applied in
+    let refused : IsMadeOrRefused false (instance_of core instance.step instance.reads) c.in-Event.event core.state c.apply.new.state.state =
+    subst (λ (b : Bool). IsMadeOrRefused b (instance_of core instance.step instance.reads) c.in-Event.event core.state c.apply.new.state.state) off applied in
     fails_guard instance from xs n c.loop-step.events c.loop-step.crashes core x none (search rules) (ap (λ (ys : List TraceLine). get_or ys n none) c.as_slice-step-items.ensures) walked c.in-Event.event (search rules)
     (subst (λ (i : Instance). Allowed i c.in-Event.event core.state → ⊥) same refused.0)
 
@@ -77,7 +77,7 @@ loop-step-preserved g c =
           let P : ℕ → ℕ → Core → Type 0 = λ e' k' core'. Walked instance from xs (n + 1) e' k' core' in
           let made : w.in_ok-apply-in-Event.field-0 ≡ true = search rules in
           let makes : Makes (instance_of core instance.step instance.reads) w.in-Event.event core.state w.apply.new.state.state =
-          subst (λ (b : Bool). Applied b (instance_of core instance.step instance.reads) w.in-Event.event core.state w.apply.new.state.state) made w.in_ok-apply-in-Event.ensures.ok in
+          subst (λ (b : Bool). IsMadeOrRefused b (instance_of core instance.step instance.reads) w.in-Event.event core.state w.apply.new.state.state) made w.in_ok-apply-in-Event.ensures.ok in
           let fixed = w.in_ok-apply-in-Event.ensures.fixed in
           let is : x.what ≡ Event w.in-Event.event = search rules in
           let one = on_event instance from xs n e k core x none below at walked w.in-Event.event is w.apply.new.state

@@ -2,7 +2,7 @@ use Rattle.std.proofs.Common.{◌≡◌, ◌^◌, ◌+◌, ◌≤◌, ℕ, List,
 use Rattle.cx_base.proofs.MemoryLemmas.{Becomes-same, Becomes-store, Becomes-loaded, always_at_most}
 use Rattle.cx_base.proofs.ReadLemmas.{Reads-none, Reads-loaded}
 use Rattle.avl_words.specs.Lines.{with_word, word_of}
-use Rattle.word_index.specs.Changes.{with_given, CanGive}
+use Rattle.word_index.specs.Changes.{with_line_given, CanGive}
 use Rattle.avl_words.proofs.Memories.{changed}
 use Rattle.word_index.proofs.given_back.give_back.Goals as goal
 
@@ -38,8 +38,8 @@ first_store line head number x y r = record {
 second_store : (line head number : ℕ) (x y : List ℕ) → AfterFirst line head number x y → AfterSecond line head number x (with_word 0 2 line y)
 second_store line head number x y r = record { is = ap (with_word 0 2 line) r.is; head_is = r.head_is; number_is = r.number_is }
 
-third_store : (line head number : ℕ) (x y : List ℕ) → AfterSecond line head number x y → with_word 0 4 (number + 1) y ≡ with_given line x
-unfolding with_given
+third_store : (line head number : ℕ) (x y : List ℕ) → AfterSecond line head number x y → with_word 0 4 (number + 1) y ≡ with_line_given line x
+unfolding with_line_given
 third_store line head number x y r = (let a = r.is in let b = r.head_is in let d = r.number_is in cc)
 
 pub returns : goal.returns

@@ -4,7 +4,7 @@ use Rattle.cx_base.proofs.MemoryLemmas.{Becomes-then, always_after, Becomes-both
 use Rattle.std.proofs.lemmas.Result.{IfOk-weaker}
 use Rattle.word_index.proofs.ExactRuns.{pair_runs}
 use Rattle.word_index.proofs.PairsGiven.{has_document_text, has_key_text, node_can_be_given, pair_given}
-use Rattle.word_index.specs.Changes.{with_given}
+use Rattle.word_index.specs.Changes.{with_line_given}
 use Rattle.avl_words.proofs.Memories.{changed, storable}
 use Rattle.word_index.proofs.given_pairs.give_pair.Goals as goal
 
@@ -20,12 +20,12 @@ give_back-requires g c =
 
 pub returns-clause-changes : goal.returns-clause-changes
 returns-clause-changes g c =
-    changed (IfOk-weaker c.give_back.result (λ _. Becomes (g.M.Memory.stands c.give_text-2.new.mem) (g.M.Memory.stands c.give_back.new.mem) (λ before now. now ≡ with_given c.args.node before)) _
+    changed (IfOk-weaker c.give_back.result (λ _. Becomes (g.M.Memory.stands c.give_text-2.new.mem) (g.M.Memory.stands c.give_back.new.mem) (λ before now. now ≡ with_line_given c.args.node before)) _
     (λ _ b. Becomes-then (Becomes-both c.in_ok-give_text.ensures.changes.done c.in_ok-give_text-2.ensures.changes.done) b (λ x z w t is. pair_given x t.0 z w c.args.node t.1 t.2 is))
     c.give_back.ensures.done) (search rules) (search rules)
 
 pub returns-clause-exact : goal.returns-clause-exact
 returns-clause-exact g c =
-    IfOk-weaker c.give_back.result (λ _. Becomes (g.M.Memory.stands c.give_text-2.new.mem) (g.M.Memory.stands c.give_back.new.mem) (λ before now. now ≡ with_given c.args.node before)) _
+    IfOk-weaker c.give_back.result (λ _. Becomes (g.M.Memory.stands c.give_text-2.new.mem) (g.M.Memory.stands c.give_back.new.mem) (λ before now. now ≡ with_line_given c.args.node before)) _
     (λ _ b. Becomes-then (Becomes-both c.in_ok-give_text.ensures.exact c.in_ok-give_text-2.ensures.exact) b (λ x z w t is. pair_runs c.args.node x t.0 z w t.1 t.2 is))
     c.give_back.ensures.done

@@ -6,7 +6,7 @@ use Rattle.cx_base.proofs.MemoryLemmas.{Becomes-then}
 use Rattle.cx_base.proofs.ReadLemmas.{Becomes-from-read, always_read, Reads-then}
 use Rattle.index_checks.specs.Layout.{StandsFor, IsIndex}
 use Rattle.word_index.specs.Exact.{inserted_in, with_document}
-use Rattle.word_index.specs.Insertion.{IsKnown, LinesAt}
+use Rattle.word_index.specs.Insertion.{IsInsertKnown, LinesAt}
 use Rattle.word_index.specs.Walk.{AtSpot}
 use Rattle.word_index.proofs.Cutting.{visits_read}
 use Rattle.word_index.proofs.Inserting.{can_have_node}
@@ -15,7 +15,7 @@ use Rattle.word_index.proofs.insertion.insert.Goals as goal
 
 known_from : {Key : Type 0} {a b d e : Key → List ℕ → Type 0} (key nodes sides : List ℕ) (depth node above used old n lines : ℕ) → Always a IsIndex → Reads a b (AtSpot false key nodes sides depth node above) →
     Reads b d (λ ws. (version : ℕ) (store : Store) → StandsFor ws version store → used ≡ lines_of store) → Reads d e (LinesAt node old) → ((first : Key) (now : List ℕ) → e first now → Words n now) → n ≡ 8 * lines →
-    Reads a e (IsKnown key nodes sides depth node above used old lines)
+    Reads a e (IsInsertKnown key nodes sides depth node above used old lines)
 known_from key nodes sides depth node above used old n lines all r u l words size = record {
   from = λ first now s. (
       let p = l.from first now s in let q = u.from first now p.0 in let t = r.from first now q.0 in

@@ -1,11 +1,11 @@
 use Rattle.std.proofs.Common.{◌≡◌, ◌*◌, IsTrue}
 use Rattle.cx_base.specs.Memory.{Always}
-use Rattle.doc_store.specs.ExactStep.{IsImage}
+use Rattle.doc_store.specs.ExactStep.{IsImageOfStore}
 use Rattle.word_tests.proofs.access.put_rising.Given as goal
 
 abbrev pub invariant-loop-n : goal.invariant-loop-n
 invariant-loop-n g l = record {
   size : g.M.Memory.size l.mem ≡ 8 * l.store.lines;
   can_store : IsTrue (g.M.Memory.writable l.mem);
-  lawful : Always (g.M.Memory.stands l.mem) (IsImage l.store.lines);
+  lawful : Always (g.M.Memory.stands l.mem) (IsImageOfStore l.store.lines);
 }

@@ -1,6 +1,6 @@
 use Rattle.std.proofs.Common.{OnOk, Result, Ok, Err, sym, subst}
 use Rattle.cx_base.proofs.MemoryLemmas.{Becomes-always}
-use Rattle.doc_store.specs.ExactStep.{IsImage}
+use Rattle.doc_store.specs.ExactStep.{IsImageOfStore}
 use Rattle.doc_store.specs.StoreLaws.{opens}
 use Rattle.word_tests.proofs.rows.opened.Goals as goal
 
@@ -11,4 +11,4 @@ ok_then (Err e) p w = p
 pub returns-clause-lawful : goal.returns-clause-lawful
 returns-clause-lawful g c =
     let store = c.args.store.now in
-    ok_then c.format.result c.format.ensures.done (λ b. Becomes-always b (λ x y e. subst (IsImage store.lines) (sym e) (opens store.lines store.some store.few)))
+    ok_then c.format.result c.format.ensures.done (λ b. Becomes-always b (λ x y e. subst (IsImageOfStore store.lines) (sym e) (opens store.lines store.some store.few)))

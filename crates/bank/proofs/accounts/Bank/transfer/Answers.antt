@@ -1,6 +1,6 @@
 use Rattle.std.proofs.Common.{rules, ◌≡◌, ◌+◌, ◌-◌, ◌<◌, ◌≤◌, ◌∙◌, ℕ, List, slice_index, slice_set, sym, subst, ap, arith}
 use Rattle.bank.specs.Laws.{amount_at_most, taken_at_most}
-use Rattle.bank.specs.Meaning.{amount_of, taken}
+use Rattle.bank.specs.Meaning.{amount_of, withdrawn}
 use Rattle.bank.proofs.accounts.Bank.transfer.Goals as goal
 
 pub load_below-requires-clause-below : goal.load_below-requires-clause-below
@@ -24,6 +24,6 @@ load_below-requires-2-clause-below g c =
     let p = stored.back first now s in
     let q = loaded.back first p.0 p.1 in
     let enough : amount ≤ amount_of p.0 from = omega (arith, q.1, covered) in
-    let same : taken p.0 from amount ≡ now = ap (λ (n : ℕ). slice_set p.0 (from + 1) (n - amount)) q.1 ∙ sym p.2 in
+    let same : withdrawn p.0 from amount ≡ now = ap (λ (n : ℕ). slice_set p.0 (from + 1) (n - amount)) q.1 ∙ sym p.2 in
     subst (λ (ws : List ℕ). slice_index ws (c.args.to + 1) < b.total - amount + 1) same
     (taken_at_most b.lines b.count b.total b.fits p.0 (c.requires.lawful first p.0 q.0) from c.args.to amount from_is to_is enough))

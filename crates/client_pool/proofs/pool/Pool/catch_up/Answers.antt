@@ -1,45 +1,33 @@
-use Rattle.std.proofs.Common.{refl}
-use Rattle.client_pool.specs.declared.client.Client.{Client}
-use Rattle.client_pool.proofs.Calling.{given_more, no_more}
+use Rattle.std.proofs.Common.{None, refl}
+use Rattle.cx_service.specs.CatchUps.{CatchUpHalted}
+use Rattle.client_pool.proofs.Calling.{given_more, stopped_more}
 use Rattle.client_pool.proofs.pool.Pool.catch_up.Goals as goal
 
 pub returns-in-Caught : goal.returns-in-Caught
 returns-in-Caught g c =
-    let r = c.args.self.now.service in
-    let table = c.args.self.now.line.table.shared.table_id in
-    let before = c.args.client.now in
-    let after : Client = record { number = before.number; floor = before.floor; caught_up = c.max-client.result; answers = before.answers; lent = c.see.new.lent; closing = before.closing } in
     let sees = c.in-Caught.ensures in
     record {
-      made = given_more r table before after sees.given (record { number = refl; limits = sees.given.limits; closing = refl }) refl refl;
+      made = given_more c.args.self.now.service c.args.self.now.line.table.shared.table_id c.args.client.now _ refl sees.given;
       seen = c.max-client.ensures;
       asked = sees.asked;
-      kept = sees.kept;
       now = sees.now;
+      returns = sees.returns;
       caught = sees.caught;
     }
 
 pub returns-in-Behind : goal.returns-in-Behind
 returns-in-Behind g c =
-    let r = c.args.self.now.service in
-    let table = c.args.self.now.line.table.shared.table_id in
-    let before = c.args.client.now in
-    let after : Client = record { number = before.number; floor = before.floor; caught_up = before.caught_up; answers = before.answers; lent = c.see.new.lent; closing = before.closing } in
     let sees = c.in-Behind.ensures in
     record {
-      made = given_more r table before after sees.given (record { number = refl; limits = sees.given.limits; closing = refl }) refl refl;
+      made = given_more c.args.self.now.service c.args.self.now.line.table.shared.table_id c.args.client.now _ refl sees.given;
       seen = refl;
       asked = sees.asked;
-      kept = sees.kept;
       now = sees.now;
+      returns = sees.returns;
       behind = sees.behind;
     }
 
 pub returns-in-Stopped : goal.returns-in-Stopped
 returns-in-Stopped g c =
     let r = c.args.self.now.service in
-    let table = c.args.self.now.line.table.shared.table_id in
-    let before = c.args.client.now in
-    let after : Client = record { number = before.number; floor = before.floor; caught_up = before.caught_up; answers = before.answers; lent = c.see.new.lent; closing = before.closing } in
-    let stopped = c.in-Stopped.ensures in
-    (no_more r table before after stopped.lent stopped.tells (record { number = refl; limits = stopped.tells.limits; closing = refl }) refl refl refl, stopped)
+    stopped_more r c.args.self.now.line.table.shared.table_id c.args.client.now _ refl refl (CatchUpHalted r) None c.in-Stopped.ensures

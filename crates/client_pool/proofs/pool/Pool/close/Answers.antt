@@ -1,5 +1,5 @@
 use Rattle.std.proofs.Common.{refl, subst}
-use Rattle.seat_pool.specs.Gathering.{AreTold}
+use Rattle.seat_pool.specs.Gathering.{AreCallsTold}
 use Rattle.client_pool.specs.declared.client.Client.{Client}
 use Rattle.cx_rule.specs.Running.{instance_at}
 use Rattle.client_pool.proofs.History.{are_answered}
@@ -17,7 +17,7 @@ pub returns-in-Ok-clause-remains : goal.returns-in-Ok-clause-remains
 returns-in-Ok-clause-remains g c =
     let are = all_of (λ (x : Client). x.lent) c.part_clients-lents.result.0.items c.push_reserved.new.self.items c.args.clients.items c.pop.new.self.items c.in-Some.last c.push_reserved.ensures.items c.part_clients-lents.ensures.lents.0 c.in-Some.ensures.items in
     let closed = c.in-Ok.ensures.remains in
-    let told = subst (λ l. AreTold c.args.self.service l closed.0) are closed.2 in
+    let told = subst (λ l. AreCallsTold c.args.self.service l closed.0) are closed.2 in
     let r = c.args.self.service in
     let clients = c.args.clients.items in
     let instance = instance_at r g.O.Object.step g.O.Object.only_reads in

@@ -1,14 +1,15 @@
 use Rattle.std.proofs.Common.{◌++◌, ◌+◌, ◌∷◌, [], List, ap, arith, inl, refl, subst, ◌∙◌}
-use Rattle.client_pool.specs.Clients.{HaltsReading}
-use Rattle.client_pool.specs.Lending.{HaltsLooking, LooksOn}
+use Rattle.client_pool.specs.Clients.{HaltsClientRead}
+use Rattle.client_pool.specs.Lending.{HaltsBesideQueue, IsReadRefused, LooksOn}
 use Rattle.client_pool.specs.declared.call.Answered.{Answered}
 use Rattle.client_pool.specs.declared.call.Answered.TheVariants.{Read, Updated}
 use Rattle.client_pool.specs.declared.client.Client.{Client}
-use Rattle.client_pool.proofs.Calling.{no_more, read_is, read_more, updated}
-use Rattle.client_pool.proofs.Lends.{read_full, read_since, read_stopped, read_told, read_worn, stopped_so}
+use Rattle.client_pool.proofs.Calling.{full_more, read_is, read_more, stopped_more, updated, worn_more}
+use Rattle.client_pool.proofs.Lends.{read_full, read_since, read_stopped, read_told, read_worn, returns_first, stopped_so}
 use Rattle.client_pool.proofs.pool.Pool.read.Goals as goal
 
 pub returns-in-Found : goal.returns-in-Found
+unfolding read_since
 returns-in-Found g c =
     let r = c.args.self.now.service in
     let table = c.args.self.now.line.table.shared.table_id in
@@ -18,10 +19,12 @@ returns-in-Found g c =
     let least = c.place-floor.ensures in
     let after : Client = record { number = before.number; floor = seen.place; caught_up = before.caught_up; answers = c.push_reserved.new.self; lent = c.look.new.lent; closing = before.closing } in
     let begun = c.in-Ok.ensures in
-    let shows = read_since r table before.lent c.begin.new.lent after.lent begun.tells c.args.op.now floor c.in-Ok.caller seen c.in-Found.ensures in (
+    let found = c.in-Found.ensures in
+    let shows = read_since r table before.lent c.begin.new.lent after.lent begun.tells c.args.op.now floor c.in-Ok.caller seen found.0 in
+    let back = returns_first r table before.lent c.begin.new.lent after.lent begun.first shows.now begun.tells begun.is found.1 in (
       read_more r table before after c.args.op.now floor c.in-Ok.caller seen (omega (arith, least)) (omega (arith, least)) shows (record { number = refl; limits = shows.limits; closing = refl }) refl
           (c.push_reserved.ensures.items ∙ ap (λ (l : List Answered). l ++ Read seen ∷ []) c.reserve.ensures.items) refl,
-      read_is r table before after c.args.op.now floor begun.first c.in-Ok.caller seen begun.is.kept begun.since shows,
+      read_is r table before after c.args.op.now floor begun.first c.in-Ok.caller seen begun.since shows back,
     )
 
 pub returns-in-Entered-Done : goal.returns-in-Entered-Done
@@ -46,39 +49,35 @@ returns-in-Entered-Full g c =
     let r = c.args.self.now.service in
     let table = c.args.self.now.line.table.shared.table_id in
     let before = c.args.client.now in
-    let after : Client = record { number = before.number; floor = before.floor; caught_up = before.caught_up; answers = c.reserve.new.self; lent = c.look.new.lent; closing = before.closing } in
     let x = c.in-Ok.caller in
-    let full = read_full r table c.args.op.now c.place-floor.result before.lent c.begin.new.lent after.lent x c.in-Ok.ensures c.in-Entered-Full.note (subst (LooksOn r table c.args.op.now x c.begin.new.lent after.lent) c.in-Entered-Full.field-0-is c.in-Entered-Full.ensures) in
-    (no_more r table before after full.lent full.tells (record { number = refl; limits = full.tells.limits; closing = refl }) c.reserve.ensures.items refl refl, full)
+    full_more r table before _ refl c.reserve.ensures.items (IsReadRefused r) c.in-Entered-Full.note
+    (read_full r table c.args.op.now c.place-floor.result before.lent c.begin.new.lent c.look.new.lent x c.in-Ok.ensures c.in-Entered-Full.note (subst (LooksOn r table c.args.op.now x c.begin.new.lent c.look.new.lent) c.in-Entered-Full.field-0-is c.in-Entered-Full.ensures))
 
 pub returns-in-Entered-Worn : goal.returns-in-Entered-Worn
 returns-in-Entered-Worn g c =
     let r = c.args.self.now.service in
     let table = c.args.self.now.line.table.shared.table_id in
     let before = c.args.client.now in
-    let after : Client = record { number = before.number; floor = before.floor; caught_up = before.caught_up; answers = c.reserve.new.self; lent = c.look.new.lent; closing = before.closing } in
     let x = c.in-Ok.caller in
-    let worn = read_worn r table c.args.op.now c.place-floor.result before.lent c.begin.new.lent after.lent x c.in-Ok.ensures (subst (LooksOn r table c.args.op.now x c.begin.new.lent after.lent) c.in-Entered-Worn.field-0-is c.in-Entered-Worn.ensures) in
-    (no_more r table before after worn.lent worn.tells (record { number = refl; limits = worn.tells.limits; closing = refl }) c.reserve.ensures.items refl refl, worn)
+    worn_more r table before _ refl c.reserve.ensures.items (IsReadRefused r)
+    (read_worn r table c.args.op.now c.place-floor.result before.lent c.begin.new.lent c.look.new.lent x c.in-Ok.ensures (subst (LooksOn r table c.args.op.now x c.begin.new.lent c.look.new.lent) c.in-Entered-Worn.field-0-is c.in-Entered-Worn.ensures))
 
 pub returns-in-Entered-Halted : goal.returns-in-Entered-Halted
 returns-in-Entered-Halted g c =
     let r = c.args.self.now.service in
     let table = c.args.self.now.line.table.shared.table_id in
     let before = c.args.client.now in
-    let after : Client = record { number = before.number; floor = before.floor; caught_up = before.caught_up; answers = c.reserve.new.self; lent = c.look.new.lent; closing = before.closing } in
     let x = c.in-Ok.caller in
-    let stopped = read_stopped r table c.args.op.now c.place-floor.result before.lent c.begin.new.lent after.lent x c.in-Ok.ensures c.in-Entered-Halted.linked (subst (LooksOn r table c.args.op.now x c.begin.new.lent after.lent) c.in-Entered-Halted.field-0-is c.in-Entered-Halted.ensures) in
-    (no_more r table before after stopped.lent stopped.tells (record { number = refl; limits = stopped.tells.limits; closing = refl }) c.reserve.ensures.items refl refl, stopped)
+    stopped_more r table before _ refl c.reserve.ensures.items (HaltsClientRead r c.args.op.now) c.in-Entered-Halted.linked
+    (read_stopped r table c.args.op.now c.place-floor.result before.lent c.begin.new.lent c.look.new.lent x c.in-Ok.ensures c.in-Entered-Halted.linked (subst (LooksOn r table c.args.op.now x c.begin.new.lent c.look.new.lent) c.in-Entered-Halted.field-0-is c.in-Entered-Halted.ensures))
 
 pub returns-in-Err : goal.returns-in-Err
 returns-in-Err g c =
     let r = c.args.self.now.service in
     let table = c.args.self.now.line.table.shared.table_id in
     let before = c.args.client.now in
-    let after : Client = record { number = before.number; floor = before.floor; caught_up = before.caught_up; answers = c.reserve.new.self; lent = c.begin.new.lent; closing = before.closing } in
-    let stopped = stopped_so r table (HaltsLooking r) (HaltsReading r c.args.op.now) (λ x s h. inl h) before.lent after.lent c.in-Err.linked c.in-Err.ensures in
-    (no_more r table before after stopped.lent stopped.tells (record { number = refl; limits = stopped.tells.limits; closing = refl }) c.reserve.ensures.items refl refl, stopped)
+    stopped_more r table before _ refl c.reserve.ensures.items (HaltsClientRead r c.args.op.now) c.in-Err.linked
+    (stopped_so r table (HaltsBesideQueue r) (HaltsClientRead r c.args.op.now) (λ x s h. inl h) before.lent c.begin.new.lent c.in-Err.linked c.in-Err.ensures)
 
 pub overflow_add-client : goal.overflow_add-client
 overflow_add-client g c =

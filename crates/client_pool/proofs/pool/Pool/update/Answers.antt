@@ -1,10 +1,10 @@
 use Rattle.std.proofs.Common.{◌++◌, ◌+◌, ◌∷◌, [], List, ap, arith, inl, refl, ◌∙◌}
-use Rattle.client_pool.specs.Clients.{HaltsEntering}
-use Rattle.client_pool.specs.Lending.{HaltsLooking}
+use Rattle.client_pool.specs.Clients.{HaltsClientUpdate}
+use Rattle.client_pool.specs.Lending.{ComesFrom, HaltsBesideQueue}
 use Rattle.client_pool.specs.declared.call.Answered.{Answered}
 use Rattle.client_pool.specs.declared.call.Answered.TheVariants.{Updated}
 use Rattle.client_pool.specs.declared.client.Client.{Client}
-use Rattle.client_pool.proofs.Calling.{no_more, updated}
+use Rattle.client_pool.proofs.Calling.{full_more, stopped_more, updated, worn_more}
 use Rattle.client_pool.proofs.Lends.{stopped_so, update_full, update_settles, update_stopped, update_told, update_worn}
 use Rattle.client_pool.proofs.pool.Pool.update.Goals as goal
 
@@ -33,33 +33,29 @@ returns-in-Full g c =
     let r = c.args.self.now.service in
     let table = c.args.self.now.line.table.shared.table_id in
     let before = c.args.client.now in
-    let after : Client = record { number = before.number; floor = before.floor; caught_up = before.caught_up; answers = c.reserve.new.self; lent = c.settle.new.lent; closing = before.closing } in
-    let full = update_full r table c.args.op.now c.place-floor.result before.lent c.begin.new.lent after.lent c.in-Ok.caller c.in-Ok.ensures c.in-Full.note c.update-updated.result c.update-updated.ensures c.in-Full.ensures in
-    (no_more r table before after full.lent full.tells (record { number = refl; limits = full.tells.limits; closing = refl }) c.reserve.ensures.items refl refl, full)
+    full_more r table before _ refl c.reserve.ensures.items (ComesFrom r) c.in-Full.note
+    (update_full r table c.args.op.now c.place-floor.result before.lent c.begin.new.lent c.settle.new.lent c.in-Ok.caller c.in-Ok.ensures c.in-Full.note c.update-updated.result c.update-updated.ensures c.in-Full.ensures)
 
 pub returns-in-Worn : goal.returns-in-Worn
 returns-in-Worn g c =
     let r = c.args.self.now.service in
     let table = c.args.self.now.line.table.shared.table_id in
     let before = c.args.client.now in
-    let after : Client = record { number = before.number; floor = before.floor; caught_up = before.caught_up; answers = c.reserve.new.self; lent = c.settle.new.lent; closing = before.closing } in
-    let worn = update_worn r table c.args.op.now c.place-floor.result before.lent c.begin.new.lent after.lent c.in-Ok.caller c.in-Ok.ensures c.update-updated.result c.update-updated.ensures c.in-Worn.ensures in
-    (no_more r table before after worn.lent worn.tells (record { number = refl; limits = worn.tells.limits; closing = refl }) c.reserve.ensures.items refl refl, worn)
+    worn_more r table before _ refl c.reserve.ensures.items (ComesFrom r)
+    (update_worn r table c.args.op.now c.place-floor.result before.lent c.begin.new.lent c.settle.new.lent c.in-Ok.caller c.in-Ok.ensures c.update-updated.result c.update-updated.ensures c.in-Worn.ensures)
 
 pub returns-in-Halted : goal.returns-in-Halted
 returns-in-Halted g c =
     let r = c.args.self.now.service in
     let table = c.args.self.now.line.table.shared.table_id in
     let before = c.args.client.now in
-    let after : Client = record { number = before.number; floor = before.floor; caught_up = before.caught_up; answers = c.reserve.new.self; lent = c.settle.new.lent; closing = before.closing } in
-    let stopped = update_stopped r table c.args.op.now c.place-floor.result before.lent c.begin.new.lent after.lent c.in-Ok.caller c.in-Ok.ensures c.in-Halted.linked c.update-updated.result c.update-updated.ensures c.in-Halted.ensures in
-    (no_more r table before after stopped.lent stopped.tells (record { number = refl; limits = stopped.tells.limits; closing = refl }) c.reserve.ensures.items refl refl, stopped)
+    stopped_more r table before _ refl c.reserve.ensures.items (HaltsClientUpdate r c.args.op.now) c.in-Halted.linked
+    (update_stopped r table c.args.op.now c.place-floor.result before.lent c.begin.new.lent c.settle.new.lent c.in-Ok.caller c.in-Ok.ensures c.in-Halted.linked c.update-updated.result c.update-updated.ensures c.in-Halted.ensures)
 
 pub returns-in-Err : goal.returns-in-Err
 returns-in-Err g c =
     let r = c.args.self.now.service in
     let table = c.args.self.now.line.table.shared.table_id in
     let before = c.args.client.now in
-    let after : Client = record { number = before.number; floor = before.floor; caught_up = before.caught_up; answers = c.reserve.new.self; lent = c.begin.new.lent; closing = before.closing } in
-    let stopped = stopped_so r table (HaltsLooking r) (HaltsEntering r c.args.op.now) (λ x s h. inl h) before.lent after.lent c.in-Err.linked c.in-Err.ensures in
-    (no_more r table before after stopped.lent stopped.tells (record { number = refl; limits = stopped.tells.limits; closing = refl }) c.reserve.ensures.items refl refl, stopped)
+    stopped_more r table before _ refl c.reserve.ensures.items (HaltsClientUpdate r c.args.op.now) c.in-Err.linked
+    (stopped_so r table (HaltsBesideQueue r) (HaltsClientUpdate r c.args.op.now) (λ x s h. inl h) before.lent c.begin.new.lent c.in-Err.linked c.in-Err.ensures)

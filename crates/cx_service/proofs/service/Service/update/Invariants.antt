@@ -19,5 +19,6 @@ invariant-loop g l = record {
   times : KeepsTimes l.fn.caller.known.times l.caller.known.times;
   since : StepsOn l.fn.caller l.caller;
   sets : l.caller.known.sets ≡ l.fn.caller.known.sets;
+  met : l.caller.known.local.met ≡ l.fn.caller.known.local.met;
   images : l.caller.known.images ≡ l.fn.caller.known.images;
 }

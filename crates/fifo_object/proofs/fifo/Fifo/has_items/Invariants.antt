@@ -1,8 +1,8 @@
 use Rattle.std.proofs.Common.{◌≡◌, ◌<◌, ℕ, true}
-use Rattle.fifo_model.specs.Words.{is_item}
-use Rattle.fifo_object.specs.Fifo.{item_at, place_of}
+use Rattle.fifo_object.specs.Words.{is_item}
+use Rattle.fifo_object.specs.Fifo.{item_at, item_place}
 use Rattle.fifo_object.proofs.fifo.Fifo.has_items.Given as goal
 
 -- those before are texts
 abbrev pub invariant-loop-i : goal.invariant-loop-i
-invariant-loop-i l = (k : ℕ) → k < l.i → is_item (item_at l.words (place_of l.self.lines l.words k)) ≡ true
+invariant-loop-i l = (k : ℕ) → k < l.i → is_item (item_at l.words (item_place l.self.lines l.words k)) ≡ true

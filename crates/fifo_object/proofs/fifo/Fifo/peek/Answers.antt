@@ -2,7 +2,7 @@ use Rattle.std.proofs.Common.{◌≡◌, rules}
 use Rattle.std.proofs.lemmas.Result.{IfOk-weaker}
 use Rattle.cx_base.specs.Memory.{Reads}
 use Rattle.cx_base.proofs.ReadLemmas.{Reads-then, Reads-weaker}
-use Rattle.fifo_model.specs.Words.{words_of}
+use Rattle.fifo_object.specs.Words.{words_of_item}
 use Rattle.fifo_object.specs.Fifo.{item_at}
 use Rattle.fifo_object.proofs.Runs.{found, none_front, some_front}
 use Rattle.fifo_object.proofs.fifo.Fifo.peek.Goals as goal
@@ -15,5 +15,5 @@ returns-then-ends-eq0 g c =
 pub returns : goal.returns
 returns g c =
     let ends = c.in_ok-ends.ends in
-    found (IfOk-weaker c.item_reply.result (λ _. Reads (g.M.Memory.stands c.ends.new.mem) (g.M.Memory.stands c.item_reply.new.mem) (λ now. c.item_reply.new.reply ≡ words_of 3 (item_at now ends.head))) _
+    found (IfOk-weaker c.item_reply.result (λ _. Reads (g.M.Memory.stands c.ends.new.mem) (g.M.Memory.stands c.item_reply.new.mem) (λ now. c.item_reply.new.reply ≡ words_of_item 3 (item_at now ends.head))) _
     (λ _ f. Reads-then c.in_ok-ends.ensures.finds.done f (λ ws r told. some_front ws c.item_reply.new.reply ends.head ends.count r.0 r.1 c.if-ends-eq0.false told)) c.item_reply.ensures.done) (search rules) (search rules) (search rules)

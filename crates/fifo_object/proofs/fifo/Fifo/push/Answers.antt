@@ -2,7 +2,7 @@ use Rattle.std.proofs.Common.{◌≡◌, ◌+◌, ◌-◌, ◌*◌, ◌%◌, ◌
 use Rattle.cx_base.specs.Memory.{Becomes, overwritten}
 use Rattle.cx_base.proofs.MemoryLemmas.{Becomes-store, Becomes-then, Becomes-weaker}
 use Rattle.cx_base.proofs.ReadLemmas.{Becomes-from-read}
-use Rattle.fifo_object.specs.Fifo.{count_in, head_in}
+use Rattle.fifo_object.specs.Fifo.{count_in, queue_head}
 use Rattle.fifo_object.proofs.Runs.{changed, full_runs, put_runs}
 use Rattle.fifo_object.proofs.fifo.Fifo.push.Goals as goal
 
@@ -19,7 +19,7 @@ returns g c =
     let item = c.args.item.now in
     let place = (ends.head + ends.count) % (lines - 1) in
     let room : ends.count < lines - 1 = omega arith in
-    let put : Becomes (g.M.Memory.stands c.args.mem.now) (g.M.Memory.stands c.store_words.new.mem) (λ x z. (z ≡ overwritten (8 * (place + 1)) item x) × (head_in x ≡ ends.head) × (count_in x ≡ ends.count)) =
-    Becomes-then (Becomes-from-read c.in_ok-ends.ensures.finds.done) c.in_ok-store_words.ensures.done (λ x y z r d. (d ∙ ap (overwritten (8 * (place + 1)) item) r.0, ap head_in (sym r.0) ∙ r.1.0, ap count_in (sym r.0) ∙ r.1.1)) in
+    let put : Becomes (g.M.Memory.stands c.args.mem.now) (g.M.Memory.stands c.store_words.new.mem) (λ x z. (z ≡ overwritten (8 * (place + 1)) item x) × (queue_head x ≡ ends.head) × (count_in x ≡ ends.count)) =
+    Becomes-then (Becomes-from-read c.in_ok-ends.ensures.finds.done) c.in_ok-store_words.ensures.done (λ x y z r d. (d ∙ ap (overwritten (8 * (place + 1)) item) r.0, ap queue_head (sym r.0) ∙ r.1.0, ap count_in (sym r.0) ∙ r.1.1)) in
     changed (Becomes-store put c.in_ok-store.ensures.stands (λ first x y s r.
     put_runs lines item x y c.put_words-2.new.reply ends.head ends.count place r.1 r.2 room refl r.0 c.put_words-2.ensures)) (search rules) (search rules)

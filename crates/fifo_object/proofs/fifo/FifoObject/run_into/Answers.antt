@@ -3,7 +3,7 @@ use Rattle.std.proofs.lemmas.Result.{IfOk-weaker}
 use Rattle.cx_base.specs.Memory.{Becomes, Reads}
 use Rattle.cx_base.proofs.MemoryLemmas.{Becomes-same, Becomes-weaker}
 use Rattle.cx_base.proofs.ReadLemmas.{Becomes-from-read}
-use Rattle.fifo_model.specs.Words.{item_in, kind_in, number_item, words_of}
+use Rattle.fifo_object.specs.Words.{item_in, kind_in, number_item, words_of_item}
 use Rattle.fifo_object.specs.Fifo.{count_in, front_words, pop_step, push_step}
 use Rattle.fifo_object.proofs.Runs.{both, changed, len_is, none_is, peek_is, pop_is, push_is}
 use Rattle.fifo_object.proofs.fifo.FifoObject.run_into.Goals as goal
@@ -35,7 +35,7 @@ pub returns-in-4 : goal.returns-in-4
 returns-in-4 g c =
     let op = c.args.op.now in
     let kind : kind_in op ≡ 4 = omega arith in
-    changed (IfOk-weaker c.len.result (λ _. Reads (g.M.Memory.stands c.args.mem.now) (g.M.Memory.stands c.len.new.mem) (λ now. c.len.new.reply ≡ words_of 5 (number_item (count_in now)))) _
+    changed (IfOk-weaker c.len.result (λ _. Reads (g.M.Memory.stands c.args.mem.now) (g.M.Memory.stands c.len.new.mem) (λ now. c.len.new.reply ≡ words_of_item 5 (number_item (count_in now)))) _
     (λ _ r. Becomes-weaker (Becomes-from-read r) (λ first x y s t. len_is c.args.self.now.lines x y op c.len.new.reply kind t.0 t.1)) c.len.ensures.done) (search rules) (search rules)
 
 pub returns-in_default : goal.returns-in_default

@@ -1,7 +1,7 @@
 use Rattle.std.proofs.Common.{take, refl, ap}
 use Rattle.std.proofs.lemmas.Result.{on_ok_weaker}
 use Rattle.cx_rule.specs.Seats.{Seated}
-use Rattle.replica.proofs.RegionLaws.{held_run, rest_run, stands_run, still_limited}
+use Rattle.replica.proofs.RegionLaws.{held_run, rest_run, since_run, stands_run, still_limited}
 use Rattle.replica.proofs.region.RegionMemory.load_words.Goals as goal
 
 pub invariant_of-self : goal.invariant_of-self
@@ -10,7 +10,13 @@ invariant_of-self g c =
     let table = region.table.now in
     let some = c.load_held_words.ensures.some in
     let after = held_run (g.T.HeldWords.line_count table) (g.T.HeldWords.running table) (g.T.HeldWords.lawful table) (g.T.HeldWords.step table) region.held.now c.args.at (take some.0 c.load_held_words.new.into) region.seat.now c.load_held_words.new.seat region.placed some.1 region.of region.within region.place in
-    record { of = after.0; starts = region.starts; within = after.1; place = after.2 }
+    record {
+      of = after.0;
+      starts = region.starts;
+      within = after.1;
+      place = after.2;
+      since = since_run (g.T.HeldWords.line_count table) (g.T.HeldWords.running table) (g.T.HeldWords.lawful table) (g.T.HeldWords.step table) region.held.now c.args.at (take some.0 c.load_held_words.new.into) region.seat.now c.load_held_words.new.seat region.began some.1 region.since;
+    }
 
 pub returns-clause-read : goal.returns-clause-read
 returns-clause-read g c =
@@ -34,7 +40,7 @@ returns-clause-framed g c =
     let rest = rest_run (g.T.HeldWords.line_count table) (g.T.HeldWords.running table) (g.T.HeldWords.lawful table) (g.T.HeldWords.step table) region.held.now c.args.at (take some.0 c.load_held_words.new.into) region.seat.now c.load_held_words.new.seat some.1 in
     record {
       size_kept = refl;
-      fixed_kept = ap (λ (s : Seated). record { name = region.seat.ghost_name; table = table; held = region.held.now; placed = region.placed; rest = s }) rest;
+      fixed_kept = ap (λ (s : Seated). record { name = region.seat.ghost_name; table = table; held = region.held.now; placed = region.placed; began = region.began; rest = s }) rest;
       writable_kept = refl;
       limited = still_limited region.seat.now.known.local c.load_held_words.new.seat.known.local (ap (λ (s : Seated). s.known.local.limit) rest);
     }

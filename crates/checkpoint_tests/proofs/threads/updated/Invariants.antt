@@ -1,5 +1,0 @@
-use Rattle.cx_service.specs.Callers.{IsCallerOf}
-use Rattle.checkpoint_tests.proofs.threads.updated.Given as goal
-
-abbrev pub invariant-loop-try : goal.invariant-loop-try
-invariant-loop-try g l = IsCallerOf l.service l.caller

@@ -1,6 +1,0 @@
-use Rattle.std.proofs.Common.{refl}
-use Rattle.core_answers.proofs.AnswerLaws.{answers_longer}
-use Rattle.core_answers.proofs.frames.answers_of_a_longer_history.Goals as goal
-
-pub returns : goal.returns
-returns c = λ instance history more s within answers. answers_longer instance history _ more s.words s.locals refl within answers

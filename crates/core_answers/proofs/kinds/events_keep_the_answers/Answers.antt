@@ -1,5 +1,0 @@
-use Rattle.core_answers.proofs.AnswerKinds.{event_kept}
-use Rattle.core_answers.proofs.kinds.events_keep_the_answers.Goals as goal
-
-pub returns : goal.returns
-returns c = λ kind instance history before after caller grounds answers made. event_kept instance history _ before after grounds answers made

@@ -1,5 +1,0 @@
-use Rattle.core_answers.proofs.StillLaws.{has_run}
-use Rattle.core_answers.proofs.replies.answers_are_never_taken_back.Goals as goal
-
-pub returns : goal.returns
-returns c = λ instance events from to caller l run there. has_run instance events from to caller l run there

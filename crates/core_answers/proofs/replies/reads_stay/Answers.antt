@@ -1,8 +1,0 @@
-use Rattle.std.proofs.Common.{arith, sym, ◌∙◌}
-use Rattle.core_answers.proofs.AnswerLaws.{after_stays}
-use Rattle.core_answers.proofs.replies.reads_stay.Goals as goal
-
-pub returns : goal.returns
-returns c = λ instance history more s caller i l x within answers at there.
-    let told = (answers.each caller l at).reads i x there in
-    told.reply ∙ sym (after_stays instance history more x.place x.op (omega (arith, told.durable)))

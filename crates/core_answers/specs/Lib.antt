@@ -1,4 +1,0 @@
-pub mod Crashing
-pub mod Frames
-pub mod Keeping
-pub mod Replies

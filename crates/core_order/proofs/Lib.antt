@@ -1,4 +1,0 @@
-pub mod Counting
-pub mod Going
-pub mod Since
-pub mod Ordering

@@ -1,5 +1,0 @@
-use Rattle.core_order.proofs.Ordering.{run_linearizable}
-use Rattle.core_order.proofs.order.runs_are_linearizable.Goals as goal
-
-pub returns : goal.returns
-returns c = run_linearizable

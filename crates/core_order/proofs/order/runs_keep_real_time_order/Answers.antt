@@ -1,5 +1,0 @@
-use Rattle.core_order.proofs.Ordering.{keeps_real_time}
-use Rattle.core_order.proofs.order.runs_keep_real_time_order.Goals as goal
-
-pub returns : goal.returns
-returns c = keeps_real_time

@@ -1,0 +1,15 @@
+//! The framing law of the root: a step on a word that the part does not name, which changes no field that it names, keeps it.
+
+ghost use Rattle.std.specs.Prelude.{◌≤◌};
+ghost use Rattle.core_replica.specs.RootFrames.{OffRoot, SameRoot};
+ghost use Rattle.cx_core.specs.Frames.{StepApart};
+ghost use Rattle.cx_core.specs.LawfulLocks.{Locks};
+ghost use Rattle.cx_core.specs.LawfulRoot.{Root};
+ghost use Rattle.cx_core.specs.State.{Instance, State};
+
+/// The part on the root names CUR, DUR and the place words of replicas. Of a local state it names what was seen of CUR, the win
+/// and the downgraded right, which may also end.
+pub fn root_framed()
+    ensures { (instance : Instance) (before after : State) → StepApart (OffRoot instance) SameRoot before after → 1 ≤ instance.callers →
+        Locks instance.callers before.words before.locals → Root instance before.words before.locals → Root instance after.words after.locals }
+{}

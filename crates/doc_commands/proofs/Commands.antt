@@ -1,0 +1,76 @@
+-- The clients' last commands, as far as the slots have been read.
+use Rattle.std.proofs.Common.{◌≡◌, ◌≢◌, ℕ, ◌+◌, ◌<◌, true, All, List, [], ◌∷◌, ◌++◌, map, refl, ap, subst, sym, ◌∙◌, inl, inr, arith}
+use Rattle.std.specs.List.{filter, range_with_len}
+use Rattle.std.proofs.lemmas.Bool.{cases_eq, lt-ltb}
+use Rattle.std.proofs.lemmas.List.{append-nil, map-append, map-id}
+use Rattle.std.proofs.lemmas.List.Elements.{All-nil, All-push, filter-append}
+use Rattle.std.proofs.lemmas.List.FromFn.{map-range_with_len_more}
+use Rattle.cx_core.specs.Region.{slot_number, slot_reply}
+use Rattle.doc_model.specs.Words.{AreOfNoReply, HasWordNumber}
+use Rattle.doc_model.specs.declared.operations.Reply.{Reply}
+use Rattle.doc_model.specs.declared.operations.Reply.TheVariants.{Sum, Number, Set, Stale, Revision}
+use Rattle.doc_store.specs.DocumentMeaning.{IsReplyValue}
+use Rattle.doc_text.specs.declared.recovered.Applied.{Applied}
+use Rattle.doc_commands.specs.Outcomes.{HoldsStoreReplies, IsLastCommand, IsReplyOf, has_number}
+
+-- the number of a reply has 64 bits as the type says
+pub number_fits : (reply : Reply) → IsReplyValue reply → HasWordNumber reply
+number_fits (Sum sum) is = is
+number_fits (Number number) is = is
+number_fits (Set revision) is = is
+number_fits (Stale revision) is = is
+number_fits (Revision revision) is = is
+number_fits reply is = tt
+
+-- what is told of the clients below one
+pub record IsToldBelow (region : List ℕ) (n : ℕ) (outcomes : List Applied) : Type 0 where
+  pub clients : map (λ applied. applied.client) outcomes ≡ filter (has_number region) (range_with_len 0 n)
+  pub commands : All (IsLastCommand region) outcomes
+  pub replies : (client : ℕ) → client < n → slot_number client region ≢ 0 → (reply : Reply) × IsReplyOf (slot_reply client region) reply
+
+pub told_none : (region : List ℕ) → IsToldBelow region 0 []
+told_none region = record { clients = refl; commands = All-nil (IsLastCommand region); replies = λ client below. absurd (omega (arith, below)) }
+
+range_more : (n : ℕ) → range_with_len 0 (n + 1) ≡ range_with_len 0 n ++ n ∷ []
+range_more n =
+    sym (map-id (range_with_len 0 (n + 1))) ∙ map-range_with_len_more (λ x. x) 0 n n (omega arith)
+    ∙ ap (λ (xs : List ℕ). xs ++ n ∷ []) (map-id (range_with_len 0 n))
+
+-- a client without a number
+pub told_skip : (region : List ℕ) (n : ℕ) (outcomes : List Applied) → IsToldBelow region n outcomes → slot_number n region ≡ 0
+    → IsToldBelow region (n + 1) outcomes
+told_skip region n outcomes told none =
+    let left_out : filter (has_number region) (range_with_len 0 (n + 1)) ≡ filter (has_number region) (range_with_len 0 n) =
+    ap (filter (has_number region)) (range_more n) ∙ filter-append (has_number region) (range_with_len 0 n) (n ∷ [])
+    ∙ rw none (append-nil (filter (has_number region) (range_with_len 0 n))) in
+    record {
+      clients = told.clients ∙ sym left_out;
+      commands = told.commands;
+      replies = λ client below some. elim (cases_eq client n) [
+        | inl same ↦ absurd (some (ap (λ c. slot_number c region) same ∙ none))
+        | inr other ↦ told.replies client (omega (arith, below, other)) some
+      ];
+    }
+
+-- a client with a number
+pub told_more : (region : List ℕ) (n : ℕ) (outcomes : List Applied) (applied : Applied) → IsToldBelow region n outcomes
+    → applied.client ≡ n → slot_number n region ≢ 0 → IsLastCommand region applied → IsToldBelow region (n + 1) (outcomes ++ applied ∷ [])
+told_more region n outcomes applied told mine some is =
+    let passes : has_number region n ≡ true = lt-ltb 0 (slot_number n region) (omega (arith, some)) in
+    let added : filter (has_number region) (range_with_len 0 (n + 1)) ≡ filter (has_number region) (range_with_len 0 n) ++ n ∷ [] =
+    ap (filter (has_number region)) (range_more n) ∙ filter-append (has_number region) (range_with_len 0 n) (n ∷ []) ∙ rw passes refl in
+    record {
+      clients = map-append (λ (a : Applied). a.client) outcomes (applied ∷ []) ∙ rw (told.clients, mine) (sym added);
+      commands = All-push (IsLastCommand region) outcomes applied told.commands is;
+      replies = λ client below has. elim (cases_eq client n) [
+        | inl same ↦ (applied.reply, subst (λ c. IsReplyOf (slot_reply c region) applied.reply) (mine ∙ sym same) is.reply)
+        | inr other ↦ told.replies client (omega (arith, below, other)) has
+      ];
+    }
+
+-- a slot with a number and words of no reply
+pub holds_none : (region : List ℕ) (client : ℕ) → client < 8 → slot_number client region ≢ 0 → AreOfNoReply (slot_reply client region)
+    → ¬ HoldsStoreReplies region
+holds_none region client within some none holds =
+    let (reply, is) = holds client within some in
+    none reply is.whole.limits is.whole.number is.has

@@ -1,0 +1,12 @@
+use Rattle.doc_commands.proofs.images.image_of_script.Goals as goal
+
+pub returns : goal.returns
+returns g c = record {
+  records = c.in_ok-lived.lived.records;
+  are = record { lives = c.in_ok-lived.ensures.legal; told = c.in_ok-lived.ensures.told };
+  image = c.in_ok-lived.lived.image;
+  base = c.in_ok-lived.lived.base;
+  left = c.in_ok-lived.ensures.left;
+  ends = c.in_ok-lived.ensures.ends;
+  text_is = c.in_ok-text.ensures;
+}

@@ -1,0 +1,87 @@
+-- Lives without cuts are lives of the queue.
+use Rattle.std.proofs.Common.{Result, Ok, Err, IfOk, ◌≡◌, ◌+◌, ◌<◌, ◌≤◌, ℕ, List, [], ◌∷◌, ◌++◌, get_or, length, map, take, refl, sym, ap, ap₂, subst, ◌∙◌, arith}
+use Rattle.std.proofs.lemmas.List.{get_or-map, length-map}
+use Rattle.cx_lives.proofs.Appending.{count_taken}
+use Rattle.cx_lives.proofs.Taking.{take_next}
+use Rattle.cx_lives.specs.Lives.{AreTold, HaveLived}
+use Rattle.cx_lives.specs.declared.lives.Lived.{Lived}
+use Rattle.life_records.specs.Lives.{AreLivesFrom, IsLegalLife, ops_of}
+use Rattle.life_records.specs.Records.{FullLine, LifeRecord, StopLine}
+use Rattle.life_records.specs.Scripts.{command_count}
+use Rattle.fifo_object.specs.Queue.{Queue}
+use Rattle.fifo_object.specs.declared.operations.FifoReply.{FifoReply}
+use Rattle.fifo_object.specs.Fifo.{IsFifo}
+use Rattle.fifo_object.specs.FifoMeaning.{fifo_meaning}
+use Rattle.fifo_commands.specs.FifoLives.{AreFifoLivesFrom, uncut}
+use Rattle.fifo_commands.specs.Leaving.{with_no_stops, without_cuts}
+use Rattle.fifo_commands.specs.declared.record.FifoLife.{FifoLife}
+use Rattle.fifo_commands.proofs.Plainly.{after_is, fifo_life, no_full, no_stop}
+use Rattle.fifo_commands.specs.Runs.{HaveFifoLived}
+use Rattle.fifo_commands.specs.declared.runs.FifoLived.{FifoLived}
+
+lives_from : (lines place : ℕ) (queue : Queue) (lives : List FifoLife) (records : List (LifeRecord FifoReply)) → AreLivesFrom (fifo_meaning lines) place queue (map uncut lives) records →
+    AreFifoLivesFrom lines place queue lives (map without_cuts records)
+lives_from lines place queue [] [] are = tt
+lives_from lines place queue [] (told ∷ records) are = absurd are
+lives_from lines place queue (life ∷ lives) [] are = absurd are
+lives_from lines place queue (life ∷ lives) (told ∷ records) are = (
+  fifo_life lines place queue life told are.0,
+  subst (λ q. AreFifoLivesFrom lines (place + told.kept) q lives (map without_cuts records)) (after_is lines queue (ops_of (uncut life) (take told.kept told.journal)))
+      (lives_from lines (place + told.kept) _ lives records are.1),
+)
+
+-- a record in which no client was stopped or ran out of free cells
+same_record : (lines place : ℕ) (queue : Queue) (life : FifoLife) (told : LifeRecord FifoReply) → IsLegalLife (fifo_meaning lines) place queue (uncut life) told → with_no_stops (without_cuts told) ≡ told
+same_record lines place queue life told is =
+    let with_both : List StopLine → List FullLine → LifeRecord FifoReply = λ stops fulls. record {
+      clients = told.clients;
+      from = told.from;
+      journal = told.journal;
+      reads = told.reads;
+      stops = stops;
+      fulls = fulls;
+      choice = told.choice;
+      kept = told.kept;
+      items = told.items;
+    } in
+    ap₂ with_both (sym (no_stop lines place queue life told is)) (sym (no_full lines place queue life told is))
+
+same_records : (lines place : ℕ) (queue : Queue) (lives : List FifoLife) (records : List (LifeRecord FifoReply)) → AreLivesFrom (fifo_meaning lines) place queue (map uncut lives) records →
+    map with_no_stops (map without_cuts records) ≡ records
+same_records lines place queue [] [] are = refl
+same_records lines place queue [] (told ∷ records) are = absurd are
+same_records lines place queue (life ∷ lives) [] are = absurd are
+same_records lines place queue (life ∷ lives) (told ∷ records) are =
+    ap₂ (λ t ts. t ∷ ts) (same_record lines place queue life told are.0) (same_records lines (place + told.kept) _ lives records are.1)
+
+pub lived_is : (lines : ℕ) (lives : List FifoLife) (lived : Lived FifoReply) (left : FifoLived) → HaveLived (fifo_meaning lines) lines 16 (IsFifo lines) (map uncut lives) lived →
+    left.records ≡ map without_cuts lived.records → left.trails ≡ lived.trails → HaveFifoLived lines lives left
+lived_is lines lives lived left have records trails = record {
+  legal = subst (λ rs. AreFifoLivesFrom lines 0 [] lives rs) (sym records) (lives_from lines 0 [] lives lived.records have.legal);
+  told =
+      subst (λ ts. AreTold (fifo_meaning lines) (map uncut lives) (map with_no_stops left.records) ts) (sym trails)
+      (subst (λ rs. AreTold (fifo_meaning lines) (map uncut lives) (map with_no_stops rs) lived.trails) (sym records)
+      (subst (λ rs. AreTold (fifo_meaning lines) (map uncut lives) rs lived.trails) (sym (same_records lines 0 [] lives lived.records have.legal)) have.told));
+}
+
+-- ---- a life more of a script
+
+next_is : (lives : List FifoLife) (i : ℕ) (life : FifoLife) → i < length lives → life ≡ get_or lives i life → uncut life ≡ get_or (map uncut lives) i (uncut life)
+next_is lives i life within is = ap uncut is ∙ sym (get_or-map uncut lives i life (uncut life) within)
+
+inside : (lives : List FifoLife) (i : ℕ) → i < length lives → i < length (map uncut lives)
+inside lives i within = omega (arith, within, length-map lives uncut)
+
+pub room_for : (lives : List FifoLife) (i : ℕ) (life : FifoLife) → i < length lives → life ≡ get_or lives i life → command_count (map uncut lives) ≤ 100000 →
+    command_count (take i (map uncut lives)) + length life.commands ≤ 100000
+room_for lives i life within is few =
+    let counted = count_taken (map uncut lives) i (uncut life) (inside lives i within) (next_is lives i life within is) in
+    omega (arith, counted, few)
+
+pub one_more : (lives : List FifoLife) (i : ℕ) (life : FifoLife) → i < length lives → life ≡ get_or lives i life → take i (map uncut lives) ++ uncut life ∷ [] ≡ take (i + 1) (map uncut lives)
+one_more lives i life within is = sym (take_next (map uncut lives) i (uncut life) (inside lives i within) (next_is lives i life within is))
+
+-- two facts of an answer give a third
+pub both_hold : {X E : Type 0} (r : Result X E) (P Q R : X → Type 0) → ((x : X) → P x → Q x → R x) → IfOk r P → IfOk r Q → IfOk r R
+both_hold (Ok x) P Q R w p q = w x p q
+both_hold (Err e) P Q R w p q = p

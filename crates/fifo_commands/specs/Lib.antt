@@ -1,0 +1,12 @@
+pub mod CommandLaws
+pub mod CommandReasons
+pub mod FifoLives
+pub mod Grammar
+pub mod Leaving
+pub mod Reading
+pub mod Reasons
+pub mod Report
+pub mod Results
+pub mod Runs
+pub mod Texts
+pub mod Uncut

@@ -1,0 +1,18 @@
+-- The records of a script of a queue, and the text that tells of them.
+use Rattle.std.specs.Prelude.{◌≡◌, ℕ, List, map}
+use Rattle.cx_rule.specs.Ending.{Ending}
+use Rattle.cx_lives.specs.Lives.{AreTold}
+use Rattle.fifo_object.specs.FifoMeaning.{fifo_meaning}
+use Rattle.fifo_commands.specs.FifoLives.{AreFifoLives, uncut}
+use Rattle.fifo_commands.specs.Leaving.{with_no_stops}
+use Rattle.fifo_commands.specs.declared.record.FifoRecord.{FifoRecord}
+use Rattle.fifo_commands.specs.declared.record.FifoScript.{FifoScript}
+use Rattle.fifo_commands.specs.Report.{queue_report_of}
+
+-- The text is the report of records of legal lives of the queue. Each is witnessed by the execution log of the service that ran it, in
+-- which no client was stopped or ran out of free cells.
+pub record IsFifoReport (script : FifoScript) (trails : List Ending) (text : List ℕ) : Type 0 where
+  pub records : List FifoRecord
+  pub lives : AreFifoLives script.lines script.lives records
+  pub told : AreTold (fifo_meaning script.lines) (map uncut script.lives) (map with_no_stops records) trails
+  pub report : text ≡ queue_report_of script records

@@ -1,0 +1,71 @@
+//! Scripts read from their text.
+
+ghost use Rattle.std.specs.Prelude.{◌≡◌, All, [], IfErr, IfOk, map};
+ghost use Rattle.plain_text.specs.LineGrammar.{IsOkOr};
+ghost use Rattle.fifo_commands.specs.declared.record.FifoScript.{FifoScript as fifo_script};
+ghost use Rattle.fifo_object.specs.Queue.{IsOp};
+ghost use Rattle.life_records.specs.Limits.{KeepsLimits};
+ghost use Rattle.fifo_commands.specs.Grammar.{IsQueueScriptFault, IsFifoScript};
+ghost use Rattle.fifo_commands.specs.Uncut.{cutless, uncut_script};
+
+use crate::commands::QueueTexts;
+use crate::reasons::FifoTextFault;
+use crate::record::{FifoLife, FifoScript};
+use cx_base::Items;
+use fifo_object::FifoOp;
+use life_records::{Life, Script};
+use std::alloc::{AllocError, Global};
+
+/// Reads a script. It is Ok exactly for the texts of scripts, unless memory runs out. Other texts are refused by
+/// the first line with which the lines so far are no script.
+pub fn read_fifo_script(alloc: Global, bytes: &[u8]) -> Result<FifoScript, FifoTextFault>
+    // What is read is what the text says.
+    ensures script { IfOk result (IsFifoScript bytes.now) }
+    // What is a script is read.
+    ensures only { (script : fifo_script) → IsFifoScript bytes.now script → IsOkOr script result }
+    ensures limits { IfOk result (λ script. KeepsLimits IsOp 8 (uncut_script script)) }
+    // The line refused is the first with which the lines so far are no script.
+    ensures refused { IfErr result (IsQueueScriptFault bytes.now) }
+{
+    let script = script_text::read_script::<QueueTexts>(alloc, bytes)?;
+    Ok(without_cuts(alloc, script)?)
+}
+
+/// The same script, which has no cuts. `Err` means out of memory.
+fn without_cuts(alloc: Global, script: Script<FifoOp>) -> Result<FifoScript, AllocError>
+    requires { All (λ life. life.cuts ≡ []) script.lives }
+    ensures { IfOk result (λ left. uncut_script left ≡ script) }
+{
+    let Script { lines, lives } = script;
+    let lives = lives_of(alloc, lives.into_vec())?;
+    Ok(FifoScript {
+        lines,
+        lives: Items::of(lives),
+    })
+}
+
+fn lives_of(alloc: Global, lives: Vec<Life<FifoOp>>) -> Result<Vec<FifoLife>, AllocError>
+    ensures { IfOk result (λ left. left.items ≡ map cutless lives.items) }
+{
+    let mut left = Vec::new(alloc);
+    for life in lives {
+        left.push(life_of(life))?;
+    }
+    Ok(left)
+}
+
+fn life_of(life: Life<FifoOp>) -> FifoLife
+    ensures { result ≡ cutless life }
+{
+    let Life {
+        clients,
+        choice,
+        commands,
+        ..
+    } = life;
+    FifoLife {
+        clients,
+        choice,
+        commands,
+    }
+}

@@ -1,2 +1,0 @@
-pub mod FifoLives
-pub mod Leaving

@@ -1,5 +1,0 @@
-use Rattle.fifo_model.specs.WordLaws.{ops_same, replies_same}
-use Rattle.fifo_model.proofs.laws.fifo_words_are_one_to_one.Goals as goal
-
-pub returns : goal.returns
-returns c = record { ops = ops_same; replies = replies_same }

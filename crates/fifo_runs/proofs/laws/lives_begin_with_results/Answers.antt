@@ -1,5 +1,0 @@
-use Rattle.fifo_runs.proofs.Results.{have_results}
-use Rattle.fifo_runs.proofs.laws.lives_begin_with_results.Goals as goal
-
-pub returns : goal.returns
-returns c = have_results

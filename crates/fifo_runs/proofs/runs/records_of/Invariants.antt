@@ -1,6 +1,0 @@
-use Rattle.std.proofs.Common.{◌≡◌, map}
-use Rattle.fifo_lives.specs.Leaving.{without_cuts}
-use Rattle.fifo_runs.proofs.runs.records_of.Given as goal
-
-abbrev pub invariant-loop-told : goal.invariant-loop-told
-invariant-loop-told l = l.left.items ≡ map without_cuts l.yielded

@@ -1,5 +1,0 @@
-use Rattle.image_answers.proofs.Commands.{IsToldBelow}
-use Rattle.image_answers.proofs.replies.outcomes_of.Given as goal
-
-abbrev pub invariant-loop-client : goal.invariant-loop-client
-invariant-loop-client l = IsToldBelow l.base.words l.client l.outcomes

@@ -1,0 +1,4 @@
+mod ClientsBack
+mod CountersAlone
+mod NewCallers
+mod QueuesAlone

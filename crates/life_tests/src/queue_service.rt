@@ -1,0 +1,106 @@
+//! The queue on a service: one caller's calls, one after another.
+
+ghost use Rattle.std.specs.Prelude.{◌≡◌, ◌∷◌, [], IfOk, IfSome};
+ghost use Rattle.cx_service.specs.Callers.{IsCallerOf};
+ghost use Rattle.fifo_object.specs.Queue.{IsOp};
+
+use crate::holds::holds;
+use crate::queue_lives::{is_reply, op_of};
+use cx_core::Base;
+use cx_service::{Caller, Service, Updated};
+use fifo_object::{Fifo, FifoFault, FifoOp, FifoReply, fifo_reply_of, fifo_words};
+use std::alloc::{AllocError, Global};
+use std::sync::Wait;
+use std::test::Fail;
+
+/// A service of one caller over the empty queue.
+fn started(alloc: Global) -> Result<(Service<Fifo>, Caller), AllocError>
+    ensures { IfOk result (λ r. IsCallerOf r.0 r.1) }
+{
+    let queue = Fifo::of(64);
+    let base = Base::fresh(alloc, &queue)?;
+    let Ok((service, callers)) = Service::start(alloc, queue, 1, &[u64::MAX], &base) else {
+        return Err(AllocError);
+    };
+    match one(callers) {
+        Some(caller) => Ok((service, caller)),
+        None => Err(AllocError),
+    }
+}
+
+/// The item of a list of one.
+fn one(mut callers: Vec<Caller>) -> Option<Caller>
+    ensures { IfSome result (λ caller. callers.items ≡ caller ∷ []) }
+{
+    let caller = callers.pop()?;
+    if callers.is_empty() {
+        Some(caller)
+    } else {
+        None
+    }
+}
+
+/// One call, and what the queue answers; nothing where the call was not answered.
+fn asked<R: Wait>(
+    rt: &R,
+    alloc: Global,
+    service: &Service<Fifo>,
+    caller: Caller,
+    op: &FifoOp,
+) -> Result<Option<(Caller, FifoReply)>, AllocError>
+    requires caller { IsCallerOf service.now caller }
+    requires op { IsOp op.now }
+    ensures { IfOk result (λ r. IfSome r (λ answered. IsCallerOf service.now answered.0)) }
+{
+    match service.update(rt, caller, &fifo_words(op)) {
+        Updated::Done(back, answer) => match fifo_reply_of(alloc, &answer.reply) {
+            Ok(reply) => Ok(Some((back, reply))),
+            Err(FifoFault::Memory) => Err(AllocError),
+            Err(FifoFault::BadOp) => Ok(None),
+        },
+        Updated::Full(_, _) | Updated::Worn(_) | Updated::Halted(_) => Ok(None),
+    }
+}
+
+/// Each operation, and the kind and the value of its reply.
+const CALLS: [((u64, u64), (u64, u64)); 5] = [
+    ((1, 0x78), (1, 0)),
+    ((4, 0), (5, 1)),
+    ((3, 0), (3, 0x78)),
+    ((2, 0), (3, 0x78)),
+    ((2, 0), (4, 0)),
+];
+
+/// The first call that is not answered so, if any.
+fn first_wrong<R: Wait>(
+    rt: &R,
+    alloc: Global,
+    service: &Service<Fifo>,
+    caller: Caller,
+) -> Result<Option<usize>, AllocError>
+    requires { IsCallerOf service.now caller }
+{
+    let mut caller = caller;
+    for (i, (row, (kind, value))) in CALLS.iter().enumerate() {
+        let op = op_of(alloc, row)?;
+        let Some((back, reply)) = asked(rt, alloc, service, caller, &op)? else {
+            return Ok(Some(i));
+        };
+        if !is_reply(&reply, *kind, *value) {
+            return Ok(Some(i));
+        }
+        caller = back;
+    }
+    Ok(None)
+}
+
+fn calls_are_answered<R: Wait>(rt: &R, alloc: Global) -> Result<bool, AllocError> {
+    let (service, caller) = started(alloc)?;
+    Ok(first_wrong(rt, alloc, &service, caller)?.is_none())
+}
+
+#[test]
+fn a_service_has_a_queue(rt: HostRuntime) -> Result<(), Fail> {
+    holds(&rt, calls_are_answered(&rt, rt.alloc())?);
+    Ok(())
+}

@@ -1,0 +1,137 @@
+//! Clients of a pool of counters add and read.
+
+ghost use Rattle.std.specs.Prelude.{◌≡◌, ◌<◌, ℕ, All, IfOk, slice_index_or, true, vec_len};
+ghost use Rattle.std.specs.List.{AllZip};
+ghost use Rattle.client_pool.specs.Lending.{is_live};
+ghost use Rattle.life_tests.specs.Tests.{AreAll, Counts, IsBack, IsOf};
+
+use bounded_counters::{Counters, add_words, operations_are_read, read_words};
+use client_pool::{Client, Pool, Pooled, PooledRead};
+use std::alloc::{AllocError, Global};
+use std::sync::Wait;
+use std::thread::{self, Threads, map_vec};
+
+/// A call that adds 1 to counter 0, and one that reads it: whether the client was answered Full.
+fn adds<R: Wait>(rt: &R, pool: &Pool<Counters>, client: &mut Client) -> bool
+    requires pool { Counts pool.now }
+    requires client { IsOf pool.now client.old × (is_live client.old.lent.kept ≡ true) }
+    ensures { IsBack pool.now client.old client.new }
+{
+    let pooled = pool.update(rt, client, &add_words(0, 1));
+    match pooled {
+        Pooled::Full(_) => true,
+        _ => false,
+    }
+}
+
+fn reads<R: Wait>(rt: &R, pool: &Pool<Counters>, client: &mut Client) -> bool
+    requires pool { Counts pool.now }
+    requires client { IsOf pool.now client.old × (is_live client.old.lent.kept ≡ true) }
+    ensures { IsBack pool.now client.old client.new }
+{
+    operations_are_read();
+    let pooled = pool.read(rt, client, &read_words(0));
+    match pooled {
+        PooledRead::Full(_) => true,
+        _ => false,
+    }
+}
+
+/// A live client calls until it is not answered Full: the others give back in time what it needs.
+fn calls<R: Wait>(rt: &R, pool: &Pool<Counters>, client: &mut Client, is_read: bool)
+    requires pool { Counts pool.now }
+    requires client { IsOf pool.now client.old }
+    ensures { IsBack pool.now client.old client.new }
+{
+    let mut again = client.is_live();
+    for _ in rt.forever() {
+        if !again || !client.is_live() {
+            return;
+        }
+        again = if is_read {
+            reads(rt, pool, client)
+        } else {
+            adds(rt, pool, client)
+        };
+        if again {
+            thread::yield_now();
+        }
+    }
+}
+
+/// A client adds 1 `additions` times, and reads.
+fn works<R: Wait>(rt: &R, pool: &Pool<Counters>, client: Client, additions: u64) -> Client
+    requires pool { Counts pool.now }
+    requires client { IsOf pool.now client }
+    ensures { IsBack pool.now client result }
+{
+    let mut client = client;
+    for _ in 0..additions {
+        calls(rt, pool, &mut client, false);
+    }
+    calls(rt, pool, &mut client, true);
+    client
+}
+
+/// Clients do so one after another.
+fn in_turn<R: Wait>(
+    rt: &R,
+    alloc: Global,
+    pool: &Pool<Counters>,
+    clients: Vec<Client>,
+    additions: u64,
+) -> Result<Vec<Client>, AllocError>
+    requires pool { Counts pool.now }
+    requires clients { All (IsOf pool.now) clients.items }
+    ensures { IfOk result (λ v. AllZip (IsBack pool.now) clients.items v.items) }
+{
+    let mut worked = Vec::new(alloc);
+    for client in clients {
+        worked.push(works(rt, pool, client, additions))?;
+    }
+    Ok(worked)
+}
+
+/// Each does so on a thread of its own.
+fn on_threads<R: Wait + Threads + Sync>(
+    rt: &R,
+    pool: &Pool<Counters>,
+    clients: Vec<Client>,
+    additions: u64,
+) -> Result<Vec<Client>, AllocError>
+    requires pool { Counts pool.now }
+    requires clients { All (IsOf pool.now) clients.items }
+    ensures long { IfOk result (λ v. vec_len v ≡ vec_len clients) }
+    ensures each { IfOk result (λ v. (i : ℕ) (d : _) (e : _) → i < vec_len clients → IsBack pool.now (slice_index_or clients.items i d) (slice_index_or v.items i e)) }
+{
+    map_vec(
+        rt,
+        clients,
+        &|client: Client| -> Client
+            requires { Counts pool.now × IsOf pool.now client }
+            ensures { IsBack pool.entry.now client result }
+        { works(rt, pool, client, additions) },
+    )
+}
+
+/// All the clients of a pool do so.
+pub(crate) fn all_work<R: Wait + Threads + Sync>(
+    rt: &R,
+    alloc: Global,
+    pool: &Pool<Counters>,
+    clients: Vec<Client>,
+    additions: u64,
+    threads: bool,
+) -> Result<Vec<Client>, AllocError>
+    requires pool { Counts pool.now }
+    requires clients { AreAll pool.now clients.items }
+    ensures { IfOk result (λ v. AreAll pool.now v.items) }
+{
+    if threads {
+        let worked = on_threads(rt, pool, clients, additions)?;
+        Ok(worked)
+    } else {
+        let worked = in_turn(rt, alloc, pool, clients, additions)?;
+        Ok(worked)
+    }
+}

@@ -1,0 +1,181 @@
+-- One client's work more among all.
+use Rattle.std.proofs.Common.{◌≡◌, ◌∙◌, ◌+◌, ◌≤◌, Bool, true, false, ◌||◌, ℕ, zero, suc, List, [], ◌∷◌, ◌++◌, Option, None, Some, Result, IfOk, ap, arith, drop, get_or, length, length-append, map, refl, slice_get, subst, sym, inl, inr}
+use Rattle.std.specs.Prelude.{All, MatchBool}
+use Rattle.std.specs.List.{AllZip, range_with_len}
+use Rattle.std.specs.Option.{option_to_list}
+use Rattle.std.specs.declared.alloc.AllocError.{AllocError}
+use Rattle.std.proofs.lemmas.List.{map-append}
+use Rattle.std.proofs.lemmas.List.Elements.{All-append, All-nil, All-push, All-weaker}
+use Rattle.std.proofs.lemmas.Option.{none-some}
+use Rattle.std.proofs.lemmas.Slice.Zip.{all_zipped_more}
+use Rattle.atomic_table.specs.Seated.{TableId}
+use Rattle.cx_core.proofs.ListLemmas.{slice_get-append_left}
+use Rattle.cx_core.proofs.Locals.{slice_get-last, slice_get-push}
+use Rattle.cx_core.specs.declared.local.Linked.{Linked}
+use Rattle.cx_core.specs.declared.local.Local.{Local}
+use Rattle.cx_core.specs.declared.local.SeenRead.{SeenRead}
+use Rattle.cx_lives.proofs.Serving.{is_whole}
+use Rattle.cx_lives.specs.Serving.{IsAnsweredLine}
+use Rattle.cx_rule.specs.Running.{Running}
+use Rattle.client_pool.specs.Clients.{HasCalls, entries_called}
+use Rattle.client_pool.specs.declared.call.Call.{Call}
+use Rattle.client_pool.specs.declared.client.Client.{Client}
+use Rattle.life_records.proofs.Lists.{all_each, zip_all}
+use Rattle.life_records.specs.Records.{FullLine, JournalLine, Life, Meaning, ReadLine, StopLine}
+use Rattle.life_records.specs.Scripts.{own_ops}
+use Rattle.life_records.specs.Works.{AreWorks, IsReadLine, IsWork}
+use Rattle.seat_pool.proofs.Orderings.{range_push}
+use Rattle.pool_lives.proofs.Ghosts.{locals_long, locals_more, own_long}
+use Rattle.pool_lives.proofs.Making.{few_calls}
+use Rattle.pool_lives.specs.Asking.{MayAsk}
+use Rattle.pool_lives.specs.Gathering.{AddsServed, AreClientsGathered, ClientHasNever, HaveLines, IsLineAt}
+use Rattle.pool_lives.specs.Ghosts.{IsCallAt, local_of, locals_from}
+use Rattle.pool_lives.specs.Working.{AreClientsNumbered, AreClientWorksOf, CannotBeLeft, HasClosing, HasMadeCalls, IsAtWork, IsCalling, IsOver, ClientServedOf}
+use Rattle.pool_lives.specs.declared.gather.Gathered.{Gathered}
+use Rattle.pool_lives.specs.declared.work.Served.{Served}
+
+abbrev number_of : Client → ℕ
+number_of c = c.number
+
+-- what the laws of lines say of one client more
+module _ {Op Reply Store : Type 0} where
+  abbrev pub GoesOn : (m : Meaning Op Reply Store) → Life Op → Type 0
+  GoesOn m life =
+      (locals : List Local) (l : Local) (entries es : List (JournalLine Reply)) (reads rs : List (ReadLine Reply)) (stops : List StopLine) (stop : Option StopLine) (fulls : List FullLine) (full : Option FullLine) →
+      AreWorks m.encoding life locals entries reads stops fulls → IsWork m.encoding life (length locals) l es rs stop full →
+      AreWorks m.encoding life (locals ++ l ∷ []) (entries ++ es) (reads ++ rs) (stops ++ option_to_list stop) (fulls ++ option_to_list full)
+
+module _ {Op Reply Store : Type 0} (m : Meaning Op Reply Store) (life : Life Op) (calls : List (List Call)) (own : List Call) where
+  line_stays : (client command at next : ℕ) → IsLineAt calls client command at next → IsLineAt (calls ++ own ∷ []) client command at next
+  line_stays client command at next is = record { own = is.own; of_client = slice_get-append_left calls (own ∷ []) client is.own is.of_client; is = is.is }
+
+  new_line : (client command at next : ℕ) → client ≡ length calls → IsCallAt own command at next → IsLineAt (calls ++ own ∷ []) client command at next
+  new_line client command at next here is = record { own = own; of_client = ap (slice_get (calls ++ own ∷ [])) here ∙ slice_get-last calls own; is = is }
+
+  -- the lines of one client more
+  lines_more : (es es' : List (JournalLine Reply)) (rs rs' : List (ReadLine Reply)) → GoesOn m life → HaveLines m life calls es rs → HasMadeCalls m life (length calls) (length (own_ops (length calls) life.commands)) own es' rs'
+      → HaveLines m life (calls ++ own ∷ []) (es ++ es') (rs ++ rs')
+  lines_more es es' rs rs' go_on lines made =
+      let k = length calls in
+      let l = local_of k own in
+      let long : length (locals_from 0 calls) ≡ k = locals_long 0 calls in
+      let zero_ : 0 + k ≡ k = omega arith in
+      let all : locals_from 0 (calls ++ own ∷ []) ≡ locals_from 0 calls ++ l ∷ [] = locals_more 0 calls own ∙ ap (λ n. locals_from 0 calls ++ local_of n own ∷ []) zero_ in
+      let work : IsWork m.encoding life k l es' rs' None None = is_whole m life k (length (own_ops k life.commands)) l es' rs' made.lists refl in
+      let P : JournalLine Reply → Type 0 = λ line. IsLineAt (calls ++ own ∷ []) line.client line.command line.ticket (line.ticket + 1) in
+      let Q : ReadLine Reply → Type 0 = λ line. IsLineAt (calls ++ own ∷ []) line.client line.command line.place line.place in
+      let mine : All (λ (line : JournalLine Reply). line.client ≡ k) es' =
+      all_each (λ (line : JournalLine Reply). line.client ≡ k) es' (zip_all (IsAnsweredLine m life k l.answered) (λ (line : JournalLine Reply). line.client ≡ k) (λ (x : Linked) (line : JournalLine Reply) h. h.0.client_is) l.own es' made.lists.entry_lines) in
+      let seen : All (λ (line : ReadLine Reply). line.client ≡ k) rs' =
+      all_each (λ (line : ReadLine Reply). line.client ≡ k) rs' (zip_all (IsReadLine m.encoding life k) (λ (line : ReadLine Reply). line.client ≡ k) (λ (x : SeenRead) (line : ReadLine Reply) h. h.client_is) l.seen_reads rs' made.lists.read_lines) in
+      record {
+        works = subst (λ ls. AreWorks m.encoding life ls (es ++ es') (rs ++ rs') [] []) (sym all) (go_on (locals_from 0 calls) l es es' rs rs' [] None [] None lines.works (subst (λ n. IsWork m.encoding life n l es' rs' None None) (sym long) work));
+        entries_at = All-append P es es' (All-weaker (λ (line : JournalLine Reply). IsLineAt calls line.client line.command line.ticket (line.ticket + 1)) P (λ line is. line_stays line.client line.command line.ticket (line.ticket + 1) is) es lines.entries_at)
+            (λ i d within. new_line (get_or es' i d).client (get_or es' i d).command (get_or es' i d).ticket ((get_or es' i d).ticket + 1) (mine i d within) (made.entries_at i d within));
+        reads_at = All-append Q rs rs' (All-weaker (λ (line : ReadLine Reply). IsLineAt calls line.client line.command line.place line.place) Q (λ line is. line_stays line.client line.command line.place line.place is) rs lines.reads_at)
+            (λ i d within. new_line (get_or rs' i d).client (get_or rs' i d).command (get_or rs' i d).place (get_or rs' i d).place (seen i d within) (made.reads_at i d within));
+      }
+
+  module _ (clients : List Client) (client : Client) (long : length clients ≡ length calls) where
+    never_stays : ClientHasNever m life clients calls → ClientHasNever m life (clients ++ client ∷ []) (calls ++ own ∷ [])
+    never_stays h = record {
+      number = h.number;
+      client = h.client;
+      there = slice_get-append_left clients (client ∷ []) h.number h.client h.there;
+      own = h.own;
+      of_client = slice_get-append_left calls (own ∷ []) h.number h.own h.of_client;
+      cannot = h.cannot;
+    }
+
+    never_now : CannotBeLeft m life (length calls) client own → ClientHasNever m life (clients ++ client ∷ []) (calls ++ own ∷ [])
+    never_now cannot = record {
+      number = length calls;
+      client = client;
+      there = ap (slice_get (clients ++ client ∷ [])) (sym long) ∙ slice_get-last clients client;
+      own = own;
+      of_client = slice_get-last calls own;
+      cannot = cannot;
+    }
+
+    works_more : (es es' : List (JournalLine Reply)) (rs rs' : List (ReadLine Reply)) → GoesOn m life → (b c : Bool) → MatchBool b (ClientHasNever m life clients calls) (HaveLines m life calls es rs)
+        → MatchBool c (CannotBeLeft m life (length calls) client own) (HasMadeCalls m life (length calls) (length (own_ops (length calls) life.commands)) own es' rs')
+        → MatchBool (b || c) (ClientHasNever m life (clients ++ client ∷ []) (calls ++ own ∷ [])) (HaveLines m life (calls ++ own ∷ []) (es ++ es') (rs ++ rs'))
+    works_more es es' rs rs' go_on true c all one = never_stays all
+    works_more es es' rs rs' go_on false true all one = never_now one
+    works_more es es' rs rs' go_on false false all one = lines_more es es' rs rs' go_on all one
+
+-- a client's calls, however its worker ended
+module _ {O Op Reply Store : Type 0} (m : Meaning Op Reply Store) (life : Life Op) (r : Running O) (table : TableId) where
+  record Ended (k : ℕ) (served : Served Reply) : Type 0 where
+    who : IsCalling r table life.clients k served.client
+    few : length (entries_called who.calls) ≤ length (own_ops k life.commands)
+    end_is : MatchBool served.never (CannotBeLeft m life k served.client who.calls) (HasMadeCalls m life k (length (own_ops k life.commands)) who.calls served.lines.entries.items served.lines.reads.items)
+
+  ended : (k : ℕ) (served : Served Reply) (b : Bool) → served.never ≡ b → MatchBool b (IsOver m life r table life.clients k served.client) (IsAtWork m life r table life.clients k (length (own_ops k life.commands)) served.client served.lines) → Ended k served
+  ended k served true is o = record { who = o.who; few = o.few; end_is = rw is o.cannot }
+  ended k served false is w = record {
+    who = w.who;
+    few = few_calls m life k (length (own_ops k life.commands)) w.who.calls served.lines.entries.items served.lines.reads.items w.made;
+    end_is = rw is w.made;
+  }
+
+  pub gathered_more : (before after : Gathered Reply) (served : Served Reply) → GoesOn m life → AreClientsGathered m life r table before → AddsServed before after served → ClientServedOf m life r table life.clients (length before.clients.items) served → AreClientsGathered m life r table after
+  gathered_more before after served go_on g adds s =
+      let cs = before.clients.items in
+      let n = length cs in
+      let e = ended n served served.never refl s in
+      let own = e.who.calls in
+      let long : length cs ≡ length g.calls = zip_long cs g.calls g.has in
+      let longer : length after.clients.items ≡ suc n = omega (arith, ap length adds.client, length-append cs (served.client ∷ [])) in
+      let number : number_of served.client ≡ 0 + n = e.who.by ∙ omega arith in
+      record {
+        each = rw adds.client (All-push (MayAsk r table) cs served.client g.each e.who.may);
+        numbers = ap (map number_of) adds.client ∙ map-append number_of cs (served.client ∷ []) ∙ ap (λ ks. ks ++ number_of served.client ∷ []) g.numbers ∙ ap (λ k. range_with_len 0 n ++ k ∷ []) number ∙ sym (range_push 0 n) ∙ ap (range_with_len 0) (sym longer);
+        closing = rw adds.client (All-push (HasClosing r table life.clients) cs served.client g.closing e.who.closing);
+        calls = g.calls ++ own ∷ [];
+        has = rw adds.client (all_zipped_more (HasCalls r) cs g.calls served.client own g.has e.who.has);
+        few = λ k c at. elim (slice_get-push g.calls own k c at) [
+          | inl there ↦ g.few k c there
+          | inr new ↦ subst (λ (xs : List Call). length (entries_called xs) ≤ length (own_ops k life.commands)) new.1 (subst (λ i. length (entries_called own) ≤ length (own_ops i life.commands)) (long ∙ sym new.0) e.few)
+        ];
+        works = rw (adds.client, adds.entries, adds.reads, adds.never_is)
+            (works_more m life g.calls own cs served.client long before.lines.entries.items served.lines.entries.items before.lines.reads.items served.lines.reads.items go_on before.never served.never g.works
+            (subst (λ k. MatchBool served.never (CannotBeLeft m life k served.client own) (HasMadeCalls m life k (length (own_ops k life.commands)) own served.lines.entries.items served.lines.reads.items)) long e.end_is));
+      }
+    where
+      zip_long : (xs : List Client) (ys : List (List Call)) → AllZip (HasCalls r) xs ys → length xs ≡ length ys
+      zip_long [] [] z = refl
+      zip_long (x ∷ xs) (y ∷ ys) z = ap suc (zip_long xs ys z.1)
+      zip_long _ _ z = absurd z
+
+-- the works of clients from one on, by the clients' numbers
+pub numbered : {O Op Reply Store : Type 0} (m : Meaning Op Reply Store) (life : Life Op) (r : Running O) (table : TableId) (k : ℕ) (clients : List Client) (works : List (Result (Served Reply) AllocError)) → length works ≡ length clients
+    → map number_of clients ≡ range_with_len k (length clients) → AreClientWorksOf m life r table clients works → AreClientsNumbered m life r table k works
+numbered m life r table k [] [] long numbers each = tt
+numbered m life r table k (c ∷ cs) (w ∷ ws) long numbers each =
+    let first : number_of c ≡ k = ap (λ (xs : List ℕ). get_or xs 0 0) numbers in (
+      subst (λ i. IfOk w (ClientServedOf m life r table life.clients i)) first (each 0 w c (omega arith)),
+      numbered m life r table (k + 1) cs ws (omega (arith, long)) (ap (λ (xs : List ℕ). drop 1 xs) numbers) (λ i d e within. each (suc i) d e (omega (arith, within))),
+    )
+numbered m life r table k _ _ long numbers each = absurd (omega (arith, long))
+
+-- with no clients there is nothing
+pub gathered_none : {O Op Reply Store : Type 0} (m : Meaning Op Reply Store) (life : Life Op) (r : Running O) (table : TableId) (g : Gathered Reply) → AreWorks m.encoding life [] [] [] [] [] → g.clients.items ≡ [] → g.lines.entries.items ≡ [] → g.lines.reads.items ≡ [] → g.never ≡ false
+    → AreClientsGathered m life r table g
+gathered_none {Reply = Reply} m life r table g works clients entries reads never = record {
+  each = rw clients (All-nil (MayAsk r table));
+  numbers = rw clients refl;
+  closing = rw clients (All-nil (HasClosing r table life.clients));
+  calls = [];
+  has = rw clients tt;
+  few = λ k own at. absurd (none-some own at);
+  works =
+      subst (λ b. MatchBool b (ClientHasNever m life g.clients.items []) (HaveLines m life [] g.lines.entries.items g.lines.reads.items)) (sym never)
+      (subst (λ es. HaveLines m life [] es g.lines.reads.items) (sym entries)
+      (subst (λ rs. HaveLines m life [] [] rs) (sym reads)
+      (record {
+        works = works;
+        entries_at = All-nil (λ (line : JournalLine Reply). IsLineAt [] line.client line.command line.ticket (line.ticket + 1));
+        reads_at = All-nil (λ (line : ReadLine Reply). IsLineAt [] line.client line.command line.place line.place);
+      })));
+}

@@ -1,0 +1,52 @@
+-- The result of a life before the crash.
+use Rattle.std.specs.Prelude.{◌≡◌, ℕ, Bool, List, [], Some, length, map, slice_get}
+use Rattle.cx_core.specs.declared.entry.Base.{Base}
+use Rattle.cx_core.specs.declared.local.Local.{Local}
+use Rattle.cx_rule.specs.Running.{Running, instance_at}
+use Rattle.cx_rule.specs.Seats.{Seated}
+use Rattle.cx_table.specs.Remains.{Leaves}
+use Rattle.cx_table.specs.declared.remains.Remains.{Remains}
+use Rattle.client_pool.specs.Pools.{AreNewCallers}
+use Rattle.life_records.specs.Journal.{IsByTicket}
+use Rattle.life_records.specs.Lives.{answers_of}
+use Rattle.life_records.specs.Records.{JournalLine, Life, LifeRecord, Meaning}
+use Rattle.life_records.specs.Works.{AreWorks}
+use Rattle.pool_lives.specs.Recorded.{AreAnswersInTurn, AreOfCallers, HaveTickets}
+use Rattle.pool_lives.specs.Asking.{AreUnlimited}
+
+-- a service of this object, and its callers, none of which made a call or is ever stopped
+pub record IsServiceReady {O : Type 0} (object : O) (r : Running O) (seats : List Seated) : Type 0 where
+  pub same : r.object ≡ object
+  pub new : AreNewCallers r seats
+  pub unlimited : AreUnlimited (map (λ (s : Seated). s.known.local.limit) seats)
+
+-- a service of this object with this many callers, which opened from this base
+pub record IsPoolServiceOf {O : Type 0} (object : O) (lines callers : ℕ) (base : Base) (r : Running O) : Type 0 where
+  pub callers_are : r.callers ≡ callers
+  pub lines_are : r.lines ≡ lines
+  pub from : r.base ≡ base
+  pub same : r.object ≡ object
+
+-- one that was started
+abbrev pub IsStarted : {O : Type 0} → O → ℕ → ℕ → Base → Running O → List Seated → Type 0
+IsStarted object lines callers base r seats = IsPoolServiceOf object lines callers base r × IsServiceReady object r seats
+
+-- What is recorded of it before the crash, when its service was closed: the lists of each client, whose lines the record has, are of callers of the
+-- service, and all that its history has.
+pub record HasMet {O Op Reply Store : Type 0} (m : Meaning Op Reply Store) (step : O → List ℕ → List ℕ → List ℕ × List ℕ) (reads : O → List ℕ → Bool) (life : Life Op) (r : Running O) (told : LifeRecord Reply) (remains : Remains) : Type 0 where
+  pub seats : List Seated
+  pub leaves : Leaves r (instance_at r step reads) seats remains
+  pub clients : List Local
+  pub count : length clients ≡ life.clients
+  pub entries : List (JournalLine Reply)
+  pub works : AreWorks m.encoding life clients entries told.reads [] []
+  pub sorted : IsByTicket entries told.journal
+  pub long : length entries ≡ length remains.trail.history
+  pub tickets : HaveTickets r.base.place (length remains.trail.history) entries
+  pub calls : (client : ℕ) (l : Local) → slice_get clients client ≡ Some l → AreOfCallers remains.trail.locals l
+  pub in_turn : AreAnswersInTurn (answers_of entries told.reads)
+  pub clients_are : told.clients ≡ life.clients
+  pub choice : told.choice ≡ life.choice
+  pub from : told.from ≡ r.base.place
+  pub stops : told.stops ≡ []
+  pub fulls : told.fulls ≡ []

@@ -1,0 +1,95 @@
+//! The results of the workers, put together client after client.
+
+ghost use Rattle.std.specs.Prelude.{◌≡◌, ◌<◌, ◌∷◌, ◌++◌, IfOk, length, vec_len};
+ghost use Rattle.pool_lives.specs.Gathering.{AddsServed, AreClientsGathered};
+ghost use Rattle.pool_lives.specs.Working.{AreClientsNumbered};
+
+use crate::progress::Lines;
+use crate::work::Served;
+use client_pool::{Client, Pool};
+use life_records::BorrowedLife;
+use life_records::laws::{works_begin, works_go_on};
+use std::alloc::{AllocError, Global};
+use typed_object::TypedObject;
+
+/// The clients, the lines of all, and whether some client met what cannot be.
+#[derive(Drop)]
+pub(crate) struct Gathered<Reply> {
+    pub(crate) clients: Vec<Client>,
+    pub(crate) lines: Lines<Reply>,
+    pub(crate) never: bool,
+}
+
+impl<Reply: Drop> Gathered<Reply> {
+    // With one client more.
+    fn with(self, served: Served<Reply>) -> Result<Gathered<Reply>, AllocError>
+        ensures { IfOk result (λ after. AddsServed self after served) }
+    {
+        let Gathered {
+            mut clients,
+            lines,
+            never,
+        } = self;
+        clients.push(served.client)?;
+        let lines = joined(lines, served.lines)?;
+        Ok(Gathered {
+            clients,
+            lines,
+            never: never || served.never,
+        })
+    }
+}
+
+// One client's lines behind those of the clients before it.
+fn joined<Reply: Drop>(before: Lines<Reply>, own: Lines<Reply>) -> Result<Lines<Reply>, AllocError>
+    ensures entries { IfOk result (λ lines. lines.entries.items ≡ before.entries.items ++ own.entries.items) }
+    ensures reads { IfOk result (λ lines. lines.reads.items ≡ before.reads.items ++ own.reads.items) }
+{
+    let mut lines = before;
+    let mut own = own;
+    lines.entries.append(&mut own.entries)?;
+    lines.reads.append(&mut own.reads)?;
+    Ok(lines)
+}
+
+/// Puts together the results of the workers of all clients, in the order of the clients. `Err` means out of memory, in a worker or here.
+pub(crate) fn gather<O: TypedObject>(
+    alloc: Global,
+    object: &O,
+    pool: &Pool<O>,
+    life: &BorrowedLife<'_, O::Op>,
+    works: Vec<Result<Served<O::Reply>, AllocError>>,
+) -> Result<Gathered<O::Reply>, AllocError>
+    requires { AreClientsNumbered (O.meaning object.now) life.now pool.now.service pool.now.line.table.shared.table_id 0 works.items }
+    ensures gathered { IfOk result (AreClientsGathered (O.meaning object.now) life.now pool.now.service pool.now.line.table.shared.table_id) }
+    ensures all { IfOk result (λ g. length g.clients.items ≡ vec_len works) }
+{
+    let _ = object;
+    let _ = pool;
+    let _ = life;
+    works_begin::<O::Op, O::Reply>();
+    works_go_on::<O::Op, O::Reply>();
+    let clients = Vec::new(alloc);
+    let lines = Lines::new(alloc);
+    let mut all = Gathered {
+        clients,
+        lines,
+        never: false,
+    };
+    let mut works = works;
+    while !works.is_empty() {
+        let served = first_of(&mut works)?;
+        all = all.with(served)?;
+    }
+    Ok(all)
+}
+
+// The result of the first of the workers, which is taken out.
+fn first_of<Reply: Drop>(
+    works: &mut Vec<Result<Served<Reply>, AllocError>>,
+) -> Result<Served<Reply>, AllocError>
+    requires { 0 < length works.old.items }
+    ensures { works.old.items ≡ result ∷ works.new.items }
+{
+    works.remove(0)
+}

@@ -1,0 +1,94 @@
+//! A life of clients of a pool on threads, up to the closing of the pool.
+
+ghost use Rattle.std.specs.Prelude.{◌≡◌, ◌+◌, ◌^◌, ◌≤◌, IfOk, IsTrue, length};
+ghost use Rattle.life_records.specs.Meanings.{AreLaws};
+ghost use Rattle.pool_lives.specs.PoolRuns.{IsLifeOfPool, IsProbe};
+ghost use Rattle.pool_lives.specs.Running.{HasMet, IsServiceReady};
+ghost use Rattle.typed_object.specs.Meaning.{HasMeaning};
+
+use crate::gather::{Gathered, gather};
+use crate::progress::Lines;
+use crate::workers::run_workers;
+use client_pool::Pool;
+use cx_base::{Gate, Items, OpWords};
+use cx_service::{Caller, Service};
+use cx_table::Remains;
+use life_records::{BorrowedLife, LifeRecord, steps_are_meant};
+use std::alloc::{AllocError, Global};
+use std::sync::Wait;
+use std::thread::Threads;
+use typed_object::TypedObject;
+
+/// Runs a worker for each client, which share the callers, and closes their pool. Gives the record of the life before the crash, with nothing kept, and
+/// what the service leaves. `Err` means out of memory.
+pub(crate) fn live<O: TypedObject + Sync, R: Threads + Wait + Sync, G: Gate + Sync>(
+    rt: &R,
+    alloc: Global,
+    object: &O,
+    service: Service<O>,
+    callers: Vec<Caller>,
+    life: &BorrowedLife<'_, O::Op>,
+    probe: &O::Op,
+    gate: &G,
+) -> Result<(LifeRecord<O::Reply>, Remains), AllocError>
+    requires ready { IsServiceReady object.now service callers.items }
+    requires life { IsLifeOfPool (O.meaning object.now) life.now × (service.base.place + length life.now.commands ≤ 2 ^ 40) }
+    requires probe { IsProbe (O.meaning object.now) probe.now }
+    ensures { IfOk result (λ r. HasMet (O.meaning object.now) O.step O.only_reads life.now service r.0 r.1) }
+{
+    let _lines = service.lines();
+    let probe = probe_words(object, probe);
+    let count = life.clients();
+    let Ok((pool, clients)) = Pool::open(rt, alloc, service, callers, count, probe) else {
+        return Err(AllocError);
+    };
+    let works = run_workers(rt, alloc, object, &pool, clients, life, gate)?;
+    let Gathered {
+        clients,
+        lines,
+        never,
+    } = gather(alloc, object, &pool, life, works)?;
+    let Lines { mut entries, reads } = lines;
+    entries.sort_unstable_by_key(|line| line.ticket);
+    object_is_meant(object);
+    let Ok(remains) = pool.close(rt, alloc, clients) else {
+        return Err(AllocError);
+    };
+    if never {
+        unreachable!()
+    }
+    let journal = Items::of(entries);
+    let reads = Items::of(reads);
+    let stops = Items::new(alloc);
+    let fulls = Items::new(alloc);
+    let choice = life.choice();
+    let told = LifeRecord {
+        clients: count,
+        from: remains.first,
+        journal,
+        reads,
+        stops,
+        fulls,
+        choice,
+        kept: 0,
+        items: 0,
+    };
+    Ok((told, remains))
+}
+
+// The words of an operation that only reads.
+fn probe_words<O: TypedObject>(object: &O, probe: &O::Op) -> OpWords
+    requires { IsProbe (O.meaning object.now) probe.now }
+    ensures { IsTrue (O.only_reads object.now result) }
+{
+    object.op_is_a_value(probe);
+    object.words_of(probe)
+}
+
+// The laws of an object.
+fn object_is_meant<O: TypedObject>(object: &O)
+    ensures object { AreLaws (O.line_count object.now) (O.lawful object.now) (O.step object.now) }
+    ensures means { HasMeaning (O.lawful object.now) (O.opening object.now) (O.step object.now) (O.only_reads object.now) (O.meaning object.now) }
+{
+    steps_are_meant(object);
+}

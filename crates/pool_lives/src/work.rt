@@ -1,0 +1,85 @@
+//! What one client's worker does.
+
+ghost use Rattle.std.specs.Prelude.{◌≡◌, ◌<◌, IfOk, Some, length, slice_get};
+ghost use Rattle.client_pool.specs.Lending.{IsPool};
+ghost use Rattle.pool_lives.specs.PoolRuns.{IsLifeOfPool};
+ghost use Rattle.pool_lives.specs.Working.{IsUncalledIn, ClientServedOf};
+
+use crate::progress::{Lines, make};
+use client_pool::{Client, Pool};
+use cx_base::Gate;
+use life_records::{BorrowedLife, Command};
+use std::alloc::{AllocError, Global};
+use std::sync::Wait;
+use typed_object::TypedObject;
+
+/// The result of a worker: its client, the client's lines, and whether it met what cannot be.
+#[derive(Drop)]
+pub(crate) struct Served<Reply> {
+    pub(crate) client: Client,
+    pub(crate) lines: Lines<Reply>,
+    pub(crate) never: bool,
+}
+
+/// Makes a client's commands in order, and passes the gate before each and after it. `Err` means out of memory.
+pub(crate) fn serve<O: TypedObject, R: Wait, G: Gate>(
+    rt: &R,
+    alloc: Global,
+    object: &O,
+    pool: &Pool<O>,
+    life: &BorrowedLife<'_, O::Op>,
+    gate: &G,
+    client: Client,
+) -> Result<Served<O::Reply>, AllocError>
+    requires pool { IsPool O.only_reads pool.now × (pool.now.service.object ≡ object.now) }
+    requires client { IsUncalledIn pool.now.service pool.now.line.table.shared.table_id life.now.clients client }
+    requires life { IsLifeOfPool (O.meaning object.now) life.now }
+    ensures { IfOk result (ClientServedOf (O.meaning object.now) life.now pool.now.service pool.now.line.table.shared.table_id life.now.clients client.number) }
+{
+    let mut client = client;
+    let mut lines = Lines::new(alloc);
+    let mut number: u64 = 0;
+    let me = client.number();
+    let clients = life.clients();
+    let commands = life.commands();
+    for at in 0..commands.len() {
+        let command = command_at(commands, at);
+        if command.client == me {
+            number += 1;
+            gate.pass(me, number, false);
+            let goes_on = make(
+                rt,
+                alloc,
+                object,
+                pool,
+                life,
+                &mut client,
+                &mut lines,
+                number,
+                command,
+                clients,
+            )?;
+            gate.pass(me, number, true);
+            if !goes_on {
+                return Ok(Served {
+                    client,
+                    lines,
+                    never: true,
+                });
+            }
+        }
+    }
+    Ok(Served {
+        client,
+        lines,
+        never: false,
+    })
+}
+
+// The command at a place of the script. Commands are made in the order of these places.
+fn command_at<Op>(commands: &[Command<Op>], at: usize) -> &Command<Op>
+    requires { at < length commands.now }
+    ensures { slice_get commands.now at ≡ Some result.now }
+{
+    &commands[at]
+}

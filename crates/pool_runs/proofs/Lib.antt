@@ -1,9 +1,0 @@
-mod Asking
-mod Ghosts
-mod Making
-mod Joining
-mod Opening
-mod Never
-mod Recording
-mod Living
-mod Ending

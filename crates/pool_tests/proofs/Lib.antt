@@ -1,2 +1,0 @@
-mod ClientsBack
-mod NewCallers

@@ -1,4 +1,0 @@
-pub mod JournalTexts
-pub mod LifeTexts
-pub mod PlainReplies
-pub mod ReadTexts

@@ -1,6 +1,0 @@
-//! What follows from the definitions of legal lives and of their reports.
-#![tactic(auto)]
-
-mod laws;
-
-pub use laws::different_lives_have_different_reports;

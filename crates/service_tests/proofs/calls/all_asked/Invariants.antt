@@ -1,6 +1,0 @@
-use Rattle.cx_service.specs.Closes.{seat_of}
-use Rattle.service_tests.specs.Tests.{IsBack}
-use Rattle.service_tests.proofs.calls.all_asked.Given as goal
-
-abbrev pub invariant-loop-k : goal.invariant-loop-k
-invariant-loop-k g l = IsBack l.service (seat_of l.fn.handed) l.handed

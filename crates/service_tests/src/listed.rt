@@ -1,0 +1,170 @@
+//! Entries of as many changed lines as the ring of gaps has words for, and of one more: a caller that fell behind renews its replica by the
+//! lines that changed, or whole.
+
+use crate::alone::{last_region, made_alone};
+use crate::calls::Told;
+use crate::holds::holds;
+use crate::pairs::{Ended, Turn, run_pair};
+use crate::starting::NO_LIMIT;
+use crate::tasks::Work;
+use cx_base::Object;
+use cx_table::Remains;
+use doc_store::DocStore;
+use std::alloc::{AllocError, Global};
+use std::test::Fail;
+
+/// The fewest lines of an object with which gaps are noted.
+pub(crate) const LINES: u64 = 4096;
+
+/// The steps of a copy of all lines of such an object, at least: a load of each word of both replicas.
+pub(crate) const WHOLE: u64 = 16 * (146 + LINES);
+
+// Caller 0 makes its first updates and caller 1 its own, then caller 0 makes enough more for caller 1 to fall behind, which then makes one more.
+const BEHIND: [Turn; 4] = [(0, 2), (1, 1), (0, 66), (1, 2)];
+
+// The tickets of more than a round of the ring of gaps come between, and then again fewer.
+const ROUND: [Turn; 6] = [(0, 2), (1, 1), (0, 1150), (1, 2), (0, 1250), (1, 3)];
+
+// What the callers ask for, their turns, how many lines each update of caller 0 changes beside the place's, and whether the last copy of
+// caller 1 is whole.
+#[derive(Clone, Copy)]
+struct Row {
+    work: Work,
+    turns: &'static [Turn],
+    lines: u64,
+    is_whole: bool,
+}
+
+const ROWS: [Row; 7] = [
+    // the header, a node and the blocks of the document, and the caller's number
+    Row {
+        work: Work::Blocks {
+            count: 12,
+            wider: 1,
+        },
+        turns: &BEHIND,
+        lines: 15,
+        is_whole: false,
+    },
+    Row {
+        work: Work::Blocks {
+            count: 13,
+            wider: 1,
+        },
+        turns: &BEHIND,
+        lines: 16,
+        is_whole: true,
+    },
+    // one entry of a line more is between
+    Row {
+        work: Work::Blocks {
+            count: 12,
+            wider: 30,
+        },
+        turns: &BEHIND,
+        lines: 15,
+        is_whole: true,
+    },
+    // the caller's number and reply alone: 7 words of the document are in one line, 8 in each further one
+    Row {
+        work: Work::Gets { bytes: 888 },
+        turns: &BEHIND,
+        lines: 15,
+        is_whole: false,
+    },
+    Row {
+        work: Work::Gets { bytes: 889 },
+        turns: &BEHIND,
+        lines: 16,
+        is_whole: true,
+    },
+    // the slot of an entry of a line more has the words of a ticket of the round before
+    Row {
+        work: Work::Blocks {
+            count: 12,
+            wider: 1,
+        },
+        turns: &ROUND,
+        lines: 15,
+        is_whole: false,
+    },
+    Row {
+        work: Work::Blocks {
+            count: 12,
+            wider: 1200,
+        },
+        turns: &ROUND,
+        lines: 15,
+        is_whole: true,
+    },
+];
+
+// The steps of the last call of a caller.
+fn last_steps(log: &[Told]) -> u64 {
+    match log {
+        [.., before, last] => last.steps.saturating_sub(before.steps),
+        _ => 0,
+    }
+}
+
+// The steps of the last call of caller 1, where the object alone replies the same as all were told, and the region published last is its.
+fn steps_alone(alloc: Global, ended: &Ended, work: Work) -> Result<Option<u64>, AllocError> {
+    let Some(alone) = made_alone(alloc, &DocStore::of(LINES), work, &ended.logs)? else {
+        return Ok(None);
+    };
+    Ok(match ended.logs.last() {
+        Some(log) if alone.is_left(&ended.remains, &ended.logs) => Some(last_steps(log)),
+        _ => None,
+    })
+}
+
+// How many lines of two regions differ, beside that of the place.
+fn lines_apart(one: &[u64], other: &[u64]) -> u64 {
+    let mut count = 0u64;
+    for (line, old) in one.chunks(8).zip(other.chunks(8)).skip(1) {
+        if line != old {
+            count = count.saturating_add(1);
+        }
+    }
+    count
+}
+
+// The same of the regions that two closed services published last.
+fn apart(one: &Remains, other: &Remains) -> Option<u64> {
+    Some(lines_apart(last_region(one)?, last_region(other)?))
+}
+
+// How many lines an update of caller 0 changes beside the place's.
+fn lines_changed(alloc: Global, work: Work) -> Result<Option<u64>, AllocError> {
+    let before = run_pair(alloc, DocStore::of(LINES), NO_LIMIT, work, &[(0, 20)])?;
+    let after = run_pair(alloc, DocStore::of(LINES), NO_LIMIT, work, &[(0, 21)])?;
+    Ok(apart(&before.remains, &after.remains))
+}
+
+// Whether the updates of a row change this many lines, and caller 1 copies whole or not.
+fn is_right(alloc: Global, row: &Row) -> Result<bool, AllocError> {
+    if lines_changed(alloc, row.work)? != Some(row.lines) {
+        return Ok(false);
+    }
+    let ended = run_pair(alloc, DocStore::of(LINES), NO_LIMIT, row.work, row.turns)?;
+    Ok(match steps_alone(alloc, &ended, row.work)? {
+        Some(steps) => (steps >= WHOLE) == row.is_whole,
+        None => false,
+    })
+}
+
+// The first row where it is otherwise.
+fn first_wrong(alloc: Global, rows: &[Row]) -> Result<Option<usize>, AllocError> {
+    for (i, row) in rows.iter().enumerate() {
+        if !is_right(alloc, row)? {
+            return Ok(Some(i));
+        }
+    }
+    Ok(None)
+}
+
+#[test]
+fn entries_of_fifteen_lines_are_listed_and_of_sixteen_are_not(rt: HostRuntime) -> Result<(), Fail> {
+    holds(&rt, first_wrong(rt.alloc(), &ROWS)?.is_none());
+    Ok(())
+}
