@@ -10,7 +10,7 @@ ghost use Rattle.avl_words.specs.Lines.{IsLoadable, IsStorable};
 
 use crate::blocks::{put_new, word};
 use crate::links::{Subtree, height_of};
-use crate::mending::{Way, mend};
+use crate::replacement::{Way, mend};
 use cx_base::{Halt, Memory};
 
 /// Puts a leaf where a walk ended at nothing, and balances the tree. `Halt` comes only where no access is left.

@@ -16,10 +16,10 @@ mod blocks;
 mod changes;
 mod laws;
 mod links;
-mod mending;
+mod replacement;
 
 pub use blocks::{put, put_new, start_of, word};
 pub use changes::{put_node, take_node};
 pub use laws::{items_are_put, items_are_taken_out, trees_are_shallow};
 pub use links::{Subtree, below, height_of, join, rotate, set_node};
-pub use mending::{Way, hang, mend};
+pub use replacement::{Way, hang, mend};

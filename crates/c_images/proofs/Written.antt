@@ -8,11 +8,11 @@ use Rattle.cx_table.specs.declared.remains.Remains.{Remains}
 use Rattle.recovery.specs.Crashes.{IsLeftOf}
 use Rattle.recovery.specs.Images.{image_size}
 use Rattle.recovery.specs.Recovery.{IsFaultOf, IsRecovered, NumbersWithin}
-use Rattle.recovery.specs.declared.recovering.ImageFault.{ImageFault}
-use Rattle.recovery.specs.declared.recovering.ImageFault.TheVariants.{Memory}
+use Rattle.recovery.specs.declared.recover.ImageFault.{ImageFault}
+use Rattle.recovery.specs.declared.recover.ImageFault.TheVariants.{Memory}
 use Rattle.c_images.specs.Words.{HasHead, IsHeaded, IsKind, IsTakenUp, IsWordsFault, AreRemainsWritten, SaysImage, object_kind_in}
-use Rattle.c_images.specs.declared.reading.WordsFault.{WordsFault}
-use Rattle.c_images.specs.declared.reading.WordsFault.TheVariants.{Head, Kind, Image as ImageRefused, Numbers}
+use Rattle.c_images.specs.declared.reader.WordsFault.{WordsFault}
+use Rattle.c_images.specs.declared.reader.WordsFault.TheVariants.{Head, Kind, Image as ImageRefused, Numbers}
 
 -- words with a head whose numbers are within the limits
 pub headed : (kind callers lines root : ℕ) (words : List ℕ) → HasHead kind callers lines root words → IsKind kind → 8 ≤ length words → 1 ≤ callers → callers ≤ 8 → 64 ≤ lines → lines ≤ 16384

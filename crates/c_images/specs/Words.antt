@@ -7,11 +7,11 @@ use Rattle.cx_table.specs.declared.remains.Remains.{Remains}
 use Rattle.recovery.specs.Crashes.{left_root, left_word}
 use Rattle.recovery.specs.Images.{Gives, image_size}
 use Rattle.recovery.specs.Recovery.{IsFaultOf, IsRecovered, NumbersWithin}
-use Rattle.recovery.specs.declared.recovering.ImageFault.{ImageFault}
-use Rattle.recovery.specs.declared.recovering.ImageFault.TheVariants.{Memory}
+use Rattle.recovery.specs.declared.recover.ImageFault.{ImageFault}
+use Rattle.recovery.specs.declared.recover.ImageFault.TheVariants.{Memory}
 use Rattle.c_images.specs.declared.head.Head.{Head}
-use Rattle.c_images.specs.declared.reading.WordsFault.{WordsFault}
-use Rattle.c_images.specs.declared.reading.WordsFault.TheVariants.{Head as HeadFault, Kind, Image as ImageRefused, Numbers}
+use Rattle.c_images.specs.declared.reader.WordsFault.{WordsFault}
+use Rattle.c_images.specs.declared.reader.WordsFault.TheVariants.{Head as HeadFault, Kind, Image as ImageRefused, Numbers}
 
 -- the words of a head: the name and the format, the kind of object, the callers, the lines and the root
 abbrev pub object_kind_in : List ℕ → ℕ

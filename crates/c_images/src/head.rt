@@ -3,7 +3,7 @@
 ghost use Rattle.std.specs.Prelude.{◌≡◌, ◌↔◌, IsTrue, MatchResult, length};
 ghost use Rattle.c_images.specs.Words.{IsHeadFault, IsHeaded, IsHeadOf};
 
-use crate::reading::WordsFault;
+use crate::reader::WordsFault;
 
 /// How many words the head has.
 pub(crate) const HEAD: usize = 8;

@@ -19,17 +19,17 @@
 
 mod head;
 mod laws;
-mod reading;
+mod reader;
 mod replies;
 mod taken;
-mod writing;
+mod writer;
 
 pub use head::{Head, head_of};
 pub use laws::{
     taken_images_are_taken_up, taken_images_keep_replies, written_images_are_taken_up,
     written_images_keep_replies, written_images_tell_outcomes,
 };
-pub use reading::{WordsFault, base_of};
+pub use reader::{WordsFault, base_of};
 pub use replies::{ReplyKind, holds_replies};
 pub use taken::{base_words, image_words_of, write_base};
-pub use writing::{image_words, write_image};
+pub use writer::{image_words, write_image};

@@ -17,8 +17,8 @@ use Rattle.c_sessions.specs.Closings.{Closes, ClosesTo}
 use Rattle.c_sessions.specs.Handing.{HasTaken, IsExitOf, IsPassIn, IsSessionRestOf}
 use Rattle.c_sessions.specs.declared.exit.Exit.{Exit}
 use Rattle.c_sessions.specs.Rule.{IsHandedInAt, callers_known, knows, numbers_in, pass_weighs, pass_with_given, pass_with_taken}
-use Rattle.c_sessions.specs.declared.closing.Closing.{Closing}
-use Rattle.c_sessions.specs.declared.closing.Closing.TheVariants.{Others, Again, Closed, Kept, Missing, Shared}
+use Rattle.c_sessions.specs.declared.close.Closing.{Closing}
+use Rattle.c_sessions.specs.declared.close.Closing.TheVariants.{Others, Again, Closed, Kept, Missing, Shared}
 use Rattle.c_sessions.specs.declared.handover.Handover.{Handover}
 use Rattle.c_sessions.specs.declared.rule.HandedIn.{HandedIn}
 use Rattle.c_sessions.specs.declared.rule.Knows.{Knows}

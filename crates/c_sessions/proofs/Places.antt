@@ -16,8 +16,8 @@ use Rattle.cx_service.specs.declared.close.Handed.{Handed}
 use Rattle.cx_service.specs.declared.close.Handed.TheVariants.{Idle, Linked, Stopped}
 use Rattle.cx_service.proofs.Seeing.{answered_read_seen, catch_up_seen, driven_seen, image_behind, image_seen, read_behind, read_seen, submit_linked_behind, submit_seen}
 use Rattle.seat_pool.specs.Gathering.{IsHandedOf, handed_number}
-use Rattle.c_sessions.specs.declared.seeing.Sight.{Sight}
-use Rattle.c_sessions.specs.declared.seeing.Sight.TheVariants.{Caught, Behind, Stopped as SightStopped, OutOfTurn as SightOutOfTurn}
+use Rattle.c_sessions.specs.declared.catch_up.Sight.{Sight}
+use Rattle.c_sessions.specs.declared.catch_up.Sight.TheVariants.{Caught, Behind, Stopped as SightStopped, OutOfTurn as SightOutOfTurn}
 use Rattle.c_sessions.specs.declared.steps.Called.{Called}
 use Rattle.c_sessions.specs.declared.steps.Called.TheVariants.{Done, Pending, Again, Full, Worn, Stopped as CalledStopped, OutOfTurn}
 use Rattle.c_sessions.specs.Calls.{AsksBy, CallsFrom, DrivesTo, EntersNot, EntersTo, FinishesFrom, LooksTo, place_after}
@@ -26,8 +26,8 @@ use Rattle.c_sessions.specs.Images.{TakesFrom, TakesTo, place_taken}
 use Rattle.c_sessions.specs.Places.{HasSeenPlace, SeesFrom, SeesTo, place_seen}
 use Rattle.c_sessions.specs.Sessions.{IsSessionReady, SessionStands}
 use Rattle.c_sessions.specs.declared.session.Session.{Session}
-use Rattle.c_sessions.specs.declared.taking.Taken.{Taken}
-use Rattle.c_sessions.specs.declared.taking.Taken.TheVariants.{At, Again as TakenAgain, Stopped as TakenStopped, OutOfTurn as TakenOutOfTurn}
+use Rattle.c_sessions.specs.declared.checkpoint.Taken.{Taken}
+use Rattle.c_sessions.specs.declared.checkpoint.Taken.TheVariants.{At, Again as TakenAgain, Stopped as TakenStopped, OutOfTurn as TakenOutOfTurn}
 
 -- nothing is below 0
 pub none_seen : {O : Type 0} (r : Running O) (handed : Handed) → HasSeenPlace r 0 handed

@@ -11,8 +11,8 @@ use Rattle.recovery.specs.Kept.{IsOpened}
 use Rattle.cx_service.specs.ClosedOrder.{IsClosedLinearizable}
 use Rattle.c_sessions.specs.Handing.{IsCallerMissing, IsSessionRestOf}
 use Rattle.c_sessions.specs.Sessions.{IsSessionReady}
-use Rattle.c_sessions.specs.declared.closing.Closing.{Closing}
-use Rattle.c_sessions.specs.declared.closing.Closing.TheVariants.{Others, Again, Closed, Kept as ClosingKept, Missing, Shared}
+use Rattle.c_sessions.specs.declared.close.Closing.{Closing}
+use Rattle.c_sessions.specs.declared.close.Closing.TheVariants.{Others, Again, Closed, Kept as ClosingKept, Missing, Shared}
 use Rattle.c_sessions.specs.declared.session.Session.{Session}
 
 -- a service and all its callers, of caller 0 first

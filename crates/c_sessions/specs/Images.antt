@@ -7,8 +7,8 @@ use Rattle.cx_service.specs.Checkpoints.{Checkpoints}
 use Rattle.cx_service.specs.declared.checkpoint.Checkpointed.TheVariants.{Taken as ImageTaken, Pending as ImagePending, Halted as ImageHalted}
 use Rattle.cx_service.specs.declared.close.Handed.{Handed}
 use Rattle.cx_service.specs.declared.close.Handed.TheVariants.{Idle, Stopped}
-use Rattle.c_sessions.specs.declared.taking.Taken.{Taken}
-use Rattle.c_sessions.specs.declared.taking.Taken.TheVariants.{At, Again, Stopped as TakenStopped, OutOfTurn}
+use Rattle.c_sessions.specs.declared.checkpoint.Taken.{Taken}
+use Rattle.c_sessions.specs.declared.checkpoint.Taken.TheVariants.{At, Again, Stopped as TakenStopped, OutOfTurn}
 
 -- the place that a session tells that was to take an image, and told this one before
 abbrev pub place_taken : Taken → ℕ → ℕ

@@ -6,8 +6,8 @@ use Rattle.cx_service.specs.CatchUps.{CatchesUp, HasSeen}
 use Rattle.cx_service.specs.declared.catch_up.CaughtUp.TheVariants.{Caught as CallerCaught, Behind as CallerBehind, Halted as CallerHalted}
 use Rattle.cx_service.specs.declared.close.Handed.{Handed}
 use Rattle.cx_service.specs.declared.close.Handed.TheVariants.{Idle, Linked, Stopped}
-use Rattle.c_sessions.specs.declared.seeing.Sight.{Sight}
-use Rattle.c_sessions.specs.declared.seeing.Sight.TheVariants.{Caught, Behind, Stopped as SightStopped, OutOfTurn}
+use Rattle.c_sessions.specs.declared.catch_up.Sight.{Sight}
+use Rattle.c_sessions.specs.declared.catch_up.Sight.TheVariants.{Caught, Behind, Stopped as SightStopped, OutOfTurn}
 
 -- What stands of a caller has seen a place: it is answered nothing below it. A stopped caller makes no further call.
 abbrev pub HasSeenPlace : {O : Type 0} → Running O → ℕ → Handed → Type 0

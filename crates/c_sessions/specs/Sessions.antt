@@ -12,16 +12,16 @@ use Rattle.cx_service.specs.Closes.{seat_of}
 use Rattle.cx_service.specs.Starts.{AreFewCallers, AreFewLines, IsStartFault}
 use Rattle.cx_service.specs.declared.close.Handed.{Handed}
 use Rattle.cx_service.specs.declared.start.StartFault.TheVariants.{Memory}
-use Rattle.c_sessions.specs.declared.opening.OpenFault.{OpenFault}
-use Rattle.c_sessions.specs.declared.opening.OpenFault.TheVariants.{Start, InTheWay}
+use Rattle.c_sessions.specs.declared.open.OpenFault.{OpenFault}
+use Rattle.c_sessions.specs.declared.open.OpenFault.TheVariants.{Start, InTheWay}
 use Rattle.c_sessions.specs.declared.session.Session.{Session}
 use Rattle.c_sessions.specs.declared.steps.Called.{Called}
 use Rattle.seat_pool.specs.Gathering.{IsHandedOf, handed_number}
 use Rattle.c_sessions.specs.Calls.{CallsFrom, FinishesFrom, place_after}
 use Rattle.c_sessions.specs.Places.{HasSeenPlace, SeesFrom, place_seen}
-use Rattle.c_sessions.specs.declared.seeing.Sight.{Sight}
+use Rattle.c_sessions.specs.declared.catch_up.Sight.{Sight}
 use Rattle.c_sessions.specs.Images.{TakesFrom, place_taken}
-use Rattle.c_sessions.specs.declared.taking.Taken.{Taken}
+use Rattle.c_sessions.specs.declared.checkpoint.Taken.{Taken}
 use Rattle.c_sessions.specs.Handing.{IsExitOf}
 
 -- something stands of the session's caller, which has seen the session's place, and the session can be closed

@@ -17,23 +17,23 @@
 //!   (`IsCallerMissing`), and may be closed again. Nobody waits.
 #![tactic(auto)]
 
-mod closing;
+mod catch_up;
+mod checkpoint;
+mod close;
 mod exit;
-mod gathering;
+mod gather;
 mod handover;
-mod opening;
+mod open;
 mod rule;
-mod seeing;
 mod session;
 mod steps;
-mod taking;
 mod tries;
 
-pub use closing::{Closing, close_kept, close_rest};
+pub use catch_up::Sight;
+pub use checkpoint::Taken;
+pub use close::{Closing, close_kept, close_rest};
 pub use exit::Rest;
-pub use opening::{OpenFault, open, open_from};
-pub use seeing::Sight;
+pub use open::{OpenFault, open, open_from};
 pub use session::{Session, sessions_cross_threads};
 pub use steps::Called;
-pub use taking::Taken;
 pub use tries::Tries;

@@ -7,10 +7,10 @@ ghost use Rattle.seat_pool.specs.Gathering.{IsHandedOf, handed_number};
 ghost use Rattle.c_sessions.specs.Handing.{IsExitOf};
 ghost use Rattle.c_sessions.specs.Sessions.{CallsIn, FinishesIn, IsSessionReady, SeesIn, TakesIn};
 
+use crate::catch_up::{Sight, see};
+use crate::checkpoint::{Taken, take_image};
 use crate::exit::Exit;
-use crate::seeing::{Sight, see};
 use crate::steps::{Called, end, go_on};
-use crate::taking::{Taken, take_image};
 use crate::tries::Tries;
 use cx_base::{Object, OpWords};
 use cx_service::{Handed, Service};

@@ -1,8 +1,8 @@
 -- What every command keeps to: an input calls for one status, and for none of a fault.
 use Rattle.std.proofs.Common.{◌≡◌, refl, ◌∙◌, sym, ap, subst, inl, inr, ℕ, ◌<◌, ◌≤◌, List, length, [], arith, Option, Some, None, false}
 use Rattle.std.proofs.lemmas.Bool.{cases_Bool}
-use Rattle.doc_commands.specs.declared.answering.ImageEnd.{ImageEnd}
-use Rattle.doc_commands.specs.declared.answering.ImageEnd.TheVariants as ends
+use Rattle.doc_commands.specs.declared.image_answer.ImageEnd.{ImageEnd}
+use Rattle.doc_commands.specs.declared.image_answer.ImageEnd.TheVariants as ends
 use Rattle.doc_commands.proofs.Ends.{one_end}
 use Rattle.doc_text.specs.Grammar.{IsPoolScript, IsScript}
 use Rattle.fifo_commands.specs.Grammar.{IsFifoScript}

@@ -2,7 +2,7 @@
 use Rattle.std.specs.Prelude.{◌≡◌, ℕ, Bool, true, false, List, [], Option, Some, None, codes}
 use Rattle.cx_rule.specs.Ending.{Ending}
 use Rattle.doc_commands.specs.ImageTexts.{HasEnd, Writes}
-use Rattle.doc_commands.specs.declared.answering.ImageEnd.{ImageEnd}
+use Rattle.doc_commands.specs.declared.image_answer.ImageEnd.{ImageEnd}
 use Rattle.doc_text.specs.Grammar.{IsPoolScript, IsScript, document_grammar, pool_grammar}
 use Rattle.doc_text.specs.Reasons.{reason_text}
 use Rattle.fifo_commands.specs.Texts.{IsFifoReport}

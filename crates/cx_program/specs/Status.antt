@@ -1,7 +1,7 @@
 -- The exit codes, and the status with which a text about an image is written.
 use Rattle.std.specs.Prelude.{ℕ}
-use Rattle.doc_commands.specs.declared.answering.ImageEnd.{ImageEnd}
-use Rattle.doc_commands.specs.declared.answering.ImageEnd.TheVariants as ends
+use Rattle.doc_commands.specs.declared.image_answer.ImageEnd.{ImageEnd}
+use Rattle.doc_commands.specs.declared.image_answer.ImageEnd.TheVariants as ends
 use Rattle.cx_program.specs.declared.status.Status.{Status}
 use Rattle.cx_program.specs.declared.status.Status.TheVariants.{Fine, Usage, Refused, ReadFault, WriteFault, Memory, BadImage, TooLong}
 

@@ -2,7 +2,7 @@
 use Rattle.std.specs.Prelude.{◌≡◌, ℕ, List, ◌++◌, codes}
 use Rattle.std.specs.Fmt.{decimal}
 use Rattle.plain_text.specs.LineGrammar.{IsFirstFault, IsReasonAt, LineGrammar}
-use Rattle.plain_text.specs.declared.reading.TextFault.TheVariants as faults
+use Rattle.plain_text.specs.declared.reader.TextFault.TheVariants as faults
 use Rattle.trace_text.specs.Reasons.{trace_reason_text}
 use Rattle.trace_text.specs.Traces.{IsTraceFault}
 use Rattle.trace_text.specs.declared.trace.TraceReason.{TraceReason}

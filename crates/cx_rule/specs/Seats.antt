@@ -1,5 +1,5 @@
 -- What a seat of the table knows, what a step of a caller teaches it, and the numbers of it that code reads.
-use Rattle.std.specs.Prelude.{true, false, ◌≡◌, ◌/◌, ◌^◌, ◌<◌, ◌≤◌, ◌==◌, ◌&&◌, if◌then◌else◌, ℕ, Bool, List, [], ◌∷◌, ◌++◌, length, map, slice_get, slice_index, Option, Some, None}
+use Rattle.std.specs.Prelude.{true, false, ◌≡◌, ◌/◌, ◌^◌, ◌<◌, ◌≤◌, ◌==◌, ◌&&◌, if◌then◌else◌, ℕ, Bool, List, [], ◌∷◌, ◌++◌, length, map, min, slice_get, slice_index, Option, Some, None}
 use Rattle.std.specs.List.{range_with_len}
 use Rattle.std.specs.Option.{option_map}
 use Rattle.atomic_table.specs.Seated.{TableId}
@@ -162,6 +162,14 @@ stepped instance kind seat found = record seat { known = known_after instance ki
 -- no further step is allowed: the steps equal the limit, where 2^64 - 1 is none
 abbrev pub IsAtLimit : Local → Type 0
 IsAtLimit l = (l.steps ≡ l.limit) × (l.limit < max_word)
+
+-- this many steps were made, where the count is not at its end
+abbrev pub HasMadeSteps : ℕ → Seated → Type 0
+HasMadeSteps steps seat = min steps max_word ≤ seat.known.local.steps
+
+-- no step is taken back
+abbrev pub StepsOn : Seated → Seated → Type 0
+StepsOn before after = HasMadeSteps before.known.local.steps after
 
 -- no more steps were made than the limit allows
 abbrev pub IsWithinLimit : Local → Type 0

@@ -6,6 +6,7 @@ use Rattle.cx_core.specs.declared.local.Local.{Local}
 use Rattle.cx_core.specs.Layout.{max_word}
 use Rattle.cx_core.specs.QueueEvents.{IsIdle, cell_of, next_number}
 use Rattle.cx_core.specs.State.{one_more}
+use Rattle.cx_table.specs.Seats.{HasMadeSteps}
 use Rattle.cx_rule.specs.Running.{Running}
 use Rattle.cx_rule.specs.Seats.{IsAtLimit, Seated, unanswered_ticket}
 use Rattle.cx_rule.specs.declared.rule.Times.{Times}
@@ -17,9 +18,9 @@ use Rattle.cx_service.specs.Callers.{IsCallerOf, IsLinkedOf, IsStoppedOf, Stoppe
 use Rattle.mutation_queue.specs.Cells.{IsInUse, writes}
 use Rattle.mutation_queue.specs.Collecting.{but_collected}
 use Rattle.cx_turns.specs.Turns.{StepsOn}
-use Rattle.mutation_queue.specs.declared.linking.LinkTried.{LinkTried}
+use Rattle.mutation_queue.specs.declared.link.LinkTried.{LinkTried}
 use Rattle.mutation_queue.specs.Links.{EndsBy, HaltsTry, LosesTries}
-use Rattle.mutation_queue.specs.declared.linking.LinkTried.TheVariants.{Linked as TriedLinked, Again as TriedAgain, Worn as TriedWorn}
+use Rattle.mutation_queue.specs.declared.link.LinkTried.TheVariants.{Linked as TriedLinked, Again as TriedAgain, Worn as TriedWorn}
 
 -- each cell holds a ticket at or above the greatest FREE found
 abbrev pub AreInUse : Local → Type 0
@@ -76,7 +77,7 @@ pub record TriesOf {O : Type 0} (r : Running O) (n : ℕ) (come_to : Seated → 
   pub cell : ℕ
   pub from : Seated
   pub number : slice_index (cell_of from.known.local cell).words 0 ≡ next_number r.base before.known.local
-  pub since : min (before.known.local.steps + n + writes before.known.local cell (cell_of from.known.local cell).words) max_word ≤ from.known.local.steps
+  pub since : HasMadeSteps (before.known.local.steps + n + writes before.known.local cell (cell_of from.known.local cell).words) from
   pub made : come_to from after
 
 -- Nothing was linked, this many tries were lost, and tickets are left.
@@ -127,7 +128,7 @@ pub record SubmitWorn {O : Type 0} (r : Running O) (least most : ℕ) (before af
   pub scans : before.known.local.scans ≤ after.known.local.scans
   pub own : after.known.local.own ≡ before.known.local.own
   pub front : after.known.local.front ≡ 2 ^ 40
-  pub steps : min (before.known.local.steps + least) max_word ≤ after.known.local.steps
+  pub steps : HasMadeSteps (before.known.local.steps + least) after
   pub idle : (j : ℕ) × (j < 16) × IsIdle after.known.local j
   pub linked : after.known.times.linked ≡ before.known.times.linked
 
@@ -221,7 +222,7 @@ pub record EndsLooking (before after : Seated) : Type 0 where
   pub scan : after.known.local.scan ≡ None
   pub fresh : after.known.local.fresh ≡ false
   pub scans : before.known.local.scans ≤ after.known.local.scans
-  pub since : min before.known.local.steps max_word ≤ after.known.local.steps
+  pub since : StepsOn before after
 
 -- the step limit was reached in looking for a cell, where none was idle; the search takes one step more than this number, and none is taken back
 pub record HaltsLooking (n : ℕ) (before after : Seated) : Type 0 where
@@ -247,7 +248,7 @@ pub record FindsIdle (callers : ℕ) (before after : Seated) (cell : ℕ) : Type
   pub idle : IsIdle after.known.local cell
   pub took : ℕ
   pub looked : LooksBy callers took before after
-  pub least : min (before.known.local.steps + took) max_word ≤ after.known.local.steps
+  pub least : HasMadeSteps (before.known.local.steps + took) after
   pub most : after.known.local.steps ≤ before.known.local.steps + took
 
 -- an idle cell, behind a scan

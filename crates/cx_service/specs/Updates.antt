@@ -1,8 +1,9 @@
 -- The result of an update, and of a read that may enter the queue.
-use Rattle.std.specs.Prelude.{◌≡◌, ◌≢◌, ◌+◌, ◌^◌, ◌<◌, ◌≤◌, ◌⊎◌, ℕ, min, List, [], ◌∷◌, ◌++◌, length, Some, None}
+use Rattle.std.specs.Prelude.{◌≡◌, ◌≢◌, ◌+◌, ◌^◌, ◌<◌, ◌≤◌, ◌⊎◌, ℕ, List, [], ◌∷◌, ◌++◌, length, Some, None}
 use Rattle.cx_core.specs.declared.local.Answer.{Answer}
 use Rattle.cx_core.specs.Layout.{max_word}
 use Rattle.cx_core.specs.QueueEvents.{IsIdle}
+use Rattle.cx_table.specs.Seats.{HasMadeSteps}
 use Rattle.cx_rule.specs.Running.{Running}
 use Rattle.cx_rule.specs.Seats.{IsAtLimit, Seated}
 use Rattle.cx_rule.specs.Timing.{BeginsIn, EndsIn, KeepsTimes}
@@ -63,7 +64,7 @@ pub record UpdateFull {O : Type 0} (r : Running O) (before after : Seated) (note
   pub met : after.known.local.met ≡ before.known.local.met
   pub full : 16 ≤ length before.known.local.own
   pub scans : (before.known.local.scans < after.known.local.scans) ⊎ (after.known.local.scans ≡ max_word)
-  pub steps : min (before.known.local.steps + (r.callers + 4)) max_word ≤ after.known.local.steps
+  pub steps : HasMadeSteps (before.known.local.steps + (r.callers + 4)) after
   pub names : NamesHolder r.callers after.known.local note
   pub sets : after.known.sets ≡ before.known.sets
   pub times : KeepsTimes before.known.times after.known.times
@@ -76,7 +77,7 @@ pub record UpdateWorn {O : Type 0} (r : Running O) (before after : Seated) : Typ
   pub keeps : KeepsLists before after
   pub met : after.known.local.met ≡ before.known.local.met
   pub front : after.known.local.front ≡ 2 ^ 40
-  pub steps : min (before.known.local.steps + 2) max_word ≤ after.known.local.steps
+  pub steps : HasMadeSteps (before.known.local.steps + 2) after
   pub idle : (j : ℕ) × (j < 16) × IsIdle after.known.local j
   pub sets : after.known.sets ≡ before.known.sets
   pub times : KeepsTimes before.known.times after.known.times

@@ -12,10 +12,10 @@ use Rattle.cx_rule.specs.declared.rule.Noted.{Noted}
 use Rattle.cx_rule.specs.Fitting.{Fitting}
 use Rattle.cx_rule.specs.Listed.{HasGap}
 use Rattle.cx_rule.specs.Running.{IsSeatOf, Running, instance_at}
-use Rattle.cx_rule.specs.Seats.{Seated, stepped}
+use Rattle.cx_rule.specs.Seats.{Seated, StepsOn, stepped}
 use Rattle.cx_table.specs.Gaps.{gaps_from}
 use Rattle.cx_table.specs.Runs.{Runs, no_step, one_more_step}
-use Rattle.cx_table.specs.GapMarks.{LeavesLoads, StepsBy, StepsOn, gap_notes, with_gaps}
+use Rattle.cx_table.specs.GapMarks.{LeavesLoads, StepsBy, gap_notes, with_gaps}
 use Rattle.cx_table.specs.GapWords.{IsNamed}
 
 abbrev note : ℕ → ℕ → Noted

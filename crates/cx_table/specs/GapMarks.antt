@@ -1,16 +1,15 @@
 -- The lines that entries changed, marked by pieces, and what reading them from the ring leaves of the seat.
-use Rattle.std.specs.Prelude.{true, ◌≡◌, ◌+◌, ◌/◌, ◌<◌, ◌≤◌, ◌⊎◌, ℕ, Bool, List, [], ◌∷◌, ◌++◌, Some, min, slice_get}
+use Rattle.std.specs.Prelude.{true, ◌≡◌, ◌+◌, ◌/◌, ◌<◌, ◌≤◌, ◌⊎◌, ℕ, Bool, List, [], ◌∷◌, ◌++◌, Some, slice_get}
 use Rattle.std.specs.List.{Contains}
 use Rattle.cx_base.specs.declared.object.Object.{Ghosts}
 use Rattle.cx_core.specs.Gaps.{AreWalked, Walk}
-use Rattle.cx_core.specs.Layout.{max_word}
 use Rattle.cx_core.specs.State.{Instance}
 use Rattle.cx_rule.specs.declared.rule.Known.{Known}
 use Rattle.cx_rule.specs.declared.rule.Noted.{Noted}
 use Rattle.cx_rule.specs.Fitting.{Fitting}
 use Rattle.cx_rule.specs.Listed.{HasGap}
 use Rattle.cx_rule.specs.Running.{IsSeatOf, Running}
-use Rattle.cx_rule.specs.Seats.{Seated}
+use Rattle.cx_rule.specs.Seats.{Seated, StepsOn}
 
 -- gaps are noted and read in a table with these callers and lines
 abbrev pub AreKept : ℕ → ℕ → Type 0
@@ -48,14 +47,6 @@ with_gaps steps notes s = record s { known = record s.known { local = record s.k
 -- at most this many steps were made
 abbrev pub StepsBy : ℕ → Seated → Seated → Type 0
 StepsBy n before after = after.known.local.steps ≤ before.known.local.steps + n
-
--- this many steps were made, where the count is not at its end
-abbrev pub HasMadeSteps : ℕ → Seated → Type 0
-HasMadeSteps steps seat = min steps max_word ≤ seat.known.local.steps
-
--- no step is taken back
-abbrev pub StepsOn : Seated → Seated → Type 0
-StepsOn before after = HasMadeSteps before.known.local.steps after
 
 -- Nothing changed but the steps, of which none is taken back, and there may be more notes: of what really is there some fits what is known.
 pub record LeavesLoads {O : Type 0} (o : Ghosts O) (r : Running O) (before after : Seated) : Type 0 where

@@ -148,7 +148,7 @@ impl<O: Object> Shared<O> {
         ensures { IsTaught seat.old.table_id seat.new.table_id (TeachesRun (instance_at self.now O.step O.only_reads) (reads_of t k) into.new seat.old.me seat.new.me) }
     {
         let callers = self.callers.number;
-        for i in 0..145 {
+        for i in 0..ENTRY_WORDS {
             let kind = Kind::ReadCell { t, k, i: i as u64 };
             let word = cell_at(callers, k, i as u64);
             into[i] = self.event(seat, &kind, word, Instruction::Load);

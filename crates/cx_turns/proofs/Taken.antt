@@ -11,8 +11,8 @@ use Rattle.cx_table.specs.Right.{Right}
 use Rattle.cx_turns.specs.Taking.{TakesOne}
 use Rattle.replica.specs.Held.{IsSized}
 use Rattle.replica.specs.Laws.{taken_held}
-use Rattle.strong_trylock.specs.declared.trying.ExclusiveTried.{ExclusiveTried}
-use Rattle.strong_trylock.specs.declared.trying.ExclusiveTried.TheVariants.{Got}
+use Rattle.strong_trylock.specs.declared.try_lock.ExclusiveTried.{ExclusiveTried}
+use Rattle.strong_trylock.specs.declared.try_lock.ExclusiveTried.TheVariants.{Got}
 use Rattle.strong_trylock.specs.Held.{AllRights, all_rights, no_rights}
 use Rattle.strong_trylock.specs.Tries.{AnswersExclusive, TriesExclusive}
 

@@ -9,7 +9,7 @@ use Rattle.cx_rule.specs.Running.{IsSeatOf, Running}
 use Rattle.cx_rule.specs.Seats.{IsAtLimit, Seated}
 use Rattle.cx_rule.specs.Timing.{KeepsTimes}
 use Rattle.redo_set.specs.Taking.{sets_read}
-pub use Rattle.cx_table.specs.GapMarks.{StepsOn}
+pub use Rattle.cx_table.specs.Seats.{StepsOn}
 use Rattle.replica_sets.specs.Own.{but_set}
 use Rattle.strong_trylock.specs.Held.{all_rights, no_rights}
 

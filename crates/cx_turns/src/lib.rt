@@ -38,22 +38,22 @@
 //!   replica that is since the region keeps the count that it began with.
 #![tactic(auto)]
 
-mod checkpointing;
-mod keeping;
+mod acquisition;
+mod checkpoint;
+mod current;
 mod lookup;
-mod preparing;
-mod reading;
-mod replaying;
+mod preparation;
+mod renewal;
+mod replay;
 mod scratch;
-mod taking;
-mod updating;
+mod update_turn;
 
-pub use checkpointing::checkpoint_turn;
-pub use keeping::{keep, unguard};
+pub use acquisition::take_any;
+pub use checkpoint::checkpoint_turn;
+pub use current::{query_held, query_part, read_current};
 pub use lookup::{Seen, read_turn};
-pub use preparing::prepare;
-pub use reading::{query_held, query_part, read_current};
-pub use replaying::{own_outcome, replay_to};
+pub use preparation::prepare;
+pub use renewal::{keep, unguard};
+pub use replay::{own_outcome, replay_to};
 pub use scratch::Scratch;
-pub use taking::take_any;
-pub use updating::update_turn;
+pub use update_turn::update_turn;

@@ -10,7 +10,7 @@ ghost use Rattle.cx_rule.specs.Steps.{Halts};
 ghost use Rattle.cx_turns.specs.Answering.{AnswersRead, AnswersReadBy, HaltsLookup, IsLookedUp, LooksUp, MayLook, beside_lookup, seen_at};
 ghost use Rattle.cx_turns.specs.Turns.{StepsOn, Turns, TurnsIn};
 
-use crate::reading::read_current;
+use crate::current::read_current;
 use cx_base::{Halt, Object, OpWords, root_place};
 use cx_table::{AnsweredRead, CallerSeat, Shared, SharedHold};
 use publish::make_durable;

@@ -10,8 +10,8 @@ use Rattle.image_text.specs.declared.lines.ImageLines.TheVariants.{Nothing, Whol
 use Rattle.image_text.specs.declared.lines.ImageReason.{ImageReason}
 use Rattle.doc_commands.specs.Documents.{TellsDocuments}
 use Rattle.doc_commands.specs.ImageTexts.{HasEnd}
-use Rattle.doc_commands.specs.declared.answering.ImageEnd.{ImageEnd}
-use Rattle.doc_commands.specs.declared.answering.ImageEnd.TheVariants.{Fine, Refused, BadImage}
+use Rattle.doc_commands.specs.declared.image_answer.ImageEnd.{ImageEnd}
+use Rattle.doc_commands.specs.declared.image_answer.ImageEnd.TheVariants.{Fine, Refused, BadImage}
 
 one_value : (a b : ImageLines) → ◌≡◌ {A = Result ImageLines ImageReason} (Ok a) (Ok b) → a ≡ b
 one_value a b same = cc

@@ -1,18 +1,18 @@
 -- The three ends of an answer to bytes that may be an image text, and the text that is written with each.
 use Rattle.std.specs.Prelude.{◌≡◌, ◌≢◌, ℕ, List, [], ◌++◌, codes}
 use Rattle.std.specs.Fmt.{decimal}
-use Rattle.plain_text.specs.declared.reading.TextFault.TheVariants.{Refused as RefusedLine}
+use Rattle.plain_text.specs.declared.reader.TextFault.TheVariants.{Refused as RefusedLine}
 use Rattle.cx_core.specs.declared.entry.Image.{Image}
 use Rattle.doc_text.specs.Recovered.{recovered_text}
 use Rattle.doc_text.specs.declared.recovered.Recovered.{Recovered}
 use Rattle.image_text.specs.ImageTexts.{IsImageFault, IsImageText}
 use Rattle.image_text.specs.Reasons.{image_reason_text}
 use Rattle.image_text.specs.declared.lines.ImageReason.{ImageReason}
-use Rattle.recovery.specs.declared.recovering.ImageFault.{ImageFault}
-use Rattle.recovery.specs.declared.recovering.ImageFault.TheVariants.{Size, Root, Version, Place, Body, Memory}
+use Rattle.recovery.specs.declared.recover.ImageFault.{ImageFault}
+use Rattle.recovery.specs.declared.recover.ImageFault.TheVariants.{Size, Root, Version, Place, Body, Memory}
 use Rattle.doc_commands.specs.Documents.{IsDocumentFault, IsRecoveredOf, TellsDocuments}
-use Rattle.doc_commands.specs.declared.answering.ImageEnd.{ImageEnd}
-use Rattle.doc_commands.specs.declared.answering.ImageEnd.TheVariants.{Fine, Refused, BadImage}
+use Rattle.doc_commands.specs.declared.image_answer.ImageEnd.{ImageEnd}
+use Rattle.doc_commands.specs.declared.image_answer.ImageEnd.TheVariants.{Fine, Refused, BadImage}
 
 -- the fault of an image as words and numbers; none is for running out of memory
 abbrev pub fault_text : ImageFault → List ℕ

@@ -39,24 +39,24 @@
 //! Tested (`life_tests`): the worked texts of images, and slots with words that are no reply.
 #![tactic(auto)]
 
-mod answering;
+mod image_answer;
 mod image_texts;
 mod images;
 mod laws;
 mod lives;
 mod loads;
 mod pool_reports;
-mod recovering;
+mod recovered_documents;
 mod replies;
 mod script_reports;
 mod verdicts;
 
-pub use answering::{ImageAnswer, ImageEnd, answer_image, ends_are_one};
+pub use image_answer::{ImageAnswer, ImageEnd, answer_image, ends_are_one};
 pub use images::image_of_script;
 pub use laws::different_lives_have_different_reports;
 pub use lives::run_lives;
 pub use loads::summary_of_load;
 pub use pool_reports::{report_of_pool, run_pool};
-pub use recovering::{answers_are_one, old_pairs_have_first_revisions, recovered};
+pub use recovered_documents::{answers_are_one, old_pairs_have_first_revisions, recovered};
 pub use script_reports::report_of_script;
 pub use verdicts::verdict_of_trace;

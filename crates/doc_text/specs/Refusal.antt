@@ -1,7 +1,7 @@
 -- What is told of a text that is no script.
 use Rattle.std.specs.Prelude.{ℕ, List}
 use Rattle.plain_text.specs.LineGrammar as lines
-use Rattle.plain_text.specs.declared.reading.TextFault.{TextFault}
+use Rattle.plain_text.specs.declared.reader.TextFault.{TextFault}
 use Rattle.doc_text.specs.Grammar.{document_grammar, pool_grammar}
 use Rattle.doc_text.specs.declared.script_parts.Reason.{Reason}
 

@@ -12,16 +12,16 @@ mod load_script;
 mod load_summary;
 mod measure;
 mod measured_members;
-mod printing;
-mod reading;
+mod printer;
+mod reader;
 mod recovered;
 mod script_parts;
 
 pub use life_records::{Cut, FullLine, StopLine};
 pub use load_script::generated;
 pub use load_summary::summary;
-pub use printing::report;
-pub use reading::{read_pool_script, read_script};
+pub use printer::report;
+pub use reader::{read_pool_script, read_script};
 pub use recovered::{Applied, Recovered, recovered_text};
 pub use script_parts::{
     Command, JournalLine, Life, LifeRecord, ReadLine, Reason, Script, ScriptLine, TextFault,

@@ -2,7 +2,7 @@
 use Rattle.std.specs.Prelude.{◌≡◌, ℕ, List, ◌++◌, codes, false}
 use Rattle.plain_text.specs.LineGrammar.{IsTextOf, LineGrammar}
 use Rattle.plain_text.specs.LineGrammar as lines
-use Rattle.plain_text.specs.declared.reading.TextFault.{TextFault}
+use Rattle.plain_text.specs.declared.reader.TextFault.{TextFault}
 use Rattle.fifo_commands.specs.declared.record.FifoScript.{FifoScript}
 use Rattle.fifo_object.specs.Queue.{IsOp}
 use Rattle.fifo_object.specs.declared.operations.FifoOp.{FifoOp}

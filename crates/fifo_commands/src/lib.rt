@@ -31,8 +31,8 @@
 mod commands;
 mod lives;
 mod order_laws;
-mod printing;
-mod reading;
+mod printer;
+mod reader;
 mod reasons;
 mod record;
 mod report_laws;
@@ -42,8 +42,8 @@ mod runs;
 
 pub use lives::{lives_keep_their_order, uncut_lives_are_fifo_lives};
 pub use order_laws::reports_keep_their_order;
-pub use printing::fifo_report;
-pub use reading::read_fifo_script;
+pub use printer::fifo_report;
+pub use reader::read_fifo_script;
 pub use reasons::{FifoReason, FifoTextFault};
 pub use record::{FifoCommand, FifoLife, FifoLine, FifoRead, FifoRecord, FifoScript};
 pub use report_laws::legal_lives_can_be_reported;

@@ -6,7 +6,7 @@ ghost use Rattle.fifo_commands.specs.Uncut.{uncut_script};
 ghost use Rattle.life_records.specs.Limits.{KeepsLimits};
 ghost use Rattle.fifo_commands.specs.Texts.{IsFifoReport};
 
-use crate::printing::fifo_report;
+use crate::printer::fifo_report;
 use crate::record::FifoScript;
 use crate::runs::run_fifo;
 use cx_base::{Gate, Items};

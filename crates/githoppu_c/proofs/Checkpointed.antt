@@ -13,8 +13,8 @@ use Rattle.cx_service.specs.declared.close.Handed.TheVariants.{Idle, Linked, Sto
 use Rattle.c_sessions.specs.Images.{TakesFrom}
 use Rattle.c_sessions.specs.Sessions.{IsSessionReady, TakesIn}
 use Rattle.c_sessions.specs.declared.session.Session.{Session}
-use Rattle.c_sessions.specs.declared.taking.Taken.{Taken}
-use Rattle.c_sessions.specs.declared.taking.Taken.TheVariants.{At, Again, Stopped as TakenStopped, OutOfTurn}
+use Rattle.c_sessions.specs.declared.checkpoint.Taken.{Taken}
+use Rattle.c_sessions.specs.declared.checkpoint.Taken.TheVariants.{At, Again, Stopped as TakenStopped, OutOfTurn}
 use Rattle.githoppu_c.specs.Again.{IsRegionIn}
 use Rattle.githoppu_c.specs.Checkpoints.{IsWrittenAs, TakesAs, taken_code}
 use Rattle.githoppu_c.proofs.TakenUp.{no_other}

@@ -10,7 +10,7 @@ use Rattle.cx_table.specs.declared.remains.Remains.{Remains}
 use Rattle.recovery.specs.Kept.{IsKeptBy}
 use Rattle.c_images.specs.Replies.{HoldsReplies, IsDocumentReply, IsQueueReply}
 use Rattle.c_images.specs.Taken.{IsWrittenOf, base_at}
-use Rattle.c_images.specs.declared.reading.WordsFault.{WordsFault}
+use Rattle.c_images.specs.declared.reader.WordsFault.{WordsFault}
 use Rattle.doc_store.specs.contracts.store.DocStoreObject.TheImpl.{ghosts as store_ghosts}
 use Rattle.doc_store.specs.declared.store.DocStore.{DocStore}
 use Rattle.doc_store.specs.ExactStep.{IsImageOfStore, store_step}

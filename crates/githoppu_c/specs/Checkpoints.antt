@@ -7,8 +7,8 @@ use Rattle.recovery.specs.Images.{image_size}
 use Rattle.c_images.specs.Taken.{IsWrittenOf}
 use Rattle.c_sessions.specs.Sessions.{TakesIn}
 use Rattle.c_sessions.specs.declared.session.Session.{Session}
-use Rattle.c_sessions.specs.declared.taking.Taken.{Taken}
-use Rattle.c_sessions.specs.declared.taking.Taken.TheVariants.{At, Again, Stopped, OutOfTurn}
+use Rattle.c_sessions.specs.declared.checkpoint.Taken.{Taken}
+use Rattle.c_sessions.specs.declared.checkpoint.Taken.TheVariants.{At, Again, Stopped, OutOfTurn}
 use Rattle.doc_store.specs.contracts.store.DocStoreObject.TheImpl.{ghosts as store_ghosts}
 use Rattle.fifo_object.specs.contracts.fifo.FifoObject.TheImpl.{ghosts as queue_ghosts}
 use Rattle.githoppu_c.specs.Contents.{IsCallable}

@@ -5,8 +5,8 @@ use Rattle.recovery.specs.Images.{image_size}
 use Rattle.c_images.specs.Words.{AreRemainsWritten}
 use Rattle.cx_rule.specs.Running.{Running}
 use Rattle.c_sessions.specs.Handing.{IsSessionRestOf}
-use Rattle.c_sessions.specs.declared.closing.Closing.{Closing}
-use Rattle.c_sessions.specs.declared.closing.Closing.TheVariants.{Again, Closed, Kept, Missing, Shared}
+use Rattle.c_sessions.specs.declared.close.Closing.{Closing}
+use Rattle.c_sessions.specs.declared.close.Closing.TheVariants.{Again, Closed, Kept, Missing, Shared}
 use Rattle.doc_store.specs.declared.store.DocStore.{DocStore}
 use Rattle.fifo_object.specs.declared.fifo.Fifo.{Fifo}
 use Rattle.githoppu_c.specs.Codes.{closing_code}

@@ -1,15 +1,15 @@
 -- What C is answered, as numbers.
 use Rattle.std.specs.Prelude.{◌≡◌, ◌⊎◌, ℤ, pos}
-use Rattle.c_images.specs.declared.reading.WordsFault.{WordsFault}
-use Rattle.c_images.specs.declared.reading.WordsFault.TheVariants.{Head, Kind, Image, Numbers}
-use Rattle.c_sessions.specs.declared.closing.Closing.{Closing}
-use Rattle.c_sessions.specs.declared.closing.Closing.TheVariants.{Others, Again as ClosingAgain, Closed, Kept, Missing, Shared}
-use Rattle.c_sessions.specs.declared.opening.OpenFault.{OpenFault}
-use Rattle.c_sessions.specs.declared.opening.OpenFault.TheVariants.{Start, InTheWay}
+use Rattle.c_images.specs.declared.reader.WordsFault.{WordsFault}
+use Rattle.c_images.specs.declared.reader.WordsFault.TheVariants.{Head, Kind, Image, Numbers}
+use Rattle.c_sessions.specs.declared.close.Closing.{Closing}
+use Rattle.c_sessions.specs.declared.close.Closing.TheVariants.{Others, Again as ClosingAgain, Closed, Kept, Missing, Shared}
+use Rattle.c_sessions.specs.declared.open.OpenFault.{OpenFault}
+use Rattle.c_sessions.specs.declared.open.OpenFault.TheVariants.{Start, InTheWay}
 use Rattle.c_sessions.specs.declared.steps.Called.{Called}
 use Rattle.c_sessions.specs.declared.steps.Called.TheVariants.{Done, Pending, Again, Full, Worn, Stopped, OutOfTurn}
-use Rattle.recovery.specs.declared.recovering.ImageFault.{ImageFault}
-use Rattle.recovery.specs.declared.recovering.ImageFault.TheVariants.{Size, Root, Version, Place, Body, Memory}
+use Rattle.recovery.specs.declared.recover.ImageFault.{ImageFault}
+use Rattle.recovery.specs.declared.recover.ImageFault.TheVariants.{Size, Root, Version, Place, Body, Memory}
 
 -- the number of a call's result
 abbrev pub code_of : Called → ℤ

@@ -6,11 +6,11 @@ use Rattle.cx_rule.specs.Running.{IsRunning, Running}
 use Rattle.cx_table.specs.declared.remains.Remains.{Remains}
 use Rattle.c_images.specs.Replies.{HoldsReplies, IsDocumentReply, IsQueueReply}
 use Rattle.c_images.specs.Words.{IsTakenUp, IsWordsFault, lines_in}
-use Rattle.c_images.specs.declared.reading.WordsFault.{WordsFault}
-use Rattle.c_images.specs.declared.reading.WordsFault.TheVariants.{Image}
-use Rattle.recovery.specs.declared.recovering.ImageFault.TheVariants.{Body}
+use Rattle.c_images.specs.declared.reader.WordsFault.{WordsFault}
+use Rattle.c_images.specs.declared.reader.WordsFault.TheVariants.{Image}
+use Rattle.recovery.specs.declared.recover.ImageFault.TheVariants.{Body}
 use Rattle.c_sessions.specs.Closings.{Closes, ClosesTo, IsClosedOf}
-use Rattle.c_sessions.specs.declared.closing.Closing.{Closing}
+use Rattle.c_sessions.specs.declared.close.Closing.{Closing}
 use Rattle.c_sessions.specs.declared.session.Session.{Session}
 use Rattle.doc_store.specs.declared.store.DocStore.{DocStore}
 use Rattle.doc_store.specs.ExactStep.{IsImageOfStore, first_format, reads_in, store_step}

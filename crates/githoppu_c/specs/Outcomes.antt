@@ -5,7 +5,7 @@ use Rattle.recovery.specs.Outcomes.{outcome_of}
 use Rattle.recovery.specs.declared.applied.Outcome.{Outcome}
 use Rattle.recovery.specs.declared.applied.Outcome.TheVariants.{Applied, Never}
 use Rattle.c_images.specs.Words.{IsHeadFault, IsHeaded, object_kind_in}
-use Rattle.c_images.specs.declared.reading.WordsFault.{WordsFault}
+use Rattle.c_images.specs.declared.reader.WordsFault.{WordsFault}
 use Rattle.githoppu_c.specs.Codes.{fault_code}
 use Rattle.githoppu_c.specs.Objects.{IsQueueFault, IsQueueIn, IsStoreFault, IsStoreIn}
 

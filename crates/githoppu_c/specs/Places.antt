@@ -1,8 +1,8 @@
 -- What C is answered where it asks for the place that a session has seen, and where a session catches up with one.
 use Rattle.std.specs.Prelude.{◌≡◌, ℕ, ℤ, Option, Some, None, pos}
 use Rattle.c_sessions.specs.Sessions.{SeesIn}
-use Rattle.c_sessions.specs.declared.seeing.Sight.{Sight}
-use Rattle.c_sessions.specs.declared.seeing.Sight.TheVariants.{Caught, Behind, Stopped, OutOfTurn}
+use Rattle.c_sessions.specs.declared.catch_up.Sight.{Sight}
+use Rattle.c_sessions.specs.declared.catch_up.Sight.TheVariants.{Caught, Behind, Stopped, OutOfTurn}
 use Rattle.githoppu_c.specs.Contents.{IsCallable}
 use Rattle.githoppu_c.specs.declared.content.Content.{Content}
 use Rattle.githoppu_c.specs.declared.content.Content.TheVariants.{Documents, Queue}

@@ -5,7 +5,7 @@ use Rattle.std_alloc.specs.declared.boxed.Box.{Box}
 use Rattle.cx_core.specs.declared.entry.Base.{Base}
 use Rattle.cx_rule.specs.Running.{Running}
 use Rattle.c_images.specs.Words.{IsHeadFault}
-use Rattle.c_images.specs.declared.reading.WordsFault.{WordsFault}
+use Rattle.c_images.specs.declared.reader.WordsFault.{WordsFault}
 use Rattle.githoppu_c.specs.Codes.{IsOpenCode, fault_code}
 use Rattle.githoppu_c.specs.Contents.{AreBoxes}
 use Rattle.githoppu_c.specs.declared.content.Content.{Content}

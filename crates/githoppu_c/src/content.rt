@@ -12,9 +12,9 @@ use crate::again::{
     queues_are_taken_up_again, stores_are_taken_up_again, taken_queues_are_taken_up_again,
     taken_stores_are_taken_up_again,
 };
+use crate::checkpoint::take_to;
 use crate::codes::{AGAIN, DONE, LOST, NO_MEMORY, OTHERS, OUT_OF_TURN};
 use crate::images::{DOCUMENTS, QUEUE, write_to};
-use crate::taking::take_to;
 use c_sessions::{Called, Closing, Rest, Session, Sight, Tries, close_kept, close_rest};
 use cx_base::OpWords;
 use cx_service::Kept;

@@ -20,22 +20,22 @@ ghost use Rattle.githoppu_c.specs.Recoveries.{Recovers};
 ghost use Rattle.githoppu_c.specs.declared.content.Content as content_type;
 
 mod again;
+mod checkpoint;
 mod codes;
 mod content;
 mod handle;
 mod images;
-mod opening;
+mod open;
 mod outcomes;
 mod raw_box;
-mod recovering;
-mod taking;
+mod recovered_sessions;
 
 use crate::codes::{DONE, OTHERS, OUT_OF_TURN, code_of, sight_code};
 use crate::content::Content;
 use crate::handle::Handle;
-use crate::opening::{hand_out, open_documents, open_queue};
+use crate::open::{hand_out, open_documents, open_queue};
 use crate::outcomes::outcome_in;
-use crate::recovering::{recover_documents, recover_queue};
+use crate::recovered_sessions::{recover_documents, recover_queue};
 use c_sessions::Tries;
 use cx_base::{OP_WORDS, OpWords};
 use recovery::Outcome;

@@ -6,7 +6,7 @@ ghost use Rattle.githoppu_c.specs.Outcomes.{IsBaseIn, IsOutcomeIn, RefusesBase, 
 
 use crate::codes::{BAD_SIZE, fault_code};
 use crate::images::{DOCUMENTS, QUEUE};
-use crate::recovering::{documents_in, queue_in};
+use crate::recovered_sessions::{documents_in, queue_in};
 use c_images::{WordsFault, head_of};
 use cx_core::{Base, OBJECT_START};
 use recovery::{Outcome, outcome};

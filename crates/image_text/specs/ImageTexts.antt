@@ -4,8 +4,8 @@ use Rattle.std.specs.Prelude.{◌≡◌, ◌⊎◌, ◌+◌, ◌^◌, ◌<◌, �
 use Rattle.std.specs.Fmt.{decimal}
 use Rattle.plain_text.specs.LineGrammar.{LineGrammar, IsFault, IsTextOf}
 use Rattle.plain_text.specs.Lines.{text_lines}
-use Rattle.plain_text.specs.declared.reading.TextFault.{TextFault}
-use Rattle.plain_text.specs.declared.reading.TextFault.TheVariants.{Refused, Memory}
+use Rattle.plain_text.specs.declared.reader.TextFault.{TextFault}
+use Rattle.plain_text.specs.declared.reader.TextFault.TheVariants.{Refused, Memory}
 use Rattle.cx_core.specs.declared.entry.Image.{Image}
 use Rattle.recovery.specs.Images.{IsReadable}
 use Rattle.image_text.specs.declared.lines.ImageHead.{ImageHead}

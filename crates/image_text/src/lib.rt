@@ -10,10 +10,10 @@
 
 mod heads;
 mod lines;
-mod printing;
-mod reading;
+mod printer;
+mod reader;
 
 pub use cx_core::Image;
 pub use lines::{ImageHead, ImageLines, ImageReason, TextFault};
-pub use printing::{image_text, image_texts_are_read};
-pub use reading::read_image;
+pub use printer::{image_text, image_texts_are_read};
+pub use reader::read_image;

@@ -18,21 +18,21 @@
 //! given), and 4 lawful in version 2; 4 of no version.
 #![tactic(auto)]
 
-mod checking;
+mod check;
 mod in_order;
 mod laws;
-mod listing;
 mod marks;
 mod node_checks;
+mod pair_list;
 mod shape;
 mod text_checks;
 mod words;
 
-pub use checking::lawful;
+pub use check::lawful;
 pub use in_order::InOrder;
 pub use laws::{
     lawful_words_have_one_revised_store, lawful_words_have_one_store, words_stand_for_one_store,
     words_tell_their_store,
 };
-pub use listing::pairs_of;
+pub use pair_list::pairs_of;
 pub use shape::is_balanced;

@@ -11,9 +11,13 @@ mod accounts;
 #[cfg(test)]
 mod answered_images;
 #[cfg(test)]
+mod catch_ups;
+#[cfg(test)]
 mod checker;
 #[cfg(test)]
 mod checker_rows;
+#[cfg(test)]
+mod clients;
 #[cfg(test)]
 mod counter_lives;
 #[cfg(test)]
@@ -22,8 +26,6 @@ mod cut_beside;
 mod cut_holders;
 #[cfg(test)]
 mod cut_updates;
-#[cfg(test)]
-mod following;
 #[cfg(test)]
 mod highest;
 #[cfg(test)]
@@ -39,7 +41,7 @@ mod numbers;
 #[cfg(test)]
 mod objects;
 #[cfg(test)]
-mod opening;
+mod pool_starts;
 #[cfg(test)]
 mod queue_lives;
 #[cfg(test)]
@@ -53,16 +55,14 @@ mod recorded_traces;
 #[cfg(test)]
 mod runs;
 #[cfg(test)]
-mod serving;
+mod server;
 #[cfg(test)]
-mod sharing;
+mod shared_pools;
 #[cfg(test)]
 mod trace_texts;
 #[cfg(test)]
 mod trace_verdicts;
 #[cfg(test)]
 mod worked_lives;
-#[cfg(test)]
-mod working;
 #[cfg(test)]
 mod written_scripts;

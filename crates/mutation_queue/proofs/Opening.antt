@@ -8,7 +8,7 @@ use Rattle.cx_core.specs.declared.local.SeenNeed.{SeenNeed}
 use Rattle.cx_core.specs.RingEvents.{bound_in, least_in, need_word}
 use Rattle.cx_core.specs.State.{Instance, one_more}
 use Rattle.cx_table.specs.Seats.{Seated, stepped}
-use Rattle.mutation_queue.specs.declared.collecting.Collected.{Collected}
+use Rattle.mutation_queue.specs.declared.reclamation.Collected.{Collected}
 use Rattle.mutation_queue.specs.Collecting.{Collects, FindsLeast, Opens, Scans, ScansTo, but_collected}
 
 -- the least need that a scan found, of some callers

@@ -5,7 +5,7 @@ use Rattle.cx_core.specs.declared.local.Local.{Local}
 use Rattle.cx_core.specs.QueueEvents.{IsIdle, cell_of, next_number}
 use Rattle.cx_core.specs.Layout.{max_word}
 use Rattle.cx_table.specs.Running.{IsSeatOf, Running}
-use Rattle.cx_table.specs.Seats.{IsAtLimit, IsWithinLimit, Seated}
+use Rattle.cx_table.specs.Seats.{IsAtLimit, IsWithinLimit, Seated, StepsOn}
 
 -- a cell holds a ticket at or above the greatest FREE found
 abbrev pub IsInUseAt : ℕ → Option ℕ → Type 0
@@ -37,7 +37,7 @@ writes l j words = 1 + differing (drop 1 (cell_of l j).words) (drop 1 words)
 pub record HaltsIn (j : ℕ) (words : List ℕ) (before after : Seated) : Type 0 where
   pub limit : IsAtLimit after.known.local
   pub short : before.known.local.limit < before.known.local.steps + writes before.known.local j words
-  pub since : min before.known.local.steps max_word ≤ after.known.local.steps
+  pub since : StepsOn before after
   pub none : IsAtLimit before.known.local → after ≡ before
   pub idle : IsIdle after.known.local j
   pub cell : (i : ℕ) →

@@ -8,7 +8,7 @@ use Rattle.cx_core.specs.RingEvents.{need_word}
 use Rattle.cx_core.specs.State.{one_more}
 use Rattle.cx_table.specs.Running.{IsSeatOf, Running}
 use Rattle.cx_table.specs.Seats.{IsAtLimit, Seated}
-use Rattle.mutation_queue.specs.declared.collecting.Collected.{Collected}
+use Rattle.mutation_queue.specs.declared.reclamation.Collected.{Collected}
 
 -- a seat but for the scan under way, the greatest FREE found, what scans found, whether what was seen of CUR is fresh, and the counts of
 -- steps and scans

@@ -1,15 +1,15 @@
 -- The outcomes of tries to link an entry.
-use Rattle.std.specs.Prelude.{◌≡◌, ◌+◌, ◌%◌, ◌^◌, ◌<◌, ◌≤◌, ◌⊎◌, ℕ, zero, suc, min, [], ◌∷◌, ◌++◌, length, slice_set, Option, Some, None}
+use Rattle.std.specs.Prelude.{◌≡◌, ◌+◌, ◌%◌, ◌^◌, ◌<◌, ◌≤◌, ◌⊎◌, ℕ, zero, suc, [], ◌∷◌, ◌++◌, length, slice_set, Option, Some, None}
 use Rattle.cx_base.specs.Codes.{link_ticket_of, root_place_of}
-use Rattle.cx_core.specs.Layout.{cell_count, max_word}
+use Rattle.cx_core.specs.Layout.{cell_count}
 use Rattle.cx_core.specs.QueueEvents.{ShowsOpen, cell_of, entry_in, linked, lost, raised_front}
 use Rattle.cx_core.specs.State.{one_more}
 use Rattle.cx_table.specs.Running.{IsSeatOf, Running}
 use Rattle.cx_rule.specs.Timing.{BeginsIn}
-use Rattle.cx_table.specs.Seats.{IsAtLimit, Seated}
+use Rattle.cx_table.specs.Seats.{IsAtLimit, Seated, StepsOn}
 use Rattle.mutation_queue.specs.Cells.{IsAnnounced}
-use Rattle.mutation_queue.specs.declared.linking.LinkTried.{LinkTried}
-use Rattle.mutation_queue.specs.declared.linking.LinkTried.TheVariants.{Again, Linked, Worn}
+use Rattle.mutation_queue.specs.declared.link.LinkTried.{LinkTried}
+use Rattle.mutation_queue.specs.declared.link.LinkTried.TheVariants.{Again, Linked, Worn}
 
 -- the entry that was announced in a cell may be linked: each entry of the caller before it is answered
 pub record MayLink {O : Type 0} (r : Running O) (cell : ℕ) (seat : Seated) : Type 0 where
@@ -30,7 +30,7 @@ but_linked s = record s { known = record s.known { local = record s.known.local 
 pub record LinksNone (before after : Seated) : Type 0 where
   pub same : but_front after ≡ but_front before
   pub front : before.known.local.front ≤ after.known.local.front
-  pub since : min before.known.local.steps max_word ≤ after.known.local.steps
+  pub since : StepsOn before after
 
 -- the entry in the cell was linked with a ticket, and no other
 pub record LinksAt (cell ticket : ℕ) (before after : Seated) : Type 0 where

@@ -32,16 +32,16 @@
 //! tickets protected, and a place below LOW that is not; another caller's need noted by a collection; a collection at each limit.
 #![tactic(auto)]
 
-mod announcing;
+mod announcement;
 mod cells;
-mod collecting;
-mod linking;
-mod protecting;
-mod reading;
+mod entries;
+mod link;
+mod protection;
+mod reclamation;
 
-pub use announcing::announce;
+pub use announcement::announce;
 pub use cells::idle_cell;
-pub use collecting::{Collected, collect};
-pub use linking::{LinkTried, link};
-pub use protecting::{Protected, protect, unprotect};
-pub use reading::entry;
+pub use entries::entry;
+pub use link::{LinkTried, link};
+pub use protection::{Protected, protect, unprotect};
+pub use reclamation::{Collected, collect};

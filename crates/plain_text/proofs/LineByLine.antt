@@ -3,8 +3,8 @@ use Rattle.std.proofs.Common.{◌≡◌, ℕ, zero, suc, ◌+◌, ◌-◌, ◌<�
 use Rattle.std.proofs.lemmas.List.{append-nil, take-append-drop}
 use Rattle.plain_text.specs.LineGrammar.{LineGrammar, AddsAll, AreLinesOf, IsTextOf, IsFirstFault, IsReasonAt, IsFault, IsOkOr, ReadsLines}
 use Rattle.plain_text.specs.Lines.{text_lines}
-use Rattle.plain_text.specs.declared.reading.TextFault.{TextFault}
-use Rattle.plain_text.specs.declared.reading.TextFault.TheVariants.{Refused, Memory}
+use Rattle.plain_text.specs.declared.reader.TextFault.{TextFault}
+use Rattle.plain_text.specs.declared.reader.TextFault.TheVariants.{Refused, Memory}
 
 -- ---- the next line of a list
 

@@ -1,8 +1,8 @@
 -- What lines say together, and which of them is the first that may not stand where it does.
 use Rattle.std.specs.Prelude.{◌≡◌, ◌-◌, ◌<◌, ◌≤◌, ℕ, List, [], ◌∷◌, length, take, slice_get, Option, None, Some, Result, Ok, Err}
 use Rattle.plain_text.specs.Lines.{text_lines}
-use Rattle.plain_text.specs.declared.reading.TextFault.{TextFault}
-use Rattle.plain_text.specs.declared.reading.TextFault.TheVariants.{Refused, Memory}
+use Rattle.plain_text.specs.declared.reader.TextFault.{TextFault}
+use Rattle.plain_text.specs.declared.reader.TextFault.TheVariants.{Refused, Memory}
 
 -- A language whose texts are read line by line: what a text without lines says, what it says with one more line, and why
 -- a line may not stand behind what was said so far.

@@ -14,12 +14,12 @@
 
 mod lines;
 mod numbers;
-mod reading;
+mod reader;
 mod words;
-mod writing;
+mod writer;
 
 pub use lines::next_line;
 pub use numbers::{integer_of, integer_text_is_one_to_one, number_of, number_text_is_one_to_one};
-pub use reading::{LineReader, TextFault, read_lines};
+pub use reader::{LineReader, TextFault, read_lines};
 pub use words::{is_one_word, is_word, split_word};
-pub use writing::{write_labelled, write_number, write_signed};
+pub use writer::{write_labelled, write_number, write_signed};

@@ -1,15 +1,15 @@
 -- The outcome of a publication.
-use Rattle.std.specs.Prelude.{◌≡◌, ◌+◌, ◌<◌, ◌≤◌, ◌⊎◌, ℕ, false, min, Option, Some, None, Result, Ok, Err}
+use Rattle.std.specs.Prelude.{◌≡◌, ◌+◌, ◌<◌, ◌≤◌, ◌⊎◌, ℕ, false, Option, Some, None, Result, Ok, Err}
 use Rattle.cx_base.specs.Codes.{root_place_of}
 use Rattle.cx_core.specs.declared.local.HeldDowngraded.{HeldDowngraded}
-use Rattle.cx_core.specs.Layout.{max_word}
 use Rattle.cx_core.specs.RootEvents.{code_in}
 use Rattle.cx_rule.specs.Running.{IsSeatOf, Running}
 use Rattle.cx_rule.specs.Seats.{IsAtLimit, Seated}
+use Rattle.cx_table.specs.Seats.{StepsOn}
 use Rattle.cx_table.specs.Right.{Right, WonRight}
 use Rattle.cx_table.specs.Tokens.{IsDowngradedOf, IsWonOf}
-use Rattle.publish.specs.declared.publishing.Published.{Published}
-use Rattle.publish.specs.declared.publishing.Published.TheVariants.{Won, Passed}
+use Rattle.publish.specs.declared.publication.Published.{Published}
+use Rattle.publish.specs.declared.publication.Published.TheVariants.{Won, Passed}
 
 -- the seat but for the front, what was seen of CUR, the right that is published, the win, and the counts
 abbrev pub beside_publish : Seated → Seated
@@ -76,7 +76,7 @@ pub record LeavesRest {O : Type 0} (r : Running O) (n : ℕ) (before after : Sea
   pub front : before.known.local.front ≤ after.known.local.front
   pub met : KeepsMet before after
   pub counted : before.known.local.met ≤ after.known.local.met
-  pub since : min before.known.local.steps max_word ≤ after.known.local.steps
+  pub since : StepsOn before after
   pub most : after.known.local.met ≤ before.known.local.met + 1
   pub steps : after.known.local.steps + before.known.local.seen_cur ≤ before.known.local.steps + after.known.local.seen_cur + n
   pub rest : beside_publish after ≡ beside_publish before

@@ -16,7 +16,7 @@
 #![tactic(auto)]
 
 mod durable;
-mod publishing;
+mod publication;
 
 pub use durable::{make_durable, retire};
-pub use publishing::{Published, publish};
+pub use publication::{Published, publish};

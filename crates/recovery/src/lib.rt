@@ -15,9 +15,9 @@ mod crash;
 mod exactness;
 mod laws;
 mod outcomes;
-mod recovering;
+mod recover;
 mod region;
-mod reopening;
+mod reopen;
 mod versions;
 
 pub use applied::Outcome;
@@ -32,5 +32,5 @@ pub use laws::{
 pub use outcomes::{
     full_images_tell_outcomes, kept_bases_have_results, kept_bases_tell_outcomes, outcome,
 };
-pub use recovering::{ImageFault, recover};
-pub use reopening::{reopen, reopen_image};
+pub use recover::{ImageFault, recover};
+pub use reopen::{reopen, reopen_image};

@@ -14,7 +14,7 @@ use Rattle.cx_rule.specs.Fitting.{Fitting}
 use Rattle.cx_rule.specs.Running.{Running, instance_at}
 use Rattle.cx_rule.specs.Seats.{IsAtLimit, Seated, stepped}
 use Rattle.cx_table.specs.Runs.{Runs, no_step, one_more_step, set_reads_from}
-use Rattle.cx_table.specs.GapMarks.{StepsOn}
+use Rattle.cx_table.specs.Seats.{StepsOn}
 use Rattle.redo_set.specs.Taking.{FindsUnoffered, IsReadingSet, LeavesTaking, ReadsFewer, ReadsSetWords, set_notes, sets_read, with_notes}
 
 abbrev note : ℕ → ℕ → ℕ → SetNoted

@@ -1,8 +1,8 @@
 //! The gaps that a write set leaves are noted in the ring of gaps.
 
 ghost use Rattle.std.specs.Prelude.{◌+◌, ◌<◌, ◌≤◌, IfSome, IfNone, OnErr, length};
-ghost use Rattle.cx_table.specs.Seats.{IsAtLimit};
-ghost use Rattle.cx_table.specs.GapMarks.{StepsBy, StepsOn};
+ghost use Rattle.cx_table.specs.Seats.{IsAtLimit, StepsOn};
+ghost use Rattle.cx_table.specs.GapMarks.{StepsBy};
 ghost use Rattle.redo_set.specs.Gaps.{AreAllEnds, AreEnds, AreGapsNoted, IsNextLine, LeavesNoting, MayNote, NotesGaps, gaps_of};
 
 use crate::set::WriteSet;

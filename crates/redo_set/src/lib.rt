@@ -28,12 +28,12 @@
 
 mod apply;
 mod gaps;
-mod offering;
+mod offer;
 mod set;
-mod taking;
+mod take;
 
 pub use apply::apply_set;
 pub use gaps::note_gaps;
-pub use offering::offer;
+pub use offer::offer;
 pub use set::WriteSet;
-pub use taking::take;
+pub use take::take;

@@ -9,7 +9,7 @@ use Rattle.cx_core.specs.declared.entry.Base.{Base}
 use Rattle.cx_core.specs.declared.local.Local.{Local}
 use Rattle.cx_core.specs.Layout.{max_word}
 use Rattle.cx_core.specs.Region.{region_words}
-use Rattle.cx_table.specs.GapMarks.{HasMadeSteps}
+use Rattle.cx_table.specs.Seats.{HasMadeSteps}
 use Rattle.cx_rule.specs.Fitting.{IsConsistentWith, FitsKnown, FitsOn, Has, ReadFits, has_of, loads_of, loaded_of}
 use Rattle.cx_rule.specs.Running.{Running}
 use Rattle.cx_rule.specs.Seats.{IsWithinLimit, Seated, place_noted}

@@ -13,7 +13,8 @@ use Rattle.cx_rule.specs.Running.{Running, instance_at}
 use Rattle.cx_rule.specs.Seats.{Seated}
 use Rattle.seat_memory.specs.Copies.{IsCopiedWord}
 use Rattle.cx_table.specs.Right.{Right}
-use Rattle.cx_table.specs.GapMarks.{MarksChanged, StepsOn}
+use Rattle.cx_table.specs.GapMarks.{MarksChanged}
+use Rattle.cx_table.specs.Seats.{StepsOn}
 use Rattle.replica.specs.Held.{IsHeld, IsHeldShared, but_words}
 use Rattle.replica.specs.Regions.{HasPlace}
 use Rattle.replica.specs.Replays.{IsReady, StoresNone, noted_place}

@@ -5,7 +5,7 @@ use Rattle.cx_core.specs.Rights.{held_dirty}
 use Rattle.cx_rule.specs.Running.{Running}
 use Rattle.cx_rule.specs.Seats.{IsAtLimit, Seated}
 use Rattle.cx_table.specs.Right.{Right}
-use Rattle.cx_table.specs.GapMarks.{StepsOn}
+use Rattle.cx_table.specs.Seats.{StepsOn}
 use Rattle.replica.specs.Held.{IsHeld, beside_held}
 
 -- no word is dirty

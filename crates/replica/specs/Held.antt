@@ -17,7 +17,7 @@ use Rattle.cx_rule.specs.Seats.{IsAtLimit, IsWithinLimit, Seated}
 use Rattle.cx_table.specs.Right.{Right}
 use Rattle.cx_table.specs.Runs.{Runs}
 use Rattle.cx_table.specs.Tokens.{IsExclusiveOf, IsSharedOf}
-use Rattle.cx_table.specs.GapMarks.{StepsOn}
+use Rattle.cx_table.specs.Seats.{StepsOn}
 
 -- the steps that the limit leaves, where 2^64 - 1 is none
 abbrev pub left_of : Local → Option ℕ

@@ -12,7 +12,7 @@ use Rattle.cx_rule.specs.Fitting.{FitsKnown, HasEntry, IsReplayedToPlace, entrie
 use Rattle.cx_rule.specs.Running.{Running}
 use Rattle.cx_rule.specs.Seats.{IsWithinLimit, Seated, place_noted}
 use Rattle.cx_table.specs.Right.{Right}
-use Rattle.cx_table.specs.GapMarks.{StepsOn}
+use Rattle.cx_table.specs.Seats.{StepsOn}
 use Rattle.replica.specs.Held.{IsHeld, beside_held}
 use Rattle.replica.specs.Regions.{HasPlace}
 

@@ -5,11 +5,12 @@ ghost use Rattle.cx_core.specs.Layout.{gap_slots};
 ghost use Rattle.cx_core.specs.Region.{region_words};
 ghost use Rattle.cx_rule.specs.Running.{IsSeatOf};
 ghost use Rattle.cx_rule.specs.Seats.{IsAtLimit};
-ghost use Rattle.cx_table.specs.GapMarks.{LeavesLoads, StepsBy, StepsOn};
+ghost use Rattle.cx_table.specs.GapMarks.{LeavesLoads, StepsBy};
+ghost use Rattle.cx_table.specs.Seats.{StepsOn};
 ghost use Rattle.replica.specs.Copies.{HoldsBoth, IsListed, MayList, Renews, RenewsListed, beside_copy, beside_listed};
 ghost use Rattle.replica.specs.Replays.{noted_place};
 
-use crate::copying::{copy_marked, renew_from};
+use crate::copy::{copy_marked, renew_from};
 use cx_base::{Halt, Object};
 use cx_core::HEAD_LINES;
 use cx_table::{CallerSeat, Exclusive, Shared, SharedHold, keeps_gaps, mark_changed};

@@ -40,8 +40,8 @@
 #![tactic(auto)]
 
 mod by_lines;
-mod copying;
-mod flushing;
+mod copy;
+mod flush;
 mod outcomes;
 mod read_region;
 mod region;
@@ -49,8 +49,8 @@ mod replay;
 mod words;
 
 pub use by_lines::renew_listed;
-pub use copying::{copy_from, renew_from};
-pub use flushing::flush;
+pub use copy::{copy_from, renew_from};
+pub use flush::flush;
 pub use outcomes::{outcome, place};
 pub use read_region::ReadRegion;
 pub use region::Region;

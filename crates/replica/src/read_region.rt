@@ -5,7 +5,7 @@ ghost use Rattle.cx_core.specs.Region.{region_words};
 ghost use Rattle.cx_rule.specs.Fitting.{loaded_of};
 ghost use Rattle.cx_rule.specs.Seats.{IsWithinLimit};
 ghost use Rattle.cx_table.specs.Runs.{StartsAt};
-ghost use Rattle.cx_table.specs.GapMarks.{HasMadeSteps};
+ghost use Rattle.cx_table.specs.Seats.{HasMadeSteps};
 ghost use Rattle.replica.specs.Held.{IsHeldShared};
 ghost use Rattle.replica.specs.Regions.{IsRegionOf, has_loaded};
 

@@ -4,7 +4,7 @@ ghost use Rattle.std.specs.Prelude.{false, true, List, ℕ, IsTrue};
 ghost use Rattle.cx_core.specs.Region.{region_words};
 ghost use Rattle.cx_rule.specs.Seats.{IsWithinLimit};
 ghost use Rattle.cx_table.specs.Runs.{StartsAt};
-ghost use Rattle.cx_table.specs.GapMarks.{HasMadeSteps};
+ghost use Rattle.cx_table.specs.Seats.{HasMadeSteps};
 ghost use Rattle.replica.specs.Held.{IsHeld};
 ghost use Rattle.replica.specs.Regions.{HasPlace, IsRegionOf};
 

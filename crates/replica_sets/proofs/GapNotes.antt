@@ -10,7 +10,7 @@ use Rattle.cx_rule.specs.Running.{Running}
 use Rattle.cx_rule.specs.Seats.{IsAtLimit, IsWithinLimit, Seated}
 use Rattle.cx_rule.proofs.HasMore.{fits_same, some_same}
 use Rattle.cx_table.specs.Right.{Right}
-use Rattle.cx_table.specs.GapMarks.{StepsOn}
+use Rattle.cx_table.specs.Seats.{StepsOn}
 use Rattle.redo_set.specs.Gaps.{LeavesNoting}
 use Rattle.redo_set.proofs.GapEnds.{told_still}
 use Rattle.replica.specs.Held.{IsHeld, beside_held}

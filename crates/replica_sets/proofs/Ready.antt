@@ -19,7 +19,7 @@ use Rattle.cx_rule.specs.Seats.{Seated}
 use Rattle.cx_rule.proofs.HasMore.{HasMore, fits_more, fits_same, some_same}
 use Rattle.cx_table.specs.Right.{Right}
 use Rattle.cx_table.specs.Tokens.{IsExclusiveOf}
-use Rattle.cx_table.specs.GapMarks.{StepsOn}
+use Rattle.cx_table.specs.Seats.{StepsOn}
 use Rattle.mutation_queue.specs.Entries.{with_look}
 use Rattle.redo_set.specs.Offering.{HasStill, seat_with_set}
 use Rattle.redo_set.specs.Sets.{put_over}

@@ -19,12 +19,12 @@
 //!   step, whose write set is then offered: `step_and_offer` (`applied`: `HasApplied`).
 #![tactic(auto)]
 
-mod noting;
+mod noted_region;
 mod offered;
 mod own;
-mod storing;
+mod stored_set;
 
-pub use noting::{Began, NotingRegion, apply_noting};
+pub use noted_region::{Began, NotingRegion, apply_noting};
 pub use offered::replay_offered;
 pub use own::{replay_own, step_and_offer};
-pub use storing::{store_own_set, store_set};
+pub use stored_set::{store_own_set, store_set};

@@ -3,13 +3,13 @@
 ghost use Rattle.std.specs.Prelude.{◌≤◌, IfOk, MatchResult};
 ghost use Rattle.cx_rule.specs.Seats.{IsAtLimit};
 ghost use Rattle.cx_table.specs.Calls.{MakesStep};
-ghost use Rattle.cx_table.specs.GapMarks.{StepsOn};
+ghost use Rattle.cx_table.specs.Seats.{StepsOn};
 ghost use Rattle.mutation_queue.specs.Entries.{Looked, MayRead};
 ghost use Rattle.redo_set.specs.Taking.{CountsTaken};
 ghost use Rattle.replica.specs.Replays.{IsReady};
 ghost use Rattle.replica_sets.specs.Offered.{BringsBySet, LeavesOffered, ReplaysOffered};
 
-use crate::storing::store_set;
+use crate::stored_set::store_set;
 use cx_base::{Halt, Object, link_cell};
 use cx_core::layout::cell_count;
 use cx_table::{CallerSeat, Exclusive, Shared};

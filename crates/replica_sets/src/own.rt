@@ -6,14 +6,14 @@ ghost use Rattle.cx_core.specs.QueueEvents.{cell_of};
 ghost use Rattle.cx_core.specs.Region.{region_words};
 ghost use Rattle.cx_rule.specs.Fitting.{IsSetWithin};
 ghost use Rattle.cx_rule.specs.Seats.{IsAtLimit};
-ghost use Rattle.cx_table.specs.GapMarks.{StepsOn};
+ghost use Rattle.cx_table.specs.Seats.{StepsOn};
 ghost use Rattle.replica.specs.Replays.{ComesNext, IsReady};
 ghost use Rattle.replica.specs.Held.{IsSized, LeavesHeld};
 ghost use Rattle.replica_sets.specs.Offered.{ReplaysOffered};
 ghost use Rattle.replica_sets.specs.Own.{HasApplied, LeavesOwn};
 
-use crate::noting::apply_noting;
-use crate::storing::store_own_set;
+use crate::noted_region::apply_noting;
+use crate::stored_set::store_own_set;
 use cx_base::{Halt, Object, OpWords};
 use cx_core::{Entry, HEAD_LINES, LINE_WORDS};
 use cx_table::{CallerSeat, Exclusive, Shared};

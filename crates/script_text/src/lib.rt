@@ -15,14 +15,14 @@ mod commands;
 mod heads;
 mod indexed_life;
 mod lines;
-mod printing;
-mod reading;
+mod printer;
+mod reader;
 
 pub use commands::CommandReader;
 pub use indexed_life::IndexedLife;
 pub use lines::{ScriptLimits, ScriptLine, ScriptReason};
-pub use printing::{
+pub use printer::{
     ReportWriter, report, write_fulls, write_journal, write_life, write_power, write_reads,
     write_stops,
 };
-pub use reading::read_script;
+pub use reader::read_script;

@@ -9,13 +9,13 @@
 //! - Wins that lead from a code to another by one way are read off as that chain: `lead_on` (`IsWayBy`).
 #![tactic(auto)]
 
-mod closing;
+mod at_close;
 mod copies;
 mod marks;
 mod ring;
 mod sets;
 mod summary;
 
-pub use closing::{copy_words, lead_on, mark_replica};
+pub use at_close::{copy_words, lead_on, mark_replica};
 pub use copies::Copies;
 pub use summary::{Summary, opening_summary};

@@ -15,7 +15,7 @@ use Rattle.cx_service.proofs.Seeing.{lists_seen, queued_sees, read_behind, updat
 use Rattle.cx_turns.specs.declared.lookup.Seen.{Seen}
 use Rattle.cx_turns.specs.Answering.{with_answer}
 use Rattle.service_parts.specs.Asking.{IsOperationAnswered, IsAsked}
-use Rattle.service_parts.specs.declared.asking.Asked.TheVariants.{Told}
+use Rattle.service_parts.specs.declared.call.Asked.TheVariants.{Told}
 
 -- an update behind tries that changed nothing of the caller's lists
 module _ {O : Type 0} (r : Running O) (op : List ℕ) (before u : Seated) (keeps : KeepsLists before u) where

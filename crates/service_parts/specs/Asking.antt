@@ -8,8 +8,8 @@ use Rattle.cx_service.specs.Submits.{next_entry}
 use Rattle.cx_service.specs.Updates.{KeepsLists}
 use Rattle.cx_turns.specs.Answering.{with_answer, reads_with}
 use Rattle.service_parts.specs.Callers.{IsBack}
-use Rattle.service_parts.specs.declared.asking.Asked.{Asked}
-use Rattle.service_parts.specs.declared.asking.Asked.TheVariants.{Told, Worn, Stopped}
+use Rattle.service_parts.specs.declared.call.Asked.{Asked}
+use Rattle.service_parts.specs.declared.call.Asked.TheVariants.{Told, Worn, Stopped}
 
 -- an entry of this operation was linked at a ticket, and no other
 pub record LinksOne {O : Type 0} (r : Running O) (op : List ℕ) (ticket : ℕ) (before after : Seated) : Type 0 where

@@ -11,12 +11,12 @@
 //! - What was left by a life is recovered, with every answer in it, by the object that it was of: `serve` (`IsLeftBy`), `recovered`.
 #![tactic(auto)]
 
-mod asking;
-mod recovering;
-mod serving;
-mod working;
+mod call;
+mod life;
+mod recovered;
+mod workers;
 
-pub use asking::{Asked, ask, follow};
-pub use recovering::recovered;
-pub use serving::{closed, serve, started};
-pub use working::{Worked, Worker, work_together};
+pub use call::{Asked, ask, follow};
+pub use life::{closed, serve, started};
+pub use recovered::recovered;
+pub use workers::{Worked, Worker, work_together};

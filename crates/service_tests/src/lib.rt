@@ -23,7 +23,7 @@ mod checkpoint_threads;
 #[cfg(test)]
 mod checkpoints_alone;
 #[cfg(test)]
-mod closing;
+mod closed;
 #[cfg(test)]
 mod holds;
 #[cfg(test)]
@@ -35,27 +35,27 @@ mod laws;
 #[cfg(test)]
 mod listed;
 #[cfg(test)]
-mod losing;
+mod losses;
 #[cfg(test)]
-mod meeting;
+mod meetings;
 #[cfg(test)]
 mod no_memory;
 #[cfg(test)]
 mod pairs;
 #[cfg(test)]
+mod parts_of_sums;
+#[cfg(test)]
 mod places;
 #[cfg(test)]
-mod playing;
-#[cfg(test)]
-mod renewing;
+mod renewals;
 #[cfg(test)]
 mod reopened;
 #[cfg(test)]
 mod rows;
 #[cfg(test)]
-mod starting;
+mod starts;
 #[cfg(test)]
-mod stopping;
+mod stops;
 #[cfg(test)]
 mod submits;
 #[cfg(test)]

@@ -5,7 +5,7 @@ use crate::alone::{last_region, made_alone};
 use crate::calls::Told;
 use crate::holds::holds;
 use crate::pairs::{Ended, Turn, run_pair};
-use crate::starting::NO_LIMIT;
+use crate::starts::NO_LIMIT;
 use crate::tasks::Work;
 use cx_base::Object;
 use cx_table::Remains;

@@ -7,7 +7,7 @@ ghost use Rattle.cx_service.specs.Closes.{seats_of};
 ghost use Rattle.doc_store.specs.ExactStep.{IsImageOfStore};
 
 use crate::holds::holds;
-use crate::starting::{NO_LIMIT, all_started};
+use crate::starts::{NO_LIMIT, all_started};
 use crate::tasks::Work;
 use crate::threads::{Ran, all_worked, fewest_taken, is_as_alone};
 use cx_base::Object;

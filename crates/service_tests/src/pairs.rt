@@ -9,8 +9,8 @@ ghost use Rattle.service_tests.specs.Closed.{IsClosed};
 ghost use Rattle.service_tests.specs.Tests.{IsBack, IsOf};
 
 use crate::calls::{Told, UPDATE_TWICE, asked_between};
-use crate::playing::Pair;
-use crate::starting::{NO_LIMIT, two};
+use crate::parts_of_sums::Pair;
+use crate::starts::{NO_LIMIT, two};
 use crate::tasks::Work;
 use cx_base::Object;
 use cx_core::Base;

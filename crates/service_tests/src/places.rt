@@ -4,7 +4,7 @@ ghost use Rattle.std.specs.Prelude.{◌≡◌, IfOk, IfSome, IsTrue};
 ghost use Rattle.cx_service.specs.Callers.{IsCallerOf};
 
 use crate::holds::holds;
-use crate::starting::{NO_LIMIT, base_at, two_started};
+use crate::starts::{NO_LIMIT, base_at, two_started};
 use crate::tasks::{adds, sum};
 use cx_base::Object;
 use cx_base::tally::Tally;

@@ -6,10 +6,10 @@ ghost use Rattle.cx_core.specs.Base.{LawfulBase};
 ghost use Rattle.recovery.specs.Reopened.{HasReplicas};
 
 use crate::calls::UPDATE;
-use crate::closing::recovered;
+use crate::closed::recovered;
 use crate::holds::holds;
-use crate::playing::{Part, played_from};
-use crate::starting::{NO_LIMIT, base_at};
+use crate::parts_of_sums::{Part, played_from};
+use crate::starts::{NO_LIMIT, base_at};
 use crate::tasks::{Work, adds};
 use cx_core::Base;
 use pmem_model::Medium;

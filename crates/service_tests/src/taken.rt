@@ -4,7 +4,7 @@ ghost use Rattle.std.specs.Prelude.{IfSome};
 ghost use Rattle.cx_service.specs.Callers.{IsCallerOf};
 
 use crate::holds::holds;
-use crate::starting::{all_started, two};
+use crate::starts::{all_started, two};
 use crate::tasks::words_of;
 use cx_base::Object;
 use cx_service::{Caller, Driven, Service, Submitted};

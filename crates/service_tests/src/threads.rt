@@ -9,7 +9,7 @@ ghost use Rattle.service_tests.specs.Tests.{IsBack};
 use crate::alone::made_alone;
 use crate::calls::{Told, Way, all_asked};
 use crate::holds::holds;
-use crate::starting::{all_started, has_rising_codes};
+use crate::starts::{all_started, has_rising_codes};
 use crate::tasks::Work;
 use cx_base::Object;
 use cx_base::tally::Tally;

@@ -6,7 +6,7 @@ ghost use Rattle.service_parts.specs.Asking.{IsStoppedIn};
 ghost use Rattle.service_parts.specs.Callers.{IsBack, IsHandedBy};
 
 use crate::holds::holds;
-use crate::starting::base_at;
+use crate::starts::base_at;
 use crate::tasks::{adds, sum};
 use crossbeam_channel::{Receiver, Sender, bounded};
 use cx_base::tally::Tally;

@@ -8,9 +8,9 @@
 //! finds the same sum. The power is lost twice, and in a last life one caller looks at what is there.
 #![tactic(auto)]
 
-mod banking;
+mod callers;
 
-use crate::banking::two_losses;
+use crate::callers::two_losses;
 use std::io;
 
 fn main(rt: HostRuntime) -> io::Result<()> {

@@ -7,9 +7,9 @@
 //! threads count on in a service that starts from what was kept.
 #![tactic(auto)]
 
-mod sharing;
+mod threads;
 
-use crate::sharing::count_over_a_loss;
+use crate::threads::count_over_a_loss;
 use std::io;
 
 fn main(rt: HostRuntime) -> io::Result<()> {

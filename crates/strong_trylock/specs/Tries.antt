@@ -7,10 +7,10 @@ use Rattle.cx_table.specs.Running.{Running}
 use Rattle.cx_table.specs.Seats.{IsAtLimit, Seated}
 use Rattle.cx_table.specs.Steps.{Halts, Steps}
 use Rattle.cx_table.specs.Tokens.{IsExclusiveOf, IsSharedOf}
-use Rattle.strong_trylock.specs.declared.trying.ExclusiveTried.{ExclusiveTried}
-use Rattle.strong_trylock.specs.declared.trying.ExclusiveTried.TheVariants.{Got, Held}
-use Rattle.strong_trylock.specs.declared.trying.SharedTried.{SharedTried}
-use Rattle.strong_trylock.specs.declared.trying.SharedTried.TheVariants.{Got as GotShared, Held as HeldByOther}
+use Rattle.strong_trylock.specs.declared.try_lock.ExclusiveTried.{ExclusiveTried}
+use Rattle.strong_trylock.specs.declared.try_lock.ExclusiveTried.TheVariants.{Got, Held}
+use Rattle.strong_trylock.specs.declared.try_lock.SharedTried.{SharedTried}
+use Rattle.strong_trylock.specs.declared.try_lock.SharedTried.TheVariants.{Got as GotShared, Held as HeldByOther}
 use Rattle.strong_trylock.specs.Held.{SawWord, all_rights}
 
 -- An exclusive try that found this word answers the right exactly where the word is 0, with its token; else it answers the

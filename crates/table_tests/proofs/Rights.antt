@@ -12,8 +12,8 @@ use Rattle.cx_table.specs.Right.{Right}
 use Rattle.cx_turns.specs.Replaying.{beside_replay, but_shared_loads}
 use Rattle.replica.specs.Held.{beside_held, but_loaded, but_words}
 use Rattle.replica.specs.Laws.{taken_held}
-use Rattle.strong_trylock.specs.declared.trying.ExclusiveTried.{ExclusiveTried}
-use Rattle.strong_trylock.specs.declared.trying.ExclusiveTried.TheVariants.{Got}
+use Rattle.strong_trylock.specs.declared.try_lock.ExclusiveTried.{ExclusiveTried}
+use Rattle.strong_trylock.specs.declared.try_lock.ExclusiveTried.TheVariants.{Got}
 use Rattle.strong_trylock.specs.Held.{AllRights, all_rights, no_rights}
 use Rattle.strong_trylock.specs.Tries.{AnswersExclusive, TriesExclusive}
 use Rattle.table_tests.specs.Turns.{TakesIt}

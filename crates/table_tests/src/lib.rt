@@ -8,9 +8,11 @@
 #[cfg(test)]
 mod commands;
 #[cfg(test)]
+mod copies;
+#[cfg(test)]
 mod copy_tests;
 #[cfg(test)]
-mod copying;
+mod entry_reads;
 #[cfg(test)]
 mod flush_tests;
 #[cfg(test)]
@@ -20,17 +22,15 @@ mod images;
 #[cfg(test)]
 mod limit_tests;
 #[cfg(test)]
-mod linking;
+mod links;
 #[cfg(test)]
 mod noted_sets;
 #[cfg(test)]
-mod publishing;
-#[cfg(test)]
-mod reading;
+mod publications;
 #[cfg(test)]
 mod region_tests;
 #[cfg(test)]
-mod replaying;
+mod replayed;
 #[cfg(test)]
 mod ring;
 #[cfg(test)]

@@ -4,7 +4,7 @@ ghost use Rattle.std.specs.Prelude.{◌≡◌, ◌^◌, ◌≤◌, None, IfSome,
 ghost use Rattle.cx_table.specs.Running.{IsSeatOf};
 
 use crate::holds::holds;
-use crate::linking::{NO_LIMIT, made};
+use crate::links::{NO_LIMIT, made};
 use cx_base::tally::Tally;
 use cx_base::{Halt, root_place};
 use cx_core::Protection;

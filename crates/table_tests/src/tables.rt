@@ -6,7 +6,7 @@ ghost use Rattle.mutation_queue.specs.Tests.{IsPairOf};
 ghost use Rattle.table_tests.specs.Replaying.{IsNew};
 ghost use Rattle.strong_trylock.specs.Held.{all_rights, no_rights};
 
-use crate::linking::two;
+use crate::links::two;
 use cx_base::{Halt, Object};
 use cx_core::Base;
 use cx_table::{CallerSeat, Remains, Shared};

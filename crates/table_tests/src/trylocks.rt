@@ -4,7 +4,7 @@ ghost use Rattle.std.specs.Prelude.{◌≡◌, ◌≢◌, ◌*◌, ◌<◌, IfOk
 ghost use Rattle.table_tests.specs.Trylocks.{ArePair, HoldsDowngraded, IsFreeIn};
 
 use crate::holds::holds;
-use crate::linking::{NO_LIMIT, two};
+use crate::links::{NO_LIMIT, two};
 use cx_base::Halt;
 use cx_base::tally::Tally;
 use cx_core::Base;

@@ -4,7 +4,7 @@ ghost use Rattle.std.specs.Prelude.{◌<◌, ◌≤◌};
 ghost use Rattle.cx_table.specs.Running.{IsSeatOf};
 
 use crate::holds::holds;
-use crate::linking::{NO_LIMIT, is_linked, made, update};
+use crate::links::{NO_LIMIT, is_linked, made, update};
 use core_guards::callers::Callers;
 use core_guards::queue::{protects, shows_ticket};
 use cx_base::tally::Tally;

@@ -13,7 +13,7 @@ mod loads;
 #[cfg(test)]
 mod many_lines;
 #[cfg(test)]
-mod naming;
+mod named;
 #[cfg(test)]
 mod outcome;
 #[cfg(test)]

@@ -1,7 +1,7 @@
 //! The reports of worked lives.
 
 use crate::holds::holds;
-use crate::naming::name_commands;
+use crate::named::name_commands;
 use crate::records::{Lived, Told, records_of};
 use cx_base::Items;
 use doc_text::{LifeRecord, Script, read_script, report};

@@ -3,8 +3,8 @@ use Rattle.std.specs.Prelude.{◌≡◌, ◌⊎◌, ◌+◌, ◌^◌, ◌<◌, �
 use Rattle.std.specs.Fmt.{decimal}
 use Rattle.plain_text.specs.LineGrammar.{LineGrammar, IsFault, IsTextOf}
 use Rattle.plain_text.specs.Lines.{text_lines}
-use Rattle.plain_text.specs.declared.reading.TextFault.{TextFault}
-use Rattle.plain_text.specs.declared.reading.TextFault.TheVariants.{Refused, Memory}
+use Rattle.plain_text.specs.declared.reader.TextFault.{TextFault}
+use Rattle.plain_text.specs.declared.reader.TextFault.TheVariants.{Refused, Memory}
 use Rattle.trace_text.specs.Kinds.{IsKindText}
 use Rattle.trace_text.specs.Reading.{with_head, with_step}
 use Rattle.trace_text.specs.Reasons.{trace_reason_for}

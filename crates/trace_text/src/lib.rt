@@ -11,8 +11,8 @@ mod commands;
 mod events;
 mod heads;
 mod kinds;
-mod reading;
+mod reader;
 mod trace;
 
-pub use reading::read_trace;
+pub use reader::read_trace;
 pub use trace::{Trace, TraceFault, TraceLine, TraceLines, TraceReason, TraceWhat};

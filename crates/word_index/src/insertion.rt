@@ -15,7 +15,7 @@ ghost use Rattle.word_index.specs.Fresh.{CanTake};
 ghost use Rattle.word_index.specs.Insertion.{PairWritten, CanAdd, Adds, CanWrite, WritesAt, LinesAt, IsInsertKnown, PutsDocument};
 ghost use Rattle.word_index.specs.Walk.{HasNode, FewVisits, Walked};
 
-use crate::rewriting::exchange;
+use crate::rewrite::exchange;
 use crate::taken::{put_line, take_line, write_text};
 use crate::texts::{Doc, Key};
 use crate::walk::{End, seek_place};

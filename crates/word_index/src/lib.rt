@@ -25,7 +25,7 @@
 
 mod answers;
 mod blocks;
-mod filling;
+mod chain_words;
 mod format;
 mod given_back;
 mod given_pairs;
@@ -33,10 +33,10 @@ mod insertion;
 mod laws;
 mod nodes;
 mod removal;
-mod rewriting;
+mod rewrite;
 mod taken;
 mod texts;
-mod upgrading;
+mod upgrade;
 mod walk;
 
 pub use answers::{find, least_above, read_document};
@@ -50,4 +50,4 @@ pub use laws::{documents_are_put, keys_are_removed};
 pub use nodes::{count, last_revision, rev_at};
 pub use removal::remove;
 pub use texts::{Doc, Key};
-pub use upgrading::upgrade_index;
+pub use upgrade::upgrade_index;

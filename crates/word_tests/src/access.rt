@@ -4,7 +4,7 @@ ghost use Rattle.std.specs.Prelude.{◌≡◌, ◌*◌, ◌^◌, ◌≤◌, IsTr
 ghost use Rattle.cx_base.specs.Memory.{Always};
 ghost use Rattle.doc_store.specs.ExactStep.{IsImageOfStore};
 
-use crate::counting::{Counting, counted_words};
+use crate::counted::{Counting, counted_words};
 use crate::holds::holds;
 use crate::mixed::digit;
 use crate::rows::{LETTERS, asked, laid_out, opened};

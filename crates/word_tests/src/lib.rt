@@ -11,9 +11,9 @@ mod access;
 #[cfg(test)]
 mod base;
 #[cfg(test)]
-mod counters;
+mod counted;
 #[cfg(test)]
-mod counting;
+mod counters;
 #[cfg(test)]
 mod held;
 #[cfg(test)]

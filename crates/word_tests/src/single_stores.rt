@@ -5,7 +5,7 @@ ghost use Rattle.cx_base.specs.Memory.{Always};
 ghost use Rattle.doc_store.specs.ExactStep.{IsImageOfStore};
 
 use crate::access::{DEL, PUT, has_height, key_of, on_key};
-use crate::counting::{Counting, WordStores, counted_words};
+use crate::counted::{Counting, WordStores, counted_words};
 use crate::holds::holds;
 use crate::mixed::{Numbers, command};
 use crate::rows::{LETTERS, asked, laid_out, opened};

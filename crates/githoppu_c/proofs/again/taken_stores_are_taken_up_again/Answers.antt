@@ -2,7 +2,7 @@ use Rattle.std.proofs.Common.{◌≡◌, ◌∙◌, inl, Ok, Result, refl, subst
 use Rattle.cx_core.specs.declared.entry.Base.{Base}
 use Rattle.c_images.specs.Replies.{HoldsReplies, IsDocumentReply}
 use Rattle.c_images.specs.Taken.{base_at}
-use Rattle.c_images.specs.declared.reading.WordsFault.{WordsFault}
+use Rattle.c_images.specs.declared.reader.WordsFault.{WordsFault}
 use Rattle.githoppu_c.proofs.TakenUp.{store_again}
 use Rattle.githoppu_c.proofs.again.taken_stores_are_taken_up_again.Goals as goal
 

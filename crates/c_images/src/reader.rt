@@ -1,0 +1,108 @@
+//! A base is taken up from words.
+
+ghost use Rattle.std.specs.Prelude.{◌≡◌, ◌<◌, ◌≤◌, ◌↔◌, IfOk, IsTrue, MatchResult, length};
+ghost use Rattle.cx_core.specs.Base.{LawfulBase};
+ghost use Rattle.cx_core.specs.Region.{slot_number};
+ghost use Rattle.recovery.specs.Images.{IsReadable};
+ghost use Rattle.recovery.specs.Recovery.{NumbersWithin};
+ghost use Rattle.c_images.specs.Words.{IsSaid, IsTakenUp, IsWordsFault, SaysImage};
+ghost use Rattle.c_images.specs.declared.reader.WordsFault.TheVariants.{Numbers};
+
+use crate::head::{HEAD, Head};
+use cx_base::{Items, Object};
+use cx_core::{Base, Image, slot_start};
+use recovery::{ImageFault, recover};
+use std::alloc::{AllocError, Global};
+
+/// Why nothing is taken up from words.
+#[derive(Clone, Copy, Debug, PartialEq, Eq, Drop)]
+pub enum WordsFault {
+    /// They do not begin with the head of an image.
+    Head,
+    /// They are of another kind of object, which is told.
+    Kind { found: u64 },
+    /// Recovery refuses the image, or memory ran out.
+    Image(ImageFault),
+    /// A result has a number above the image's place.
+    Numbers,
+}
+
+/// The base from which a service of an object of the head's lines may start, as words with this head say it. A refusal names the first check that
+/// they do not pass.
+pub fn base_of<O: Object>(
+    alloc: Global,
+    object: &O,
+    words: &[u64],
+    head: Head,
+) -> Result<Base, WordsFault>
+    requires head { IsSaid words.now head }
+    requires lines { head.lines ≡ O.line_count object.now }
+    ensures told { MatchResult result
+        (IsTakenUp (O.version_number object.now) (O.lawful object.now) (O.old_format object.now) words.now)
+        (IsWordsFault (O.version_number object.now) (O.lawful object.now) (O.old_format object.now) words.now) }
+    ensures lawful { IfOk result (LawfulBase (O.line_count object.now) (O.lawful object.now)) }
+{
+    let Ok(image) = image_of(alloc, words, head) else {
+        return Err(WordsFault::Image(ImageFault::Memory));
+    };
+    match recover(alloc, object, &image) {
+        Ok(base) => within(base),
+        Err(fault) => Err(WordsFault::Image(fault)),
+    }
+}
+
+/// The image that words say.
+fn image_of(alloc: Global, words: &[u64], head: Head) -> Result<Image, AllocError>
+    requires { IsSaid words.now head }
+    ensures said { IfOk result (SaysImage words.now) }
+    ensures readable { IfOk result (IsReadable head.lines) }
+{
+    let mut pairs = Vec::new(alloc);
+    for at in 0..words.len() - HEAD {
+        let word = words[at + HEAD];
+        if word != 0 {
+            pairs.push((at as u64, word))?;
+        }
+    }
+    Ok(Image {
+        callers: head.callers,
+        lines: head.lines,
+        count: (words.len() - HEAD) as u64,
+        root: head.root,
+        pairs: Items::of(pairs),
+    })
+}
+
+/// The base, where no number of its results is above its place.
+fn within(base: Base) -> Result<Base, WordsFault>
+    ensures { MatchResult result (λ same. (same ≡ base) × NumbersWithin base) (λ fault. (fault ≡ Numbers) × (¬ NumbersWithin base)) }
+{
+    if has_numbers_within(&base) {
+        Ok(base)
+    } else {
+        Err(WordsFault::Numbers)
+    }
+}
+
+/// Whether no number of a base's results is above its place.
+fn has_numbers_within(base: &Base) -> bool
+    ensures { IsTrue result ↔ NumbersWithin base.now }
+{
+    for caller in 0..8 {
+        if number_of(base, caller) > base.place {
+            return false;
+        }
+    }
+    true
+}
+
+/// The number of a caller's result.
+fn number_of(base: &Base, caller: u32) -> u64
+    requires { caller < 8 }
+    ensures { result ≡ slot_number caller base.now.words }
+{
+    match base.words.as_slice().get(slot_start(caller) as usize) {
+        Some(number) => *number,
+        None => 0,
+    }
+}

@@ -1,0 +1,160 @@
+//! Sessions are closed one by one, in any order and by any thread. The last one closes the service.
+
+ghost use Rattle.std.specs.Prelude.{◌≡◌, MatchResult};
+ghost use Rattle.cx_rule.specs.Running.{Running};
+ghost use Rattle.cx_service.specs.Closes.{seats_of};
+ghost use Rattle.cx_table.specs.Remains.{AreSeats};
+ghost use Rattle.c_sessions.specs.Closings.{Closes, ClosesTo, IsClosedOf};
+ghost use Rattle.c_sessions.specs.Handing.{IsSessionRestOf};
+ghost use Rattle.c_sessions.specs.Sessions.{IsSessionReady};
+
+use crate::exit::{Exit, Rest};
+use crate::gather::gather;
+use crate::rule::HandedIn;
+use crate::session::Session;
+use cx_base::Object;
+use cx_service::Kept;
+use cx_table::Remains;
+use seat_pool::in_order;
+use std::alloc::Global;
+use std::sync::Arc;
+use std::sync::atomic::Ordering;
+
+/// The result of closing a session.
+#[derive(Drop)]
+pub enum Closing<O: Object> {
+    /// Other sessions of the service are not closed. The caller lies with those that are handed in.
+    Others,
+    /// Others were in the way: the session is as it was.
+    Again(Session<O>),
+    /// It was the last: what the service leaves.
+    Closed(Remains),
+    /// It was the last, and memory ran out: the service and all its callers, of caller 0 first.
+    Kept(Kept<O>),
+    /// It was the last, and a caller of the service is missing: what it has is to be closed again.
+    Missing(Rest<O>),
+    /// It was the last and has all callers, and a share of the service is elsewhere: what it has is to be closed again.
+    Shared(Rest<O>),
+}
+
+impl<O: Object> Session<O> {
+    /// Closes the session. Its caller is handed in, in whatever state it is. The session that is closed last takes all callers of the
+    /// service out, and closes it.
+    pub fn close(self, alloc: Global) -> Closing<O>
+        requires { IsSessionReady self }
+        ensures { Closes O.line_count O.lawful O.step O.only_reads self result }
+    {
+        let Session {
+            service,
+            exit,
+            handed,
+            place,
+        } = self;
+        let Exit {
+            handover,
+            mut pass,
+            gathered,
+            out,
+        } = exit;
+        if let Err(back) = handover.hand_in(&mut pass, HandedIn { service, handed }) {
+            let exit = Exit {
+                handover,
+                pass,
+                gathered,
+                out,
+            };
+            return Closing::Again(Session {
+                service: back.service,
+                exit,
+                handed: back.handed,
+                place,
+            });
+        }
+        let came = handover.came.fetch_add(1, Ordering::SeqCst);
+        let last = u64::from(handover.callers) - 1;
+        // of one caller there are no others
+        if came != last && last > 0 {
+            return Closing::Others;
+        }
+        let exit = Exit {
+            handover,
+            pass,
+            gathered,
+            out,
+        };
+        close_rest(
+            alloc,
+            Rest {
+                service: None,
+                exit,
+            },
+        )
+    }
+}
+
+/// Gathers the callers that are still in the queue, and closes the service where these are all.
+pub fn close_rest<O: Object>(alloc: Global, rest: Rest<O>) -> Closing<O>
+    requires { (r : Running O) × IsSessionRestOf r rest }
+    ensures { (r : Running O) → IsSessionRestOf r rest → ClosesTo O.line_count O.lawful O.step O.only_reads r result }
+{
+    let Rest { service, exit } = rest;
+    let Exit {
+        handover,
+        mut pass,
+        gathered,
+        out,
+    } = exit;
+    let (service, gathered) = gather(&handover, &mut pass, service, gathered);
+    if gathered.len() < handover.callers as usize {
+        let exit = Exit {
+            handover,
+            pass,
+            gathered,
+            out,
+        };
+        return Closing::Missing(Rest { service, exit });
+    }
+    handover.learn(&mut pass);
+    let Some(service) = service else {
+        unreachable!()
+    };
+    match Arc::try_unwrap(service) {
+        Ok(service) => {
+            let callers = in_order(&service, gathered, out);
+            close_all(alloc, Kept { service, callers })
+        }
+        Err(service) => {
+            let exit = Exit {
+                handover,
+                pass,
+                gathered,
+                out,
+            };
+            Closing::Shared(Rest {
+                service: Some(service),
+                exit,
+            })
+        }
+    }
+}
+
+/// Closes a service with all its callers.
+fn close_all<O: Object>(alloc: Global, kept: Kept<O>) -> Closing<O>
+    requires { AreSeats kept.service (seats_of kept.callers.items) }
+    ensures { ClosesTo O.line_count O.lawful O.step O.only_reads kept.service result }
+{
+    match close_kept(alloc, kept) {
+        Ok(remains) => Closing::Closed(remains),
+        Err(kept) => Closing::Kept(kept),
+    }
+}
+
+/// Closes a service that was not closed since memory ran out. `Err` means that it ran out again, and hands all back as it was.
+pub fn close_kept<O: Object>(alloc: Global, kept: Kept<O>) -> Result<Remains, Kept<O>>
+    requires { AreSeats kept.service (seats_of kept.callers.items) }
+    ensures { MatchResult result (IsClosedOf O.line_count O.lawful O.step O.only_reads kept.service) (λ back. back ≡ kept) }
+{
+    let Kept { service, callers } = kept;
+    let _ = service.lines();
+    service.close(alloc, callers)
+}

@@ -1,0 +1,44 @@
+use Rattle.std.proofs.Common.{ap, refl, ◌∙◌}
+use Rattle.cx_rule.specs.Fitting.{has_of}
+use Rattle.cx_rule.specs.Seats.{Seated}
+use Rattle.cx_turns.proofs.Bringing.{brings_around}
+use Rattle.cx_turns.proofs.Kept.{held_same, shows_same}
+use Rattle.cx_turns.proofs.Working.{counted_same, still_bringing}
+use Rattle.replica.specs.Laws.{image_same}
+use Rattle.cx_turns.proofs.replay.bring_up.Goals as goal
+
+pub settle-requires : goal.settle-requires
+settle-requires g c =
+    let t = c.args.shared.now in
+    let e = c.in_ok-unguard.ensures.leaves in
+    let done = c.in_ok-replied.ensures in
+    let was = done.replayed.ready in
+    let mid = c.replay_to.new.seat in
+    let last = c.unguard.new.seat in
+    let accesses = ap (λ (s : Seated). s.known.accesses) e.rest in
+    let has = ap (λ (s : Seated). has_of s.known) e.rest in
+    let number = ap (λ (s : Seated). s.known.local.number) e.rest in
+    record {
+      ready = record {
+        is_held = held_same g.O.Object t mid last c.args.held.now e.of (ap (λ (s : Seated). s.known.local.exclusive) e.rest) number has accesses was.is_held;
+        image = image_same (g.O.Object.line_count t.object) (g.O.Object.lawful t.object) t.base (g.O.Object.step t.object) mid.known last.known has accesses was.image;
+        place = refl;
+      };
+      given = λ own. shows_same g.O.Object t mid last c.args.held.now has accesses number c.replay_to.new.reply (done.replied own);
+    }
+
+pub returns-clause-counted : goal.returns-clause-counted
+returns-clause-counted g c was =
+    let sets = ap (λ (s : Seated). s.known.sets) c.settle.ensures.keeps.rest ∙ ap (λ (s : Seated). s.known.sets) c.unguard.ensures.leaves.rest in
+    counted_same c.replay_to.new.scratch.taken c.replay_to.new.scratch.taken c.replay_to.new.seat c.settle.new.seat refl sets (c.in_ok-replied.ensures.counted was)
+
+pub returns-clause-by_sets : goal.returns-clause-by_sets
+returns-clause-by_sets g c =
+    brings_around c.args.seat.now c.args.seat.now c.replay_to.new.seat c.settle.new.seat refl c.in_ok-replied.ensures.by_sets
+    (ap (λ (s : Seated). s.known.sets) c.settle.ensures.keeps.rest ∙ ap (λ (s : Seated). s.known.sets) c.unguard.ensures.leaves.rest)
+
+pub returns-clause-keeps : goal.returns-clause-keeps
+returns-clause-keeps g c = record {
+  seat = c.settle.ensures.keeps.seat;
+  rest = still_bringing c.args.seat.now c.replay_to.new.seat c.unguard.new.seat c.settle.new.seat c.settle.ensures.keeps.rest c.unguard.ensures.leaves.rest c.replay_to.ensures.keeps.rest;
+}

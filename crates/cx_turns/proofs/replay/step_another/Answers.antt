@@ -1,0 +1,97 @@
+use Rattle.std.proofs.Common.{◌+◌, ◌∷◌, ◌∙◌, ap, inl, inr, refl, subst}
+use Rattle.cx_rule.specs.Seats.{Seated}
+use Rattle.cx_turns.proofs.ReadEntries.{may_still, offered_comes, ready_read}
+use Rattle.cx_turns.proofs.Stepping.{on_then}
+use Rattle.cx_turns.proofs.Working.{replay_held, replay_offered}
+use Rattle.cx_turns.specs.Turns.{but_sets}
+use Rattle.redo_set.specs.Taking.{CountsTaken, sets_read}
+use Rattle.replica_sets.specs.Offered.{BringsBySet, ReplaysOffered}
+use Rattle.cx_turns.proofs.replay.step_another.Goals as goal
+
+pub returns-in_err-read_next-clause-keeps : goal.returns-in_err-read_next-clause-keeps
+returns-in_err-read_next-clause-keeps g c =
+    let f = c.read_next.ensures.keeps in
+    record { seat = f.seat; rest = ap but_sets f.rest }
+
+pub replay_offered-requires : goal.replay_offered-requires
+replay_offered-requires g c =
+    let f = c.in_ok-read_next.ensures in
+    let now = c.read_next.new.seat in
+    let next = c.read_next.new.next in
+    record {
+      ready = ready_read g.O.Object c.args.shared.now next.caller c.args.at c.args.at (next.number ∷ next.op) c.args.seat.now now c.args.held.now f.keeps.seat f.read.read f.read.fits c.requires.ready;
+      may = may_still c.args.shared.now c.args.at c.args.seat.now now f.keeps.seat (ap (λ (s : Seated). s.known.local.front) f.keeps.rest) (ap (λ (s : Seated). s.known.local.protection) f.keeps.rest) c.requires.may;
+      later = c.requires.later;
+    }
+
+pub returns-in_err-taken-clause-keeps : goal.returns-in_err-taken-clause-keeps
+returns-in_err-taken-clause-keeps g c =
+    let e = c.replay_offered.ensures.leaves in
+    let f = c.in_ok-read_next.ensures in
+    record { seat = e.seat; rest = replay_offered c.args.held.now.replica c.read_next.new.seat c.replay_offered.new.seat e.rest ∙ ap but_sets f.keeps.rest }
+
+pub returns-then-taken : goal.returns-then-taken
+returns-then-taken g c =
+    let now = c.read_next.new.seat in
+    let mid = c.replay_offered.new.seat in
+    let e = c.replay_offered.ensures.leaves in
+    let f = c.in_ok-read_next.ensures in
+    let set = c.replay_offered.new.set in
+    let sets = ap (λ (s : Seated). s.known.sets) f.keeps.rest in
+    let by = (subst (BringsBySet g.O.Object c.args.shared.now c.args.at set now mid) c.if-taken.true c.in_ok-taken.ensures.brought).by in
+    record {
+      applied = subst (ReplaysOffered g.O.Object c.args.shared.now c.args.held.now c.args.at mid) c.if-taken.true c.in_ok-taken.ensures.replayed;
+      counted = by.read ∙ ap (λ ns. sets_read ns + 1) sets;
+      by_sets = inr (set, now, sets, by);
+      keeps = record { seat = e.seat; rest = replay_offered c.args.held.now.replica now mid e.rest ∙ ap but_sets f.keeps.rest };
+      since = on_then c.args.seat.now now mid c.read_next.ensures.since c.replay_offered.ensures.since;
+    }
+
+pub apply_noting-requires : goal.apply_noting-requires
+apply_noting-requires g c =
+    let f = c.in_ok-read_next.ensures in
+    let now = c.read_next.new.seat in
+    let mid = c.replay_offered.new.seat in
+    let next = c.read_next.new.next in
+    let e = c.replay_offered.ensures.leaves in
+    let ready = subst (ReplaysOffered g.O.Object c.args.shared.now c.args.held.now c.args.at mid) c.if-taken.false c.in_ok-taken.ensures.replayed in
+    record {
+      ready = record { is_held = ready.is_held; image = ready.image; place = refl };
+      next = offered_comes g.O.Object c.args.shared.now c.args.at next c.args.seat.now now mid f.read (ap (λ (s : Seated). s.known.noted) e.rest) ready.place;
+    }
+
+pub returns-in_err-apply_noting-clause-keeps : goal.returns-in_err-apply_noting-clause-keeps
+returns-in_err-apply_noting-clause-keeps g c =
+    let e = c.replay_offered.ensures.leaves in
+    let f = c.in_ok-read_next.ensures in
+    let now = c.read_next.new.seat in
+    let mid = c.replay_offered.new.seat in
+    let a = c.apply_noting.ensures.leaves in
+    record { seat = a.still.of; rest = replay_held c.args.held.now.replica mid c.apply_noting.new.seat a.rest ∙ replay_offered c.args.held.now.replica now mid e.rest ∙ ap but_sets f.keeps.rest }
+
+pub returns : goal.returns
+returns g c =
+    let a = c.in_ok-apply_noting.ensures in
+    let f = c.in_ok-read_next.ensures in
+    let now = c.read_next.new.seat in
+    let mid = c.replay_offered.new.seat in
+    let last = c.apply_noting.new.seat in
+    let e = c.replay_offered.ensures.leaves in
+    let ready = subst (ReplaysOffered g.O.Object c.args.shared.now c.args.held.now c.args.at mid) c.if-taken.false c.in_ok-taken.ensures.replayed in
+    let same = ap (λ (s : Seated). s.known.sets) a.leaves.rest ∙ subst (CountsTaken now mid) c.if-taken.false c.in_ok-taken.ensures.counted ∙ ap (λ (s : Seated). s.known.sets) f.keeps.rest in
+    record {
+      applied = record { is_held = a.ready.0.is_held; image = a.ready.0.image; place = a.ready.0.place ∙ ap (λ n. n + 1) ready.place };
+      counted = same;
+      by_sets = inl same;
+      keeps = record { seat = a.leaves.still.of; rest = replay_held c.args.held.now.replica mid last a.leaves.rest ∙ replay_offered c.args.held.now.replica now mid e.rest ∙ ap but_sets f.keeps.rest };
+      since = on_then c.args.seat.now mid last (on_then c.args.seat.now now mid c.read_next.ensures.since c.replay_offered.ensures.since) a.leaves.since;
+    }
+
+pub returns-in_err-taken-clause-since : goal.returns-in_err-taken-clause-since
+returns-in_err-taken-clause-since g c = on_then c.args.seat.now c.read_next.new.seat c.replay_offered.new.seat c.read_next.ensures.since c.replay_offered.ensures.since
+
+pub returns-in_err-apply_noting-clause-since : goal.returns-in_err-apply_noting-clause-since
+returns-in_err-apply_noting-clause-since g c =
+    let now = c.read_next.new.seat in
+    let mid = c.replay_offered.new.seat in
+    on_then c.args.seat.now mid c.apply_noting.new.seat (on_then c.args.seat.now now mid c.read_next.ensures.since c.replay_offered.ensures.since) c.apply_noting.ensures.leaves.since

@@ -1,0 +1,317 @@
+//! A replica held exclusively is brought up to a ticket by the entries of the queue.
+
+ghost use Rattle.std.specs.Prelude.{◌+◌, ◌<◌, ◌∷◌, ◌≡◌, ◌≤◌, IfOk, IsTrue, MatchResult, OnOk, Some, true, ℕ};
+ghost use Rattle.cx_base.specs.Memory.{Reads};
+ghost use Rattle.cx_core.specs.Region.{slot_reply};
+ghost use Rattle.cx_core.specs.RingEvents.{Protects};
+ghost use Rattle.cx_rule.specs.Fitting.{FitsKnown};
+ghost use Rattle.cx_rule.specs.Seats.{IsAtLimit};
+ghost use Rattle.cx_turns.specs.Bringing.{BringsAtMost, BringsEntries};
+ghost use Rattle.cx_turns.specs.Keeping.{IsUnrefused};
+ghost use Rattle.cx_turns.specs.Replaying.{IsApplied, IsBroughtUp, IsReplayedPast, IsReplicaSettled, LoadsOnly, ReadsNext, beside_bringing, beside_replay, beside_work};
+ghost use Rattle.cx_turns.specs.Turns.{KeepsSeat, KeepsCount, StepsOn};
+ghost use Rattle.mutation_queue.specs.Entries.{MayRead};
+ghost use Rattle.redo_set.specs.Taking.{CountsTaken};
+ghost use Rattle.replica.specs.Held.{IsHeld, beside_held, left_of};
+ghost use Rattle.replica.specs.Regions.{HasPlace};
+ghost use Rattle.replica.specs.Replays.{IsReady, ShowsReply, noted_place};
+ghost use Rattle.seat_memory.specs.Summaries.{IsOwnEntry};
+
+use crate::renewal::unguard;
+use crate::scratch::Scratch;
+use cx_base::{ENTRY_WORDS, Halt, Object, OpWords};
+use cx_core::Entry;
+use cx_table::{CallerSeat, Exclusive, Shared};
+use mutation_queue::entry;
+use redo_set::WriteSet;
+use replica::{Region, flush, outcome};
+use replica_sets::{apply_noting, replay_offered, replay_own, step_and_offer};
+
+/// Brings a replica that was kept for the entries up to a ticket up to it, removes the protection, and makes it durable. The reply to the
+/// caller's last entry there is the one that the step of that entry gave, where it was made here, and else it is read. `Halt` comes only
+/// where the seat's steps equal its limit.
+pub(crate) fn bring_up<O: Object>(
+    shared: &Shared<O>,
+    seat: &mut CallerSeat,
+    held: &Exclusive,
+    ticket: u64,
+    scratch: &mut Scratch,
+    reply: &mut OpWords,
+) -> Result<(), Halt>
+    requires kept { IsUnrefused O.Object shared.now ticket seat.old seat.old held.now }
+    requires linked { ticket < seat.old.known.local.front }
+    ensures brought { MatchResult result (λ _. IsBroughtUp O.Object shared.now held.now ticket seat.new reply.new) (λ _. IsAtLimit seat.new.known.local) }
+    ensures counted { OnOk result (KeepsCount scratch.old.taken seat.old scratch.new.taken seat.new) }
+    ensures by_sets { OnOk result (BringsEntries seat.old seat.new) }
+    ensures keeps { KeepsSeat shared.now beside_bringing seat.old seat.new }
+    ensures since { StepsOn seat.old seat.new }
+{
+    let replied = replay_to(shared, seat, held, ticket, scratch, reply)?;
+    unguard(shared, seat)?;
+    settle(shared, seat, held, replied, reply)?;
+    Ok(())
+}
+
+/// Makes a replica held exclusively durable that is the image after its place, once the caller has the reply to its last entry there.
+fn settle<O: Object>(
+    shared: &Shared<O>,
+    seat: &mut CallerSeat,
+    held: &Exclusive,
+    replied: bool,
+    reply: &mut OpWords,
+) -> Result<(), Halt>
+    requires ready { IsReady O.Object shared.now held.now (noted_place seat.old) seat.old }
+    requires given { IsTrue replied → ShowsReply (O.line_count shared.now.object) (O.lawful shared.now.object) shared.now.base (O.step shared.now.object) seat.old.known seat.old.known.local.number reply.old }
+    ensures settled { MatchResult result (λ _. IsReplicaSettled O.Object shared.now held.now seat.old seat.new reply.new) (λ _. IsAtLimit seat.new.known.local) }
+    ensures keeps { KeepsSeat shared.now beside_work seat.old seat.new }
+    ensures since { StepsOn seat.old seat.new }
+{
+    own_reply(shared, seat, held, replied, reply)?;
+    flush(shared, seat, held)?;
+    Ok(())
+}
+
+/// Reads the reply to the caller's own last entry in a replica held exclusively, where the caller does not have it.
+fn own_reply<O: Object>(
+    shared: &Shared<O>,
+    seat: &mut CallerSeat,
+    held: &Exclusive,
+    replied: bool,
+    reply: &mut OpWords,
+) -> Result<(), Halt>
+    requires ready { IsReady O.Object shared.now held.now (noted_place seat.old) seat.old }
+    requires given { IsTrue replied → ShowsReply (O.line_count shared.now.object) (O.lawful shared.now.object) shared.now.base (O.step shared.now.object) seat.old.known seat.old.known.local.number reply.old }
+    ensures reply { MatchResult result (λ _. ShowsReply (O.line_count shared.now.object) (O.lawful shared.now.object) shared.now.base (O.step shared.now.object) seat.new.known seat.new.known.local.number reply.new) (λ _. IsAtLimit seat.new.known.local) }
+    ensures ready { IsReady O.Object shared.now held.now (noted_place seat.old) seat.new }
+    ensures rest { beside_held held.now.replica seat.new ≡ beside_held held.now.replica seat.old }
+    ensures since { StepsOn seat.old seat.new }
+{
+    if replied {
+        return Ok(());
+    }
+    own_outcome(shared, seat, held, reply)
+}
+
+/// Applies the entries from the place of a replica held exclusively up to a ticket, in order, each by its write set where the caller has that
+/// or it is offered, and else by its step: where the place is above the ticket, none. The caller's own are had from the seat's memory, and what is
+/// read of another's is read from the queue while the caller's protection keeps it. The write set of an own entry whose step is done is offered. The
+/// replica is the image after its place before and afterwards, and then its place is above the ticket. It tells whether the last one that it
+/// applied is the caller's own by its step, whose reply it then gives. `Halt` comes only where the seat's steps equal its limit.
+pub fn replay_to<O: Object>(
+    shared: &Shared<O>,
+    seat: &mut CallerSeat,
+    held: &Exclusive,
+    ticket: u64,
+    scratch: &mut Scratch,
+    reply: &mut OpWords,
+) -> Result<bool, Halt>
+    requires ready { IsReady O.Object shared.now held.now (noted_place seat.old) seat.old }
+    requires linked { ticket < seat.old.known.local.front }
+    requires protected { (t : ℕ) → noted_place seat.old ≤ t → t ≤ ticket → Protects t seat.old.known.local.protection }
+    ensures replayed { MatchResult result (λ _. IsReplayedPast O.Object shared.now held.now ticket seat.new) (λ _. IsAtLimit seat.new.known.local) }
+    ensures replied { IfOk result (λ own. IsTrue own → ShowsReply (O.line_count shared.now.object) (O.lawful shared.now.object) shared.now.base (O.step shared.now.object) seat.new.known seat.new.known.local.number reply.new) }
+    ensures counted { OnOk result (KeepsCount scratch.old.taken seat.old scratch.new.taken seat.new) }
+    ensures by_sets { OnOk result (BringsEntries seat.old seat.new) }
+    ensures keeps { KeepsSeat shared.now beside_replay seat.old seat.new }
+    ensures since { StepsOn seat.old seat.new }
+{
+    // tickets are few
+    let _front = seat.front();
+    let place = seat.noted_place();
+    if ticket < place {
+        return Ok(false);
+    }
+    let mut own = false;
+    for at in place..ticket + 1 {
+        own = replay_next(shared, seat, held, at, scratch, reply)?;
+    }
+    Ok(own)
+}
+
+/// Applies the entry of the place of a replica held exclusively. It tells whether that is the caller's own, whose step was done.
+fn replay_next<O: Object>(
+    shared: &Shared<O>,
+    seat: &mut CallerSeat,
+    held: &Exclusive,
+    at: u64,
+    scratch: &mut Scratch,
+    reply: &mut OpWords,
+) -> Result<bool, Halt>
+    requires ready { IsReady O.Object shared.now held.now at seat.old }
+    requires may { MayRead shared.now at seat.old }
+    requires later { shared.now.base.place ≤ at }
+    ensures applied { MatchResult result (IsApplied O.Object shared.now held.now at reply.new seat.new) (λ _. IsAtLimit seat.new.known.local) }
+    ensures counted { OnOk result (KeepsCount scratch.old.taken seat.old scratch.new.taken seat.new) }
+    ensures by_sets { OnOk result (BringsEntries seat.old seat.new) }
+    ensures keeps { KeepsSeat shared.now beside_replay seat.old seat.new }
+    ensures since { StepsOn seat.old seat.new }
+{
+    let done = replay_own(shared, seat, held, at)?;
+    if done {
+        return Ok(false);
+    }
+    if seat.own_entry(at, &mut scratch.next) {
+        step_own(shared, seat, held, at, scratch, reply)?;
+        return Ok(true);
+    }
+    replay_another(shared, seat, held, at, scratch, reply)?;
+    Ok(false)
+}
+
+/// Does the step of the caller's own entry, which was found in the seat's memory and whose ticket is the place of a replica held exclusively, and offers
+/// its write set.
+fn step_own<O: Object>(
+    shared: &Shared<O>,
+    seat: &mut CallerSeat,
+    held: &Exclusive,
+    at: u64,
+    scratch: &mut Scratch,
+    reply: &mut OpWords,
+) -> Result<(), Halt>
+    requires ready { IsReady O.Object shared.now held.now at seat.old }
+    requires found { IsOwnEntry seat.old.known.local.own seat.old.known.local.number at scratch.old.next }
+    ensures applied { MatchResult result (λ _. IsApplied O.Object shared.now held.now at reply.new seat.new true) (λ _. IsAtLimit seat.new.known.local) }
+    ensures count { (scratch.new.taken ≡ scratch.old.taken) × (seat.new.known.sets ≡ seat.old.known.sets) }
+    ensures keeps { KeepsSeat shared.now beside_replay seat.old seat.new }
+    ensures since { StepsOn seat.old seat.new }
+{
+    // callers are few
+    let _callers = shared.callers();
+    let Scratch { next, set, .. } = scratch;
+    step_and_offer(shared, seat, held, at, next, set, reply)?;
+    Ok(())
+}
+
+/// Applies another's entry, whose ticket is the place of a replica held exclusively: by its write set where that is offered, at once or by the time
+/// that the entry was read, and else by its step.
+fn replay_another<O: Object>(
+    shared: &Shared<O>,
+    seat: &mut CallerSeat,
+    held: &Exclusive,
+    at: u64,
+    scratch: &mut Scratch,
+    reply: &mut OpWords,
+) -> Result<(), Halt>
+    requires ready { IsReady O.Object shared.now held.now at seat.old }
+    requires may { MayRead shared.now at seat.old }
+    requires later { shared.now.base.place ≤ at }
+    ensures applied { MatchResult result (λ _. IsReady O.Object shared.now held.now (at + 1) seat.new) (λ _. IsAtLimit seat.new.known.local) }
+    ensures counted { OnOk result (KeepsCount scratch.old.taken seat.old scratch.new.taken seat.new) }
+    ensures by_sets { OnOk result (BringsAtMost at seat.old seat.new) }
+    ensures keeps { KeepsSeat shared.now beside_replay seat.old seat.new }
+    ensures since { StepsOn seat.old seat.new }
+{
+    let taken = replay_offered(shared, seat, held, at, &mut scratch.set)?;
+    if taken {
+        scratch.taken = scratch.taken.saturating_add(1);
+        return Ok(());
+    }
+    let Scratch {
+        words,
+        next,
+        set,
+        ..
+    } = scratch;
+    let taken_late = step_another(shared, seat, held, at, words, next, set, reply)?;
+    if taken_late {
+        scratch.taken = scratch.taken.saturating_add(1);
+    }
+    Ok(())
+}
+
+/// Reads another's entry, whose ticket is the place of a replica held exclusively, and does its step, unless it is offered by then: it is true where
+/// it was, and then the replica was brought on by its write set.
+fn step_another<O: Object>(
+    shared: &Shared<O>,
+    seat: &mut CallerSeat,
+    held: &Exclusive,
+    at: u64,
+    words: &mut [u64; ENTRY_WORDS],
+    next: &mut Entry,
+    set: &mut WriteSet,
+    reply: &mut OpWords,
+) -> Result<bool, Halt>
+    requires ready { IsReady O.Object shared.now held.now at seat.old }
+    requires may { MayRead shared.now at seat.old }
+    requires later { shared.now.base.place ≤ at }
+    ensures applied { MatchResult result (λ _. IsReady O.Object shared.now held.now (at + 1) seat.new) (λ _. IsAtLimit seat.new.known.local) }
+    ensures counted { IfOk result (CountsTaken seat.old seat.new) }
+    ensures by_sets { OnOk result (BringsAtMost at seat.old seat.new) }
+    ensures keeps { KeepsSeat shared.now beside_replay seat.old seat.new }
+    ensures since { StepsOn seat.old seat.new }
+{
+    read_next(shared, seat, at, words, next)?;
+    // its caller may have been in the midst of its own step, which takes about as long as this reading
+    let taken = replay_offered(shared, seat, held, at, set)?;
+    if taken {
+        return Ok(true);
+    }
+    apply_noting(shared, seat, held, next, set, reply)?;
+    Ok(false)
+}
+
+/// Reads the entry with a ticket, which is linked and protected.
+fn read_next<O: Object>(
+    shared: &Shared<O>,
+    seat: &mut CallerSeat,
+    ticket: u64,
+    words: &mut [u64; ENTRY_WORDS],
+    next: &mut Entry,
+) -> Result<(), Halt>
+    requires may { MayRead shared.now ticket seat.old }
+    requires later { shared.now.base.place ≤ ticket }
+    ensures read { MatchResult result (λ _. ReadsNext O.Object shared.now ticket next.new seat.old seat.new) (λ _. IsAtLimit seat.new.known.local) }
+    ensures keeps { KeepsSeat shared.now beside_work seat.old seat.new }
+    ensures since { StepsOn seat.old seat.new }
+{
+    let caller = entry(shared, seat, ticket, words)?;
+    set_entry(next, caller, words);
+    Ok(())
+}
+
+/// Makes an entry that of a caller, of these words.
+fn set_entry(entry: &mut Entry, caller: u32, words: &[u64; ENTRY_WORDS])
+    ensures caller { entry.new.caller ≡ caller }
+    ensures words { entry.new.number ∷ entry.new.op ≡ words.now }
+{
+    entry.caller = caller;
+    entry.number = words[0];
+    entry.op.copy_from_slice(&words[1..]);
+}
+
+/// Reads the reply to the caller's own last entry in a replica held exclusively, which is the image after its place. `Halt` comes
+/// only where the seat's steps equal its limit.
+pub fn own_outcome<O: Object>(
+    shared: &Shared<O>,
+    seat: &mut CallerSeat,
+    held: &Exclusive,
+    reply: &mut OpWords,
+) -> Result<(), Halt>
+    requires ready { IsReady O.Object shared.now held.now (noted_place seat.old) seat.old }
+    ensures reply { MatchResult result (λ _. ShowsReply (O.line_count shared.now.object) (O.lawful shared.now.object) shared.now.base (O.step shared.now.object) seat.new.known seat.new.known.local.number reply.new) (λ _. IsAtLimit seat.new.known.local) }
+    ensures ready { IsReady O.Object shared.now held.now (noted_place seat.old) seat.new }
+    ensures rest { beside_held held.now.replica seat.new ≡ beside_held held.now.replica seat.old }
+    ensures since { StepsOn seat.old seat.new }
+{
+    load_own(shared, seat, held, reply)
+}
+
+/// Loads the reply to the caller's own last entry in a replica held exclusively.
+fn load_own<O: Object>(
+    shared: &Shared<O>,
+    seat: &mut CallerSeat,
+    held: &Exclusive,
+    reply: &mut OpWords,
+) -> Result<(), Halt>
+    requires held { IsHeld (O.line_count shared.now.object) shared.now (O.lawful shared.now.object) (O.step shared.now.object) seat.old held.now }
+    requires begun { HasPlace seat.old.known.accesses }
+    ensures read { MatchResult result (λ _. Reads (FitsKnown (O.line_count shared.now.object) (O.lawful shared.now.object) shared.now.base (O.step shared.now.object) seat.old.known) (FitsKnown (O.line_count shared.now.object) (O.lawful shared.now.object) shared.now.base (O.step shared.now.object) seat.new.known) (λ region. slot_reply seat.old.known.local.number region ≡ reply.new)) (λ _. left_of seat.new.known.local ≡ Some 0) }
+    ensures loads { LoadsOnly O.Object shared.now held.now seat.old seat.new }
+    ensures since { StepsOn seat.old seat.new }
+{
+    // callers are few
+    let _callers = shared.callers();
+    let caller = seat.number();
+    outcome(&mut Region::placed(shared, seat, held), caller, reply)?;
+    Ok(())
+}

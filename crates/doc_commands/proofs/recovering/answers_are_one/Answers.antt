@@ -1,5 +1,0 @@
-use Rattle.doc_commands.proofs.OneAnswer.{answers_one}
-use Rattle.doc_commands.proofs.recovering.answers_are_one.Goals as goal
-
-pub returns : goal.returns
-returns c = answers_one

@@ -1,5 +1,0 @@
-use Rattle.life_tests.specs.Tests.{IsBack}
-use Rattle.life_tests.proofs.working.works.Given as goal
-
-abbrev pub invariant-loop : goal.invariant-loop
-invariant-loop g l = IsBack l.pool l.fn.client l.client

@@ -1,0 +1,140 @@
+//! A client catches up with a place that another one told.
+
+ghost use Rattle.std.specs.Prelude.{◌≡◌, true};
+ghost use Rattle.client_pool.specs.Lending.{is_live};
+ghost use Rattle.life_tests.specs.Tests.{Counts, IsBack, IsOf};
+
+use crate::holds::holds;
+use crate::pool_starts::opened;
+use bounded_counters::{Counters, add_words, operations_are_read, read_words};
+use client_pool::{Client, Pool, Pooled, PooledCatchUp, PooledRead};
+use std::alloc::{AllocError, Global};
+use std::sync::Wait;
+use std::test::Fail;
+
+/// No limit of steps.
+const NO_LIMIT: u64 = u64::MAX;
+
+// A client catches up with a place: the place that was found to be the current one where that is below it, and `None` where its caller is stopped.
+fn found<R: Wait>(rt: &R, pool: &Pool<Counters>, client: &mut Client, place: u64) -> Option<u64>
+    requires pool { Counts pool.now }
+    requires client { IsOf pool.now client.old × (is_live client.old.lent.kept ≡ true) }
+    ensures { IsBack pool.now client.old client.new }
+{
+    let caught = pool.catch_up(rt, client, place);
+    match caught {
+        PooledCatchUp::Caught => Some(place),
+        PooledCatchUp::Behind(current) => Some(current),
+        PooledCatchUp::Stopped => None,
+    }
+}
+
+// The place of a client that added 1, and of one that read: with what it read.
+fn added<R: Wait>(rt: &R, pool: &Pool<Counters>, client: &mut Client) -> Option<u64>
+    requires pool { Counts pool.now }
+    requires client { IsOf pool.now client.old × (is_live client.old.lent.kept ≡ true) }
+    ensures { IsBack pool.now client.old client.new }
+{
+    let pooled = pool.update(rt, client, &add_words(0, 1));
+    match pooled {
+        Pooled::Done(_) => Some(client.place()),
+        _ => None,
+    }
+}
+
+fn read<R: Wait>(rt: &R, pool: &Pool<Counters>, client: &mut Client) -> Option<(u64, u64)>
+    requires pool { Counts pool.now }
+    requires client { IsOf pool.now client.old × (is_live client.old.lent.kept ≡ true) }
+    ensures { IsBack pool.now client.old client.new }
+{
+    operations_are_read();
+    let pooled = pool.read(rt, client, &read_words(0));
+    match pooled {
+        PooledRead::Read(seen) => Some((seen.place, seen.reply[1])),
+        _ => None,
+    }
+}
+
+// Whether a client reads what another one added, once it caught up with that one's place. No place is behind that.
+fn follows<R: Wait>(
+    rt: &R,
+    pool: &Pool<Counters>,
+    one: &mut Client,
+    other: &mut Client,
+    sum: u64,
+) -> Option<bool>
+    requires pool { Counts pool.now }
+    requires one { IsOf pool.now one.old }
+    requires other { IsOf pool.now other.old }
+    ensures one { IsBack pool.now one.old one.new }
+    ensures other { IsBack pool.now other.old other.new }
+{
+    if !one.is_live() || !other.is_live() {
+        return None;
+    }
+    let place = added(rt, pool, one)?;
+    let current = found(rt, pool, other, place.wrapping_add(1))?;
+    if !other.is_live() {
+        return None;
+    }
+    let before = other.caught_up();
+    let caught = found(rt, pool, other, place)?;
+    if !other.is_live() {
+        return None;
+    }
+    let seen = other.caught_up();
+    let (at, told) = read(rt, pool, other)?;
+    Some(
+        current == place
+            && before < place
+            && caught == place
+            && seen == place
+            && at >= place
+            && told == sum,
+    )
+}
+
+// Two clients follow each other so by turns, over one caller or two.
+fn follow_by_turns<R: Wait>(rt: &R, alloc: Global, callers: u32) -> Result<bool, AllocError> {
+    let (pool, clients) = opened(rt, alloc, callers, 2, NO_LIMIT)?;
+    let mut clients = clients;
+    let (Some(mut other), Some(mut one)) = (clients.pop(), clients.pop()) else {
+        return Ok(false);
+    };
+    for turn in 0..20 {
+        let sum = 2 * turn + 1;
+        if follows(rt, &pool, &mut one, &mut other, sum) != Some(true) {
+            return Ok(false);
+        }
+        if follows(rt, &pool, &mut other, &mut one, sum + 1) != Some(true) {
+            return Ok(false);
+        }
+    }
+    Ok(true)
+}
+
+#[test]
+fn a_client_follows_another(rt: HostRuntime) -> Result<(), Fail> {
+    holds(&rt, follow_by_turns(&rt, rt.alloc(), 1)?);
+    holds(&rt, follow_by_turns(&rt, rt.alloc(), 2)?);
+    Ok(())
+}
+
+// Whether a client is told so whose caller may make one step, and then makes no further call.
+fn is_stopped<R: Wait>(rt: &R, alloc: Global) -> Result<bool, AllocError> {
+    let (pool, clients) = opened(rt, alloc, 1, 1, 1)?;
+    let mut clients = clients;
+    let Some(mut client) = clients.pop() else {
+        return Ok(false);
+    };
+    if !client.is_live() {
+        return Ok(false);
+    }
+    Ok(found(rt, &pool, &mut client, 0).is_none() && !client.is_live())
+}
+
+#[test]
+fn a_client_is_stopped_where_it_follows(rt: HostRuntime) -> Result<(), Fail> {
+    holds(&rt, is_stopped(&rt, rt.alloc())?);
+    Ok(())
+}

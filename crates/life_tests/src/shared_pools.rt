@@ -1,0 +1,190 @@
+//! What clients of a pool are answered, and what the pool leaves when it is closed.
+
+use crate::clients::all_work;
+use crate::holds::holds;
+use crate::pool_starts::opened;
+use client_pool::{Answered, Client};
+use cx_base::{root_place, root_replica};
+use cx_core::{HEAD_LINES, LINE_WORDS, OBJECT_START};
+use cx_table::Remains;
+use std::alloc::{AllocError, Global};
+use std::sync::Wait;
+use std::test::Fail;
+use std::thread::Threads;
+
+/// No limit of steps.
+const NO_LIMIT: u64 = u64::MAX;
+
+/// This many callers, each with this limit of steps, are lent to clients, each of which adds 1 a number of times, and reads: one after another, or on
+/// threads.
+struct Row {
+    callers: u32,
+    clients: u32,
+    limit: u64,
+    additions: u64,
+    threads: bool,
+}
+
+/// What was answered: the additions, and the reads that are entries.
+#[derive(Clone, Copy)]
+struct Sum {
+    added: u64,
+    queued: u64,
+}
+
+/// What a client was answered at a place among its answers, after a sum that it saw: the sum that it sees then, and whether it is an entry.
+fn seen(answered: &Answered, before: u64, is_read: bool) -> Option<(u64, bool)> {
+    let (sum, is_entry) = match answered {
+        Answered::Updated { answer, .. } => (answer.reply[1], true),
+        Answered::Read { seen } => (seen.reply[1], false),
+    };
+    let rises = if is_read {
+        sum >= before
+    } else {
+        is_entry && sum > before
+    };
+    if rises { Some((sum, is_entry)) } else { None }
+}
+
+/// What a client was answered in all, where each addition is in what it sees later. A client that is live has all its answers, and no other has.
+fn told(client: &Client, row: &Row) -> Option<Sum> {
+    let answers = client.answers();
+    let is_whole = answers.len() as u64 == row.additions.wrapping_add(1);
+    if client.is_live() != (row.limit == NO_LIMIT) || client.is_live() != is_whole {
+        return None;
+    }
+    let mut before = 0u64;
+    let mut sum = Sum {
+        added: 0,
+        queued: 0,
+    };
+    for (i, answered) in answers.iter().enumerate() {
+        let is_read = i as u64 == row.additions;
+        let (found, is_entry) = seen(answered, before, is_read)?;
+        before = found;
+        if !is_read {
+            sum.added = sum.added.wrapping_add(1);
+        } else if is_entry {
+            sum.queued = sum.queued.wrapping_add(1);
+        }
+    }
+    Some(sum)
+}
+
+/// The same of all clients.
+fn all_told(clients: &[Client], row: &Row) -> Option<Sum> {
+    let mut all = Sum {
+        added: 0,
+        queued: 0,
+    };
+    for client in clients {
+        let sum = told(client, row)?;
+        all.added = all.added.wrapping_add(sum.added);
+        all.queued = all.queued.wrapping_add(sum.queued);
+    }
+    Some(all)
+}
+
+/// The place of the region that was published last, and what counter 0 has there.
+pub(crate) fn last(remains: &Remains) -> Option<(u64, u64)> {
+    let code = *remains.published.last()?;
+    let callers = remains.callers;
+    if callers < 1 || callers > 8 {
+        return None;
+    }
+    let length = remains
+        .lines
+        .checked_add(HEAD_LINES)?
+        .checked_mul(LINE_WORDS)?;
+    let from = length.checked_mul(u64::from(root_replica(callers, code)))?;
+    let at = from.checked_add(OBJECT_START)?.checked_add(1)?;
+    Some((
+        root_place(callers, code),
+        *remains.volatile.get(at as usize)?,
+    ))
+}
+
+/// Whether the entries are those that were answered, but for at most one of a stopped caller, and the counter has the additions among them.
+fn is_left(remains: &Remains, sum: Sum, row: &Row) -> bool {
+    let Some((place, count)) = last(remains) else {
+        return false;
+    };
+    let untold = place.wrapping_sub(sum.added.wrapping_add(sum.queued));
+    let all = u64::from(row.clients).wrapping_mul(row.additions);
+    count == sum.added.wrapping_add(untold)
+        && if row.limit == NO_LIMIT {
+            untold == 0 && sum.added == all
+        } else {
+            untold <= 1 && sum.added < all
+        }
+}
+
+/// Whether the clients of a row are answered so, and their pool is closed.
+fn is_right<R: Wait + Threads + Sync>(
+    rt: &R,
+    alloc: Global,
+    row: &Row,
+) -> Result<bool, AllocError> {
+    let (pool, clients) = opened(rt, alloc, row.callers, row.clients, row.limit)?;
+    let clients = all_work(rt, alloc, &pool, clients, row.additions, row.threads)?;
+    let sum = all_told(&clients, row);
+    match pool.close(rt, alloc, clients) {
+        Ok(remains) => Ok(match sum {
+            Some(sum) => is_left(&remains, sum, row),
+            None => false,
+        }),
+        Err(_) => Err(AllocError),
+    }
+}
+
+/// The first row where it is not so.
+fn first_wrong<R: Wait + Threads + Sync>(
+    rt: &R,
+    alloc: Global,
+    rows: &[Row],
+) -> Result<Option<usize>, AllocError> {
+    for (i, row) in rows.iter().enumerate() {
+        if !is_right(rt, alloc, row)? {
+            return Ok(Some(i));
+        }
+    }
+    Ok(None)
+}
+
+const ROWS: [Row; 4] = [
+    Row {
+        callers: 1,
+        clients: 64,
+        limit: NO_LIMIT,
+        additions: 1,
+        threads: false,
+    },
+    Row {
+        callers: 2,
+        clients: 3,
+        limit: NO_LIMIT,
+        additions: 200,
+        threads: true,
+    },
+    Row {
+        callers: 1,
+        clients: 8,
+        limit: NO_LIMIT,
+        additions: 10,
+        threads: true,
+    },
+    // its caller is stopped
+    Row {
+        callers: 1,
+        clients: 1,
+        limit: 2000,
+        additions: 200,
+        threads: false,
+    },
+];
+
+#[test]
+fn clients_share_callers(rt: HostRuntime) -> Result<(), Fail> {
+    holds(&rt, first_wrong(&rt, rt.alloc(), &ROWS)?.is_none());
+    Ok(())
+}

@@ -1,6 +1,0 @@
-use Rattle.std.proofs.Common.{◌≡◌, ◌++◌, flat_map, take}
-use Rattle.script_text.specs.Report.{journal_text}
-use Rattle.script_text.proofs.printing.write_journal.Given as goal
-
-abbrev pub invariant-loop-line : goal.invariant-loop-line
-invariant-loop-line g l = l.out.items ≡ l.initial.out.items ++ flat_map (journal_text g.W.ReportWriter.wording l.life) (take l.line-index l.journal)

@@ -1,0 +1,320 @@
+//! A caller stops at each step of an update, and what was answered is recovered.
+
+ghost use Rattle.std.specs.Prelude.{◌≤◌, IfOk};
+ghost use Rattle.cx_base.specs.Tally.{IsTally};
+ghost use Rattle.cx_core.specs.Base.{LawfulBase};
+ghost use Rattle.service_tests.specs.Closed.{IsClosedTally};
+
+use crate::calls::{Told, UPDATE};
+use crate::closed::{left, recovered};
+use crate::holds::holds;
+use crate::parts_of_sums::{Outcome, Part, played, played_from};
+use crate::starts::NO_LIMIT;
+use crate::tasks::Work;
+use cx_core::Base;
+use cx_table::Remains;
+use recovery::Image;
+use std::alloc::{AllocError, Global};
+use std::test::Fail;
+
+const CHOICES: [u64; 5] = [0, 1, 2, 3, 0x9e37_79b9_7f4a_7c15];
+
+// Caller 1 makes an update that adds 1, whereupon caller 0 comes with a limit of steps and an update that adds 1000.
+const PARTS: [Part; 2] = [
+    (
+        1,
+        Work::Adds {
+            amount: 1,
+            count: 1,
+        },
+        UPDATE,
+    ),
+    (
+        0,
+        Work::Adds {
+            amount: 1000,
+            count: 1,
+        },
+        UPDATE,
+    ),
+];
+
+// Whether caller 0 was answered, the last.
+fn is_answered(log: &[Told]) -> bool {
+    match log.last() {
+        Some(told) => told.is_answered(),
+        None => false,
+    }
+}
+
+// The word of a base.
+fn word(base: &Base, at: usize) -> u64 {
+    base.words.as_slice().get(at).copied().unwrap_or(0)
+}
+
+// Whether a base has this place and sum, this number and sum that caller 0 was answered last, and those of caller 1, which is answered 1.
+fn is_base(base: &Base, place: u64, sum: u64, number: u64, reply: u64) -> bool {
+    base.place == place
+        && word(base, 1169) == sum
+        && word(base, 8) == number
+        && word(base, 9) == reply
+        && word(base, 153) == 1
+        && word(base, 154) == 1
+}
+
+// Whether caller 0's update is kept in a base. `None`: it is neither the base with it nor the one without.
+fn is_kept(base: &Base) -> Option<bool> {
+    if is_base(base, 2, 1001, 1, 1001) {
+        return Some(true);
+    }
+    if is_base(base, 1, 1, 0, 0) {
+        return Some(false);
+    }
+    None
+}
+
+// Whether caller 0's update is kept by a choice.
+fn is_kept_by(alloc: Global, remains: &Remains, choice: u64) -> Option<bool>
+    requires { IsClosedTally remains.now }
+{
+    match recovered(alloc, remains, choice) {
+        Ok(again) => is_kept(&again),
+        Err(_) => None,
+    }
+}
+
+// How many of the choices keep caller 0's update.
+fn kept(alloc: Global, remains: &Remains) -> Option<u64>
+    requires { IsClosedTally remains.now }
+{
+    let mut count = 0u64;
+    for choice in CHOICES {
+        if is_kept_by(alloc, remains, choice)? {
+            count = count.wrapping_add(1);
+        }
+    }
+    Some(count)
+}
+
+// What a service leaves whose caller 0 has a limit of steps.
+fn stopped(alloc: Global, limit: u64) -> Result<Outcome, AllocError>
+    ensures { IfOk result (λ p. IsClosedTally p.remains) }
+{
+    played(alloc, 0, &[limit, NO_LIMIT], &PARTS)
+}
+
+// How many of the choices keep the update at a limit, and whether it was answered.
+fn kept_at(alloc: Global, limit: u64) -> Result<(Option<u64>, bool), AllocError> {
+    let stopped = stopped(alloc, limit)?;
+    Ok((kept(alloc, &stopped.remains), is_answered(&stopped.log)))
+}
+
+// The steps by which an update is linked, before which it is lost, those by which it is published, behind another's whose write set is
+// taken, and those by which it is answered.
+const LINKED: u64 = 148;
+
+const PUBLISHED: u64 = 193;
+
+const ANSWERED: u64 = 195;
+
+// The first of limits, each `step` above the one before, at which the update is kept or answered.
+fn first_kept(alloc: Global, from: u64, to: u64, step: usize) -> Result<Option<u64>, AllocError>
+    requires { 1 ≤ step }
+{
+    for limit in (from..to).step_by(step) {
+        let (count, answered) = kept_at(alloc, limit)?;
+        if count != Some(0) || answered {
+            return Ok(Some(limit));
+        }
+    }
+    Ok(None)
+}
+
+#[test]
+fn updates_are_lost_before_they_are_published(rt: HostRuntime) -> Result<(), Fail> {
+    holds(&rt, first_kept(rt.alloc(), 0, LINKED, 21)?.is_none());
+    holds(&rt, first_kept(rt.alloc(), LINKED, PUBLISHED, 4)?.is_none());
+    Ok(())
+}
+
+// Whether the update is kept by each choice where it was answered, and by some and not by others at one of the limits.
+fn are_parted(alloc: Global) -> Result<bool, AllocError> {
+    let mut parted = false;
+    for limit in PUBLISHED..ANSWERED {
+        let (Some(count), answered) = kept_at(alloc, limit)? else {
+            return Ok(false);
+        };
+        if answered && count != 5 {
+            return Ok(false);
+        }
+        parted = parted || (0 < count && count < 5);
+    }
+    Ok(parted)
+}
+
+// Whether it is answered at this limit, and kept by each choice.
+fn is_answered_at(alloc: Global, limit: u64) -> Result<bool, AllocError> {
+    let (count, answered) = kept_at(alloc, limit)?;
+    Ok(answered && count == Some(5))
+}
+
+#[test]
+fn published_updates_may_be_kept_and_answered_ones_are(rt: HostRuntime) -> Result<(), Fail> {
+    holds(&rt, are_parted(rt.alloc())?);
+    holds(&rt, is_answered_at(rt.alloc(), ANSWERED)?);
+    Ok(())
+}
+
+// Lays the pairs of an image out as words. It says whether each has its place, and none is 0.
+fn laid_out(image: &Image, words: &mut [u64]) -> bool {
+    for (at, word) in image.pairs.as_slice() {
+        if *word == 0 || !is_put(words, *at as usize, *word) {
+            return false;
+        }
+    }
+    true
+}
+
+// Puts a word at a place. It says whether there is the place.
+fn is_put(words: &mut [u64], at: usize, word: u64) -> bool {
+    match words.get_mut(at) {
+        Some(place) => {
+            *place = word;
+            true
+        }
+        None => false,
+    }
+}
+
+// The word that a choice leaves.
+fn word_left(remains: &Remains, choice: u64, at: usize) -> u64 {
+    let durable = remains.durable.get(at).copied().unwrap_or(0);
+    if remains.dirty.get(at).copied() != Some(true) || choice == 0 {
+        return durable;
+    }
+    if choice == 1 {
+        return remains.volatile.get(at).copied().unwrap_or(0);
+    }
+    choice.wrapping_mul(at as u64).wrapping_add(choice)
+}
+
+// Whether words are as a choice leaves them.
+fn are_left(remains: &Remains, choice: u64, words: &[u64]) -> bool {
+    for (at, word) in words.iter().enumerate() {
+        if *word != word_left(remains, choice, at) {
+            return false;
+        }
+    }
+    true
+}
+
+// Whether an image has each word as the choice leaves it, and none of its pairs is 0.
+fn is_left(
+    alloc: Global,
+    remains: &Remains,
+    choice: u64,
+    image: &Image,
+) -> Result<bool, AllocError> {
+    let mut words = Vec::from_elem(alloc, 0u64, remains.durable.len())?;
+    Ok(laid_out(image, &mut words) && are_left(remains, choice, &words))
+}
+
+// Whether the image is of two callers of 64 lines, and as the choice leaves it.
+fn is_left_by(alloc: Global, remains: &Remains, choice: u64) -> Result<bool, AllocError>
+    requires { IsClosedTally remains.now }
+{
+    let image = left(alloc, remains, choice)?;
+    if image.callers != 2 || image.lines != 64 || image.count != 6720 {
+        return Ok(false);
+    }
+    is_left(alloc, remains, choice, &image)
+}
+
+// Whether each choice leaves its image at a limit, and whether a word is dirty.
+fn left_at(alloc: Global, limit: u64) -> Result<(bool, bool), AllocError> {
+    let stopped = stopped(alloc, limit)?;
+    for choice in CHOICES {
+        if !is_left_by(alloc, &stopped.remains, choice)? {
+            return Ok((false, false));
+        }
+    }
+    Ok((true, stopped.remains.dirty.contains(&true)))
+}
+
+// Whether that is so at each limit, and some word is dirty at one.
+fn are_left_by_choice(alloc: Global) -> Result<bool, AllocError> {
+    let mut dirty = false;
+    for limit in 148..200u64 {
+        let (left, is_dirty) = left_at(alloc, limit)?;
+        if !left {
+            return Ok(false);
+        }
+        dirty = dirty || is_dirty;
+    }
+    Ok(dirty)
+}
+
+#[test]
+fn dirty_words_are_left_by_choice(rt: HostRuntime) -> Result<(), Fail> {
+    holds(&rt, are_left_by_choice(rt.alloc())?);
+    Ok(())
+}
+
+const NEXT: [Part; 1] = [(
+    0,
+    Work::Adds {
+        amount: 5,
+        count: 1,
+    },
+    UPDATE,
+)];
+
+// Whether a service that opens from a base answers its first update at the base's place.
+fn goes_on(alloc: Global, base: &Base) -> Result<bool, AllocError>
+    requires { LawfulBase 64 IsTally base.now }
+{
+    let played = played_from(alloc, base, &[NO_LIMIT, NO_LIMIT], &NEXT)?;
+    Ok(match played.log.first() {
+        Some(told) => told.is_updated(base.place),
+        None => false,
+    })
+}
+
+// Whether a service goes on from what is recovered by a choice.
+fn goes_on_by(alloc: Global, remains: &Remains, choice: u64) -> Result<bool, AllocError>
+    requires { IsClosedTally remains.now }
+{
+    match recovered(alloc, remains, choice) {
+        Ok(again) => goes_on(alloc, &again),
+        Err(_) => Ok(false),
+    }
+}
+
+// Whether it does so by each choice.
+fn goes_on_at(alloc: Global, limit: u64) -> Result<bool, AllocError> {
+    let stopped = stopped(alloc, limit)?;
+    for choice in CHOICES {
+        if !goes_on_by(alloc, &stopped.remains, choice)? {
+            return Ok(false);
+        }
+    }
+    Ok(true)
+}
+
+// The first limit at which it does not.
+fn first_wrong(alloc: Global, limits: &[u64]) -> Result<Option<u64>, AllocError> {
+    for limit in limits {
+        if !goes_on_at(alloc, *limit)? {
+            return Ok(Some(*limit));
+        }
+    }
+    Ok(None)
+}
+
+const LIMITS: [u64; 5] = [0, 147, 148, 160, 2000];
+
+#[test]
+fn a_service_goes_on_from_what_is_recovered(rt: HostRuntime) -> Result<(), Fail> {
+    holds(&rt, first_wrong(rt.alloc(), &LIMITS)?.is_none());
+    Ok(())
+}

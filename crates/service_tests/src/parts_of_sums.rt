@@ -1,0 +1,131 @@
+//! What callers of one thread do with a running sum, part by part.
+
+ghost use Rattle.std.specs.Prelude.{IfOk};
+ghost use Rattle.cx_base.specs.Tally.{IsTally};
+ghost use Rattle.cx_core.specs.Base.{LawfulBase};
+ghost use Rattle.cx_service.specs.Closes.{seat_of};
+ghost use Rattle.service_tests.specs.Closed.{IsClosedTally};
+ghost use Rattle.service_tests.specs.Tests.{IsBack, IsOf};
+
+use crate::calls::{Told, Way, all_asked};
+use crate::starts::{base_at, one_started, two_closed, two_started};
+use crate::tasks::{Work, adds};
+use cx_base::tally::Tally;
+use cx_core::Base;
+use cx_service::{Handed, Service};
+use cx_table::Remains;
+use std::alloc::{AllocError, Global};
+
+/// Caller 0, or caller 1 for any other number, asks for operations in this way.
+pub(crate) type Part = (u32, Work, Way);
+
+/// What callers were told, in the order of their calls, and what their service left when it was closed.
+#[derive(Drop)]
+pub(crate) struct Outcome {
+    pub(crate) log: Vec<Told>,
+    pub(crate) remains: Remains,
+}
+
+/// A service of two callers with limits of steps, which opens from the first base at a place, and is closed.
+pub(crate) fn played(
+    alloc: Global,
+    place: u64,
+    limits: &[u64; 2],
+    parts: &[Part],
+) -> Result<Outcome, AllocError>
+    ensures { IfOk result (λ p. IsClosedTally p.remains) }
+{
+    let base = base_at(alloc, place)?;
+    played_from(alloc, &base, limits, parts)
+}
+
+/// The same from a base.
+pub(crate) fn played_from(
+    alloc: Global,
+    base: &Base,
+    limits: &[u64; 2],
+    parts: &[Part],
+) -> Result<Outcome, AllocError>
+    requires { LawfulBase 64 IsTally base.now }
+    ensures { IfOk result (λ p. IsClosedTally p.remains) }
+{
+    let (service, first, second) = two_started(alloc, limits, base)?;
+    let mut log = Vec::new(alloc);
+    let pair = Pair {
+        first: Handed::Idle(first),
+        second: Handed::Idle(second),
+    };
+    let Pair { first, second } = parts_asked(&service, pair, parts, &mut log);
+    match two_closed(alloc, service, first, second) {
+        Ok(remains) => Ok(Outcome { log, remains }),
+        Err(fault) => Err(fault),
+    }
+}
+
+/// Two callers.
+#[derive(Drop)]
+pub(crate) struct Pair {
+    pub(crate) first: Handed,
+    pub(crate) second: Handed,
+}
+
+// One of two callers asks for its operations.
+fn part_asked(service: &Service<Tally>, pair: Pair, part: &Part, log: &mut Vec<Told>) -> Pair
+    requires first { IsOf service.now pair.first }
+    requires second { IsOf service.now pair.second }
+    ensures first { IsBack service.now (seat_of pair.first) result.first }
+    ensures second { IsBack service.now (seat_of pair.second) result.second }
+{
+    let (number, work, way) = *part;
+    let Pair { first, second } = pair;
+    if number == 0 {
+        let first = all_asked(service, first, work, way, log);
+        Pair { first, second }
+    } else {
+        let second = all_asked(service, second, work, way, log);
+        Pair { first, second }
+    }
+}
+
+// The parts of two callers, one after another.
+fn parts_asked(service: &Service<Tally>, pair: Pair, parts: &[Part], log: &mut Vec<Told>) -> Pair
+    requires first { IsOf service.now pair.first }
+    requires second { IsOf service.now pair.second }
+    ensures first { IsBack service.now (seat_of pair.first) result.first }
+    ensures second { IsBack service.now (seat_of pair.second) result.second }
+{
+    let mut pair = pair;
+    for part in parts {
+        pair = part_asked(service, pair, part, log);
+    }
+    pair
+}
+
+/// What the caller of a service of one is told, which opens from the first base at a place.
+pub(crate) fn played_alone(
+    alloc: Global,
+    place: u64,
+    work: Work,
+    way: Way,
+) -> Result<Vec<Told>, AllocError> {
+    let base = base_at(alloc, place)?;
+    let (service, caller) = one_started(alloc, Tally, &base)?;
+    let mut log = Vec::new(alloc);
+    all_asked(&service, Handed::Idle(caller), work, way, &mut log);
+    Ok(log)
+}
+
+/// Whether updates that add an amount are answered, each at the next ticket from this one on, and with the sum after it, which was this
+/// before.
+pub(crate) fn adds_up(log: &[Told], from: u64, sum: u64, amount: u64) -> bool {
+    let mut ticket = from;
+    let mut total = sum;
+    for told in log {
+        total = total.wrapping_add(amount);
+        if !told.is_updated(ticket) || told.reply != adds(total) {
+            return false;
+        }
+        ticket = ticket.wrapping_add(1);
+    }
+    true
+}

@@ -1,0 +1,9 @@
+use Rattle.cx_turns.proofs.ReadEntries.{first_and_rest}
+use Rattle.table_tests.proofs.Tried.{rest_words}
+use Rattle.table_tests.proofs.replayed.entry_of.Goals as goal
+
+pub returns-clause-words : goal.returns-clause-words
+returns-clause-words c = first_and_rest c.args.words.now c.copy_from_slice.new.self c.told-words c.copy_from_slice.ensures.after
+
+pub returns-clause-op : goal.returns-clause-op
+returns-clause-op c = rest_words c.args.words.now c.copy_from_slice.new.self c.copy_from_slice.ensures.len c.fits-words c.copy_from_slice.ensures.after

@@ -1,0 +1,23 @@
+use Rattle.std.proofs.Common.{◌^◌, ◌<◌, inl, subst, sym}
+use Rattle.cx_core.specs.History.{IsLawfulEntry}
+use Rattle.cx_rule.specs.Fitting.{HasEntry, entries_of}
+use Rattle.cx_turns.proofs.ReadEntries.{ready_read}
+use Rattle.table_tests.proofs.replayed.read_next.Goals as goal
+
+pub returns-clause-ready : goal.returns-clause-ready
+returns-clause-ready g c =
+    let shared = c.args.shared.now in
+    let e = c.in_ok-caller.ensures in
+    ready_read g.O.Object shared c.in_ok-caller.caller c.args.ticket c.args.ticket c.entry.new.into c.args.seat.now c.entry.new.seat c.args.held.now e.seat e.read e.entry.fits c.requires.ready
+
+pub returns-clause-next : goal.returns-clause-next
+returns-clause-next g c =
+    let next = c.entry_of.result in
+    let seat = c.entry.new.seat in
+    let e = c.in_ok-caller.ensures.entry.each next c.entry_of.ensures.caller c.entry_of.ensures.words in
+    let place = sym (returns-clause-ready g c).place in
+    record {
+      had = subst (λ p. HasEntry (entries_of seat.known) p next) place (inl e.noted);
+      lawful = subst (λ p. IsLawfulEntry p next) place e.lawful;
+      small = subst (λ p. p < 2 ^ 40) place e.small;
+    }

@@ -1,9 +1,0 @@
-use Rattle.replica.specs.Replays.{IsReady}
-use Rattle.table_tests.specs.Replaying.{Keeps}
-use Rattle.table_tests.proofs.replaying.replay_to.Given as goal
-
-abbrev pub invariant-loop-ticket : goal.invariant-loop-ticket
-invariant-loop-ticket g l = record {
-  ready : IsReady g.O.Object l.shared l.held l.ticket l.seat;
-  keeps : Keeps l.fn.seat l.seat;
-}

@@ -1,0 +1,144 @@
+//! Replicas that were replayed are published, and the table is closed before the wins are retired.
+
+ghost use Rattle.std.specs.Prelude.{◌≡◌, ◌*◌, ◌<◌, ◌≤◌, IfOk, IfSome, IsTrue};
+ghost use Rattle.cx_core.specs.RootEvents.{CanPublish};
+ghost use Rattle.cx_rule.specs.Running.{IsSeatOf};
+ghost use Rattle.cx_table.specs.Tokens.{IsDowngradedOf};
+ghost use Rattle.replica.specs.Held.{IsSized};
+ghost use Rattle.table_tests.specs.Replaying.{GivenBack, IsNew};
+
+use crate::holds::holds;
+use crate::replayed::{adds, renew, update};
+use crate::tables::{NO_LIMITS, closed, made};
+use cx_base::tally::Tally;
+use cx_base::{Halt, Object, root_place};
+use cx_table::{CallerSeat, Downgraded, Shared, Won};
+use mutation_queue::LinkTried;
+use std::alloc::{AllocError, Global};
+use std::test::Fail;
+
+// Whether a caller may publish the replica that it has downgraded.
+fn may_publish(callers: u32, seat: &CallerSeat) -> bool
+    requires some { 1 ≤ callers }
+    requires few { callers ≤ 8 }
+    ensures { IsTrue result → CanPublish callers seat.now.known.local }
+{
+    if seat.won().is_some() {
+        return false;
+    }
+    match seat.downgraded() {
+        None => false,
+        Some(held) => root_place(callers, seat.seen_cur()) < held.place,
+    }
+}
+
+// What a publication found, and its token.
+type Published = (u64, Result<Won, Downgraded>);
+
+// Publishes a replica that was downgraded, where its caller may.
+fn publish<O: Object>(
+    shared: &Shared<O>,
+    seat: &mut CallerSeat,
+    held: Downgraded,
+) -> Result<Option<Published>, Halt>
+    requires seat { IsSeatOf shared.now seat.old }
+    requires held { IsDowngradedOf shared.now.callers seat.old held }
+    ensures seat { IsSeatOf shared.now seat.new }
+    ensures given { IfOk result (λ o. IfSome o (λ x. GivenBack shared.now.callers seat.new x.1)) }
+{
+    if !may_publish(shared.callers(), seat) {
+        return Ok(None);
+    }
+    let done = shared.publish(seat, held)?;
+    Ok(Some(done))
+}
+
+// A caller without entries links one, replays all entries that are linked on a replica, and turns its right into a shared one.
+fn link_and_renew<O: Object>(
+    shared: &Shared<O>,
+    seat: &mut CallerSeat,
+    op: &[u64; 144],
+    r: u64,
+) -> Result<Option<Downgraded>, Halt>
+    requires new { IsNew shared.now seat.old }
+    requires sized { IsSized (O.line_count shared.now.object) shared.now }
+    requires few { r < 2 * shared.now.callers }
+    requires base { shared.now.base.place ≡ 0 }
+    ensures downgraded { IfOk result (λ o. IfSome o (λ held. IsDowngradedOf shared.now.callers seat.new held)) }
+    ensures seat { IfOk result (λ o. IfSome o (λ _. IsSeatOf shared.now seat.new)) }
+{
+    match update(shared, seat, op)? {
+        LinkTried::Linked { ticket: _ } => {
+            let end = seat.front();
+            renew(shared, seat, r, end)
+        }
+        LinkTried::Again | LinkTried::Worn => Ok(None),
+    }
+}
+
+// Whether a win is of this code, over this one, and of this caller.
+fn is_won(won: &Won, code: u64, old: u64, caller: u32) -> bool {
+    won.code() == code && won.old() == old && won.caller() == caller
+}
+
+// Whether the first caller publishes replica 1 over the opening code, with this code.
+fn first_publishes<O: Object>(shared: &Shared<O>, seat: &mut CallerSeat) -> Option<bool>
+    requires new { IsNew shared.now seat.old }
+    requires sized { IsSized (O.line_count shared.now.object) shared.now }
+    requires callers { shared.now.callers ≡ 2 }
+    requires base { shared.now.base.place ≡ 0 }
+    ensures seat { IfSome result (λ _. IsSeatOf shared.now seat.new) }
+{
+    let Ok(Some(held)) = link_and_renew(shared, seat, &adds(5), 1) else {
+        return None;
+    };
+    let is_opening = shared.load_cur(seat) == Ok(0);
+    match publish(shared, seat, held) {
+        Ok(Some((0, Ok(won)))) => Some(is_opening && is_won(&won, 5, 0, 0)),
+        _ => None,
+    }
+}
+
+// Whether the second caller is told that code where it publishes replica 3 over the opening one, and then publishes it.
+fn second_publishes<O: Object>(shared: &Shared<O>, seat: &mut CallerSeat) -> Option<bool>
+    requires new { IsNew shared.now seat.old }
+    requires sized { IsSized (O.line_count shared.now.object) shared.now }
+    requires callers { shared.now.callers ≡ 2 }
+    requires base { shared.now.base.place ≡ 0 }
+    ensures seat { IfSome result (λ _. IsSeatOf shared.now seat.new) }
+{
+    let Ok(Some(held)) = link_and_renew(shared, seat, &adds(6), 3) else {
+        return None;
+    };
+    let Ok(Some((5, Err(held)))) = publish(shared, seat, held) else {
+        return None;
+    };
+    match publish(shared, seat, held) {
+        Ok(Some((5, Ok(won)))) => Some(is_won(&won, 11, 5, 1)),
+        _ => None,
+    }
+}
+
+// Whether two callers publish one after another. The second first expects the opening code, and is told the first one's. The
+// closing hands out the codes of both, since neither retired its win.
+fn are_handed_out(alloc: Global) -> Result<bool, AllocError> {
+    let (shared, mut first, mut second) = made(alloc, Tally, &NO_LIMITS)?;
+    let Some(is_first) = first_publishes(&shared, &mut first) else {
+        return Ok(false);
+    };
+    let Some(is_second) = second_publishes(&shared, &mut second) else {
+        return Ok(false);
+    };
+    match closed(alloc, shared, first, second)? {
+        Some(left) => Ok(
+            is_first && is_second && left.published.as_slice() == [0, 5, 11].as_slice(),
+        ),
+        None => Ok(false),
+    }
+}
+
+#[test]
+fn published_codes_are_handed_out(rt: HostRuntime) -> Result<(), Fail> {
+    holds(&rt, are_handed_out(rt.alloc())?);
+    Ok(())
+}

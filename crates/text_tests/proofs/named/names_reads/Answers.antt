@@ -1,0 +1,18 @@
+use Rattle.std.proofs.Common.{rules, subst, sym, take}
+use Rattle.std.proofs.lemmas.List.{take_all}
+use Rattle.std.proofs.lemmas.List.Elements.{All-more, All-same}
+use Rattle.doc_model.specs.declared.operations.Reply.{Reply}
+use Rattle.life_records.specs.Lives.{Names}
+use Rattle.life_records.specs.declared.record.ReadLine.{ReadLine}
+use Rattle.text_tests.proofs.named.names_reads.Goals as goal
+
+pub loop-line-preserved : goal.loop-line-preserved
+loop-line-preserved c =
+    let P : ReadLine Reply → Type 0 = λ line. Names c.args.life.now line.client line.command in
+    let here : P c.line-item.result = search rules in
+    All-more P c.args.reads.now c.loop-line.line-index c.line-item.result c.loop-line-test.true c.loop-line.invariant (subst P c.line-item.is here)
+
+pub returns : goal.returns
+returns c = λ _.
+    All-same (λ line. Names c.args.life.now line.client line.command) c.args.reads.now (take c.loop-line.line-index c.args.reads.now)
+    (sym (take_all c.loop-line.line-index c.args.reads.now c.loop-line-test.false)) c.loop-line.invariant
