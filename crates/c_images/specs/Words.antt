@@ -7,8 +7,8 @@ use Rattle.cx_table.specs.declared.remains.Remains.{Remains}
 use Rattle.recovery.specs.Crashes.{left_root, left_word}
 use Rattle.recovery.specs.Images.{Gives, image_size}
 use Rattle.recovery.specs.Recovery.{IsFaultOf, IsRecovered, NumbersWithin}
-use Rattle.recovery.specs.declared.recover.ImageFault.{ImageFault}
-use Rattle.recovery.specs.declared.recover.ImageFault.TheVariants.{Memory}
+use Rattle.recovery.specs.declared.recovered_base.ImageFault.{ImageFault}
+use Rattle.recovery.specs.declared.recovered_base.ImageFault.TheVariants.{Memory}
 use Rattle.c_images.specs.declared.head.Head.{Head}
 use Rattle.c_images.specs.declared.reader.WordsFault.{WordsFault}
 use Rattle.c_images.specs.declared.reader.WordsFault.TheVariants.{Head as HeadFault, Kind, Image as ImageRefused, Numbers}

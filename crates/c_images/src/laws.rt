@@ -8,7 +8,7 @@ ghost use Rattle.cx_table.specs.Remains.{Leaves};
 ghost use Rattle.recovery.specs.Crashes.{AreRemainsWhole};
 ghost use Rattle.recovery.specs.Kept.{IsKeptBy, IsOpened};
 ghost use Rattle.recovery.specs.Outcomes.{TellsOutcome};
-ghost use Rattle.recovery.specs.declared.recover.ImageFault.TheVariants.{Memory};
+ghost use Rattle.recovery.specs.declared.recovered_base.ImageFault.TheVariants.{Memory};
 ghost use Rattle.c_images.specs.Replies.{IsDocumentReply, IsQueueReply, RepliesGoOn};
 ghost use Rattle.c_images.specs.Taken.{IsWrittenOf, base_at};
 ghost use Rattle.c_images.specs.Words.{IsHeaded, IsKind, IsTakenUp, IsWordsFault, AreRemainsWritten, object_kind_in};

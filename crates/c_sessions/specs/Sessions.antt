@@ -12,8 +12,8 @@ use Rattle.cx_service.specs.Closes.{seat_of}
 use Rattle.cx_service.specs.Starts.{AreFewCallers, AreFewLines, IsStartFault}
 use Rattle.cx_service.specs.declared.close.Handed.{Handed}
 use Rattle.cx_service.specs.declared.start.StartFault.TheVariants.{Memory}
-use Rattle.c_sessions.specs.declared.open.OpenFault.{OpenFault}
-use Rattle.c_sessions.specs.declared.open.OpenFault.TheVariants.{Start, InTheWay}
+use Rattle.c_sessions.specs.declared.start.OpenFault.{OpenFault}
+use Rattle.c_sessions.specs.declared.start.OpenFault.TheVariants.{Start, InTheWay}
 use Rattle.c_sessions.specs.declared.session.Session.{Session}
 use Rattle.c_sessions.specs.declared.steps.Called.{Called}
 use Rattle.seat_pool.specs.Gathering.{IsHandedOf, handed_number}

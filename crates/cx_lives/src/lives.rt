@@ -9,7 +9,7 @@ ghost use Rattle.life_records.specs.Begins.{Begun, IsBaseOf, nothing_begun};
 ghost use Rattle.life_records.specs.Limits.{IsLifeInLimits, KeepsLimits};
 ghost use Rattle.life_records.specs.Scripts.{command_count};
 ghost use Rattle.life_records.specs.declared.script.Life.{Life};
-ghost use Rattle.recovery.specs.declared.recover.ImageFault.TheVariants.{Memory};
+ghost use Rattle.recovery.specs.declared.recovered_base.ImageFault.TheVariants.{Memory};
 ghost use Rattle.cx_lives.specs.Life.{HasRun};
 ghost use Rattle.cx_lives.specs.Lives.{BeginsLife, CanBegin, HasFlags, HasLived, HaveLived, IsNextBase, IsServiceOf};
 

@@ -15,8 +15,8 @@ use Rattle.cx_core.specs.Region.{slot_number}
 use Rattle.cx_core.proofs.Locals.{slice_get-last}
 use Rattle.cx_rule.specs.Running.{IsSeatOf, Running}
 use Rattle.cx_rule.specs.Seats.{IsAtLimit, Seated, unanswered_ticket}
-use Rattle.mutation_queue.specs.declared.link.LinkTried.{LinkTried}
-use Rattle.mutation_queue.specs.declared.link.LinkTried.TheVariants.{Again, Linked as LinkedAt, Worn}
+use Rattle.mutation_queue.specs.declared.links.LinkTried.{LinkTried}
+use Rattle.mutation_queue.specs.declared.links.LinkTried.TheVariants.{Again, Linked as LinkedAt, Worn}
 use Rattle.mutation_queue.specs.Cells.{writes}
 use Rattle.cx_turns.specs.Turns.{StepsOn}
 use Rattle.mutation_queue.specs.Links.{EndsBy, LinksAgain, LinksAt, LinksNone, LosesTries, LosesTry, MakesTries, IsWorn, Tried, WinsTry}

@@ -16,8 +16,8 @@ use Rattle.mutation_queue.specs.Cells.{IsInUse, IsInUseAt, writes}
 use Rattle.mutation_queue.specs.Links.{EndsBy, HaltsTry, LosesTries}
 use Rattle.mutation_queue.specs.Collecting.{Collects, HaltsCollecting, but_collected}
 use Rattle.mutation_queue.specs.declared.reclamation.Collected.{Collected}
-use Rattle.mutation_queue.specs.declared.link.LinkTried.{LinkTried}
-use Rattle.mutation_queue.specs.declared.link.LinkTried.TheVariants.{Again as TriedAgain, Linked as TriedLinked, Worn as TriedWorn}
+use Rattle.mutation_queue.specs.declared.links.LinkTried.{LinkTried}
+use Rattle.mutation_queue.specs.declared.links.LinkTried.TheVariants.{Again as TriedAgain, Linked as TriedLinked, Worn as TriedWorn}
 use Rattle.cx_core.specs.QueueEvents.{IsIdle, IsIdleAt, cell_of, next_number}
 use Rattle.cx_rule.specs.Rule.{IsLawfulLocal}
 use Rattle.cx_rule.specs.Running.{Running}

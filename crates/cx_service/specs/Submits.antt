@@ -18,9 +18,9 @@ use Rattle.cx_service.specs.Callers.{IsCallerOf, IsLinkedOf, IsStoppedOf, Stoppe
 use Rattle.mutation_queue.specs.Cells.{IsInUse, writes}
 use Rattle.mutation_queue.specs.Collecting.{but_collected}
 use Rattle.cx_turns.specs.Turns.{StepsOn}
-use Rattle.mutation_queue.specs.declared.link.LinkTried.{LinkTried}
+use Rattle.mutation_queue.specs.declared.links.LinkTried.{LinkTried}
 use Rattle.mutation_queue.specs.Links.{EndsBy, HaltsTry, LosesTries}
-use Rattle.mutation_queue.specs.declared.link.LinkTried.TheVariants.{Linked as TriedLinked, Again as TriedAgain, Worn as TriedWorn}
+use Rattle.mutation_queue.specs.declared.links.LinkTried.TheVariants.{Linked as TriedLinked, Again as TriedAgain, Worn as TriedWorn}
 
 -- each cell holds a ticket at or above the greatest FREE found
 abbrev pub AreInUse : Local → Type 0

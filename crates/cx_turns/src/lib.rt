@@ -46,7 +46,7 @@ mod preparation;
 mod renewal;
 mod replay;
 mod scratch;
-mod update_turn;
+mod updates;
 
 pub use acquisition::take_any;
 pub use checkpoint::checkpoint_turn;
@@ -56,4 +56,4 @@ pub use preparation::prepare;
 pub use renewal::{keep, unguard};
 pub use replay::{own_outcome, replay_to};
 pub use scratch::Scratch;
-pub use update_turn::update_turn;
+pub use updates::update_turn;

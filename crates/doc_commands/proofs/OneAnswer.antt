@@ -14,8 +14,8 @@ use Rattle.doc_text.specs.declared.recovered.Recovered.{Recovered}
 use Rattle.recovery.specs.Images.{region_of}
 use Rattle.recovery.proofs.Exact.{exactly}
 use Rattle.recovery.specs.Recovery.{IsAccepted, IsFaultOf, IsRecovered, recovered_from}
-use Rattle.recovery.specs.declared.recover.ImageFault.{ImageFault}
-use Rattle.recovery.specs.declared.recover.ImageFault.TheVariants.{Size, Root, Version, Place, Body, Memory}
+use Rattle.recovery.specs.declared.recovered_base.ImageFault.{ImageFault}
+use Rattle.recovery.specs.declared.recovered_base.ImageFault.TheVariants.{Size, Root, Version, Place, Body, Memory}
 use Rattle.doc_commands.specs.Documents.{IsAnswerTo, IsDocumentFault, IsStoreImage, HasDocuments, TellsDocuments}
 use Rattle.doc_commands.specs.Outcomes.{HoldsStoreReplies, IsLastCommand, IsOutcomesFault, IsReplyOf}
 use Rattle.doc_commands.proofs.Upgraded.{recovered_part, replies_go_on, replies_stay}

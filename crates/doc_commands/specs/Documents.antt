@@ -8,8 +8,8 @@ use Rattle.doc_text.specs.declared.recovered.Recovered.{Recovered}
 use Rattle.index_checks.specs.Reading.{StandsForRevised}
 use Rattle.recovery.specs.Images.{region_of}
 use Rattle.recovery.specs.Recovery.{IsAccepted, IsFaultOf, recovered_from}
-use Rattle.recovery.specs.declared.recover.ImageFault.{ImageFault}
-use Rattle.recovery.specs.declared.recover.ImageFault.TheVariants.{Body}
+use Rattle.recovery.specs.declared.recovered_base.ImageFault.{ImageFault}
+use Rattle.recovery.specs.declared.recovered_base.ImageFault.TheVariants.{Body}
 use Rattle.doc_commands.specs.Outcomes.{AreOutcomes, HoldsStoreReplies}
 
 -- the checks of recovery, for a store of documents in the image's lines; an image of version 1 is accepted too

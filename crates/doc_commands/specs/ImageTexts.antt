@@ -8,8 +8,8 @@ use Rattle.doc_text.specs.declared.recovered.Recovered.{Recovered}
 use Rattle.image_text.specs.ImageTexts.{IsImageFault, IsImageText}
 use Rattle.image_text.specs.Reasons.{image_reason_text}
 use Rattle.image_text.specs.declared.lines.ImageReason.{ImageReason}
-use Rattle.recovery.specs.declared.recover.ImageFault.{ImageFault}
-use Rattle.recovery.specs.declared.recover.ImageFault.TheVariants.{Size, Root, Version, Place, Body, Memory}
+use Rattle.recovery.specs.declared.recovered_base.ImageFault.{ImageFault}
+use Rattle.recovery.specs.declared.recovered_base.ImageFault.TheVariants.{Size, Root, Version, Place, Body, Memory}
 use Rattle.doc_commands.specs.Documents.{IsDocumentFault, IsRecoveredOf, TellsDocuments}
 use Rattle.doc_commands.specs.declared.image_answer.ImageEnd.{ImageEnd}
 use Rattle.doc_commands.specs.declared.image_answer.ImageEnd.TheVariants.{Fine, Refused, BadImage}

@@ -6,8 +6,8 @@ use Rattle.doc_model.specs.Words.{AreOfNoReply, reply_words}
 use Rattle.doc_model.specs.declared.operations.Reply.{Reply}
 use Rattle.doc_store.specs.DocumentMeaning.{IsWholeReply}
 use Rattle.doc_text.specs.declared.recovered.Applied.{Applied}
-use Rattle.recovery.specs.declared.recover.ImageFault.{ImageFault}
-use Rattle.recovery.specs.declared.recover.ImageFault.TheVariants.{Body, Memory}
+use Rattle.recovery.specs.declared.recovered_base.ImageFault.{ImageFault}
+use Rattle.recovery.specs.declared.recovered_base.ImageFault.TheVariants.{Body, Memory}
 
 -- a reply within the limits, which has these words
 pub record IsReplyOf (words : List ℕ) (reply : Reply) : Type 0 where

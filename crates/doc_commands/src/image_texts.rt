@@ -1,7 +1,7 @@
 //! What is written of bytes that are no image text, and of an image that is refused.
 
 ghost use Rattle.std.specs.Prelude.{◌≡◌, ◌≢◌, ◌++◌, IfOk, OnOk};
-ghost use Rattle.recovery.specs.declared.recover.ImageFault.TheVariants.{Memory};
+ghost use Rattle.recovery.specs.declared.recovered_base.ImageFault.TheVariants.{Memory};
 ghost use Rattle.doc_commands.specs.ImageTexts.{bad_image_text, bad_line_text, fault_text};
 
 use image_text::ImageReason;

@@ -2,7 +2,7 @@
 use Rattle.std.proofs.Common.{◌≡◌, inl, inr, ℕ, ℤ, List, Result, Ok, Err, refl, sym, subst}
 use Rattle.std.specs.Prelude.{MatchResult}
 use Rattle.cx_core.specs.declared.entry.Base.{Base}
-use Rattle.recovery.specs.declared.recover.ImageFault.TheVariants.{Body, Memory}
+use Rattle.recovery.specs.declared.recovered_base.ImageFault.TheVariants.{Body, Memory}
 use Rattle.c_images.specs.Words.{IsHeaded, object_kind_in}
 use Rattle.c_images.specs.declared.reader.WordsFault.{WordsFault}
 use Rattle.c_images.specs.declared.reader.WordsFault.TheVariants.{Image}

@@ -9,7 +9,7 @@ use Rattle.doc_store.specs.declared.store.DocStore.{DocStore}
 use Rattle.doc_store.specs.ExactStep.{IsImageOfStore, first_format}
 use Rattle.fifo_object.specs.declared.fifo.Fifo.{Fifo}
 use Rattle.fifo_object.specs.Fifo.{IsFifo}
-use Rattle.recovery.specs.declared.recover.ImageFault.TheVariants.{Memory}
+use Rattle.recovery.specs.declared.recovered_base.ImageFault.TheVariants.{Memory}
 use Rattle.c_images.specs.Replies.{HoldsReplies, IsDocumentReply, IsQueueReply}
 use Rattle.c_images.specs.Words.{IsHeadFault, IsHeaded, IsTakenUp, IsWordsFault, AreRemainsWritten, object_kind_in, lines_in}
 use Rattle.c_images.specs.declared.reader.WordsFault.{WordsFault}

@@ -4,12 +4,12 @@ use Rattle.c_images.specs.declared.reader.WordsFault.{WordsFault}
 use Rattle.c_images.specs.declared.reader.WordsFault.TheVariants.{Head, Kind, Image, Numbers}
 use Rattle.c_sessions.specs.declared.close.Closing.{Closing}
 use Rattle.c_sessions.specs.declared.close.Closing.TheVariants.{Others, Again as ClosingAgain, Closed, Kept, Missing, Shared}
-use Rattle.c_sessions.specs.declared.open.OpenFault.{OpenFault}
-use Rattle.c_sessions.specs.declared.open.OpenFault.TheVariants.{Start, InTheWay}
+use Rattle.c_sessions.specs.declared.start.OpenFault.{OpenFault}
+use Rattle.c_sessions.specs.declared.start.OpenFault.TheVariants.{Start, InTheWay}
 use Rattle.c_sessions.specs.declared.steps.Called.{Called}
 use Rattle.c_sessions.specs.declared.steps.Called.TheVariants.{Done, Pending, Again, Full, Worn, Stopped, OutOfTurn}
-use Rattle.recovery.specs.declared.recover.ImageFault.{ImageFault}
-use Rattle.recovery.specs.declared.recover.ImageFault.TheVariants.{Size, Root, Version, Place, Body, Memory}
+use Rattle.recovery.specs.declared.recovered_base.ImageFault.{ImageFault}
+use Rattle.recovery.specs.declared.recovered_base.ImageFault.TheVariants.{Size, Root, Version, Place, Body, Memory}
 
 -- the number of a call's result
 abbrev pub code_of : Called → ℤ

@@ -8,7 +8,7 @@ use Rattle.c_images.specs.Replies.{HoldsReplies, IsDocumentReply, IsQueueReply}
 use Rattle.c_images.specs.Words.{IsTakenUp, IsWordsFault, lines_in}
 use Rattle.c_images.specs.declared.reader.WordsFault.{WordsFault}
 use Rattle.c_images.specs.declared.reader.WordsFault.TheVariants.{Image}
-use Rattle.recovery.specs.declared.recover.ImageFault.TheVariants.{Body}
+use Rattle.recovery.specs.declared.recovered_base.ImageFault.TheVariants.{Body}
 use Rattle.c_sessions.specs.Closings.{Closes, ClosesTo, IsClosedOf}
 use Rattle.c_sessions.specs.declared.close.Closing.{Closing}
 use Rattle.c_sessions.specs.declared.session.Session.{Session}

@@ -8,8 +8,8 @@ use Rattle.cx_table.specs.Running.{IsSeatOf, Running}
 use Rattle.cx_rule.specs.Timing.{BeginsIn}
 use Rattle.cx_table.specs.Seats.{IsAtLimit, Seated, StepsOn}
 use Rattle.mutation_queue.specs.Cells.{IsAnnounced}
-use Rattle.mutation_queue.specs.declared.link.LinkTried.{LinkTried}
-use Rattle.mutation_queue.specs.declared.link.LinkTried.TheVariants.{Again, Linked, Worn}
+use Rattle.mutation_queue.specs.declared.links.LinkTried.{LinkTried}
+use Rattle.mutation_queue.specs.declared.links.LinkTried.TheVariants.{Again, Linked, Worn}
 
 -- the entry that was announced in a cell may be linked: each entry of the caller before it is answered
 pub record MayLink {O : Type 0} (r : Running O) (cell : ℕ) (seat : Seated) : Type 0 where

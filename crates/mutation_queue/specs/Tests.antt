@@ -6,8 +6,8 @@ use Rattle.cx_core.specs.declared.local.Local.{Local}
 use Rattle.cx_core.specs.QueueEvents.{IsIdle}
 use Rattle.cx_table.specs.Running.{IsSeatOf, Running}
 use Rattle.cx_table.specs.Seats.{Seated}
-use Rattle.mutation_queue.specs.declared.link.LinkTried.{LinkTried}
-use Rattle.mutation_queue.specs.declared.link.LinkTried.TheVariants.{Again, Linked as LinkedAt, Worn}
+use Rattle.mutation_queue.specs.declared.links.LinkTried.{LinkTried}
+use Rattle.mutation_queue.specs.declared.links.LinkTried.TheVariants.{Again, Linked as LinkedAt, Worn}
 
 -- a caller without entries, whose cell 0 is idle and which scans nothing
 pub record IsNew (l : Local) : Type 0 where

@@ -35,13 +35,13 @@
 mod announcement;
 mod cells;
 mod entries;
-mod link;
+mod links;
 mod protection;
 mod reclamation;
 
 pub use announcement::announce;
 pub use cells::idle_cell;
 pub use entries::entry;
-pub use link::{LinkTried, link};
+pub use links::{LinkTried, link};
 pub use protection::{Protected, protect, unprotect};
 pub use reclamation::{Collected, collect};

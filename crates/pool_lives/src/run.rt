@@ -7,7 +7,7 @@ ghost use Rattle.cx_rule.specs.Running.{Running};
 ghost use Rattle.life_records.specs.Begins.{IsBaseOf, nothing_begun};
 ghost use Rattle.pool_lives.specs.PoolRuns.{HasPooled, IsLifeOfPool, IsProbe};
 ghost use Rattle.pool_lives.specs.Running.{HasMet, IsPoolServiceOf};
-ghost use Rattle.recovery.specs.declared.recover.ImageFault.TheVariants.{Memory};
+ghost use Rattle.recovery.specs.declared.recovered_base.ImageFault.TheVariants.{Memory};
 
 use crate::laws::told_pools_have_lived;
 use crate::life::live;

@@ -8,8 +8,8 @@ use Rattle.cx_core.specs.Base.{LawfulBase}
 use Rattle.cx_core.specs.Recovered.{version_of}
 use Rattle.cx_core.specs.Region.{object_part}
 use Rattle.cx_core.proofs.Upgrading.{own_stays}
-use Rattle.recovery.specs.declared.recover.ImageFault.{ImageFault}
-use Rattle.recovery.specs.declared.recover.ImageFault.TheVariants.{Size, Root, Version, Place, Body, Memory}
+use Rattle.recovery.specs.declared.recovered_base.ImageFault.{ImageFault}
+use Rattle.recovery.specs.declared.recovered_base.ImageFault.TheVariants.{Size, Root, Version, Place, Body, Memory}
 use Rattle.recovery.specs.Images.{region_of}
 use Rattle.recovery.specs.Recovery.{HasSize, IsAccepted, IsFaultOf, IsRecovered, named_base, place_in_root, recovered_from}
 

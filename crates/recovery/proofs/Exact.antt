@@ -3,8 +3,8 @@ use Rattle.std.proofs.Common.{◌≢◌, ℕ, List, Result, Ok, Err, MatchResult
 use Rattle.cx_base.specs.OldFormat.{OldFormat}
 use Rattle.cx_core.specs.declared.entry.Base.{Base}
 use Rattle.cx_core.specs.declared.entry.Image.{Image}
-use Rattle.recovery.specs.declared.recover.ImageFault.{ImageFault}
-use Rattle.recovery.specs.declared.recover.ImageFault.TheVariants.{Size, Root, Version, Place, Body, Memory}
+use Rattle.recovery.specs.declared.recovered_base.ImageFault.{ImageFault}
+use Rattle.recovery.specs.declared.recovered_base.ImageFault.TheVariants.{Size, Root, Version, Place, Body, Memory}
 use Rattle.recovery.specs.Recovery.{IsExactly, IsFaultOf, IsRecovered, place_in_root}
 
 pub exactly : (version : ℕ) (lawful : List ℕ → Type 0) (old : OldFormat) (image : Image) (answer : Result Base ImageFault) →

@@ -25,8 +25,8 @@ use Rattle.cx_table.specs.declared.remains.Remains.{Remains}
 use Rattle.cx_table.specs.Remains.{Leaves}
 use Rattle.core_replica.proofs.BaseLaws.{kept_lawful}
 use Rattle.core_runs.proofs.WholeLaws.{crash_kept, entries_of}
-use Rattle.recovery.specs.declared.recover.ImageFault.{ImageFault}
-use Rattle.recovery.specs.declared.recover.ImageFault.TheVariants.{Memory}
+use Rattle.recovery.specs.declared.recovered_base.ImageFault.{ImageFault}
+use Rattle.recovery.specs.declared.recovered_base.ImageFault.TheVariants.{Memory}
 use Rattle.recovery.specs.Crashes.{IsLeftOf}
 use Rattle.recovery.specs.Images.{image_word, region_of, region_start, words_from}
 use Rattle.recovery.specs.Kept.{IsKeptAt, IsKeptBy, IsOpened, MayBeLeftOf, crash_of}

@@ -6,8 +6,8 @@ use Rattle.cx_core.specs.declared.entry.Base.{Base}
 use Rattle.cx_core.specs.declared.entry.Image.{Image}
 use Rattle.cx_core.specs.Recovered.{recovered_base, version_of}
 use Rattle.cx_core.specs.Region.{LawfulResults, object_part, place_of, slot_number, slot_reply}
-use Rattle.recovery.specs.declared.recover.ImageFault.{ImageFault}
-use Rattle.recovery.specs.declared.recover.ImageFault.TheVariants.{Size, Root, Version, Place, Body, Memory}
+use Rattle.recovery.specs.declared.recovered_base.ImageFault.{ImageFault}
+use Rattle.recovery.specs.declared.recovered_base.ImageFault.TheVariants.{Size, Root, Version, Place, Body, Memory}
 use Rattle.recovery.specs.Images.{image_size, region_of}
 
 -- the place that the root names

@@ -2,7 +2,7 @@
 
 ghost use Rattle.std.specs.Prelude.{◌≢◌, Err, MatchResult};
 ghost use Rattle.recovery.specs.Recovery.{IsExactly, IsFaultOf, IsRecovered};
-ghost use Rattle.recovery.specs.declared.recover.ImageFault.TheVariants.{Memory};
+ghost use Rattle.recovery.specs.declared.recovered_base.ImageFault.TheVariants.{Memory};
 
 use cx_base::Object;
 

@@ -14,7 +14,7 @@ ghost use Rattle.recovery.specs.Crashes.{IsLeftOf, AreRemainsWhole};
 ghost use Rattle.recovery.specs.Images.{IsReadable};
 ghost use Rattle.recovery.specs.Kept.{IsKeptAt, IsKeptBy, IsOpened, MayBeLeftOf, crash_of};
 ghost use Rattle.recovery.specs.Recovery.{HasSize, IsFaultOf, IsRecovered, named_base};
-ghost use Rattle.recovery.specs.declared.recover.ImageFault.TheVariants.{Memory};
+ghost use Rattle.recovery.specs.declared.recovered_base.ImageFault.TheVariants.{Memory};
 
 use cx_base::Object;
 

@@ -15,9 +15,9 @@ mod crash;
 mod exactness;
 mod laws;
 mod outcomes;
-mod recover;
+mod recovered_base;
 mod region;
-mod reopen;
+mod reopened_medium;
 mod versions;
 
 pub use applied::Outcome;
@@ -32,5 +32,5 @@ pub use laws::{
 pub use outcomes::{
     full_images_tell_outcomes, kept_bases_have_results, kept_bases_tell_outcomes, outcome,
 };
-pub use recover::{ImageFault, recover};
-pub use reopen::{reopen, reopen_image};
+pub use recovered_base::{ImageFault, recover};
+pub use reopened_medium::{reopen, reopen_image};

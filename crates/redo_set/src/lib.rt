@@ -28,12 +28,12 @@
 
 mod apply;
 mod gaps;
-mod offer;
+mod offers;
 mod set;
-mod take;
+mod taken;
 
 pub use apply::apply_set;
 pub use gaps::note_gaps;
-pub use offer::offer;
+pub use offers::offer;
 pub use set::WriteSet;
-pub use take::take;
+pub use taken::take;

@@ -41,7 +41,7 @@
 
 mod by_lines;
 mod copy;
-mod flush;
+mod flushes;
 mod outcomes;
 mod read_region;
 mod region;
@@ -50,7 +50,7 @@ mod words;
 
 pub use by_lines::renew_listed;
 pub use copy::{copy_from, renew_from};
-pub use flush::flush;
+pub use flushes::flush;
 pub use outcomes::{outcome, place};
 pub use read_region::ReadRegion;
 pub use region::Region;

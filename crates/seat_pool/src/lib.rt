@@ -26,7 +26,7 @@
 //! - `in_order`: callers that were gathered in whatever way, of caller 0 first.
 #![tactic(auto)]
 
-mod close;
+mod closed;
 mod gather;
 mod hand;
 mod laws;
@@ -34,7 +34,7 @@ mod lent;
 mod queue;
 mod rule;
 
-pub use close::close;
+pub use closed::close;
 pub use gather::in_order;
 pub use hand::{Hand, Home, Returned, Told};
 pub use laws::{answers_are_told, idle_are_kept, reads_are_shown, stopped_are_kept};

@@ -12,11 +12,11 @@
 #![tactic(auto)]
 
 mod call;
+mod kept;
 mod life;
-mod recovered;
 mod workers;
 
 pub use call::{Asked, ask, follow};
+pub use kept::recovered;
 pub use life::{closed, serve, started};
-pub use recovered::recovered;
 pub use workers::{Worked, Worker, work_together};

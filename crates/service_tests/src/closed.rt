@@ -5,7 +5,7 @@ ghost use Rattle.cx_base.specs.Codes.{root_place_of};
 ghost use Rattle.cx_base.specs.Tally.{IsTally};
 ghost use Rattle.cx_core.specs.Base.{LawfulBase};
 ghost use Rattle.recovery.specs.Crashes.{left_root};
-ghost use Rattle.recovery.specs.declared.recover.ImageFault.TheVariants.{Memory};
+ghost use Rattle.recovery.specs.declared.recovered_base.ImageFault.TheVariants.{Memory};
 ghost use Rattle.service_tests.specs.Closed.{IsClosed, IsClosedTally};
 
 use cx_base::Object;

@@ -22,8 +22,8 @@
 //! other caller then finds; each limit from 0 to 2 of a shared try that is refused, and the mark that is left with a limit of 1.
 #![tactic(auto)]
 
-mod release;
+mod releases;
 mod try_lock;
 
-pub use release::{downgrade, release, release_downgraded, release_shared};
+pub use releases::{downgrade, release, release_downgraded, release_shared};
 pub use try_lock::{ExclusiveTried, SharedTried, try_exclusive, try_shared};

@@ -6,8 +6,8 @@ use Rattle.cx_core.specs.QueueEvents.{cell_of, entry_in, next_number}
 use Rattle.cx_core.specs.Region.{slot_number}
 use Rattle.cx_table.specs.Running.{IsSeatOf, Running}
 use Rattle.cx_table.specs.Seats.{Seated}
-use Rattle.mutation_queue.specs.declared.link.LinkTried.{LinkTried}
-use Rattle.mutation_queue.specs.declared.link.LinkTried.TheVariants.{Again, Linked as LinkedAt, Worn}
+use Rattle.mutation_queue.specs.declared.links.LinkTried.{LinkTried}
+use Rattle.mutation_queue.specs.declared.links.LinkTried.TheVariants.{Again, Linked as LinkedAt, Worn}
 use Rattle.mutation_queue.specs.Cells.{Announces}
 use Rattle.mutation_queue.specs.Links.{LinksAt, LinksNone, Tried}
 use Rattle.mutation_queue.specs.Tests.{HasLinked, HasTried}

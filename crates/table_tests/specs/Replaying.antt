@@ -7,8 +7,8 @@ use Rattle.cx_rule.specs.Running.{IsSeatOf, Running}
 use Rattle.cx_rule.specs.Seats.{Seated}
 use Rattle.cx_table.specs.Right.{Right, WonRight}
 use Rattle.cx_table.specs.Tokens.{IsDowngradedOf}
-use Rattle.mutation_queue.specs.declared.link.LinkTried.{LinkTried}
-use Rattle.mutation_queue.specs.declared.link.LinkTried.TheVariants.{Again, Linked, Worn}
+use Rattle.mutation_queue.specs.declared.links.LinkTried.{LinkTried}
+use Rattle.mutation_queue.specs.declared.links.LinkTried.TheVariants.{Again, Linked, Worn}
 
 -- a caller has no right on a replica
 pub record HasNoRight (l : Local) : Type 0 where

@@ -4,7 +4,7 @@ use Rattle.cx_base.specs.Codes.{root_code_of}
 use Rattle.cx_core.specs.declared.entry.Base.{Base}
 use Rattle.cx_core.specs.Base.{LawfulBase}
 use Rattle.recovery.specs.Recovery.{NumbersWithin}
-use Rattle.recovery.specs.declared.recover.ImageFault.TheVariants.{Memory}
+use Rattle.recovery.specs.declared.recovered_base.ImageFault.TheVariants.{Memory}
 use Rattle.c_images.specs.Taken.{base_at}
 use Rattle.c_images.proofs.Repeated.{has_size, named}
 use Rattle.c_images.proofs.Written.{headed, taken_up}

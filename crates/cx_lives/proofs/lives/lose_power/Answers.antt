@@ -7,7 +7,7 @@ use Rattle.recovery.specs.Crashes.{IsLeftOf}
 use Rattle.recovery.specs.Images.{IsReadable}
 use Rattle.recovery.specs.Kept.{IsKeptBy}
 use Rattle.recovery.specs.Recovery.{IsFaultOf, IsRecovered}
-use Rattle.recovery.specs.declared.recover.ImageFault.TheVariants.{Memory}
+use Rattle.recovery.specs.declared.recovered_base.ImageFault.TheVariants.{Memory}
 use Rattle.cx_lives.specs.Lives.{HasFlags, HasLost}
 use Rattle.cx_lives.proofs.Legality.{opened_of}
 use Rattle.cx_lives.proofs.lives.lose_power.Goals as goal

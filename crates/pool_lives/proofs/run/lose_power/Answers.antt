@@ -8,7 +8,7 @@ use Rattle.recovery.specs.Crashes.{IsLeftOf, AreRemainsWhole}
 use Rattle.recovery.specs.Images.{IsReadable}
 use Rattle.recovery.specs.Kept.{IsKeptBy, IsOpened, crash_of}
 use Rattle.recovery.specs.Recovery.{IsFaultOf, IsRecovered}
-use Rattle.recovery.specs.declared.recover.ImageFault.TheVariants.{Memory}
+use Rattle.recovery.specs.declared.recovered_base.ImageFault.TheVariants.{Memory}
 use Rattle.pool_lives.proofs.Ending.{kept_in, life_service, of_clients, opened_pool, pooled, recorded}
 use Rattle.pool_lives.proofs.run.lose_power.Goals as goal
 
