@@ -1,5 +1,5 @@
 #!/usr/bin/env python3
-"""Says what is wrong with the pages, and which names in them are none of this repository: python3 tools/check_documents.py [ROOT]
+"""Says what is wrong with the pages, and with the examples of doc comments: python3 tools/check_documents.py [ROOT]
 
 The pages are README.md, CHANGELOG.md, CONTRIBUTING.md, those of docs/, and the README of crates/, examples/ and tools/. Names are looked up in them and in
 the heads of crates: the comment that a src/lib.rt begins with. What stands between backticks is looked up: a path has to exist; a name, with its parts
@@ -9,7 +9,9 @@ to lead to a file. Each that is found nowhere is a line `FILE:LINE: NAME`. A wor
 
 A page is wrong where it is over its length, a line of README.md where it has over 120 characters; so is a phrase of a list of idioms, a term in italics
 where theorems are stated (README.md, docs/THEOREMS.md) that docs/GLOSSARY.md has not, a table that stands twice, a page that no other names, and
-a definition in docs/THEOREMS.md that is not as in its source. The rules are in page_rules.py. It takes 3 seconds.
+a definition in docs/THEOREMS.md that is not as in its source. A fenced block in a doc comment of crates/*/src is an example: the line before it ends in the
+name of a file, From `crates/NAME/src/FILE.rt`:, of a crate of crates.txt, and its 2 to 8 lines stand there one after another, so the gate compiles them.
+The rules are in page_rules.py. It takes 3 seconds.
 
 Example: python3 tools/check_documents.py
 Status 0 where nothing is wrong, 1 where something is, 2 where the words are others.
@@ -100,9 +102,21 @@ def page_faults(root):
     return page_rules.faults_of(pages, (path.read_text(encoding="utf-8") for path in root.glob("crates/*/specs/*.antt")))
 
 
+def crates_of(root):
+    """The crates that the gate compiles: the first word of each line of crates.txt."""
+    path = root / "crates.txt"
+    return set(re.findall(r"^\w+", path.read_text(encoding="utf-8"), re.M)) if path.exists() else set()
+
+
+def examples_astray(root):
+    """Each example in a doc comment that is not code of the file which it names."""
+    sources = {str(path.relative_to(root)): path.read_text(encoding="utf-8") for path in sorted(root.glob("crates/*/src/**/*.rt"))}
+    return list(page_rules.example_faults(sources, crates_of(root)))
+
+
 def faults_of(root):
     """All that is wrong, each with its file and line."""
-    return names_lacking(root) + page_faults(root)
+    return names_lacking(root) + page_faults(root) + examples_astray(root)
 
 
 def main(root):

@@ -26,6 +26,8 @@ from told import asked_words
 NAMES, COUNTS = "tools/shared_names.txt", "tools/kept_counts.txt"
 NUMBERS = ("144", "145", "513", "1024", "1168")
 SAYS = re.compile(r"\b(?:Err|Halt|None|(?i:halts?|fails?|refus\w+|faults?|errors?))\b|\b(?i:out|want) of memory\b|`[A-Z]\w*` (?:comes|where|is|only|exactly|says|for)\b")
+# code in a comment says nothing of it
+EXAMPLE = re.compile(r"```.*?```")
 HEADS = {
     NAMES: "# Names that are defined in more than one crate, and the crates: tools/check_names.py. The list only gets shorter.",
     COUNTS: "# What tools/check_names.py allows until it is gone. Counts only fall; `--write` makes the list anew.",
@@ -158,7 +160,8 @@ def is_silent(item):
     if result[:1] != ["Result"]:
         return False
     errors = [token for token in result[1:] if token[0].isupper() and token not in ("Result", "Option")][-1:]
-    return not (SAYS.search(item.comment) or any(re.search(rf"`{error}\b", item.comment) for error in errors))
+    text = EXAMPLE.sub("", item.comment)
+    return not (SAYS.search(text) or any(re.search(rf"`{error}\b", text) for error in errors))
 
 
 def comments_of(text, ending):

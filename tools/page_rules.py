@@ -1,8 +1,10 @@
-"""Rules for the pages: how long each may be, which words it leaves out, which terms are in the glossary, which tables stand once.
+"""Rules for the pages: how long each may be, which words it leaves out, which terms are in the glossary, which tables stand once. And one for examples.
 
-Each rule takes the pages, texts by their paths from the top, and gives faults, each `FILE:LINE: what is wrong`.
+Each rule takes the pages, texts by their paths from the top, and gives faults, each `FILE:LINE: what is wrong`. The rule for examples takes sources in
+the same way: a fenced block in a doc comment is code that stands in the file which the line before it names.
 """
 import re
+import textwrap
 
 README, GLOSSARY, THEOREMS = "README.md", "docs/GLOSSARY.md", "docs/THEOREMS.md"
 LENGTHS = {
@@ -34,6 +36,9 @@ IDIOMS = {
 TICKED = re.compile(r"`[^`\n]*`")
 TERM = re.compile(r"\*(\S(?:[^*\n]*\S)?)\*")
 FENCE = re.compile(r"^\s*```")
+DOC = re.compile(r"^\s*//[/!](?!/) ?(.*)$")
+ORIGIN = re.compile(r"\bFrom `(crates/(\w+)/src/[\w/]+\.rt)`:$")
+EXAMPLE_LINES = range(2, 9)
 
 
 def numbered(text):
@@ -151,6 +156,51 @@ def misquoted(pages, sources):
             shown = line.strip() == "```antt"
         elif shown and line.strip() and line.strip() not in lines:
             yield f"{THEOREMS}:{number}: in no source: {line.strip()}"
+
+
+def doc_blocks(text):
+    """The fenced blocks of a source's doc comments: the number of the fence, the line before it, and the lines between; `None` where no fence ends them."""
+    fence, before, lines = 0, "", None
+    for number, line in numbered(text + "\n"):
+        doc = DOC.match(line)
+        if lines is None:
+            if doc and FENCE.match(doc[1]):
+                fence, lines = number, []
+            else:
+                before = doc[1] if doc else ""
+        elif doc and not FENCE.match(doc[1]):
+            lines.append(doc[1])
+        else:
+            yield fence, before, lines if doc else None
+            before, lines = "", None
+
+
+def matching(lines, rows):
+    """How many of the lines stand in a source, one right after another from the first one on, with the same indentation but for what all have."""
+    for count in range(len(lines), 0, -1):
+        wanted = textwrap.dedent("\n".join(lines[:count]))
+        if any(textwrap.dedent("\n".join(rows[at : at + count])) == wanted for at in range(len(rows) - count + 1)):
+            return count
+    return 0
+
+
+def example_faults(sources, crates):
+    """Fenced blocks of doc comments that are not, line by line, in the file that the line before them names, or whose file is of no crate of the gate."""
+    for path, text in sources.items():
+        for fence, before, lines in doc_blocks(text):
+            origin = ORIGIN.search(before)
+            if lines is None:
+                yield f"{path}:{fence}: the block has no end"
+            elif not origin:
+                yield f"{path}:{fence}: the line before the block names no file: From `crates/NAME/src/FILE.rt`:"
+            elif origin[1] not in sources or origin[2] not in crates:
+                yield f"{path}:{fence - 1}: no file of a crate of crates.txt: {origin[1]}"
+            elif len(lines) not in EXAMPLE_LINES:
+                yield f"{path}:{fence}: an example of {len(lines)} lines, not {EXAMPLE_LINES[0]} to {EXAMPLE_LINES[-1]}"
+            else:
+                count = matching(lines, sources[origin[1]].split("\n"))
+                if count < len(lines):
+                    yield f"{path}:{fence + 1 + count}: not in {origin[1]} at this place: {lines[count].strip()}"
 
 
 def faults_of(pages, sources):

@@ -1,4 +1,5 @@
-"""Tests of the rules for pages, and that the pages keep them."""
+"""Tests of the rules for pages and examples, and that the pages and the examples keep them."""
+import re
 import tempfile
 import unittest
 from pathlib import Path
@@ -7,6 +8,19 @@ import check_documents
 import page_rules
 
 ROOT = Path(__file__).resolve().parent.parent.parent
+
+
+# what a program calls first, by crates: the line that the comment with an example stands over, and of an object the head of its crate
+ENTRY_POINTS = {
+    "bounded_counters": ["#![tactic(auto)]"],
+    "cx_service": [
+        "pub fn start(", "pub fn update<", "pub fn read<", "pub fn submit(", "pub fn drive(", "pub fn checkpoint(", "pub fn catch_up(", "pub fn close("
+    ],
+    "recovery": ["pub fn recover<"],
+    "service_parts": ["pub fn serve<"],
+    "client_pool": ["pub fn open<", "pub fn update<"],
+    "c_sessions": ["pub fn open<", "pub fn call(", "pub fn close("],
+}
 
 
 class Documents(unittest.TestCase):
@@ -18,6 +32,28 @@ class Documents(unittest.TestCase):
     def test_each_rule_has_its_page(self):
         for page in (*page_rules.LENGTHS, page_rules.GLOSSARY, page_rules.THEOREMS):
             self.assertTrue((ROOT / page).exists(), page)
+
+    def test_each_entry_point_has_an_example(self):
+        for crate, lines in ENTRY_POINTS.items():
+            sources = "".join(path.read_text(encoding="utf-8") for path in (ROOT / "crates" / crate / "src").glob("*.rt"))
+            for line in lines:
+                with self.subTest(f"{crate}: {line}"):
+                    self.assertTrue(re.search(rf"^ *//[/!].*\n *//[/!] ```\n *{re.escape(line)}", sources, re.M))
+
+    def test_an_example_that_is_not_in_its_file_is_found(self):
+        with tempfile.TemporaryDirectory() as folder:
+            root = Path(folder)
+            source = root / "crates" / "one" / "src" / "lib.rt"
+            source.parent.mkdir(parents=True)
+            (root / "crates.txt").write_text("# a group\none staticlib: two\n")
+            text = "/// Makes.\n///\n/// From `crates/one/src/lib.rt`:\n/// ```rattle\n/// let a = 1;\n/// a + 1\n/// ```\npub fn made() -> u64 {\n    let a = 1;\n    a + 1\n}\n"
+            source.write_text(text)
+            self.assertEqual([], check_documents.faults_of(root))
+            source.write_text(text.replace("    a + 1", "    a + 2"))
+            self.assertEqual(["crates/one/src/lib.rt:6: not in crates/one/src/lib.rt at this place: a + 1"], check_documents.faults_of(root))
+            source.write_text(text)
+            (root / "crates.txt").write_text("two: one\n")
+            self.assertEqual(["crates/one/src/lib.rt:3: no file of a crate of crates.txt: crates/one/src/lib.rt"], check_documents.faults_of(root))
 
     def test_what_is_not_there_is_found(self):
         with tempfile.TemporaryDirectory() as folder:
@@ -110,3 +146,59 @@ class PageRules(unittest.TestCase):
         source = "-- a comment\npub a : b\n    pub c : d\n"
         self.assertEqual([], list(page_rules.misquoted({"docs/THEOREMS.md": page}, [source])))
         self.assertEqual(["docs/THEOREMS.md:3: in no source: pub c : d"], list(page_rules.misquoted({"docs/THEOREMS.md": page}, [source.replace("d", "e")])))
+
+
+class Examples(unittest.TestCase):
+    """A fenced block of a doc comment is code of the file that the line before it names."""
+
+    CODE = "fn a() {\n    let b = 1;\n    if b == 1 {\n        c(b);\n    }\n\n    d();\n}\n"
+
+    def faults(self, comment, crates=("two",)):
+        """The faults of a source with a comment, beside one with code."""
+        return list(page_rules.example_faults({"crates/one/src/lib.rt": comment, "crates/two/src/code.rt": self.CODE}, crates))
+
+    def block(self, *lines, mark="///", head="From `crates/two/src/code.rt`:", pad="    "):
+        """A comment whose third line is the fence of a block."""
+        return "".join(f"{pad}{mark} {line}".rstrip() + "\n" for line in ("Does it.", head, "```rattle", *lines, "```")) + f"{pad}pub fn e();\n"
+
+    def test_code_that_stands_there(self):
+        whole = ("if b == 1 {", "    c(b);", "}", "", "d();")
+        for comment in (
+            self.block(*whole),
+            self.block(*whole, mark="//!", pad=""),
+            self.block("let b = 1;", "if b == 1 {"),
+            self.block("    let b = 1;", "    if b == 1 {"),
+            self.block("    d();", "}", head="Its end. From `crates/two/src/code.rt`:"),
+            self.block("let b = 1;", "if b == 1 {") + self.block(*whole),
+            "/// No block, and `code`.\nfn e() {}\n// ```\n// none of a doc comment\n",
+        ):
+            self.assertEqual([], self.faults(comment), comment)
+
+    def test_code_that_does_not(self):
+        rows = [
+            (("let b = 2;", "if b == 1 {"), "4: not in crates/two/src/code.rt at this place: let b = 2;"),
+            (("let b = 1;", "c(b);"), "5: not in crates/two/src/code.rt at this place: c(b);"),
+            (("let b = 1;", "..", "d();"), "5: not in crates/two/src/code.rt at this place: .."),
+            (("if b == 1 {", "c(b);", "}"), "5: not in crates/two/src/code.rt at this place: c(b);"),
+            (("d();", "}", "fn"), "5: not in crates/two/src/code.rt at this place: }"),
+            (("let b = 1", "if b == 1 {"), "4: not in crates/two/src/code.rt at this place: let b = 1"),
+            (("d();",), "3: an example of 1 lines, not 2 to 8"),
+            (tuple("abcdefghi"), "3: an example of 9 lines, not 2 to 8"),
+        ]
+        for lines, want in rows:
+            self.assertEqual([f"crates/one/src/lib.rt:{want}"], self.faults(self.block(*lines)), lines)
+
+    def test_a_file_that_is_not_named(self):
+        lines = ("let b = 1;", "if b == 1 {")
+        rows = [
+            ("Of crates/two/src/code.rt:", "3: the line before the block names no file: From `crates/NAME/src/FILE.rt`:"),
+            ("From `crates/two/src/code.rt`: so", "3: the line before the block names no file: From `crates/NAME/src/FILE.rt`:"),
+            ("From `docs/code.rt`:", "3: the line before the block names no file: From `crates/NAME/src/FILE.rt`:"),
+            ("From `crates/two/src/other.rt`:", "2: no file of a crate of crates.txt: crates/two/src/other.rt"),
+        ]
+        for head, want in rows:
+            self.assertEqual([f"crates/one/src/lib.rt:{want}"], self.faults(self.block(*lines, head=head)), head)
+        comment = self.block(*lines)
+        self.assertEqual(["crates/one/src/lib.rt:2: no file of a crate of crates.txt: crates/two/src/code.rt"], self.faults(comment, ("one",)))
+        self.assertEqual(["crates/one/src/lib.rt:3: the block has no end"], self.faults(comment.replace("    /// ```\n", "")))
+        self.assertEqual(["crates/one/src/lib.rt:3: the block has no end"], self.faults(comment[: comment.index("    /// ```\n")]))

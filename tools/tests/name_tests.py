@@ -84,6 +84,8 @@ class Names(unittest.TestCase):
         rows = [
             (source("Gives two."), fault),
             (source("Gives two of none."), fault),
+            (source("Gives two.\n    ///\n    /// ```rattle\n    /// Err(Halt)\n    /// ```"), fault),
+            (source("Gives two.\n    ///\n    /// ```rattle\n    /// two()\n    /// ```\n    /// Else `Err`."), []),
             (source("Gives two. `Halt` comes only where no access is left."), []),
             (source("Gives two. `Full` comes exactly where there is no room."), []),
             (source("Gives two; refuses three."), []),

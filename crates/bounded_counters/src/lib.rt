@@ -4,6 +4,17 @@
 //! of a typed object: its operations and replies are values, with a sequential specification that is proved of its steps.
 //!
 //! An object of one's own, as an example: a set of counters that stay below a bound.
+//!
+//! An operation is code for one thread, over a memory that is lent to the call. This adds to a counter, as `run_into` of the object does.
+//! From `crates/bounded_counters/src/counters.rt`:
+//! ```rattle
+//! let count = load_below(mem, counter + 1, self.bound)?;
+//! if self.bound - count <= amount {
+//!     return Ok(Reply::Full);
+//! }
+//! mem.store(counter + 1, count + amount)?;
+//! Ok(Reply::Value(count + amount))
+//! ```
 #![tactic(auto)]
 
 mod counters;

@@ -40,6 +40,18 @@ pub enum Closing<O: Object> {
 impl<O: Object> Session<O> {
     /// Closes the session. Its caller is handed in, in whatever state it is. The session that is closed last takes all callers of the
     /// service out, and closes it.
+    ///
+    /// Each result of it, `closing`, as the library for C takes it. From `crates/githoppu_c/src/content.rt`:
+    /// ```rattle
+    /// match closing {
+    ///     Closing::Others => (Content::Gone, OTHERS),
+    ///     Closing::Again(session) => (Content::Documents(session), AGAIN),
+    ///     Closing::Closed(remains) => (Content::ClosedDocuments(remains), DONE),
+    ///     Closing::Kept(kept) => (Content::KeptDocuments(kept), NO_MEMORY),
+    ///     Closing::Missing(rest) => (Content::RestDocuments(rest), LOST),
+    ///     Closing::Shared(rest) => (Content::RestDocuments(rest), AGAIN),
+    /// }
+    /// ```
     pub fn close(self, alloc: Global) -> Closing<O>
         requires { IsSessionReady self }
         ensures { Closes O.line_count O.lawful O.step O.only_reads self result }

@@ -44,6 +44,15 @@ impl<O: Object> Session<O> {
     }
 
     /// Does an operation, in at most the given number of tries. The reply is written where the call is done, and nothing of it else.
+    ///
+    /// From `crates/githoppu_c/src/content.rt`:
+    /// ```rattle
+    /// match self {
+    ///     Content::Documents(session) => session.call(op, reply, tries),
+    ///     Content::Queue(session) => session.call(op, reply, tries),
+    ///     _ => Called::OutOfTurn,
+    /// }
+    /// ```
     pub fn call(&mut self, op: &OpWords, reply: &mut OpWords, tries: Tries) -> Called
         requires ready { IsSessionReady self.old }
         ensures ready { IsSessionReady self.new }

@@ -27,6 +27,14 @@ pub enum OpenFault {
 
 /// The sessions of a new service of this many callers over the object as it opens, of caller 0 first. All memory is taken here. `Err`
 /// says why there are none, as for `open_from`, and drops the object.
+///
+/// From `crates/githoppu_c/src/open.rt`:
+/// ```rattle
+/// let sessions = match open(alloc, Fifo::of(lines), count as u32) {
+///     Ok(sessions) => sessions,
+///     Err(fault) => return Err(open_code(fault)),
+/// };
+/// ```
 pub fn open<O: Object>(alloc: Global, object: O, callers: u32) -> Result<Vec<Session<O>>, OpenFault>
     ensures { MatchResult result (λ sessions. AreFirst object (O.line_count object) callers (O.opening object) sessions.items) (IsOpenFault callers (O.line_count object)) }
 {

@@ -132,6 +132,16 @@ fn new_clients<O: Object>(
 impl<O: Object> Pool<O> {
     /// Opens a pool: all callers of a service, of caller 0 first, none of which has linked an entry, and the given number of clients of theirs, 1 to 64.
     /// The probe is an operation that only reads. `Err` comes only where memory runs out, and hands back what was given.
+    ///
+    /// The probe reads counter 0. From `crates/life_tests/src/pool_starts.rt`:
+    /// ```rattle
+    /// let (service, seats) = started(alloc, Counters::of(64, 1_000_000), callers, limit)?;
+    /// operations_are_read();
+    /// match Pool::open(rt, alloc, service, seats, clients, read_words(0)) {
+    ///     Ok((pool, clients)) => Ok((pool, clients)),
+    ///     Err(_) => Err(AllocError),
+    /// }
+    /// ```
     pub fn open<R: Wait>(
         rt: &R,
         alloc: Global,

@@ -15,6 +15,18 @@ impl<O: Object> Pool<O> {
     /// Enters an operation into the queue for a client that was not told `Stopped`, by a caller that has seen all that the client was answered before or caught up with. It
     /// waits for a caller, and for those who link and publish. `Full`, `Worn` and `Stopped` come only where the service answered the caller so in this call: the client keeps
     /// it, and its answers and its floor are as before. `Memory` is want of room for the answer, and leaves all as it was.
+    ///
+    /// From `crates/life_tests/src/server.rt`:
+    /// ```rattle
+    /// let pooled = pool.update(rt, client, &add_words(0, amount));
+    /// match pooled {
+    ///     Pooled::Done(answer) => Told::Sum(answer.reply[1]),
+    ///     // another caller needs the cells of the one that this client keeps, or there is no room for one answer more
+    ///     Pooled::Full(_) | Pooled::Memory => Told::Busy,
+    ///     // no ticket is left, or this client's caller is stopped
+    ///     Pooled::Worn | Pooled::Stopped { .. } => Told::Over,
+    /// }
+    /// ```
     pub fn update<R: Wait>(&self, rt: &R, client: &mut Client, op: &OpWords) -> Pooled
         requires pool { IsPool O.only_reads self.now }
         requires client { IsClientOf self.now.service self.now.line.table.shared.table_id client.old × (is_live client.old.lent.kept ≡ true) }

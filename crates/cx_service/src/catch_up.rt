@@ -26,6 +26,18 @@ impl<O: Object> Service<O> {
     /// read it is the read's. From `Caught` on each entry that the caller links has a ticket at or above the place, and each read that it is
     /// answered a place at or above it, so what the other one was told stands before both. `Behind` comes only where CUR was found below the
     /// place, which is where nobody was answered at it. `Halted` comes exactly where a further step is to be made and the steps equal the limit.
+    ///
+    /// The body of a loop that goes on after `Behind`. From `crates/service_parts/src/call.rt`:
+    /// ```rattle
+    /// match service.catch_up(caller, place) {
+    ///     CaughtUp::Caught(back) => return Ok(back),
+    ///     CaughtUp::Behind(back, _) => {
+    ///         thread::yield_now();
+    ///         caller = back;
+    ///     }
+    ///     CaughtUp::Halted(stopped) => return Err(stopped),
+    /// }
+    /// ```
     pub fn catch_up(&self, caller: Caller, place: u64) -> CaughtUp
         requires { IsCallerOf self.now caller }
         ensures { CatchesUp self.now place caller result }

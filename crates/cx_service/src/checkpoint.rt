@@ -25,6 +25,18 @@ impl<O: Object> Service<O> {
     /// words are the image after the entries below the place, all of which a loss of power keeps, and a base from which a service may start. Only
     /// a caller that wants that replica exclusively is kept from it, by one copy. `Pending` comes only where the count of refusals rose in each
     /// turn. `Halted` comes exactly where a further step is to be made and the steps equal the limit.
+    ///
+    /// The image becomes a base, from which the next service may start. From `crates/service_tests/src/checkpoint_starts.rt`:
+    /// ```rattle
+    /// let mut words = Vec::from_elem(alloc, 0, WORDS).ok()?;
+    /// match service.checkpoint(caller, &mut words, 1) {
+    ///     Checkpointed::Taken(_, place) => Some(Base {
+    ///         place,
+    ///         words: Items::of(words),
+    ///     }),
+    ///     Checkpointed::Pending(_) | Checkpointed::Halted(_) => None,
+    /// }
+    /// ```
     pub fn checkpoint(&self, caller: Caller, into: &mut [u64], tries: u64) -> Checkpointed
         requires caller { IsCallerOf self.now caller }
         requires words { length into.old ≡ length self.now.base.words }

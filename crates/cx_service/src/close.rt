@@ -33,6 +33,15 @@ impl<O: Object> Service<O> {
     /// another: by their order the history is a linearization (Herlihy and Wing), also over a crash (Izraelevitz and others), and where the
     /// steps of one call stand before those of another, so do the calls' operations. `Err` comes only where memory runs out, and hands
     /// all back as it was.
+    ///
+    /// Both callers of a service. From `crates/service_tests/src/starts.rt`:
+    /// ```rattle
+    /// let callers = vec![in alloc; first, second]?;
+    /// match service.close(alloc, callers) {
+    ///     Ok(remains) => Ok(remains),
+    ///     Err(_) => Err(AllocError),
+    /// }
+    /// ```
     pub fn close(self, alloc: Global, callers: Vec<Handed>) -> Result<Remains, Kept<O>>
         requires { AreSeats self (seats_of callers.items) }
         ensures remains { IfOk result (λ r. Leaves self (instance_at self O.step O.only_reads) (seats_of callers.items) r) }

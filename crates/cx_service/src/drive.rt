@@ -26,6 +26,18 @@ impl<O: Object> Service<O> {
     /// alone: the reply is the object's after the entries before the ticket, and a loss of power keeps the entry. `Pending` comes
     /// only where the count of refusals rose in each turn; no turn adds more than one. `Halted` comes exactly where a further step is to
     /// be made and the steps equal the limit; the caller keeps the entry's ticket.
+    ///
+    /// The body of a loop that goes on after `Pending`. From `crates/cx_service/src/update.rt`:
+    /// ```rattle
+    /// match self.drive(linked, TRIES) {
+    ///     Driven::Done(caller, answer) => return Updated::Done(caller, answer),
+    ///     Driven::Pending(back) => {
+    ///         thread::yield_now();
+    ///         linked = back;
+    ///     }
+    ///     Driven::Halted(stopped) => return Updated::Halted(stopped),
+    /// }
+    /// ```
     pub fn drive(&self, linked: Linked, tries: u64) -> Driven
         requires linked { IsLinkedOf self.now linked }
         requires tries { 1 ≤ tries }

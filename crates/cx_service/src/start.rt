@@ -27,6 +27,15 @@ impl<O: Object> Service<O> {
     /// Starts the service of 1 to 8 callers that opens from a base, and gives its callers, of caller 0 first. The limit of
     /// caller `c` is item `c` of `limits`; 2^64 - 1 is no limit. All memory of all callers is taken here. A fault drops the
     /// object.
+    ///
+    /// One caller without a limit of steps. From `crates/life_tests/src/queue_service.rt`:
+    /// ```rattle
+    /// let queue = Fifo::of(64);
+    /// let base = Base::fresh(alloc, &queue)?;
+    /// let Ok((service, callers)) = Service::start(alloc, queue, 1, &[u64::MAX], &base) else {
+    ///     return Err(AllocError);
+    /// };
+    /// ```
     pub fn start(
         alloc: Global,
         object: O,

@@ -36,6 +36,17 @@ impl<O: Object> Service<O> {
     /// before it: the note names that caller. `Worn` comes exactly where a cell was idle and the front is then 2^40; else
     /// `Again` exactly where each of the tries found another's link. `Halted` comes exactly where a further step is to be made
     /// and the steps equal the limit. It makes at most `200 + callers + 3 * tries` steps.
+    ///
+    /// One try of each call: an update that is not answered then is `None`. From `crates/service_tests/src/checkpoint_starts.rt`:
+    /// ```rattle
+    /// let Submitted::Linked(linked) = service.submit(caller, &op, 1) else {
+    ///     return None;
+    /// };
+    /// match service.drive(linked, 1) {
+    ///     Driven::Done(back, answer) => Some((back, answer.reply[0])),
+    ///     Driven::Pending(_) | Driven::Halted(_) => None,
+    /// }
+    /// ```
     pub fn submit(&self, caller: Caller, op: &OpWords, tries: u64) -> Submitted
         requires caller { IsCallerOf self.now caller }
         requires tries { 1 ≤ tries }

@@ -54,6 +54,18 @@ impl<O: Object> Service<O> {
     /// replicas, and so it may wait for them; before it does, other threads may run. `Full` comes only where the count of scans rose in this call and another caller,
     /// which the note names, needs the entries in the caller's cells. `Halted` comes exactly where a further step is to be made, of the submit that
     /// was begun last or of driving the linked entry, and the steps equal the limit.
+    ///
+    /// From `crates/life_tests/src/queue_service.rt`:
+    /// ```rattle
+    /// match service.update(rt, caller, &fifo_words(op)) {
+    ///     Updated::Done(back, answer) => match fifo_reply_of(alloc, &answer.reply) {
+    ///         Ok(reply) => Ok(Some((back, reply))),
+    ///         Err(FifoFault::Memory) => Err(AllocError),
+    ///         Err(FifoFault::BadOp) => Ok(None),
+    ///     },
+    ///     Updated::Full(_, _) | Updated::Worn(_) | Updated::Halted(_) => Ok(None),
+    /// }
+    /// ```
     pub fn update<R: Wait>(&self, rt: &R, caller: Caller, op: &OpWords) -> Updated
         requires { IsCallerOf self.now caller }
         ensures { Updates self.now op.now caller result }
@@ -96,6 +108,16 @@ impl<O: Object> Service<O> {
     /// Answers an operation that only reads: beside the queue where the current replica can be read in 8 turns, and else as an entry
     /// of the queue, which it may wait for as an update does. So no read is kept out for good by those who publish. `Halted` comes
     /// exactly where a further step is to be made and the steps equal the limit.
+    ///
+    /// The two answers that have a reply; the others are those of `update`. From `crates/service_parts/src/call.rt`:
+    /// ```rattle
+    /// match service.read(rt, caller, op) {
+    ///     ReadDone::Read(back, seen) => return Asked::Told(back, seen.reply, seen.place),
+    ///     ReadDone::Queued(back, answer) => {
+    ///         let place = back.place_behind(&answer);
+    ///         return Asked::Told(back, answer.reply, place);
+    ///     }
+    /// ```
     pub fn read<R: Wait>(&self, rt: &R, caller: Caller, op: &OpWords) -> ReadDone
         requires caller { IsCallerOf self.now caller }
         requires reads { IsTrue (O.only_reads self.now.object op.now) }

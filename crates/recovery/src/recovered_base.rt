@@ -36,6 +36,16 @@ pub enum ImageFault {
 /// version is upgraded, which leaves the place and the results. A refusal names the first check that the image does not pass, in the
 /// order of `ImageFault`. The base is one from which a service may start where no number of its results is above its place, as it is in
 /// what services leave.
+///
+/// No image of a closed service is refused. From `crates/service_parts/src/kept.rt`:
+/// ```rattle
+/// let image = crash_image(alloc, remains, choice)?;
+/// match recover(alloc, object, &image) {
+///     Ok(base) => Ok(base),
+///     Err(ImageFault::Memory) => Err(AllocError),
+///     Err(_) => unreachable!(),
+/// }
+/// ```
 pub fn recover<O: Object>(alloc: Global, object: &O, image: &Image) -> Result<Base, ImageFault>
     requires { IsReadable (O.line_count object.now) image.now }
     ensures recovers { MatchResult result

@@ -67,6 +67,15 @@ pub fn closed<O: Object>(
 /// One life of a service of 1 to 8 callers: it starts from a base, the worker does each caller's work on a thread of its own, and it is
 /// closed. What each told, of caller 0 first, and what is left: what the worker says of a telling is so of each caller. `Err` means out of memory,
 /// and gives nothing back.
+///
+/// Two lives with a crash between them. From `crates/shared_counters/src/threads.rt`:
+/// ```rattle
+/// let counters = Counters::of(64, 1_000_000);
+/// let base = Base::fresh(alloc, &counters)?;
+/// let (before, remains) = serve(rt, alloc, counters.duplicate(), 4, &base, &Adder)?;
+/// let kept = recovered(alloc, &counters, &remains, 0)?;
+/// let (after, _remains) = serve(rt, alloc, counters.duplicate(), 4, &kept, &Adder)?;
+/// ```
 pub fn serve<O: Object + Send + Sync, R: Threads + Wait + Sync, W: Worker<O> + Sync>(
     rt: &R,
     alloc: Global,
