@@ -105,7 +105,7 @@ module _ {O : Type 0} (r : Running O) where
   comes_reading op x y z seen from a = record {
     idle = read_on op x y z seen from.idle a;
     scans = (let same = a.keeps.scans in omega (arith, same, from.scans));
-    met = omega (arith, from.met, a.met);
+    met = (let kept = a.keeps.met in omega (arith, from.met, kept));
     front = (let kept = a.keeps.front in omega (arith, from.front, kept));
     steps = λ none. (
         let one = (none_both from.idle.more (record { place = seen.place; op = op; reply = seen.reply; before = length y.known.local.answered } ∷ []) none).1 in
@@ -117,7 +117,7 @@ module _ {O : Type 0} (r : Running O) where
   comes_refused tries x y z from a = record {
     idle = refused_on tries x y z from.idle a;
     scans = (let same = a.keeps.scans in omega (arith, same, from.scans));
-    met = omega (arith, from.met, a.rises);
+    met = (let kept = a.keeps.met in omega (arith, from.met, kept));
     front = (let kept = a.keeps.front in omega (arith, from.front, kept));
     steps = λ none. (let first = from.steps (none_both from.idle.more [] none).0 in omega (arith, first, a.since));
   }

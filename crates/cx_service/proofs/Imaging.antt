@@ -1,5 +1,5 @@
 -- What turns by which an image is taken leave of their caller.
-use Rattle.std.proofs.Common.{◌≡◌, ◌+◌, ◌<◌, ◌≤◌, inl, inr, ℕ, List, [], ◌∷◌, ◌++◌, refl, ap, subst, ◌∙◌, arith, None}
+use Rattle.std.proofs.Common.{◌≡◌, ◌<◌, ◌≤◌, inl, inr, ℕ, List, [], ◌∷◌, ◌++◌, refl, ap, subst, ◌∙◌, arith, None}
 use Rattle.std.specs.List.{slice_get}
 use Rattle.cx_base.specs.declared.object.Object.{Ghosts}
 use Rattle.cx_core.specs.declared.local.Answer.{Answer}
@@ -20,9 +20,9 @@ module _ {O : Type 0} (o : Ghosts O) (r : Running O) (s v : Seated) (caller : Is
   look_rest : beside_look v ≡ beside_look s
   look_rest = ap (λ (x : Seated). (let y : Seated = record x { known = record x.known { local = record x.known.local { seen_reads = [] }; times = record x.known.times { reads = [] } } } in y)) rest
 
-  keeps : CheckpointKeeps s v
-  keeps = record {
-    lists = look_keeps r s v caller look_rest front of rises on;
+  keeps : s.known.local.met ≤ v.known.local.met → CheckpointKeeps s v
+  keeps met = record {
+    lists = look_keeps r s v caller look_rest front of rises on met;
     reads = ap (λ (x : Seated). x.known.local.seen_reads) rest;
     times = ap (λ (x : Seated). x.known.times.reads) rest;
   }
@@ -35,9 +35,8 @@ module _ {O : Type 0} (o : Ghosts O) (r : Running O) (s v : Seated) (caller : Is
       let met = taken.met in (
         record {
           caller = still taken.rest;
-          keeps = keeps;
+          keeps = keeps (omega (arith, met));
           allowed = allowed;
-          met = omega (arith, met);
           images = taken.images;
           base = taken.base;
           current = taken.current;
@@ -51,9 +50,8 @@ module _ {O : Type 0} (o : Ghosts O) (r : Running O) (s v : Seated) (caller : Is
   pub image_refused : ¬ IsAtLimit s.known.local → s.known.local.met ≤ max_word → TurnRefused s v × StepsAtMost 4 s v × StepsOn s v × TakesNone s v → ReadPending r 1 s v
   image_refused allowed small (refused, steps, since, none) = record {
     caller = still refused.rest;
-    keeps = keeps.lists;
+    keeps = (keeps (rises_one s v small refused.refusal.met)).lists;
     allowed = allowed;
-    rises = rises_one s v small refused.refusal.met;
     reads = refused.refusal.reads;
     met = meets_one s v refused.refusal.met;
     most = most_one s v refused.refusal.met;
@@ -65,7 +63,7 @@ module _ {O : Type 0} (o : Ghosts O) (r : Running O) (s v : Seated) (caller : Is
 
   pub image_ended : HaltsImage s v → CheckpointHalted r s (record { seat = v; linked = None }) × ReadDue 1 s v
   image_ended h = (
-    record { caller = record { of = of; limit = h.halts.limit }; linked = refl; keeps = keeps; images = h.none },
+    record { caller = record { of = of; limit = h.halts.limit }; linked = refl; keeps = keeps h.halts.counted; images = h.none },
     record { most = h.halts.most; due = λ none. (let same = h.halts.due none in omega (arith, same)) },
   )
 
@@ -79,7 +77,6 @@ module _ {O : Type 0} (r : Running O) (n : ℕ) (s u : Seated) (before : ReadPen
     caller = taken.caller;
     keeps = keeps_then v taken.keeps;
     allowed = before.allowed;
-    met = omega (arith, before.rises, taken.met);
     images = taken.images ∙ ap (λ xs. xs ++ words ∷ []) before.images;
     base = taken.base;
     current = taken.current;

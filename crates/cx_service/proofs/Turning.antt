@@ -64,8 +64,8 @@ between_after r n m s v was own cells front of rest answered = record {
 }
 
 module _ {O : Type 0} (r : Running O) (s v : Seated) (linked : IsLinkedOf r s) (rest : beside_update v ≡ beside_update s) (front : s.known.local.front ≤ v.known.local.front) (of : IsSeatOf r v) (since : StepsOn s v) where
-  drive_keeps : DriveKeeps s v
-  drive_keeps = record {
+  drive_keeps : s.known.local.met ≤ v.known.local.met → DriveKeeps s v
+  drive_keeps met = record {
     number = ap (λ (x : Seated). x.known.local.number) rest;
     limit = ap (λ (x : Seated). x.known.local.limit) rest;
     own = ap (λ (x : Seated). x.known.local.own) rest;
@@ -73,6 +73,7 @@ module _ {O : Type 0} (r : Running O) (s v : Seated) (linked : IsLinkedOf r s) (
     linked = ap (λ (x : Seated). x.known.times.linked) rest;
     read = ap (λ (x : Seated). x.known.times.reads) rest;
     images = ap (λ (x : Seated). x.known.images) rest;
+    met = met;
     since = since;
   }
 
@@ -83,9 +84,8 @@ module _ {O : Type 0} (r : Running O) (s v : Seated) (linked : IsLinkedOf r s) (
   pub turn_done : (ticket : ℕ) (reply : List ℕ) → unanswered_ticket s.known.local ≡ Some ticket → ¬ IsAtLimit s.known.local → BringsEntries s v → AnswersEntry 1 ticket reply s v → DriveDone r s v (record { ticket = ticket; reply = reply })
   turn_done ticket reply is allowed brought answers = record {
     caller = stands 0 answers.rest (ap (λ (xs : List Answer). length xs + 0) answers.answered ∙ ap (λ n. n + 0) (length-append s.known.local.answered _) ∙ zero_more (length s.known.local.answered + 1));
-    keeps = drive_keeps;
+    keeps = drive_keeps answers.met;
     allowed = allowed;
-    met = answers.met;
     ticket = is;
     answered = answers.answered;
     brought = brought;
@@ -98,9 +98,8 @@ module _ {O : Type 0} (r : Running O) (s v : Seated) (linked : IsLinkedOf r s) (
   pub turn_refused : ¬ IsAtLimit s.known.local → s.known.local.met ≤ max_word → v.known.sets ≡ s.known.sets → TurnRefused s v → DrivePending r 1 s v
   turn_refused allowed small sets refused = record {
     caller = stands 1 refused.rest (ap (λ (xs : List Answer). length xs + 1) refused.refusal.answered);
-    keeps = drive_keeps;
+    keeps = drive_keeps (rises_one s v small refused.refusal.met);
     allowed = allowed;
-    rises = rises_one s v small refused.refusal.met;
     answered = refused.refusal.answered;
     sets = sets;
     ended = refused.refusal.times.answered;
@@ -112,7 +111,7 @@ module _ {O : Type 0} (r : Running O) (s v : Seated) (linked : IsLinkedOf r s) (
   turn_halted ticket is halts = (
     record {
       caller = record { of = of; limit = halts.limit };
-      keeps = drive_keeps;
+      keeps = drive_keeps halts.counted;
       ticket = ticket;
       is = is;
       linked = refl;
@@ -128,7 +127,7 @@ module _ {O : Type 0} (r : Running O) (s v : Seated) (linked : IsLinkedOf r s) (
 -- turns after others, in each of which a refusal was met
 module _ {O : Type 0} (r : Running O) (n : ℕ) (s u : Seated) (before : DrivePending r n s u) where
   keeps_then : (v : Seated) → DriveKeeps u v → DriveKeeps s v
-  keeps_then v k = record { number = k.number ∙ before.keeps.number; limit = k.limit ∙ before.keeps.limit; own = k.own ∙ before.keeps.own; reads = k.reads ∙ before.keeps.reads; linked = k.linked ∙ before.keeps.linked; read = k.read ∙ before.keeps.read; images = k.images ∙ before.keeps.images; since = omega (arith, before.keeps.since, k.since) }
+  keeps_then v k = record { number = k.number ∙ before.keeps.number; limit = k.limit ∙ before.keeps.limit; own = k.own ∙ before.keeps.own; reads = k.reads ∙ before.keeps.reads; linked = k.linked ∙ before.keeps.linked; read = k.read ∙ before.keeps.read; images = k.images ∙ before.keeps.images; met = omega (arith, before.keeps.met, k.met); since = omega (arith, before.keeps.since, k.since) }
 
   same_ticket : unanswered_ticket s.known.local ≡ unanswered_ticket u.known.local
   same_ticket =
@@ -143,7 +142,6 @@ module _ {O : Type 0} (r : Running O) (n : ℕ) (s u : Seated) (before : DrivePe
     answered = p.answered ∙ before.answered;
     sets = p.sets ∙ before.sets;
     ended = p.ended ∙ before.ended;
-    rises = omega (arith, before.rises, p.rises);
     met = meets_then n m s u v before.met p.met;
     most = omega (arith, before.most, p.most);
   }
@@ -153,7 +151,6 @@ module _ {O : Type 0} (r : Running O) (n : ℕ) (s u : Seated) (before : DrivePe
     caller = d.caller;
     keeps = keeps_then v d.keeps;
     allowed = before.allowed;
-    met = omega (arith, before.rises, d.met);
     ticket = same_ticket ∙ d.ticket;
     answered = d.answered ∙ ap (with_answer answer.ticket answer.reply) before.answered;
     brought = brings_around s u v v before.sets d.brought refl;
@@ -246,8 +243,8 @@ beside_look s = (let b = beside_lookup s in record b { known = record b.known { 
 
 -- such a turn keeps the lists, and its caller may go on
 module _ {O : Type 0} (r : Running O) (s v : Seated) (caller : IsCallerOf r s) (rest : beside_look v ≡ beside_look s) (front : s.known.local.front ≤ v.known.local.front) (of : IsSeatOf r v) (rises : s.known.local.seen_cur ≤ v.known.local.seen_cur) (since : StepsOn s v) where
-  pub look_keeps : ReadKeeps s v
-  look_keeps = record {
+  pub look_keeps : s.known.local.met ≤ v.known.local.met → ReadKeeps s v
+  look_keeps met = record {
     number = ap (λ (x : Seated). x.known.local.number) rest;
     limit = ap (λ (x : Seated). x.known.local.limit) rest;
     own = ap (λ (x : Seated). x.known.local.own) rest;
@@ -256,6 +253,7 @@ module _ {O : Type 0} (r : Running O) (s v : Seated) (caller : IsCallerOf r s) (
     sets = ap (λ (x : Seated). x.known.sets) rest;
     front = front;
     cur = rises;
+    met = met;
     since = since;
     linked = ap (λ (x : Seated). x.known.times.linked) rest;
     ended = ap (λ (x : Seated). x.known.times.answered) rest;
@@ -271,8 +269,8 @@ module _ {O : Type 0} (r : Running O) (op : List ℕ) (s v : Seated) (caller : I
   look_rest : beside_look v ≡ beside_look s
   look_rest = ap (λ (x : Seated). (let y : Seated = record x { known = record x.known { images = [] } } in y)) rest
 
-  read_keeps : ReadKeeps s v
-  read_keeps = look_keeps r s v caller look_rest front of rises on
+  read_keeps : s.known.local.met ≤ v.known.local.met → ReadKeeps s v
+  read_keeps met = look_keeps r s v caller look_rest front of rises on met
 
   still : IsAtRest v.known.local → IsCallerOf r v
   still = look_rests r s v caller look_rest front of rises on
@@ -280,9 +278,8 @@ module _ {O : Type 0} (r : Running O) (op : List ℕ) (s v : Seated) (caller : I
   pub read_done : (seen : Seen) → ¬ IsAtLimit s.known.local → AnswersRead s.known.local.steps op seen.place seen.reply s v → seen.place ≡ root_place_of r.callers v.known.local.seen_cur → seen.place ≤ v.known.local.front → ReadAnswered r op s v seen
   read_done seen allowed answers placed reached = record {
     caller = still answers.rest;
-    keeps = read_keeps;
+    keeps = read_keeps (let same = answers.met in omega (arith, same));
     allowed = allowed;
-    met = (let same = answers.met in omega (arith, same));
     reads = answers.reads;
     place = placed;
     reached = reached;
@@ -295,9 +292,8 @@ module _ {O : Type 0} (r : Running O) (op : List ℕ) (s v : Seated) (caller : I
   pub read_refused : ¬ IsAtLimit s.known.local → s.known.local.met ≤ max_word → TurnRefused s v × StepsAtMost 4 s v × StepsOn s v → ReadPending r 1 s v
   read_refused allowed small (refused, steps, since) = record {
     caller = still refused.rest;
-    keeps = read_keeps;
+    keeps = read_keeps (rises_one s v small refused.refusal.met);
     allowed = allowed;
-    rises = rises_one s v small refused.refusal.met;
     reads = refused.refusal.reads;
     met = meets_one s v refused.refusal.met;
     most = most_one s v refused.refusal.met;
@@ -312,7 +308,7 @@ module _ {O : Type 0} (r : Running O) (op : List ℕ) (s v : Seated) (caller : I
     record {
       caller = record { of = of; limit = h.halts.limit };
       linked = refl;
-      keeps = read_keeps;
+      keeps = read_keeps h.halts.counted;
       reads = elim h.reads [ inl none ↦ inl none.same | inr one ↦ inr (one.0, one.1, one.2, one.4) ];
       times = elim h.reads [ inl none ↦ inl none.times | inr one ↦ inr (record { begun = s.known.local.steps; ended = one.3.ended; from = omega arith; to = one.3.to; is = one.3.is }) ];
       images = ap (λ (x : Seated). x.known.images) rest;
@@ -326,7 +322,7 @@ all_answered r s caller = ap (option_map (λ (x : Linked). x.ticket)) (slice_get
 
 module _ {O : Type 0} (r : Running O) (op : List ℕ) (n : ℕ) (s u : Seated) (before : ReadPending r n s u) where
   pub read_keeps_then : (v : Seated) → ReadKeeps u v → ReadKeeps s v
-  read_keeps_then v k = record { number = k.number ∙ before.keeps.number; limit = k.limit ∙ before.keeps.limit; own = k.own ∙ before.keeps.own; answered = k.answered ∙ before.keeps.answered; scans = k.scans ∙ before.keeps.scans; sets = k.sets ∙ before.keeps.sets; front = omega (arith, before.keeps.front, k.front); cur = omega (arith, before.keeps.cur, k.cur); since = omega (arith, before.keeps.since, k.since); linked = k.linked ∙ before.keeps.linked; ended = k.ended ∙ before.keeps.ended }
+  read_keeps_then v k = record { number = k.number ∙ before.keeps.number; limit = k.limit ∙ before.keeps.limit; own = k.own ∙ before.keeps.own; answered = k.answered ∙ before.keeps.answered; scans = k.scans ∙ before.keeps.scans; sets = k.sets ∙ before.keeps.sets; front = omega (arith, before.keeps.front, k.front); cur = omega (arith, before.keeps.cur, k.cur); met = omega (arith, before.keeps.met, k.met); since = omega (arith, before.keeps.since, k.since); linked = k.linked ∙ before.keeps.linked; ended = k.ended ∙ before.keeps.ended }
 
   -- reads with one more, in terms of the first seat
   more_reads : (place : ℕ) (reply : List ℕ) → reads_with place op reply (length u.known.local.answered) u.known.local.seen_reads ≡ reads_with place op reply (length s.known.local.answered) s.known.local.seen_reads
@@ -339,7 +335,6 @@ module _ {O : Type 0} (r : Running O) (op : List ℕ) (n : ℕ) (s u : Seated) (
     caller = p.caller;
     keeps = read_keeps_then v p.keeps;
     allowed = before.allowed;
-    rises = omega (arith, before.rises, p.rises);
     reads = p.reads ∙ before.reads;
     met = meets_then n 1 s u v before.met p.met;
     most = omega (arith, before.most, p.most);
@@ -354,7 +349,6 @@ module _ {O : Type 0} (r : Running O) (op : List ℕ) (n : ℕ) (s u : Seated) (
     caller = d.caller;
     keeps = read_keeps_then v d.keeps;
     allowed = before.allowed;
-    met = omega (arith, before.rises, d.met);
     reads = d.reads ∙ more_reads seen.place seen.reply;
     place = d.place;
     reached = d.reached;

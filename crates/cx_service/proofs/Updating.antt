@@ -143,7 +143,7 @@ module _ {O : Type 0} (r : Running O) (op : List ℕ) (s u : Seated) (same : Kee
     pub update_done : (v : Seated) (answer : Answer) → u.known.sets ≡ s.known.sets → s.known.local.front ≤ u.known.local.front → DriveDone r l v answer → UpdateDone r op s v answer
     update_done v answer still rise d = record {
       caller = d.caller;
-      met = (let still = linked.keeps.met in omega (arith, still, met, d.met));
+      met = (let still = linked.keeps.met in omega (arith, still, met, d.keeps.met));
       from = (let same = same_Some answer.ticket linked.ticket (sym d.ticket ∙ linked.lends) in omega (arith, same, rise, linked.from));
       allowed = allowed_first linked.allowed;
       links = links v answer.ticket (same_Some answer.ticket linked.ticket (sym d.ticket ∙ linked.lends)) d.keeps.number d.keeps.limit d.keeps.own d.keeps.reads d.keeps.linked d.keeps.read d.keeps.since;
@@ -161,6 +161,7 @@ module _ {O : Type 0} (r : Running O) (op : List ℕ) (s u : Seated) (same : Kee
       lists = inr (record {
         ticket = h.ticket;
         linked = h.linked;
+        met = (let still = linked.keeps.met in omega (arith, still, met, h.keeps.met));
         links = links v.seat h.ticket (same_Some h.ticket linked.ticket (sym h.is ∙ linked.lends)) h.keeps.number h.keeps.limit h.keeps.own h.keeps.reads h.keeps.linked h.keeps.read h.keeps.since;
         answered = elim h.answered [
           | inl none ↦ inl (none ∙ before_answered)

@@ -25,7 +25,6 @@ pub record CheckpointTaken {O : Type 0} (o : Ghosts O) (r : Running O) (words : 
   pub caller : IsCallerOf r after
   pub keeps : CheckpointKeeps before after
   pub allowed : ¬ IsAtLimit before.known.local
-  pub met : before.known.local.met ≤ after.known.local.met
   pub images : after.known.images ≡ before.known.images ++ words ∷ []
   pub base : LawfulBase r.lines (o.lawful r.object) (record { place = place; words = words })
   pub current : place ≡ root_place_of r.callers after.known.local.seen_cur

@@ -30,7 +30,7 @@ MeetsFewer tries before after = after.known.local.met < before.known.local.met +
 abbrev pub EndsOrNot : Seated → Seated → Type 0
 EndsOrNot before after = (after.known.times.answered ≡ before.known.times.answered) ⊎ EndsIn after.known.local.steps before.known.times.answered after.known.times.answered
 
--- what each answer of a drive leaves as it was, and no step that is taken back
+-- what each answer of a drive leaves as it was, and no refusal and no step that is taken back
 pub record DriveKeeps (before after : Seated) : Type 0 where
   pub number : after.known.local.number ≡ before.known.local.number
   pub limit : after.known.local.limit ≡ before.known.local.limit
@@ -39,6 +39,7 @@ pub record DriveKeeps (before after : Seated) : Type 0 where
   pub linked : after.known.times.linked ≡ before.known.times.linked
   pub read : after.known.times.reads ≡ before.known.times.reads
   pub images : after.known.images ≡ before.known.images
+  pub met : before.known.local.met ≤ after.known.local.met
   pub since : StepsOn before after
 
 -- The entry is answered, and nothing else: the caller has one answer more, at the entry's ticket. The count of others' entries that were
@@ -47,7 +48,6 @@ pub record DriveDone {O : Type 0} (r : Running O) (before after : Seated) (answe
   pub caller : IsCallerOf r after
   pub keeps : DriveKeeps before after
   pub allowed : ¬ IsAtLimit before.known.local
-  pub met : before.known.local.met ≤ after.known.local.met
   pub ticket : unanswered_ticket before.known.local ≡ Some answer.ticket
   pub answered : after.known.local.answered ≡ with_answer answer.ticket answer.reply before.known.local.answered
   pub brought : BringsEntries before after
@@ -59,7 +59,6 @@ pub record DrivePending {O : Type 0} (r : Running O) (tries : ℕ) (before after
   pub keeps : DriveKeeps before after
   pub allowed : ¬ IsAtLimit before.known.local
   pub answered : after.known.local.answered ≡ before.known.local.answered
-  pub rises : before.known.local.met ≤ after.known.local.met
   pub met : MeetsMore tries before after
   pub most : MeetsAtMost tries before after
   pub sets : after.known.sets ≡ before.known.sets

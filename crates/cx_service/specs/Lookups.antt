@@ -17,7 +17,7 @@ use Rattle.cx_turns.specs.Answering.{reads_with}
 use Rattle.cx_turns.specs.Turns.{StepsAtMost, StepsOn}
 use Rattle.strong_trylock.specs.Held.{all_rights, no_rights}
 
--- what each answer of a read leaves as it was, a front and a code found in CUR that do not fall, and no step that is taken back
+-- what each answer of a read leaves as it was, a front and a code found in CUR that do not fall, and no refusal and no step that is taken back
 pub record ReadKeeps (before after : Seated) : Type 0 where
   pub number : after.known.local.number ≡ before.known.local.number
   pub limit : after.known.local.limit ≡ before.known.local.limit
@@ -27,6 +27,7 @@ pub record ReadKeeps (before after : Seated) : Type 0 where
   pub sets : after.known.sets ≡ before.known.sets
   pub front : before.known.local.front ≤ after.known.local.front
   pub cur : before.known.local.seen_cur ≤ after.known.local.seen_cur
+  pub met : before.known.local.met ≤ after.known.local.met
   pub since : StepsOn before after
   pub linked : after.known.times.linked ≡ before.known.times.linked
   pub ended : after.known.times.answered ≡ before.known.times.answered
@@ -38,7 +39,6 @@ pub record ReadAnswered {O : Type 0} (r : Running O) (op : List ℕ) (before aft
   pub caller : IsCallerOf r after
   pub keeps : ReadKeeps before after
   pub allowed : ¬ IsAtLimit before.known.local
-  pub met : before.known.local.met ≤ after.known.local.met
   pub reads : after.known.local.seen_reads ≡ reads_with seen.place op seen.reply (length before.known.local.answered) before.known.local.seen_reads
   pub place : seen.place ≡ root_place_of r.callers after.known.local.seen_cur
   pub reached : seen.place ≤ after.known.local.front
@@ -52,7 +52,6 @@ pub record ReadPending {O : Type 0} (r : Running O) (tries : ℕ) (before after 
   pub caller : IsCallerOf r after
   pub keeps : ReadKeeps before after
   pub allowed : ¬ IsAtLimit before.known.local
-  pub rises : before.known.local.met ≤ after.known.local.met
   pub reads : after.known.local.seen_reads ≡ before.known.local.seen_reads
   pub met : MeetsMore tries before after
   pub most : MeetsAtMost tries before after

@@ -100,12 +100,13 @@ pub record HaltsUnlinked {O : Type 0} (r : Running O) (op : List ℕ) (before : 
   pub since : StepsOn before after.seat
   pub times : KeepsTimes before.known.times after.seat.known.times
 
--- The entry was linked before the step limit was reached, and no call answered it. The caller has no answer more, or the entry's, and then a
--- win that is still to be retired.
+-- The entry was linked before the step limit was reached, and no call answered it. No refusal is taken back. The caller has no answer more, or the
+-- entry's, and then a win that is still to be retired.
 pub record HaltsLinked {O : Type 0} (r : Running O) (op : List ℕ) (before : Seated) (after : StoppedSeat) : Type 0 where
   pub ticket : ℕ
   pub linked : after.linked ≡ Some ticket
   pub links : LinksEntry r op ticket before after.seat
+  pub met : before.known.local.met ≤ after.seat.known.local.met
   pub answered : (after.seat.known.local.answered ≡ before.known.local.answered)
       ⊎ ((reply : List ℕ) × (after.seat.known.local.answered ≡ with_answer ticket reply before.known.local.answered) × (after.seat.known.local.won ≢ None))
   pub ended : EndsOrNot before after.seat

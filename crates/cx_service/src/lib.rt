@@ -17,7 +17,8 @@
 //! just its pairs were stored (`DriveDone`: `brought`), and no other call takes one.
 //!
 //! The steps of a caller are counted, up to 2^64 - 1, and no answer of any call takes one back (`StepsOn`: `since` of `ReadKeeps`, `DriveKeeps`,
-//! `LinksEntry`, `SubmitHalted`, `HaltsUnlinked`, or an exact count).
+//! `LinksEntry`, `SubmitHalted`, `HaltsUnlinked`, or an exact count). The refusals that it met are counted so too, and no answer takes one back (`met`
+//! of `ReadKeeps`, `DriveKeeps`, `UpdateDone`, `HaltsLinked`, or an exact count).
 //!
 //! The rule of the table keeps the list of all callers' steps as ghost state, and each seat knows in its own count of steps when each of its
 //! operations began and was answered. So the steps that the callers made are a run of the state machine, in the order in which they were made, and

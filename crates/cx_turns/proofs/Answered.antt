@@ -129,6 +129,7 @@ module _ (ticket : ℕ) (before mid after : Seated) (same : beside_prepare mid �
   pub halted_turn : (callers : ℕ) → HaltsFor callers ticket mid after → HaltsFor callers ticket before after
   halted_turn callers h = record {
     limit = h.limit;
+    counted = omega (arith, met, h.counted);
     most = omega (arith, met, h.most);
     due = λ none. elim (h.due none) [ inl e ↦ inl (e ∙ met) | inr above ↦ inr above ];
     answered = elim h.answered [
@@ -262,6 +263,7 @@ module _ (ticket : ℕ) (before mid after : Seated) (rest : beside_publish mid �
   won_halted callers code won h =
       let stands : after.known.local.won ≡ Some code = h.won ∙ won in record {
         limit = h.limit;
+        counted = (let met = h.met in omega (arith, met, low));
         most = (let met = h.met in omega (arith, met, high));
         due = λ none. absurd (none-some code (sym (ap (λ (a : AllRights). a.won) none) ∙ stands));
         answered = elim h.answered [
@@ -274,6 +276,7 @@ module _ (ticket : ℕ) (before mid after : Seated) (rest : beside_publish mid �
   pub passed_halted : {O : Type 0} (o : Ghosts O) (r : Running O) (code : ℕ) (reply : List ℕ) → IsPublishedFor o r code ticket reply mid → Halts r mid after → HaltsFor r.callers ticket before after
   passed_halted o r code reply p h = record {
     limit = subst (λ (s : Seated). IsAtLimit s.known.local) (sym h.same) h.limit;
+    counted = subst (λ (s : Seated). before.known.local.met ≤ s.known.local.met) (sym h.same) low;
     most = subst (λ (s : Seated). s.known.local.met ≤ before.known.local.met + 1) (sym h.same) high;
     due = λ _. inr (subst (λ (s : Seated). ticket < root_place_of r.callers s.known.local.seen_cur) (sym h.same) (subst (λ n. ticket < root_place_of r.callers n) p.seen p.above));
     answered = inl (record { same = ap (λ (s : Seated). s.known.local.answered) (h.same) ∙ ap (λ (s : Seated). s.known.local.answered) rest; times = ap (λ (s : Seated). s.known.times.answered) h.same ∙ ap (λ (s : Seated). s.known.times.answered) rest });
@@ -297,7 +300,7 @@ pub read_halted : {O : Type 0} (o : Ghosts O) (r : Running O) (code q : ℕ) (op
 read_halted o r code q op reply before after last holds by h =
     let same = h.same ∙ by.made in
     let met : last.known.local.met ≡ before.known.local.met = ap (λ (s : Seated). s.known.local.met) same in record {
-      halts = record { limit = subst (λ (s : Seated). IsAtLimit s.known.local) (sym h.same) h.limit; most = omega (arith, met); due = λ _. met };
+      halts = record { limit = subst (λ (s : Seated). IsAtLimit s.known.local) (sym h.same) h.limit; counted = omega (arith, met); most = omega (arith, met); due = λ _. met };
       reads = inr (
         root_place_of r.callers code,
         reply,

@@ -190,7 +190,7 @@ module _ {O : Type 0} (o : Ghosts O) (r : Running O) (hold : Right) (first s : S
   pub loads_halt : IsAtLimit s.known.local → HaltsImage first s
   loads_halt limit =
       let met = ap (λ (x : Seated). x.known.local.met) loads.rest in
-      record { halts = record { limit = limit; most = omega (arith, met); due = λ _. met }; none = ap (λ (x : Seated). x.known.images) loads.rest }
+      record { halts = record { limit = limit; counted = omega (arith, met); most = omega (arith, met); due = λ _. met }; none = ap (λ (x : Seated). x.known.images) loads.rest }
 
   pub loads_answered : unanswered_ticket first.known.local ≡ None → unanswered_ticket s.known.local ≡ None
   loads_answered none = ap (λ (x : Seated). unanswered_ticket x.known.local) loads.rest ∙ none
@@ -207,7 +207,7 @@ module _ {O : Type 0} (o : Ghosts O) (r : Running O) (hold : Right) (first s : S
   unraised_halt u h =
       let met = ap (λ (x : Seated). x.known.local.met) h.same ∙ ap (λ (x : Seated). x.known.local.met) loads.rest in
       record {
-        halts = record { limit = subst (λ (x : Seated). IsAtLimit x.known.local) (sym h.same) h.limit; most = omega (arith, met); due = λ _. met };
+        halts = record { limit = subst (λ (x : Seated). IsAtLimit x.known.local) (sym h.same) h.limit; counted = omega (arith, met); most = omega (arith, met); due = λ _. met };
         none = ap (λ (x : Seated). x.known.images) h.same ∙ ap (λ (x : Seated). x.known.images) loads.rest;
       }
 
@@ -245,7 +245,7 @@ module _ {O : Type 0} (o : Ghosts O) (r : Running O) (hold : Right) (first s : S
     unreleased_halt v h =
         let met = ap (λ (x : Seated). x.known.local.met) h.same ∙ raised_met in
         record {
-          halts = record { limit = subst (λ (x : Seated). IsAtLimit x.known.local) (sym h.same) h.limit; most = omega (arith, met); due = λ _. met };
+          halts = record { limit = subst (λ (x : Seated). IsAtLimit x.known.local) (sym h.same) h.limit; counted = omega (arith, met); most = omega (arith, met); due = λ _. met };
           none = ap (λ (x : Seated). x.known.images) h.same ∙ raised_images;
         }
 

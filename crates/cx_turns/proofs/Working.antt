@@ -1,5 +1,5 @@
 -- What work on a replica held exclusively keeps.
-use Rattle.std.proofs.Common.{◌≡◌, ◌+◌, ℕ, List, [], ◌∷◌, map, min, refl, ap, sym, ◌∙◌, arith, Option, Some, None}
+use Rattle.std.proofs.Common.{◌≡◌, ◌+◌, true, false, ℕ, Bool, List, [], ◌∷◌, map, min, refl, ap, sym, ◌∙◌, arith, Option, Some, None}
 use Rattle.std.specs.Option.{option_map}
 use Rattle.cx_core.specs.declared.local.Cell.{Cell}
 use Rattle.cx_core.specs.declared.local.HeldExclusive.{HeldExclusive}
@@ -10,7 +10,7 @@ use Rattle.cx_rule.specs.Seats.{Seated}
 use Rattle.cx_turns.specs.Replaying.{beside_bringing, beside_replay, beside_work, but_shared_loads}
 use Rattle.cx_turns.specs.Turns.{KeepsCount, but_sets, unguarded}
 use Rattle.replica.specs.Held.{beside_held, but_loaded, but_words}
-use Rattle.redo_set.specs.Taking.{sets_read}
+use Rattle.redo_set.specs.Taking.{CountsTaken, sets_read}
 use Rattle.replica_sets.specs.Offered.{beside_offered}
 use Rattle.replica_sets.specs.Own.{beside_own, but_set}
 use Rattle.strong_trylock.specs.Held.{AllRights, all_rights}
@@ -89,6 +89,11 @@ one_more_counted n most = omega arith
 -- one set more was read, and is counted
 pub counted_more : (taken : ℕ) (before after : Seated) → sets_read after.known.sets ≡ sets_read before.known.sets + 1 → KeepsCount taken before (min (taken + 1) max_word) after
 counted_more taken before after more was = ap (λ n. min (n + 1) max_word) was ∙ one_more_counted (sets_read before.known.sets) max_word ∙ sym (ap (λ n. min n max_word) more)
+
+-- whether a set was taken is counted the same after what notes nothing of sets
+pub counts_since : (s u v : Seated) (taken : Bool) → u.known.sets ≡ s.known.sets → CountsTaken u v taken → CountsTaken s v taken
+counts_since s u v true same more = more ∙ ap (λ ns. sets_read ns + 1) same
+counts_since s u v false same none = none ∙ same
 
 -- a replica is brought up by such replay, then the protection is removed, and then such work is done
 pub still_bringing : (before mid then last : Seated) → beside_work last ≡ beside_work then → unguarded then ≡ unguarded mid → beside_replay mid ≡ beside_replay before → beside_bringing last ≡ beside_bringing before

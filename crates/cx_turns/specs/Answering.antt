@@ -97,9 +97,10 @@ pub record HaltsWon (ticket : ℕ) (before after : Seated) : Type 0 where
 
 -- The step limit was reached, and a further step was due: no refusal was met, a right stands, or a code is found in CUR whose place is above
 -- the ticket, by which DUR is still to be raised. Before that raise nothing is answered, and behind it the entry is, and the win is still
--- to be retired. At most one refusal was met.
+-- to be retired. At most one refusal was met, and none is taken back.
 pub record HaltsFor (callers ticket : ℕ) (before after : Seated) : Type 0 where
   pub limit : IsAtLimit after.known.local
+  pub counted : before.known.local.met ≤ after.known.local.met
   pub most : after.known.local.met ≤ before.known.local.met + 1
   pub due : all_rights after ≡ no_rights → (after.known.local.met ≡ before.known.local.met) ⊎ (ticket < root_place_of callers after.known.local.seen_cur)
   pub answered : AnswersNone before after ⊎ ((reply : List ℕ) × AnswersOne ticket reply before after × (after.known.local.won ≢ None))

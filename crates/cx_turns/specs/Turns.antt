@@ -111,15 +111,17 @@ abbrev pub cur_rises : Seated → Seated → ℕ
 cur_rises before after = after.known.local.seen_cur - before.known.local.seen_cur
 
 -- The step limit was reached, and a further step was due: no refusal was met, or a right stands that is still to be released. At most one
--- refusal was met.
+-- refusal was met, and none is taken back.
 pub record HaltsTurn (before after : Seated) : Type 0 where
   pub limit : IsAtLimit after.known.local
+  pub counted : before.known.local.met ≤ after.known.local.met
   pub most : after.known.local.met ≤ before.known.local.met + 1
   pub due : all_rights after ≡ no_rights → after.known.local.met ≡ before.known.local.met
 
 -- the same while a replica is held exclusively, which is still to be released
 pub record HaltsHolding (replica : ℕ) (before after : Seated) : Type 0 where
   pub limit : IsAtLimit after.known.local
+  pub counted : before.known.local.met ≤ after.known.local.met
   pub most : after.known.local.met ≤ before.known.local.met + 1
   pub holds : exclusive_on after.known.local ≡ Some replica
 
@@ -129,9 +131,10 @@ pub record MayTurn {O : Type 0} (r : Running O) (ticket : ℕ) (seat : Seated) :
   pub rest : IsAtRest seat.known.local
   pub linked : ticket < seat.known.local.front
 
--- the step limit was reached, and at most one refusal was met
+-- the step limit was reached, at most one refusal was met, and none is taken back
 pub record HaltsMeeting (before after : Seated) : Type 0 where
   pub limit : IsAtLimit after.known.local
+  pub counted : before.known.local.met ≤ after.known.local.met
   pub most : after.known.local.met ≤ before.known.local.met + 1
 
 -- a seat but for the protection and the steps

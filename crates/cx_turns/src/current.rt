@@ -132,6 +132,8 @@ pub(crate) fn take_current<O: Object>(
     ensures leaves { LeavesSeatPart shared.now beside_read 3 seat.old seat.new }
     ensures since { StepsOn seat.old seat.new }
 {
+    // refusals are counted in a word
+    let _met = seat.met();
     let _lines = shared.lines();
     let replica = root_replica(shared.callers(), seat.seen_cur());
     match try_shared(shared, seat, replica)? {
@@ -155,6 +157,8 @@ fn test_place<O: Object>(
     ensures leaves { LeavesSeatPart shared.now beside_read 2 seat.old seat.new }
     ensures since { StepsOn seat.old seat.new }
 {
+    // refusals are counted in a word
+    let _met = seat.met();
     let place = root_place(shared.callers(), seat.seen_cur());
     let found = shared.load_word(seat, hold.replica() as u64, PLACE_AT, true)?;
     if found != place {

@@ -36,6 +36,7 @@
 //!   steps and one for each later code that was found (`hand_over`). What an object loads and stores is not counted.
 //! - No step is taken back, where the count is not at its end, whether a call halts or not: `since` of each (`StepsOn`). Where an object runs on a
 //!   replica that is since the region keeps the count that it began with.
+//! - No refusal is taken back, whether a turn halts or not: `counted` of `HaltsTurn` and `HaltsFor`, and `met` of the others.
 #![tactic(auto)]
 
 mod acquisition;

@@ -55,8 +55,9 @@ fn guard<O: Object>(shared: &Shared<O>, seat: &mut CallerSeat, ticket: u64) -> R
     ensures leaves { LeavesSeatPart shared.now but_protected 3 seat.old seat.new }
     ensures since { StepsOn seat.old seat.new }
 {
-    // tickets are few
+    // tickets are few, and refusals are counted in a word
     let _front = seat.front();
+    let _met = seat.met();
     let place = seat.noted_place();
     if ticket < place {
         return Ok(true);
@@ -83,6 +84,8 @@ fn copy_current<O: Object>(
     ensures turns { Turns shared.now beside_turn seat.old seat.new }
     ensures since { StepsOn seat.old seat.new }
 {
+    // refusals are counted in a word
+    let _met = seat.met();
     load_current(shared, seat, &held)?;
     match take_current(shared, seat)? {
         Some(source) => copy_and_keep(shared, seat, held, source, ticket),
@@ -125,6 +128,8 @@ fn copy_and_keep<O: Object>(
     ensures turns { Turns shared.now beside_turn seat.old seat.new }
     ensures since { StepsOn seat.old seat.new }
 {
+    // refusals are counted in a word
+    let _met = seat.met();
     let to = root_place(shared.callers(), seat.seen_cur());
     renew_listed(shared, seat, &held, source, to)?;
     if guard(shared, seat, ticket)? {

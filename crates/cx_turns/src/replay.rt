@@ -182,8 +182,7 @@ fn step_own<O: Object>(
     Ok(())
 }
 
-/// Applies another's entry, whose ticket is the place of a replica held exclusively: by its write set where that is offered, at once or by the time
-/// that the entry was read, and else by its step.
+/// Applies another's entry, whose ticket is the place of a replica held exclusively, and counts its write set where it was applied by that.
 fn replay_another<O: Object>(
     shared: &Shared<O>,
     seat: &mut CallerSeat,
@@ -201,22 +200,46 @@ fn replay_another<O: Object>(
     ensures keeps { KeepsSeat shared.now beside_replay seat.old seat.new }
     ensures since { StepsOn seat.old seat.new }
 {
-    let taken = replay_offered(shared, seat, held, at, &mut scratch.set)?;
-    if taken {
-        scratch.taken = scratch.taken.saturating_add(1);
-        return Ok(());
-    }
     let Scratch {
         words,
         next,
         set,
         ..
     } = scratch;
-    let taken_late = step_another(shared, seat, held, at, words, next, set, reply)?;
-    if taken_late {
+    let taken = apply_another(shared, seat, held, at, words, next, set, reply)?;
+    if taken {
         scratch.taken = scratch.taken.saturating_add(1);
     }
     Ok(())
+}
+
+/// Applies another's entry, whose ticket is the place of a replica held exclusively: by its write set where that is offered, at once or by the time
+/// that the entry was read, and else by its step. It is true where it was by its write set.
+fn apply_another<O: Object>(
+    shared: &Shared<O>,
+    seat: &mut CallerSeat,
+    held: &Exclusive,
+    at: u64,
+    words: &mut [u64; ENTRY_WORDS],
+    next: &mut Entry,
+    set: &mut WriteSet,
+    reply: &mut OpWords,
+) -> Result<bool, Halt>
+    requires ready { IsReady O.Object shared.now held.now at seat.old }
+    requires may { MayRead shared.now at seat.old }
+    requires later { shared.now.base.place ≤ at }
+    ensures applied { MatchResult result (λ _. IsReady O.Object shared.now held.now (at + 1) seat.new) (λ _. IsAtLimit seat.new.known.local) }
+    ensures counted { IfOk result (CountsTaken seat.old seat.new) }
+    ensures by_sets { OnOk result (BringsAtMost at seat.old seat.new) }
+    ensures keeps { KeepsSeat shared.now beside_replay seat.old seat.new }
+    ensures since { StepsOn seat.old seat.new }
+{
+    let taken = replay_offered(shared, seat, held, at, set)?;
+    if taken {
+        return Ok(true);
+    }
+    let taken_late = step_another(shared, seat, held, at, words, next, set, reply)?;
+    Ok(taken_late)
 }
 
 /// Reads another's entry, whose ticket is the place of a replica held exclusively, and does its step, unless it is offered by then: it is true where
