@@ -158,6 +158,7 @@ module _ {O : Type 0} (r : Running O) where
           sets = keeps.sets;
           front = keeps.front;
           cur = keeps.cur;
+          met = (let same = keeps.met in omega (arith, same));
           since = halted.due.since;
           linked = keeps.times.linked;
           ended = keeps.times.answered;
