@@ -20,3 +20,4 @@ pub mod HasMore
 pub mod GapCopies
 pub mod Listing
 pub mod GapNoting
+pub mod Stepping

@@ -11,3 +11,4 @@ pub mod Ending
 pub mod Offers
 pub mod Having
 pub mod Listed
+pub mod Stores

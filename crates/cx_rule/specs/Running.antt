@@ -6,7 +6,7 @@ use Rattle.cx_core.specs.Base.{LawfulBase}
 use Rattle.cx_core.specs.Layout.{word_count}
 use Rattle.cx_core.specs.Region.{slot_number}
 use Rattle.cx_core.specs.State.{Instance}
-use Rattle.cx_rule.specs.Seats.{Seated}
+use Rattle.cx_rule.specs.Seats.{Seated, StepsBy, StepsOn}
 
 -- which table it is, how many callers it has, the lines of its object, the base that it was made with, and the object
 pub record Running (O : Type 0) : Type 0 where
@@ -37,3 +37,9 @@ pub record IsRunning {O : Type 0} (line_count : O → ℕ) (lawful : O → List 
   pub base : LawfulBase r.lines (lawful r.object) r.base
   pub words : r.table.words ≡ word_count r.callers (length r.base.words)
   pub slots : r.table.slots ≡ 0
+
+-- What a call of at most this many steps leaves of its caller: the seat is one of the table, and no step is taken back.
+pub record StepsWithin {O : Type 0} (r : Running O) (n : ℕ) (before after : Seated) : Type 0 where
+  pub seat : IsSeatOf r after
+  pub since : StepsOn before after
+  pub most : StepsBy n before after

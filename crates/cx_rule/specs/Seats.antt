@@ -1,5 +1,5 @@
 -- What a seat of the table knows, what a step of a caller teaches it, and the numbers of it that code reads.
-use Rattle.std.specs.Prelude.{true, false, ◌≡◌, ◌/◌, ◌^◌, ◌<◌, ◌≤◌, ◌==◌, ◌&&◌, if◌then◌else◌, ℕ, Bool, List, [], ◌∷◌, ◌++◌, length, map, min, slice_get, slice_index, Option, Some, None}
+use Rattle.std.specs.Prelude.{true, false, ◌≡◌, ◌+◌, ◌/◌, ◌^◌, ◌<◌, ◌≤◌, ◌==◌, ◌&&◌, if◌then◌else◌, ℕ, Bool, List, [], ◌∷◌, ◌++◌, length, map, min, slice_get, slice_index, Option, Some, None}
 use Rattle.std.specs.List.{range_with_len}
 use Rattle.std.specs.Option.{option_map}
 use Rattle.atomic_table.specs.Seated.{TableId}
@@ -170,6 +170,10 @@ HasMadeSteps steps seat = min steps max_word ≤ seat.known.local.steps
 -- no step is taken back
 abbrev pub StepsOn : Seated → Seated → Type 0
 StepsOn before after = HasMadeSteps before.known.local.steps after
+
+-- at most this many steps were made
+abbrev pub StepsBy : ℕ → Seated → Seated → Type 0
+StepsBy n before after = after.known.local.steps ≤ before.known.local.steps + n
 
 -- no more steps were made than the limit allows
 abbrev pub IsWithinLimit : Local → Type 0

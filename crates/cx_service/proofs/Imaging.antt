@@ -6,14 +6,14 @@ use Rattle.cx_core.specs.declared.local.Answer.{Answer}
 use Rattle.cx_core.specs.declared.local.SeenRead.{SeenRead}
 use Rattle.cx_core.specs.Layout.{max_word}
 use Rattle.cx_rule.specs.Running.{IsSeatOf, Running}
-use Rattle.cx_rule.specs.Seats.{IsAtLimit, Seated}
+use Rattle.cx_rule.specs.Seats.{IsAtLimit, Seated, StepsBy}
 use Rattle.cx_service.specs.Callers.{IsCallerOf, StoppedSeat}
 use Rattle.cx_service.specs.Checkpoints.{CheckpointHalted, CheckpointKeeps, CheckpointTaken}
 use Rattle.cx_service.specs.Drives.{MeetsFewer}
 use Rattle.cx_service.specs.Lookups.{ReadDue, ReadPending}
 use Rattle.cx_service.proofs.Turning.{LooksOn, beside_look, look_keeps, look_rests, looks_met, meets_one, most_one, read_keeps_then, rises_one}
 use Rattle.cx_turns.specs.Checkpointing.{HaltsImage, TakesImage, TakesNone, beside_checkpoint}
-use Rattle.cx_turns.specs.Turns.{IsAtRest, StepsAtMost, StepsOn, TurnRefused}
+use Rattle.cx_turns.specs.Turns.{IsAtRest, StepsOn, TurnRefused}
 
 -- one turn
 module _ {O : Type 0} (o : Ghosts O) (r : Running O) (s v : Seated) (caller : IsCallerOf r s) (rest : beside_checkpoint v ≡ beside_checkpoint s) (front : s.known.local.front ≤ v.known.local.front) (of : IsSeatOf r v) (rises : s.known.local.seen_cur ≤ v.known.local.seen_cur) (on : StepsOn s v) where
@@ -47,7 +47,7 @@ module _ {O : Type 0} (o : Ghosts O) (r : Running O) (s v : Seated) (caller : Is
         omega (arith, met),
       )
 
-  pub image_refused : ¬ IsAtLimit s.known.local → s.known.local.met ≤ max_word → TurnRefused s v × StepsAtMost 4 s v × StepsOn s v × TakesNone s v → ReadPending r 1 s v
+  pub image_refused : ¬ IsAtLimit s.known.local → s.known.local.met ≤ max_word → TurnRefused s v × StepsBy 4 s v × StepsOn s v × TakesNone s v → ReadPending r 1 s v
   image_refused allowed small (refused, steps, since, none) = record {
     caller = still refused.rest;
     keeps = (keeps (rises_one s v small refused.refusal.met)).lists;

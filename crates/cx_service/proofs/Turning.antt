@@ -14,7 +14,7 @@ use Rattle.cx_core.specs.declared.local.SeenRead.{SeenRead}
 use Rattle.cx_core.specs.Layout.{max_word}
 use Rattle.cx_core.specs.State.{one_more}
 use Rattle.cx_rule.specs.Running.{IsSeatOf, Running}
-use Rattle.cx_rule.specs.Seats.{IsAtLimit, Seated, unanswered_ticket}
+use Rattle.cx_rule.specs.Seats.{IsAtLimit, Seated, StepsBy, unanswered_ticket}
 use Rattle.cx_service.specs.Callers.{IsBetweenCalls, IsCallerOf, IsLinkedOf, StoppedSeat}
 use Rattle.cx_service.specs.Drives.{DriveDone, DriveHalted, DriveKeeps, DriveDue, DrivePending, MeetsAtMost, MeetsFewer, MeetsMore}
 use Rattle.cx_service.specs.Lookups.{ReadAnswered, ReadDue, ReadHalted, ReadKeeps, ReadPending}
@@ -23,7 +23,7 @@ use Rattle.cx_turns.specs.Answering.{AnswersEntry, AnswersRead, HaltsFor, HaltsL
 use Rattle.cx_turns.specs.declared.lookup.Seen.{Seen}
 use Rattle.cx_turns.specs.Bringing.{BringsEntries}
 use Rattle.cx_turns.proofs.Bringing.{brings_around}
-use Rattle.cx_turns.specs.Turns.{IsAtRest, StepsAtMost, StepsOn, TurnRefused}
+use Rattle.cx_turns.specs.Turns.{IsAtRest, StepsOn, TurnRefused}
 use Rattle.replica_sets.specs.Own.{but_set}
 
 -- a refusal more, and refusals in turn after turn
@@ -289,7 +289,7 @@ module _ {O : Type 0} (r : Running O) (op : List ℕ) (s v : Seated) (caller : I
     images = ap (λ (x : Seated). x.known.images) rest;
   }
 
-  pub read_refused : ¬ IsAtLimit s.known.local → s.known.local.met ≤ max_word → TurnRefused s v × StepsAtMost 4 s v × StepsOn s v → ReadPending r 1 s v
+  pub read_refused : ¬ IsAtLimit s.known.local → s.known.local.met ≤ max_word → TurnRefused s v × StepsBy 4 s v × StepsOn s v → ReadPending r 1 s v
   read_refused allowed small (refused, steps, since) = record {
     caller = still refused.rest;
     keeps = read_keeps (rises_one s v small refused.refusal.met);

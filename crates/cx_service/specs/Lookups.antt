@@ -4,7 +4,7 @@ use Rattle.cx_base.specs.Codes.{root_place_of}
 use Rattle.cx_core.specs.declared.local.Answer.{Answer}
 use Rattle.cx_core.specs.declared.local.SeenRead.{SeenRead}
 use Rattle.cx_rule.specs.Running.{Running}
-use Rattle.cx_rule.specs.Seats.{IsAtLimit, Seated}
+use Rattle.cx_rule.specs.Seats.{IsAtLimit, Seated, StepsBy}
 use Rattle.cx_rule.specs.Timing.{ReadsIn}
 use Rattle.cx_service.specs.declared.lookup.Looked.{Looked}
 use Rattle.cx_service.specs.declared.lookup.Looked.TheVariants.{Ended, Found, Refused}
@@ -14,7 +14,7 @@ use Rattle.cx_service.specs.Callers.{IsCallerOf, IsStoppedOf, StoppedSeat}
 use Rattle.cx_service.specs.Drives.{MeetsAtMost, MeetsFewer, MeetsMore}
 use Rattle.cx_turns.specs.declared.lookup.Seen.{Seen}
 use Rattle.cx_turns.specs.Answering.{reads_with}
-use Rattle.cx_turns.specs.Turns.{StepsAtMost, StepsOn}
+use Rattle.cx_turns.specs.Turns.{StepsOn}
 use Rattle.strong_trylock.specs.Held.{all_rights, no_rights}
 
 -- what each answer of a read leaves as it was, a front and a code found in CUR that do not fall, and no refusal and no step that is taken back
@@ -55,7 +55,7 @@ pub record ReadPending {O : Type 0} (r : Running O) (tries : ℕ) (before after 
   pub reads : after.known.local.seen_reads ≡ before.known.local.seen_reads
   pub met : MeetsMore tries before after
   pub most : MeetsAtMost tries before after
-  pub steps : StepsAtMost (4 * tries) before after
+  pub steps : StepsBy (4 * tries) before after
   pub since : StepsOn before after
   pub times : after.known.times.reads ≡ before.known.times.reads
   pub images : after.known.images ≡ before.known.images

@@ -12,10 +12,10 @@ use Rattle.cx_rule.specs.declared.rule.Noted.{Noted}
 use Rattle.cx_rule.specs.Fitting.{Fitting}
 use Rattle.cx_rule.specs.Listed.{HasGap}
 use Rattle.cx_rule.specs.Running.{IsSeatOf, Running, instance_at}
-use Rattle.cx_rule.specs.Seats.{Seated, StepsOn, stepped}
+use Rattle.cx_rule.specs.Seats.{Seated, StepsBy, StepsOn, stepped}
 use Rattle.cx_table.specs.Gaps.{gaps_from}
 use Rattle.cx_table.specs.Runs.{Runs, no_step, one_more_step}
-use Rattle.cx_table.specs.GapMarks.{LeavesLoads, StepsBy, gap_notes, with_gaps}
+use Rattle.cx_table.specs.GapMarks.{LeavesLoads, gap_notes, with_gaps}
 use Rattle.cx_table.specs.GapWords.{IsNamed}
 
 abbrev note : ℕ → ℕ → Noted
@@ -52,16 +52,13 @@ pub record LoadsGaps {O : Type 0} (o : Ghosts O) (r : Running O) (slot : ℕ) (w
 one_step : (n m : ℕ) → m ≡ one_more n → m ≤ n + 1
 one_step n m is = omega (arith, is)
 
-one_since : (s t u : Seated) → StepsOn s t → u.known.local.steps ≡ one_more t.known.local.steps → StepsOn s u
-one_since s t u was is = omega (arith, was, is)
-
 module _ {O : Type 0} (o : Ghosts O) (r : Running O) where
   pub run_gaps : (slot from : ℕ) (words : List ℕ) (before after : Seated) → Runs r o.step o.only_reads (o.lawful r.object) (gaps_from slot from) words before after → LoadsGaps o r slot words before after
   run_gaps slot from words before after (no_step _ _ _ nothing same) =
       subst (λ (ws : List ℕ). LoadsGaps o r slot ws before after) (sym nothing) (record {
         seat = shown_so before.known.local.steps [] before after (same ∙ none_is before);
         steps = (let e : after.known.local.steps ≡ before.known.local.steps = ap (λ (x : Seated). x.known.local.steps) same in omega (arith, e));
-        since = (let e : after.known.local.steps ≡ before.known.local.steps = ap (λ (x : Seated). x.known.local.steps) same in omega (arith, e));
+        since = on_same before after same;
         fits = inl same;
       })
   run_gaps slot from words before after (one_more_step _ _ _ first found mid longer run made fits) =
@@ -73,7 +70,7 @@ module _ {O : Type 0} (o : Ghosts O) (r : Running O) where
       subst (λ (ws : List ℕ). LoadsGaps o r slot ws before after) (sym longer) (record {
         seat = shown_so (one_more mid.known.local.steps) (gap_notes slot (first ++ found ∷ [])) before after (is ∙ ap (λ ns. with_gaps (one_more mid.known.local.steps) ns before) (sym (notes_more slot first found)));
         steps = omega (arith, one, most, length-append first (found ∷ []));
-        since = one_since before mid after was.since (ap (λ (x : Seated). x.known.local.steps) made.made);
+        since = on_then_one before mid after was.since (ap (λ (x : Seated). x.known.local.steps) made.made);
         fits = inr fits;
       })
 

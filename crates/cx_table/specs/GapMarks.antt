@@ -44,10 +44,6 @@ gap_notes slot (w ∷ words) = record { ticket = slot; caller = 0; index = 145; 
 abbrev pub with_gaps : ℕ → List Noted → Seated → Seated
 with_gaps steps notes s = record s { known = record s.known { local = record s.known.local { steps = steps }; noted = s.known.noted ++ notes } }
 
--- at most this many steps were made
-abbrev pub StepsBy : ℕ → Seated → Seated → Type 0
-StepsBy n before after = after.known.local.steps ≤ before.known.local.steps + n
-
 -- Nothing changed but the steps, of which none is taken back, and there may be more notes: of what really is there some fits what is known.
 pub record LeavesLoads {O : Type 0} (o : Ghosts O) (r : Running O) (before after : Seated) : Type 0 where
   pub notes : List Noted

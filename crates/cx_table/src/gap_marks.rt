@@ -2,7 +2,8 @@
 
 ghost use Rattle.std.specs.Prelude.{◌≡◌, ◌+◌, ◌-◌, ◌*◌, ◌/◌, ◌%◌, ◌^◌, ◌<◌, ◌↔◌, ℕ, IsTrue, List, length, slice_index};
 ghost use Rattle.cx_rule.specs.Running.{IsSeatOf, instance_at};
-ghost use Rattle.cx_table.specs.GapMarks.{AreKept, IsMarked, LeavesLoads, MarksChanged, MarksTicket, StepsBy};
+ghost use Rattle.cx_rule.specs.Seats.{StepsBy};
+ghost use Rattle.cx_table.specs.GapMarks.{AreKept, IsMarked, LeavesLoads, MarksChanged, MarksTicket};
 
 use crate::gap_words::{gap_slot, lines_told};
 use crate::seat::CallerSeat;

@@ -2,7 +2,7 @@
 //! replica of which it then copied the other lines alone. `Halt` comes exactly where the seat's steps equal its limit, and then nothing
 //! changes.
 
-ghost use Rattle.std.specs.Prelude.{◌≡◌, ◌+◌, ◌<◌, ◌≤◌, ℕ, IsTrue, List, OnOk, false, length};
+ghost use Rattle.std.specs.Prelude.{◌≡◌, ◌+◌, ◌<◌, ◌≤◌, ℕ, List, MatchBool, OnOk, length};
 ghost use Rattle.cx_core.specs.Gaps.{gap_of};
 ghost use Rattle.cx_core.specs.Layout.{gap_slots};
 ghost use Rattle.cx_core.specs.declared.kinds.Kind.TheVariants.{LoadGap, NoteGap};
@@ -60,8 +60,7 @@ impl<O: Object> Shared<O> {
     pub fn load_gaps(&self, seat: &mut CallerSeat, s: u64, from: u64, into: &mut [u64]) -> bool
         requires seat { IsSeatOf self.now seat.old × (from + length into.old ≤ 16) }
         requires slot { s < gap_slots self.now.callers }
-        ensures made { IsTrue result → Runs self.now O.step O.only_reads (O.lawful self.now.object) (gaps_from s from) into.new seat.old seat.new }
-        ensures short { result ≡ false → (seat.new ≡ seat.old) × (seat.old.known.local.limit < seat.old.known.local.steps + length into.old) }
+        ensures run { MatchBool result (Runs self.now O.step O.only_reads (O.lawful self.now.object) (gaps_from s from) into.new seat.old seat.new) ((seat.new ≡ seat.old) × (seat.old.known.local.limit < seat.old.known.local.steps + length into.old)) }
         ensures length { length into.new ≡ length into.old }
         ensures seat { IsSeatOf self.now seat.new }
     {

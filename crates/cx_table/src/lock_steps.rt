@@ -5,10 +5,11 @@ ghost use Rattle.std.specs.Prelude.{◌≡◌, OnOk, IfOk};
 ghost use Rattle.cx_core.specs.declared.kinds.Kind.TheVariants.{BackOff, Downgrade, ReleaseExclusive, TryExclusive, TryShared};
 ghost use Rattle.cx_core.specs.Base.{LawfulBase};
 ghost use Rattle.cx_core.specs.LockEvents.{CanBackOff};
-ghost use Rattle.cx_rule.specs.Fitting.{IsReplayed, IsReplayedToPlace, base_of};
+ghost use Rattle.cx_rule.specs.Fitting.{base_of};
 ghost use Rattle.cx_rule.specs.Running.{IsSeatOf, instance_at};
 ghost use Rattle.cx_rule.specs.Seats.{known_of};
 ghost use Rattle.cx_rule.specs.Steps.{Steps, StepsCopied, StepsTaking};
+ghost use Rattle.cx_rule.specs.Stores.{IsReplayedIn, IsReplayedToPlaceIn};
 ghost use Rattle.cx_table.specs.Tokens.{HandsExclusive, HandsShared, IsCopiedFrom, IsDowngradedOf, IsExclusiveOf, IsRightOf, IsTakenFrom, TriedExclusive, TriedShared, replica_of};
 ghost use Rattle.cx_table.specs.Calls.{MakesFittingStep, MakesStep, MayStep};
 ghost use Rattle.cx_table.specs.Releases.{IsMovedFrom, MayRelease};
@@ -179,7 +180,7 @@ impl<O: Object> Shared<O> {
     ) -> Result<(u64, Downgraded), Halt>
         requires may { MayStep O.Object self.now (Downgrade held.replica) seat.old }
         requires held { IsExclusiveOf self.now.callers seat.old held }
-        requires replayed { IsReplayedToPlace self.now.lines (O.lawful self.now.object) self.now.base (O.step self.now.object) seat.old.known }
+        requires replayed { IsReplayedToPlaceIn O.Object self.now seat.old.known }
         ensures step { MakesStep self.now seat.old seat.new result (λ x. Steps self.now O.step O.only_reads (Downgrade held.replica) x.0 seat.old seat.new) }
         ensures token { IfOk result (λ x. (x.1.replica ≡ held.replica) × IsDowngradedOf self.now.callers seat.new x.1) }
     {
@@ -212,7 +213,7 @@ impl<O: Object> Shared<O> {
     pub fn release_exclusive(&self, seat: &mut CallerSeat, held: Exclusive) -> Result<u64, Halt>
         requires may { MayStep O.Object self.now (ReleaseExclusive held.replica) seat.old }
         requires held { IsExclusiveOf self.now.callers seat.old held }
-        requires replayed { IsReplayed self.now.lines (O.lawful self.now.object) self.now.base (O.step self.now.object) seat.old.known }
+        requires replayed { IsReplayedIn O.Object self.now seat.old.known }
         ensures { MakesStep self.now seat.old seat.new result (λ found. Steps self.now O.step O.only_reads (ReleaseExclusive held.replica) found seat.old seat.new) }
     {
         let Token {

@@ -5,7 +5,8 @@ ghost use Rattle.std.specs.Prelude.{List};
 ghost use Rattle.cx_base.specs.Codes.{root_place_of};
 ghost use Rattle.cx_core.specs.declared.kinds.Kind.TheVariants.{Raise};
 ghost use Rattle.cx_core.specs.declared.local.Answer.{Answer};
-ghost use Rattle.cx_rule.specs.Raises.{Raises, TellsAnswers, TellsReads, read_op_in};
+ghost use Rattle.cx_rule.specs.Raises.{Raises, read_op_in};
+ghost use Rattle.cx_rule.specs.Stores.{TellsAnswersIn, TellsReadsIn};
 ghost use Rattle.cx_table.specs.Calls.{MakesFittingStep, MayStep};
 
 use crate::seat::CallerSeat;
@@ -42,8 +43,8 @@ impl<O: Object> Shared<O> {
         read: Option<AnsweredRead>,
     ) -> Result<u64, Halt>
         requires may { MayStep O.Object self.now (Raise code (read_op_in read)) seat.old }
-        requires told { ((answers : List Answer) × TellsAnswers self.now.lines (O.lawful self.now.object) self.now.base (O.step self.now.object) seat.old.known (root_place_of self.now.callers code) answers) × TellsReads self.now.lines (O.lawful self.now.object) self.now.base (O.step self.now.object) seat.old.known read }
-        ensures { MakesFittingStep O.Object self.now seat.old seat.new result (λ _. (answers : List Answer) → TellsAnswers self.now.lines (O.lawful self.now.object) self.now.base (O.step self.now.object) seat.old.known (root_place_of self.now.callers code) answers → Raises self.now O.step O.only_reads code answers read.entry seat.old seat.new) }
+        requires told { ((answers : List Answer) × TellsAnswersIn O.Object self.now seat.old.known (root_place_of self.now.callers code) answers) × TellsReadsIn O.Object self.now seat.old.known read }
+        ensures { MakesFittingStep O.Object self.now seat.old seat.new result (λ _. (answers : List Answer) → TellsAnswersIn O.Object self.now seat.old.known (root_place_of self.now.callers code) answers → Raises self.now O.step O.only_reads code answers read.entry seat.old seat.new) }
     {
         let callers = self.callers;
         let reads = read.is_some();

@@ -1,7 +1,7 @@
 //! Several loads by one call: each is an event of its own, and they are counted at once. Where the limit leaves fewer steps than there are
 //! words, none is made.
 
-ghost use Rattle.std.specs.Prelude.{◌≡◌, ◌+◌, ◌*◌, ◌<◌, ◌≤◌, ℕ, IsTrue, List, false, length};
+ghost use Rattle.std.specs.Prelude.{◌≡◌, ◌+◌, ◌*◌, ◌<◌, ◌≤◌, ℕ, List, MatchBool, length};
 ghost use Rattle.atomic_table.specs.Table.{Me};
 ghost use Rattle.cx_core.specs.Events.{Guard};
 ghost use Rattle.cx_core.specs.declared.kinds.Kind.TheVariants.{ReadCell, ReadSet};
@@ -48,8 +48,7 @@ impl<O: Object> Shared<O> {
         requires seat { IsSeatOf self.now seat.old × (0 < from) }
         requires start { StartsAt self.now r start }
         requires guard { (i : ℕ) → i < length into.old → CanLoad self.now.callers (length self.now.base.words) r (from + i) seat.old.known.local }
-        ensures made { IsTrue result → Runs self.now O.step O.only_reads (O.lawful self.now.object) (loads_from r from) into.new seat.old seat.new }
-        ensures short { result ≡ false → (seat.new ≡ seat.old) × (seat.old.known.local.limit < seat.old.known.local.steps + length into.old) }
+        ensures run { MatchBool result (Runs self.now O.step O.only_reads (O.lawful self.now.object) (loads_from r from) into.new seat.old seat.new) ((seat.new ≡ seat.old) × (seat.old.known.local.limit < seat.old.known.local.steps + length into.old)) }
         ensures length { length into.new ≡ length into.old }
         ensures seat { IsSeatOf self.now seat.new }
     {
@@ -128,9 +127,7 @@ impl<O: Object> Shared<O> {
     ) -> bool
         requires seat { IsSeatOf self.now seat.old }
         requires guard { (i : ℕ) → i < ENTRY_WORDS → Guard (instance_at self.now O.step O.only_reads) unseen (ReadCell t k i) seat.old.known.local }
-        ensures made { IsTrue result → Runs self.now O.step O.only_reads (O.lawful self.now.object) (reads_of t k) into.new seat.old seat.new }
-        ensures none { result ≡ false → seat.new ≡ seat.old }
-        ensures short { result ≡ false → seat.old.known.local.limit < seat.old.known.local.steps + ENTRY_WORDS }
+        ensures run { MatchBool result (Runs self.now O.step O.only_reads (O.lawful self.now.object) (reads_of t k) into.new seat.old seat.new) ((seat.new ≡ seat.old) × (seat.old.known.local.limit < seat.old.known.local.steps + ENTRY_WORDS)) }
         ensures seat { IsSeatOf self.now seat.new }
     {
         let _ = &self.table;
@@ -167,8 +164,7 @@ impl<O: Object> Shared<O> {
     ) -> bool
         requires seat { IsSeatOf self.now seat.old × (from + length into.old ≤ SET_WORDS) }
         requires guard { (i : ℕ) → i < SET_WORDS → Guard (instance_at self.now O.step O.only_reads) unseen (ReadSet k t i) seat.old.known.local }
-        ensures made { IsTrue result → Runs self.now O.step O.only_reads (O.lawful self.now.object) (set_reads_from k t from) into.new seat.old seat.new }
-        ensures short { result ≡ false → (seat.new ≡ seat.old) × (seat.old.known.local.limit < seat.old.known.local.steps + length into.old) }
+        ensures run { MatchBool result (Runs self.now O.step O.only_reads (O.lawful self.now.object) (set_reads_from k t from) into.new seat.old seat.new) ((seat.new ≡ seat.old) × (seat.old.known.local.limit < seat.old.known.local.steps + length into.old)) }
         ensures length { length into.new ≡ length into.old }
         ensures seat { IsSeatOf self.now seat.new }
     {

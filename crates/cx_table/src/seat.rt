@@ -117,8 +117,7 @@ impl CallerSeat {
     pub fn cell_apart(&self, j: u64, op: &OpWords, from: usize) -> usize
         requires j { j < 16 }
         requires from { from ≤ OP_WORDS }
-        ensures least { from ≤ result }
-        ensures most { result ≤ OP_WORDS }
+        ensures within { (from ≤ result) × (result ≤ OP_WORDS) }
         ensures same { (at : ℕ) → from ≤ at → at < result → slice_index (cell_of self.now.known.local j).words (at + 1) ≡ slice_index op.now at }
         ensures apart { result < OP_WORDS → slice_index (cell_of self.now.known.local j).words (result + 1) ≢ slice_index op.now result }
     {

@@ -8,12 +8,12 @@ use Rattle.cx_core.specs.declared.local.SeenRead.{SeenRead}
 use Rattle.cx_rule.specs.Raises.{TellsReply, known_answered}
 use Rattle.cx_rule.specs.Rule.{IsLawfulLocal}
 use Rattle.cx_rule.specs.Running.{IsSeatOf, Running, instance_at}
-use Rattle.cx_rule.specs.Seats.{IsAtLimit, Seated, unanswered_ticket}
+use Rattle.cx_rule.specs.Seats.{IsAtLimit, Seated, StepsBy, unanswered_ticket}
 use Rattle.cx_rule.specs.Timing.{EndsIn}
 use Rattle.cx_table.specs.Right.{Right}
 use Rattle.cx_turns.specs.declared.lookup.Seen.{Seen}
 use Rattle.cx_turns.specs.Reads.{IsReplyRead}
-use Rattle.cx_turns.specs.Turns.{HaltsTurn, IsAtRest, StepsAtMost, StepsOn, TurnRefused, beside_turn, but_sets}
+use Rattle.cx_turns.specs.Turns.{HaltsTurn, IsAtRest, StepsOn, TurnRefused, beside_turn, but_sets}
 use Rattle.publish.specs.Publishing.{beside_publish, place_in}
 use Rattle.strong_trylock.specs.Held.{all_rights, no_rights}
 
@@ -138,7 +138,7 @@ seen_at reply place = option_map (λ p. record { place = p; reply = reply }) pla
 -- the result of a turn for a read; one that is refused makes at most four steps
 abbrev pub LooksUp : List ℕ → Seated → Seated → Option Seen → Type 0
 LooksUp op before after (Some found) = AnswersRead before.known.local.steps op found.place found.reply before after
-LooksUp op before after None = TurnRefused before after × StepsAtMost 4 before after × StepsOn before after
+LooksUp op before after None = TurnRefused before after × StepsBy 4 before after × StepsOn before after
 
 -- The step limit was reached, and a further step was due. Before the raise no read is answered, and behind it this one is, and the shared
 -- right is still to be given back.

@@ -10,10 +10,10 @@ use Rattle.cx_rule.specs.Fitting.{TellsWords, loaded_of}
 use Rattle.cx_rule.specs.Raises.{known_answered}
 use Rattle.cx_rule.specs.Rule.{IsLawfulLocal}
 use Rattle.cx_rule.specs.Running.{IsSeatOf, Running, instance_at}
-use Rattle.cx_rule.specs.Seats.{Seated, unanswered_ticket}
+use Rattle.cx_rule.specs.Seats.{Seated, StepsBy, unanswered_ticket}
 use Rattle.cx_table.specs.Right.{Right}
 use Rattle.cx_turns.specs.Answering.{beside_raise}
-use Rattle.cx_turns.specs.Turns.{HaltsTurn, IsAtRest, StepsAtMost, StepsOn, TurnRefused}
+use Rattle.cx_turns.specs.Turns.{HaltsTurn, IsAtRest, StepsOn, TurnRefused}
 use Rattle.replica.specs.Held.{IsHeldShared, beside_shared}
 
 -- what no such turn changes: what no step of a turn does before its raise, but the greatest code that DUR was raised by, the floor, and the
@@ -40,7 +40,7 @@ pub record TakesImage {O : Type 0} (o : Ghosts O) (r : Running O) (image : List 
 -- the result of a turn that takes an image; one that is refused makes at most four steps
 abbrev pub TakesTurn : {O : Type 0} → Ghosts O → Running O → List ℕ → Seated → Seated → Option ℕ → Type 0
 TakesTurn o r image before after (Some place) = TakesImage o r image place before after
-TakesTurn o r image before after None = TurnRefused before after × StepsAtMost 4 before after × StepsOn before after × TakesNone before after
+TakesTurn o r image before after None = TurnRefused before after × StepsBy 4 before after × StepsOn before after × TakesNone before after
 
 -- The step limit was reached, and a further step was due. No image was taken.
 pub record HaltsImage (before after : Seated) : Type 0 where

@@ -7,10 +7,10 @@ use Rattle.cx_core.specs.RootEvents.{ShowsPlace}
 use Rattle.cx_rule.specs.Fitting.{loaded_of}
 use Rattle.cx_rule.specs.Raises.{TellsRead}
 use Rattle.cx_rule.specs.Running.{IsSeatOf, Running}
-use Rattle.cx_rule.specs.Seats.{Seated}
+use Rattle.cx_rule.specs.Seats.{Seated, StepsBy}
 use Rattle.cx_table.specs.Right.{Right}
 use Rattle.cx_turns.specs.Keeping.{HoldsCurrent}
-use Rattle.cx_turns.specs.Turns.{MeetsRefusal, StepsAtMost, StepsOn}
+use Rattle.cx_turns.specs.Turns.{MeetsRefusal, StepsOn}
 use Rattle.replica.specs.Held.{IsHeldShared}
 use Rattle.strong_trylock.specs.Held.{all_rights, no_rights}
 
@@ -31,7 +31,7 @@ pub record IsReplyRead {O : Type 0} (o : Ghosts O) (r : Running O) (op reply : L
 -- the result of reading it; the read is refused where the replica is held exclusively, or is at another place, by at most three steps
 abbrev pub ReadsCurrent : {O : Type 0} → Ghosts O → Running O → List ℕ → List ℕ → Seated → Seated → Option Right → Type 0
 ReadsCurrent o r op reply before after (Some hold) = IsReplyRead o r op reply before after hold
-ReadsCurrent o r op reply before after None = MeetsRefusal before after × StepsAtMost 3 before after × StepsOn before after
+ReadsCurrent o r op reply before after None = MeetsRefusal before after × StepsBy 3 before after × StepsOn before after
 
 -- a caller of this table without rights, that has just loaded CUR
 pub record MayReadReply {O : Type 0} (r : Running O) (seat : Seated) : Type 0 where

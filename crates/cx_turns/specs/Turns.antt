@@ -6,7 +6,7 @@ use Rattle.cx_core.specs.Layout.{max_word}
 use Rattle.cx_core.specs.State.{one_more}
 use Rattle.cx_core.specs.Rights.{exclusive_on}
 use Rattle.cx_rule.specs.Running.{IsSeatOf, Running}
-use Rattle.cx_rule.specs.Seats.{IsAtLimit, Seated}
+use Rattle.cx_rule.specs.Seats.{IsAtLimit, Seated, StepsBy}
 use Rattle.cx_rule.specs.Timing.{KeepsTimes}
 use Rattle.redo_set.specs.Taking.{sets_read}
 pub use Rattle.cx_table.specs.Seats.{StepsOn}
@@ -95,16 +95,12 @@ pub record Turns {O : Type 0} (r : Running O) (beside : Seated → Seated) (befo
   pub rest : beside after ≡ beside before
   pub front : before.known.local.front ≤ after.known.local.front
 
--- at most this many steps were made
-abbrev pub StepsAtMost : ℕ → Seated → Seated → Type 0
-StepsAtMost n before after = after.known.local.steps ≤ before.known.local.steps + n
-
 -- the same of a call that may raise the front, by at most this many steps
 pub record TurnsIn {O : Type 0} (r : Running O) (beside : Seated → Seated) (n : ℕ) (before after : Seated) : Type 0 where
   pub seat : IsSeatOf r after
   pub rest : beside after ≡ beside before
   pub front : before.known.local.front ≤ after.known.local.front
-  pub steps : StepsAtMost n before after
+  pub steps : StepsBy n before after
 
 -- by how much what was seen of CUR rose: at least by one for each exchange that was lost
 abbrev pub cur_rises : Seated → Seated → ℕ

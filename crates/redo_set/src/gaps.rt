@@ -2,8 +2,8 @@
 
 ghost use Rattle.std.specs.Prelude.{◌+◌, ◌<◌, ◌≤◌, IfSome, IfNone, OnErr, length};
 ghost use Rattle.cx_table.specs.Seats.{IsAtLimit, StepsOn};
-ghost use Rattle.cx_table.specs.GapMarks.{StepsBy};
 ghost use Rattle.redo_set.specs.Gaps.{AreAllEnds, AreEnds, AreGapsNoted, IsNextLine, LeavesNoting, MayNote, NotesGaps, gaps_of};
+ghost use Rattle.cx_rule.specs.Seats.{StepsBy};
 
 use crate::set::WriteSet;
 use cx_base::{Halt, Object};

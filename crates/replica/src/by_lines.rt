@@ -4,8 +4,8 @@ ghost use Rattle.std.specs.Prelude.{◌≡◌, ◌+◌, ◌-◌, ◌*◌, min, I
 ghost use Rattle.cx_core.specs.Layout.{gap_slots};
 ghost use Rattle.cx_core.specs.Region.{region_words};
 ghost use Rattle.cx_rule.specs.Running.{IsSeatOf};
-ghost use Rattle.cx_rule.specs.Seats.{IsAtLimit};
-ghost use Rattle.cx_table.specs.GapMarks.{LeavesLoads, StepsBy};
+ghost use Rattle.cx_rule.specs.Seats.{IsAtLimit, StepsBy};
+ghost use Rattle.cx_table.specs.GapMarks.{LeavesLoads};
 ghost use Rattle.cx_table.specs.Seats.{StepsOn};
 ghost use Rattle.replica.specs.Copies.{HoldsBoth, IsListed, MayList, Renews, RenewsListed, beside_copy, beside_listed};
 ghost use Rattle.replica.specs.Replays.{noted_place};

@@ -4,9 +4,8 @@ ghost use Rattle.std.specs.Prelude.{◌≡◌, ◌+◌, ◌*◌, ◌/◌, ◌<�
 ghost use Rattle.cx_core.specs.declared.kinds.Kind.TheVariants.{StoreWord};
 ghost use Rattle.cx_core.specs.Region.{region_words};
 ghost use Rattle.cx_rule.specs.Running.{IsSeatOf, instance_at};
-ghost use Rattle.cx_rule.specs.Seats.{IsAtLimit, known_after};
+ghost use Rattle.cx_rule.specs.Seats.{IsAtLimit, StepsBy, known_after};
 ghost use Rattle.cx_rule.specs.Steps.{Halts};
-ghost use Rattle.cx_table.specs.GapMarks.{StepsBy};
 ghost use Rattle.cx_table.specs.Seats.{StepsOn};
 ghost use Rattle.replica.specs.Copies.{AreLines, AreOfPiece, ArePiece, CopiesReplica, CopiesMarked, CopiesOn, CopiesOver, CopiesPiece, EndsCopy, EndsLoads, HoldsBoth, LeavesCopied, Renews, SeesLine, beside_copy, skips_by, skips_piece};
 

@@ -117,8 +117,7 @@ impl Copies {
         requires j { j < 16 }
         requires long { length self.now.cells ≡ 2320 }
         requires from { from ≤ OP_WORDS }
-        ensures least { from ≤ result }
-        ensures most { result ≤ OP_WORDS }
+        ensures within { (from ≤ result) × (result ≤ OP_WORDS) }
         ensures same { (at : ℕ) → from ≤ at → at < result → slice_index self.now.cells (ENTRY_WORDS * j + (at + 1)) ≡ slice_index op.now at }
         ensures apart { result < OP_WORDS → slice_index self.now.cells (ENTRY_WORDS * j + (result + 1)) ≢ slice_index op.now result }
     {

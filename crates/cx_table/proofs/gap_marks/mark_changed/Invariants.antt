@@ -1,6 +1,7 @@
 use Rattle.std.proofs.Common.{◌≡◌, ◌-◌, ◌*◌, ◌≤◌, ◌⊎◌, length}
 use Rattle.cx_rule.specs.Running.{instance_at}
-use Rattle.cx_table.specs.GapMarks.{LeavesLoads, MarksChanged, StepsBy}
+use Rattle.cx_rule.specs.Seats.{StepsBy}
+use Rattle.cx_table.specs.GapMarks.{LeavesLoads, MarksChanged}
 use Rattle.cx_table.proofs.gap_marks.mark_changed.Given as goal
 
 -- the lines of the tickets so far are marked

@@ -18,7 +18,7 @@ returns-in-Some-clause-marks g c = λ is. (
     let before = c.args.seat.now in
     let after = c.load_gaps.new.seat in
     let tells = subst (λ n. TellsLines n slot c.args.ticket c.args.lines words count) c.callers-callers.ensures.value c.in-Some.ensures in
-    let run = run_gaps g.O.Object t slot 0 words before after (c.if-not-load_gaps.ensures.made refl) in
+    let run = run_gaps g.O.Object t slot 0 words before after c.if-not-load_gaps.ensures.run in
     let within : count ≤ length words = (let under = tells.within in omega (arith, under)) in
     record {
       list = lines_from 0 count words;
@@ -31,20 +31,20 @@ pub returns-in-Some-clause-leaves : goal.returns-in-Some-clause-leaves
 returns-in-Some-clause-leaves g c =
     let t = c.args.shared.now in
     let slot = c.gap_slot-slot.result in
-    loads_leave g.O.Object t slot c.load_gaps.new.into c.args.seat.now c.load_gaps.new.seat c.if-not-load_gaps.ensures.seat (run_gaps g.O.Object t slot 0 c.load_gaps.new.into c.args.seat.now c.load_gaps.new.seat (c.if-not-load_gaps.ensures.made refl))
+    loads_leave g.O.Object t slot c.load_gaps.new.into c.args.seat.now c.load_gaps.new.seat c.if-not-load_gaps.ensures.seat (run_gaps g.O.Object t slot 0 c.load_gaps.new.into c.args.seat.now c.load_gaps.new.seat c.if-not-load_gaps.ensures.run)
 
 pub returns-in-Some-clause-steps : goal.returns-in-Some-clause-steps
 returns-in-Some-clause-steps g c =
-    let steps = (run_gaps g.O.Object c.args.shared.now c.gap_slot-slot.result 0 c.load_gaps.new.into c.args.seat.now c.load_gaps.new.seat (c.if-not-load_gaps.ensures.made refl)).steps in
+    let steps = (run_gaps g.O.Object c.args.shared.now c.gap_slot-slot.result 0 c.load_gaps.new.into c.args.seat.now c.load_gaps.new.seat c.if-not-load_gaps.ensures.run).steps in
     omega (arith, steps, c.if-not-load_gaps.ensures.length)
 
 pub returns-in-None-clause-leaves : goal.returns-in-None-clause-leaves
 returns-in-None-clause-leaves g c =
     let t = c.args.shared.now in
     let slot = c.gap_slot-slot.result in
-    loads_leave g.O.Object t slot c.load_gaps.new.into c.args.seat.now c.load_gaps.new.seat c.if-not-load_gaps.ensures.seat (run_gaps g.O.Object t slot 0 c.load_gaps.new.into c.args.seat.now c.load_gaps.new.seat (c.if-not-load_gaps.ensures.made refl))
+    loads_leave g.O.Object t slot c.load_gaps.new.into c.args.seat.now c.load_gaps.new.seat c.if-not-load_gaps.ensures.seat (run_gaps g.O.Object t slot 0 c.load_gaps.new.into c.args.seat.now c.load_gaps.new.seat c.if-not-load_gaps.ensures.run)
 
 pub returns-in-None-clause-steps : goal.returns-in-None-clause-steps
 returns-in-None-clause-steps g c =
-    let steps = (run_gaps g.O.Object c.args.shared.now c.gap_slot-slot.result 0 c.load_gaps.new.into c.args.seat.now c.load_gaps.new.seat (c.if-not-load_gaps.ensures.made refl)).steps in
+    let steps = (run_gaps g.O.Object c.args.shared.now c.gap_slot-slot.result 0 c.load_gaps.new.into c.args.seat.now c.load_gaps.new.seat c.if-not-load_gaps.ensures.run).steps in
     omega (arith, steps, c.if-not-load_gaps.ensures.length)

@@ -1,8 +1,8 @@
 use Rattle.std.proofs.Common.{◌≡◌}
 use Rattle.cx_rule.specs.Running.{IsSeatOf}
-use Rattle.cx_rule.specs.Seats.{IsAtLimit}
+use Rattle.cx_rule.specs.Seats.{IsAtLimit, StepsBy}
 use Rattle.cx_turns.specs.Taking.{beside_tries}
-use Rattle.cx_turns.specs.Turns.{StepsAtMost, StepsOn}
+use Rattle.cx_turns.specs.Turns.{StepsOn}
 use Rattle.cx_turns.proofs.Refusals.{IsRefusing}
 use Rattle.cx_turns.proofs.acquisition.take_any.Given as goal
 
@@ -10,7 +10,7 @@ abbrev pub invariant-loop-tried : goal.invariant-loop-tried
 invariant-loop-tried g l = record {
   of : IsSeatOf l.shared l.seat;
   rest : beside_tries l.seat ≡ beside_tries l.fn.seat;
-  steps : StepsAtMost l.tried l.fn.seat l.seat;
+  steps : StepsBy l.tried l.fn.seat l.seat;
   since : StepsOn l.fn.seat l.seat;
   refusing : IsRefusing l.shared.callers l.first l.tried l.fn.seat l.seat;
   stood : IsAtLimit l.fn.seat.known.local → (l.tried ≡ 0) × (l.seat ≡ l.fn.seat);

@@ -20,8 +20,8 @@ loop-at-init g c =
     let made = subst (λ j. Steps r g.O.Object.step g.O.Object.only_reads (WriteCell j 0 number) 0 s t) c.from-j.ensures c.in_ok-write_cell.ensures.made in
     let first = has_first s c.args.cell words c.next_number-number.ensures.cells c.requires.may.few (omega (arith, c.told-op)) r g.O.Object.step g.O.Object.only_reads number t value made in
     record {
-      most = found.most;
-      to = has_run s c.args.cell words c.next_number-number.ensures.cells c.requires.may.few (omega (arith, c.told-op)) 0 to t (omega arith) found.most first
+      most = found.within.1;
+      to = has_run s c.args.cell words c.next_number-number.ensures.cells c.requires.may.few (omega (arith, c.told-op)) 0 to t (omega arith) found.within.1 first
           (subst (λ j. (k : ℕ) → 0 ≤ k → k < to → slice_index (cell_of t.known.local j).words (k + 1) ≡ slice_index op k) c.from-j.ensures found.same);
       apart = subst (λ j. to < 144 → slice_index (cell_of t.known.local j).words (to + 1) ≢ slice_index op to) c.from-j.ensures found.apart;
     }
@@ -55,8 +55,8 @@ loop-at-preserved g c =
     let differs = subst (λ n. slice_index (cell_of t.known.local c.args.cell).words n ≢ slice_index op at) (add-one at) (c.loop-at.invariant.apart c.loop-at-test.true) in
     let new = has_new s c.args.cell words c.next_number-number.ensures.cells c.requires.may.few (omega (arith, c.told-op)) r g.O.Object.step g.O.Object.only_reads at (slice_index op at) t u c.loop-at-test.true refl c.loop-at.invariant.to differs made in
     record {
-      most = found.most;
-      to = has_run s c.args.cell words c.next_number-number.ensures.cells c.requires.may.few (omega (arith, c.told-op)) (at + 1) to u found.least found.most (subst (λ n. HasTo c.args.cell words n s u) (sym (add-one at)) new)
+      most = found.within.1;
+      to = has_run s c.args.cell words c.next_number-number.ensures.cells c.requires.may.few (omega (arith, c.told-op)) (at + 1) to u found.within.0 found.within.1 (subst (λ n. HasTo c.args.cell words n s u) (sym (add-one at)) new)
           (subst (λ j. (k : ℕ) → at + 1 ≤ k → k < to → slice_index (cell_of u.known.local j).words (k + 1) ≡ slice_index op k) c.from-j.ensures found.same);
       apart = subst (λ j. to < 144 → slice_index (cell_of u.known.local j).words (to + 1) ≢ slice_index op to) c.from-j.ensures found.apart;
     }

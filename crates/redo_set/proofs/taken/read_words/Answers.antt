@@ -7,31 +7,31 @@ use Rattle.redo_set.proofs.taken.read_words.Goals as goal
 
 pub returns-then-read_set_words-clause-read : goal.returns-then-read_set_words-clause-read
 returns-then-read_set_words-clause-read g c =
-    run_words g.O.Object c.args.shared.now c.args.cell c.args.ticket 1 c.read_set_words.new.into c.args.seat.now c.read_set_words.new.seat (c.if-read_set_words.ensures.made refl)
+    run_words g.O.Object c.args.shared.now c.args.cell c.args.ticket 1 c.read_set_words.new.into c.args.seat.now c.read_set_words.new.seat c.if-read_set_words.ensures.run
 
 pub returns-then-read_set_words-clause-leaves : goal.returns-then-read_set_words-clause-leaves
 returns-then-read_set_words-clause-leaves g c =
-    let read = run_words g.O.Object c.args.shared.now c.args.cell c.args.ticket 1 c.read_set_words.new.into c.args.seat.now c.read_set_words.new.seat (c.if-read_set_words.ensures.made refl) in
+    let read = run_words g.O.Object c.args.shared.now c.args.cell c.args.ticket 1 c.read_set_words.new.into c.args.seat.now c.read_set_words.new.seat c.if-read_set_words.ensures.run in
     leaves_of c.args.seat.now.known.local.seen_offer c.read_set_words.new.seat.known.local.steps (set_notes c.args.ticket 1 c.read_set_words.new.into) c.args.seat.now c.read_set_words.new.seat read.seat
 
 pub read_each-requires-clause-may : goal.read_each-requires-clause-may
-read_each-requires-clause-may g c = subst (MayReadSet g.O.Object c.args.shared.now c.args.cell c.args.ticket) (sym (c.if-read_set_words.ensures.short refl).0) c.requires.may
+read_each-requires-clause-may g c = subst (MayReadSet g.O.Object c.args.shared.now c.args.cell c.args.ticket) (sym c.if-read_set_words.ensures.run.0) c.requires.may
 
 pub returns-clause-read : goal.returns-clause-read
 returns-clause-read g c =
-    subst (λ (s : Seated). OnOk c.read_each.result (ReadsSetWords g.O.Object c.args.shared.now c.args.ticket 1 c.read_each.new.into s c.read_each.new.seat)) (c.if-read_set_words.ensures.short refl).0 c.read_each.ensures.read
+    subst (λ (s : Seated). OnOk c.read_each.result (ReadsSetWords g.O.Object c.args.shared.now c.args.ticket 1 c.read_each.new.into s c.read_each.new.seat)) c.if-read_set_words.ensures.run.0 c.read_each.ensures.read
 
 pub returns-clause-leaves : goal.returns-clause-leaves
-returns-clause-leaves g c = subst (λ (s : Seated). LeavesTaking s c.read_each.new.seat) (c.if-read_set_words.ensures.short refl).0 c.read_each.ensures.leaves
+returns-clause-leaves g c = subst (λ (s : Seated). LeavesTaking s c.read_each.new.seat) c.if-read_set_words.ensures.run.0 c.read_each.ensures.leaves
 
 pub returns-clause-due : goal.returns-clause-due
 returns-clause-due g c =
     subst (λ (n : ℕ). OnErr c.read_each.result (ReadsFewer c.args.ticket 1 n c.args.seat.now c.read_each.new.seat)) c.if-read_set_words.ensures.length
-    (subst (λ (s : Seated). OnErr c.read_each.result (ReadsFewer c.args.ticket 1 (length c.read_set_words.new.into) s c.read_each.new.seat)) (c.if-read_set_words.ensures.short refl).0 c.read_each.ensures.due)
+    (subst (λ (s : Seated). OnErr c.read_each.result (ReadsFewer c.args.ticket 1 (length c.read_set_words.new.into) s c.read_each.new.seat)) c.if-read_set_words.ensures.run.0 c.read_each.ensures.due)
 
 pub returns-then-read_set_words-clause-since : goal.returns-then-read_set_words-clause-since
 returns-then-read_set_words-clause-since g c =
-    run_since g.O.Object c.args.shared.now c.args.cell c.args.ticket 1 c.read_set_words.new.into c.args.seat.now c.read_set_words.new.seat (c.if-read_set_words.ensures.made refl)
+    run_since g.O.Object c.args.shared.now c.args.cell c.args.ticket 1 c.read_set_words.new.into c.args.seat.now c.read_set_words.new.seat c.if-read_set_words.ensures.run
 
 pub returns-clause-since : goal.returns-clause-since
-returns-clause-since g c = subst (λ (s : Seated). StepsOn s c.read_each.new.seat) (c.if-read_set_words.ensures.short refl).0 c.read_each.ensures.since
+returns-clause-since g c = subst (λ (s : Seated). StepsOn s c.read_each.new.seat) c.if-read_set_words.ensures.run.0 c.read_each.ensures.since

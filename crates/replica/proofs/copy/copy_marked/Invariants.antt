@@ -1,9 +1,9 @@
 use Rattle.std.proofs.Common.{◌≡◌, ◌-◌, ◌*◌, ◌%◌, ◌≤◌, ◌⊎◌, length}
 use Rattle.cx_core.specs.Region.{region_words}
-use Rattle.cx_table.specs.GapMarks.{StepsBy}
 use Rattle.cx_table.specs.Seats.{StepsOn}
 use Rattle.replica.specs.Copies.{HoldsBoth, IsCopiedTo, LoadsAtMost, beside_copy, skips_by}
 use Rattle.replica.proofs.copy.copy_marked.Given as goal
+use Rattle.cx_rule.specs.Seats.{StepsBy}
 
 -- of the lines so far those are copied that are not skipped, and a piece begins
 abbrev pub invariant-loop-line : goal.invariant-loop-line

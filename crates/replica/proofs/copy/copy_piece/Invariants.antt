@@ -1,8 +1,8 @@
 use Rattle.std.proofs.Common.{◌≡◌, ◌+◌, ◌*◌, length}
-use Rattle.cx_table.specs.GapMarks.{StepsBy}
 use Rattle.cx_table.specs.Seats.{StepsOn}
 use Rattle.replica.specs.Copies.{AreSeen, CopiesOn, HoldsBoth, LoadsAtMost, beside_copy}
 use Rattle.replica.proofs.copy.copy_piece.Given as goal
+use Rattle.cx_rule.specs.Seats.{StepsBy}
 
 -- the lines so far are copied, and the others are as they were loaded
 abbrev pub invariant-loop-line : goal.invariant-loop-line

@@ -42,8 +42,8 @@ reads_lead g c =
 pub invariant_of-seat-2 : goal.invariant_of-seat-2
 invariant_of-seat-2 g c = (reads_lead g c).0
 
-pub returns-clause-made : goal.returns-clause-made
-returns-clause-made g c = λ is. (reads_lead g c).1
+pub returns-clause-run : goal.returns-clause-run
+returns-clause-run g c = (reads_lead g c).1
 
 pub returns-clause-seat : goal.returns-clause-seat
 returns-clause-seat g c = (reads_lead g c).2
