@@ -1,10 +1,11 @@
 -- What a caller of a running store knows, by the store: its lines, what is lawful of its words, its base and its step are the store's.
 use Rattle.std.specs.Prelude.{ℕ, List, Option}
 use Rattle.cx_base.specs.declared.object.Object.{Ghosts}
+use Rattle.cx_core.specs.declared.local.Answer.{Answer}
 use Rattle.cx_rule.specs.declared.rule.Known.{Known}
 use Rattle.cx_rule.specs.Fitting.{FitsKnown, Fitting, IsReplayed, IsReplayedToPlace}
 use Rattle.cx_rule.specs.Offers.{TellsSet}
-use Rattle.cx_rule.specs.Raises.{Answer, TellsAnswers, TellsReads}
+use Rattle.cx_rule.specs.Raises.{TellsAnswers, TellsReads}
 use Rattle.cx_rule.specs.Running.{Running}
 
 -- the words that a replica may have, by what a caller knows
