@@ -11,7 +11,7 @@ use Rattle.cx_core.specs.LockEvents.{exclusive_mark, passing, shared_by}
 use Rattle.cx_core.specs.Region.{region_words}
 use Rattle.cx_core.specs.RegionEvents.{loaded_into, stored_into}
 use Rattle.cx_core.specs.Rights.{held_dirty}
-use Rattle.cx_core.specs.State.{Instance, one_more}
+use Rattle.cx_core.specs.State.{Instance}
 use Rattle.cx_rule.specs.declared.rule.Known.{Known}
 use Rattle.cx_rule.specs.Fitting.{Fitting, SomeFits}
 use Rattle.cx_rule.specs.Running.{IsSeatOf, Running, instance_at}
@@ -112,8 +112,8 @@ module _ {O : Type 0} (o : Ghosts O) (r : Running O) (held source : Right) (from
           rest = load_rest r o.step o.only_reads q at found mid after made ∙ was.0.rest;
         },
         subst (λ ws. IsRunOf q from ws before.known after.known) (sym longer)
-        (subst (λ (k : Known). IsRunOf q from (first ++ found ∷ []) before.known k) (sym (ap (λ (s : Seated). s.known) made.made))
-        (longer_run (instance_at r o.step o.only_reads) q from found first before.known mid.known was.1)),
+            (subst (λ (k : Known). IsRunOf q from (first ++ found ∷ []) before.known k) (sym (ap (λ (s : Seated). s.known) made.made))
+            (longer_run (instance_at r o.step o.only_reads) q from found first before.known mid.known was.1)),
       )
 
   -- and so do two, one behind the other

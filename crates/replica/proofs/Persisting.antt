@@ -17,7 +17,7 @@ use Rattle.cx_rule.specs.Steps.{Steps}
 use Rattle.cx_rule.proofs.HasMore.{some_same}
 use Rattle.cx_table.specs.Right.{Right}
 use Rattle.replica.specs.Flushes.{Persists}
-use Rattle.replica.specs.Held.{IsHeld, IsHeldIn, beside_held, but_loaded, but_words}
+use Rattle.replica.specs.Held.{IsHeldIn, beside_held, but_loaded, but_words}
 use Rattle.replica.specs.Laws.{image_same}
 use Rattle.replica.specs.Replays.{IsHeldImage}
 use Rattle.replica.proofs.Access.{beside, still_exclusive}

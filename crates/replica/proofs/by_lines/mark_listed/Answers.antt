@@ -1,6 +1,6 @@
 use Rattle.std.proofs.Common.{◌+◌, ap, subst, sym, arith}
 use Rattle.cx_rule.specs.Seats.{Seated}
-use Rattle.replica.specs.Copies.{HoldsBoth, HoldsBothIn}
+use Rattle.replica.specs.Copies.{HoldsBothIn}
 use Rattle.replica.specs.Replays.{noted_place}
 use Rattle.replica.proofs.Listing.{both_loaded, listed_marks}
 use Rattle.replica.proofs.by_lines.mark_listed.Goals as goal

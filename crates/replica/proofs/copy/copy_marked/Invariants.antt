@@ -1,7 +1,7 @@
 use Rattle.std.proofs.Common.{◌≡◌, ◌-◌, ◌*◌, ◌%◌, ◌≤◌, ◌⊎◌, length}
 use Rattle.cx_core.specs.Region.{region_words}
 use Rattle.cx_table.specs.Seats.{StepsOn}
-use Rattle.replica.specs.Copies.{HoldsBoth, HoldsBothIn, IsCopiedTo, LoadsAtMost, beside_copy, skips_by}
+use Rattle.replica.specs.Copies.{HoldsBothIn, IsCopiedTo, LoadsAtMost, beside_copy, skips_by}
 use Rattle.replica.proofs.copy.copy_marked.Given as goal
 use Rattle.cx_rule.specs.Seats.{StepsBy}
 

@@ -5,7 +5,7 @@ use Rattle.cx_core.specs.Region.{region_words}
 use Rattle.cx_rule.specs.declared.rule.Known.{Known}
 use Rattle.cx_rule.specs.Seats.{Seated}
 use Rattle.line_lanes.specs.Lines.{DiffersInLine}
-use Rattle.replica.specs.Copies.{AreSeen, CopiesOn, EndsPart, HoldsBoth, HoldsBothIn, IsCopiedTo, LoadsAtMost, beside_copy}
+use Rattle.replica.specs.Copies.{AreSeen, CopiesOn, EndsPart, HoldsBothIn, IsCopiedTo, LoadsAtMost, beside_copy}
 use Rattle.replica.proofs.CopySteps.{at_err, loads_fewer, loads_most, loads_on, short_on}
 use Rattle.replica.proofs.LineCopies.{on_same_line, on_stored_line}
 use Rattle.replica.proofs.copy.copy_piece.Goals.{then-differs-line+in_ok-store_line, else-differs-line}

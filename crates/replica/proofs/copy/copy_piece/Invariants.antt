@@ -1,6 +1,6 @@
 use Rattle.std.proofs.Common.{◌≡◌, ◌+◌, ◌*◌, length}
 use Rattle.cx_table.specs.Seats.{StepsOn}
-use Rattle.replica.specs.Copies.{AreSeen, CopiesOn, HoldsBoth, HoldsBothIn, LoadsAtMost, beside_copy}
+use Rattle.replica.specs.Copies.{AreSeen, CopiesOn, HoldsBothIn, LoadsAtMost, beside_copy}
 use Rattle.replica.proofs.copy.copy_piece.Given as goal
 use Rattle.cx_rule.specs.Seats.{StepsBy}
 

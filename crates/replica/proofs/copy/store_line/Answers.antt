@@ -4,7 +4,7 @@ use Rattle.cx_rule.specs.declared.rule.Known.{Known}
 use Rattle.cx_rule.specs.Running.{instance_at}
 use Rattle.cx_core.specs.declared.kinds.Kind.TheVariants.{StoreWord}
 use Rattle.cx_rule.specs.Seats.{IsAtLimit, Seated, known_after}
-use Rattle.replica.specs.Copies.{AreSeen, CopiesOn, EndsPart, HoldsBoth, HoldsBothIn, LoadsAtMost, SomeDiffers, beside_copy}
+use Rattle.replica.specs.Copies.{AreSeen, CopiesOn, EndsPart, HoldsBothIn, LoadsAtMost, SomeDiffers, beside_copy}
 use Rattle.replica.proofs.CopySteps.{at_err, loads_on, store_counts}
 use Rattle.replica.proofs.LineCopies.{on_over, on_same, seen_behind}
 use Rattle.replica.proofs.copy.store_line.Goals.{then-held_words-i+in_ok-store_copied, else-held_words-i}
