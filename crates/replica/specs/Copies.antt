@@ -24,10 +24,7 @@ pub record HoldsBoth {O : Type 0} (lines : ℕ) (r : Running O) (lawful : List �
   pub exclusive : IsHeld lines r lawful step seat held
   pub shared : IsHeldShared lines r lawful seat source
 
-<<<<<<< HEAD
-=======
 -- the same by the store
->>>>>>> aac6d5fc3269ad9c68bfe7c09f2f44b37503b2f0
 abbrev pub HoldsBothIn : {O : Type 0} → Ghosts O → Running O → Seated → Right → Right → Type 0
 HoldsBothIn o r = HoldsBoth (o.line_count r.object) r (o.lawful r.object) (o.step r.object)
 
@@ -51,11 +48,7 @@ pub record LeavesCopied {O : Type 0} (o : Ghosts O) (r : Running O) (held source
   pub since : StepsOn before after
   pub rest : beside_copy after ≡ beside_copy before
 
-<<<<<<< HEAD
--- a call ended at the limit, and of the seat what this shows is as it was
-=======
 -- the limit ended a call, and what this shows of the seat is as it was
->>>>>>> aac6d5fc3269ad9c68bfe7c09f2f44b37503b2f0
 pub record HaltsKeeping (beside : Seated → Seated) (before after : Seated) : Type 0 where
   pub rest : beside after ≡ beside before
   pub limit : IsAtLimit after.known.local
@@ -225,11 +218,7 @@ abbrev pub EndsCopy : {A E : Type 0} → ℕ → ℕ → Known → Known → Res
 EndsCopy n region before after (Ok x) = LoadsAtMost n before after
 EndsCopy n region before after (Err e) = LoadsFewer n before after ⊎ SomeDiffers region after
 
-<<<<<<< HEAD
--- A part of a copy makes at most these numbers of loads and of steps, and where the limit ends it, fewer loads, or it leaves a word to store.
-=======
 -- A part of a copy makes at most this number of loads, and with its stores at most this number of steps, and no error comes but at the limit.
->>>>>>> aac6d5fc3269ad9c68bfe7c09f2f44b37503b2f0
 pub record EndsPart {A E : Type 0} (loads steps region : ℕ) (before after : Seated) (result : Result A E) : Type 0 where
   pub counts : EndsCopy loads region before.known after.known result
   pub bound : StepsBy steps before after

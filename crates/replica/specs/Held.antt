@@ -38,11 +38,7 @@ pub record IsHeld {O : Type 0} (lines : ℕ) (r : Running O) (lawful : List ℕ 
   pub some : SomeFits lines lawful r.base step seat.known
   pub dirty : All (λ i. i < region_words lines) (held_dirty seat.known.local.exclusive)
 
-<<<<<<< HEAD
--- the same by the store: its lines, what is lawful of its words, and its step are the store's
-=======
 -- the same by the store: its lines, what is lawful of its words, and its step
->>>>>>> aac6d5fc3269ad9c68bfe7c09f2f44b37503b2f0
 abbrev pub IsHeldIn : {O : Type 0} → Ghosts O → Running O → Seated → Right → Type 0
 IsHeldIn o r = IsHeld (o.line_count r.object) r (o.lawful r.object) (o.step r.object)
 
@@ -53,10 +49,7 @@ pub record IsHeldShared {O : Type 0} (lines : ℕ) (r : Running O) (lawful : Lis
   pub right : IsSharedOf r.callers seat held
   pub some : SomeReadFits lines lawful r.base (loaded_of seat.known.local.shared)
 
-<<<<<<< HEAD
-=======
 -- the same by the store
->>>>>>> aac6d5fc3269ad9c68bfe7c09f2f44b37503b2f0
 abbrev pub IsHeldSharedIn : {O : Type 0} → Ghosts O → Running O → Seated → Right → Type 0
 IsHeldSharedIn o r = IsHeldShared (o.line_count r.object) r (o.lawful r.object)
 

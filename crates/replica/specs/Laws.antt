@@ -30,10 +30,7 @@ pub record IsTaken {O : Type 0} (lines : ℕ) (r : Running O) (lawful : List ℕ
   pub none : seat.known.accesses ≡ []
   pub clean : held_dirty seat.known.local.exclusive ≡ []
 
-<<<<<<< HEAD
-=======
 -- the same by the store
->>>>>>> aac6d5fc3269ad9c68bfe7c09f2f44b37503b2f0
 abbrev pub IsTakenIn : {O : Type 0} → Ghosts O → Running O → Seated → Right → Type 0
 IsTakenIn o r = IsTaken (o.line_count r.object) r (o.lawful r.object) (o.step r.object)
 
