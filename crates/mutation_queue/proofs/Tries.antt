@@ -13,8 +13,9 @@ use Rattle.cx_core.specs.Layout.{cell_count, max_word}
 use Rattle.cx_core.specs.State.{Instance}
 use Rattle.cx_rule.specs.declared.rule.Noted.{Noted}
 use Rattle.cx_rule.specs.declared.rule.Times.{Times}
-use Rattle.cx_table.specs.Running.{IsSeatOf, Running}
+use Rattle.cx_table.specs.Running.{IsSeatOf, Running, instance_at}
 use Rattle.cx_table.specs.Seats.{IsAtLimit, Seated, shown_next, stepped, unseen}
+use Rattle.cx_table.specs.Steps.{Steps}
 use Rattle.cx_table.specs.Told.{LinkTold, LookTold}
 use Rattle.mutation_queue.specs.Leaves.{LeavesSeatPart, seat_number}
 use Rattle.mutation_queue.specs.Links.{FindsLink, FindsOpen, LinksAt, LinksNone, LinksPast, MayLink, WinsTry, but_front, but_linked, with_front, with_loss, with_win}
@@ -107,6 +108,32 @@ module _ (instance : Instance) (l : Local) (found : ℕ) (some : 1 ≤ instance.
           | inr b ↦ (let p = (lost.later b.0 ne).1 in let e = b.1 in omega arith)
         ] in
         (some2, elim (cases_lt t l.front) [ inl below ↦ absurd (same_slot t l.front (cell_count instance.callers) mods near below) | inr from_on ↦ from_on ])
+
+-- one look at the front's slot, where the number of callers, the front and the number of slots were read before it
+pub looked_at : {O : Type 0} (r : Running O) (step : O → List ℕ → List ℕ → List ℕ × List ℕ) (reads : O → List ℕ → Bool) (s t : Seated) (seen callers front slots : ℕ) → callers ≡ r.callers → front ≡ s.known.local.front → slots ≡ cell_count callers →
+    Steps r step reads (Look (front % slots)) seen s t → Steps r step reads (Look (s.known.local.front % cell_count r.callers)) seen s t
+looked_at r step reads s t seen callers front slots number at count made =
+    subst (λ n. Steps r step reads (Look n) seen s t) (ap (λ f. f % slots) at ∙ ap (λ n. s.known.local.front % n) (count ∙ ap cell_count number)) made
+
+-- what such a look told that found no link from the front on
+pub record SeesOpen (instance : Instance) (s t : Seated) (seen : ℕ) : Type 0 where
+  pub some : 1 ≤ instance.callers
+  pub allowed : ¬ IsAtLimit s.known.local
+  pub told : LookTold instance (s.known.local.front % cell_count instance.callers) s.known.local seen
+  pub looked : t ≡ stepped instance (Look (s.known.local.front % cell_count instance.callers)) s seen
+  pub below : 0 < seen → link_ticket_of instance.callers seen < s.known.local.front
+
+pub sees_open : {O : Type 0} (r : Running O) (step : O → List ℕ → List ℕ → List ℕ × List ℕ) (reads : O → List ℕ → Bool) (s t : Seated) (seen callers front slots : ℕ) → 1 ≤ callers → callers ≡ r.callers → front ≡ s.known.local.front → slots ≡ cell_count callers →
+    Steps r step reads (Look (front % slots)) seen s t → (0 < seen → link_ticket_of callers seen < front) → SeesOpen (instance_at r step reads) s t seen
+sees_open r step reads s t seen callers front slots some number at count made open_ =
+    let look = looked_at r step reads s t seen callers front slots number at count made in
+    record {
+      some = omega (arith, some, number);
+      allowed = look.allowed;
+      told = look.told;
+      looked = look.made;
+      below = subst (λ n. 0 < seen → link_ticket_of n seen < s.known.local.front) number (subst (λ f. 0 < seen → link_ticket_of callers seen < f) at open_);
+    }
 
 -- the slot of the front was taken
 pub taken : (instance : Instance) (s : Seated) (found : ℕ) → let slot = s.known.local.front % cell_count instance.callers in root_place_of instance.callers s.known.local.seen_cur ≤ s.known.local.front → 0 < found → s.known.local.front ≤ link_ticket_of instance.callers found →
