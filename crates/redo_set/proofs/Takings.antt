@@ -152,7 +152,7 @@ module _ {O : Type 0} (o : Ghosts O) (r : Running O) where
 
   -- what was read leaves
   pub leaves_read : (ticket from : ℕ) (words : List ℕ) (s after : Seated) → ReadsSetWords o r ticket from words s after → IsSeatOf r after → StepsOn s after → LeavesTaking r s after
-  leaves_read ticket from words s after read of since = record { notes = set_notes ticket from words; seat = read.seat; of = of; since = since }
+  leaves_read ticket from words s after read of since = leaves_of r s.known.local.seen_offer after.known.local.steps (set_notes ticket from words) s after read.seat of since
 
   -- what a run of reads leads to
   pub run_words : (cell ticket from : ℕ) (words : List ℕ) (before after : Seated) → Runs r o.step o.only_reads (o.lawful r.object) (set_reads_from cell ticket from) words before after → ReadsSetWords o r ticket from words before after
