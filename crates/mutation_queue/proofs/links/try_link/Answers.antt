@@ -5,18 +5,12 @@ use Rattle.cx_core.specs.Events.{Guard}
 use Rattle.cx_core.specs.Layout.{cell_count}
 use Rattle.cx_core.specs.QueueEvents.{seen_word}
 use Rattle.cx_table.specs.Running.{instance_at}
-use Rattle.cx_table.specs.Seats.{IsAtLimit, Seated, shown_next, stepped, unseen}
+use Rattle.cx_table.specs.Seats.{IsAtLimit, Seated, shown_next, unseen}
 use Rattle.cx_table.specs.Told.{LinkTold}
 use Rattle.mutation_queue.specs.Links.{FindsOpen, LinksAt, LinksPast}
 use Rattle.mutation_queue.proofs.Results.{on_err}
-use Rattle.mutation_queue.proofs.Tries.{SeesOpen, finds_link, finds_loss, finds_open, front_stays, looked_at, lost_to, may_link, none_open, past_front, sees_open, shows_open, taken, wins, won_at}
+use Rattle.mutation_queue.proofs.Tries.{finds_link, finds_loss, front_stays, linked_seen, looked_at, lost_to, may_link, none_open, open_seen, past_front, sees_open, taken, wins, won_at}
 use Rattle.mutation_queue.proofs.links.try_link.Goals as goal
-
--- what the look told, behind the one test of it
-sees : (g : _) (c : goal.After-is_taken g) → SeesOpen (instance_at c.args.shared.now g.O.Object.step g.O.Object.only_reads) c.args.seat.now c.look.new.seat c.in_ok-seen.seen
-sees g c =
-    let callers = c.callers-callers.ensures in
-    sees_open c.args.shared.now g.O.Object.step g.O.Object.only_reads c.args.seat.now c.look.new.seat c.in_ok-seen.seen c.callers-callers.result c.front-front.result c.cell_count.result callers.some callers.value c.front-front.ensures.value c.cell_count.ensures c.in_ok-seen.ensures.made c.if-is_taken.ensures
 
 pub link-requires : goal.link-requires
 link-requires g c =
@@ -25,7 +19,7 @@ link-requires g c =
     let l = s.known.local in
     let seen = c.in_ok-seen.seen in
     let slot = l.front % cell_count instance.callers in
-    let is = sees g c in
+    let is = sees_open c.args.shared.now g.O.Object.step g.O.Object.only_reads c.args.seat.now c.look.new.seat c.in_ok-seen.seen c.callers-callers.ensures.some c.callers-callers.ensures.value c.front-front.ensures.value c.cell_count.ensures c.in_ok-seen.ensures.made c.if-is_taken.ensures in
     let may = may_link instance l seen is.some is.told is.below c.args.cell c.requires.may.few c.requires.may.announced.idle c.requires.may.announced.number c.requires.front c.requires.may.answered in
     record {
       seat = c.in_ok-seen.ensures.made.seat;
@@ -33,32 +27,21 @@ link-requires g c =
           (subst (λ n. Guard instance unseen (Link n) (shown_next instance (Look slot) l seen)) (sym c.from.ensures) may);
     }
 
--- the slot was found open
-finds : (g : _) (c : goal.After-is_taken g) → FindsOpen c.args.shared.now.callers c.args.seat.now c.look.new.seat
-finds g c =
-    let instance = instance_at c.args.shared.now g.O.Object.step g.O.Object.only_reads in
-    let s = c.args.seat.now in
-    let seen = c.in_ok-seen.seen in
-    let is = sees g c in
-    finds_open instance s c.look.new.seat seen is.allowed is.looked (shows_open instance s.known.local seen is.some is.told is.below)
-
 pub returns-clause-tried : goal.returns-clause-tried
 returns-clause-tried g c =
     let instance = instance_at c.args.shared.now g.O.Object.step g.O.Object.only_reads in
     let s = c.args.seat.now in
     let l = s.known.local in
     let seen = c.in_ok-seen.seen in
-    let slot = l.front % cell_count instance.callers in
-    let is = sees g c in
+    let is = sees_open c.args.shared.now g.O.Object.step g.O.Object.only_reads c.args.seat.now c.look.new.seat c.in_ok-seen.seen c.callers-callers.ensures.some c.callers-callers.ensures.value c.front-front.ensures.value c.cell_count.ensures c.in_ok-seen.ensures.made c.if-is_taken.ensures in
     let found = c.in_ok-found.found in
     let ne : found ≢ seen = c.if-found-seen.false in
-    let linked : c.link.new.seat ≡ stepped instance (Link c.args.cell) (stepped instance (Look slot) s seen) found =
-    c.in_ok-found.ensures.made.made ∙ ap (λ (x : Seated). stepped instance (Link c.from.result) x found) is.looked ∙ ap (λ n. stepped instance (Link n) (stepped instance (Look slot) s seen) found) c.from.ensures in
+    let linked = linked_seen instance s c.look.new.seat c.link.new.seat seen found c.from.result c.args.cell is c.from.ensures c.in_ok-found.ensures.made.made in
     let past = past_front instance l seen is.some is.told is.below found (subst (λ (x : Seated). LinkTold instance x.known.local found) is.looked c.in_ok-found.ensures.made.told) ne in
     let stays = front_stays instance l seen is.some is.told is.below in
     let here : c.look.new.seat.known.local.front ≡ l.front = ap (λ (x : Seated). x.known.local.front) is.looked ∙ stays in (
       subst (LinksPast instance.callers s) (sym linked) (lost_to instance s seen found c.args.cell c.in_ok-seen.ensures.made.lawful.cur stays ne past.0 past.1),
-      inr (c.look.new.seat, finds g c, finds_loss instance c.look.new.seat c.link.new.seat c.from.result seen found (ap (λ (x : Seated). seen_word x.known.local.seen_slot) is.looked) c.in_ok-found.ensures.made.allowed c.in_ok-found.ensures.made.made ne past.0 (omega (arith, here, past.1))),
+      inr (c.look.new.seat, open_seen instance s c.look.new.seat seen is, finds_loss instance c.look.new.seat c.link.new.seat c.from.result seen found (ap (λ (x : Seated). seen_word x.known.local.seen_slot) is.looked) c.in_ok-found.ensures.made.allowed c.in_ok-found.ensures.made.made ne past.0 (omega (arith, here, past.1))),
     )
 
 pub returns-then-is_taken-clause-tried : goal.returns-then-is_taken-clause-tried
@@ -68,7 +51,7 @@ returns-then-is_taken-clause-tried g c =
     let l = s.known.local in
     let callers = instance.callers in
     let seen = c.in_ok-seen.seen in
-    let look = looked_at c.args.shared.now g.O.Object.step g.O.Object.only_reads s c.look.new.seat seen c.callers-callers.result c.front-front.result c.cell_count.result c.callers-callers.ensures.value c.front-front.ensures.value c.cell_count.ensures c.in_ok-seen.ensures.made in
+    let look = looked_at c.args.shared.now g.O.Object.step g.O.Object.only_reads s c.look.new.seat seen c.callers-callers.ensures.value c.front-front.ensures.value c.cell_count.ensures c.in_ok-seen.ensures.made in
     let past : (0 < seen) × (l.front ≤ link_ticket_of callers seen) = subst (λ n. (0 < seen) × (l.front ≤ link_ticket_of n seen)) c.callers-callers.ensures.value
     (subst (λ f. (0 < seen) × (f ≤ link_ticket_of c.callers-callers.result seen)) c.front-front.ensures.value c.if-is_taken.ensures) in (
       subst (LinksPast callers s) (sym look.made) (taken instance s seen look.lawful.cur past.0 past.1),
@@ -77,14 +60,12 @@ returns-then-is_taken-clause-tried g c =
 
 pub returns-in_err-found-clause-halted : goal.returns-in_err-found-clause-halted
 returns-in_err-found-clause-halted g c =
-    let callers = c.args.shared.now.callers in
+    let instance = instance_at c.args.shared.now g.O.Object.step g.O.Object.only_reads in
     let s = c.args.seat.now in
+    let is = sees_open c.args.shared.now g.O.Object.step g.O.Object.only_reads c.args.seat.now c.look.new.seat c.in_ok-seen.seen c.callers-callers.ensures.some c.callers-callers.ensures.value c.front-front.ensures.value c.cell_count.ensures c.in_ok-seen.ensures.made c.if-is_taken.ensures in
     let halted = c.in_err-found.ensures.halted in
-    on_err c.from_residual-in_err-found.result _ (
-      none_open callers s c.link.new.seat (subst (FindsOpen callers s) (sym halted.same) (finds g c)),
-      subst (λ (x : Seated). IsAtLimit x.known.local) (sym halted.same) halted.limit,
-      inr (subst (FindsOpen callers s) (sym halted.same) (finds g c)),
-    )
+    let finds = subst (FindsOpen instance.callers s) (sym halted.same) (open_seen instance s c.look.new.seat c.in_ok-seen.seen is) in
+    on_err c.from_residual-in_err-found.result _ (none_open instance.callers s c.link.new.seat finds, subst (λ (x : Seated). IsAtLimit x.known.local) (sym halted.same) halted.limit, inr finds)
 
 pub returns-then-found-seen-clause-tried : goal.returns-then-found-seen-clause-tried
 returns-then-found-seen-clause-tried g c =
@@ -92,12 +73,10 @@ returns-then-found-seen-clause-tried g c =
     let s = c.args.seat.now in
     let l = s.known.local in
     let seen = c.in_ok-seen.seen in
-    let slot = l.front % cell_count instance.callers in
-    let is = sees g c in
+    let is = sees_open c.args.shared.now g.O.Object.step g.O.Object.only_reads c.args.seat.now c.look.new.seat c.in_ok-seen.seen c.callers-callers.ensures.some c.callers-callers.ensures.value c.front-front.ensures.value c.cell_count.ensures c.in_ok-seen.ensures.made c.if-is_taken.ensures in
     let found = c.in_ok-found.found in
     let e : found ≡ seen = c.if-found-seen.true in
-    let linked : c.link.new.seat ≡ stepped instance (Link c.args.cell) (stepped instance (Look slot) s seen) found =
-    c.in_ok-found.ensures.made.made ∙ ap (λ (x : Seated). stepped instance (Link c.from.result) x found) is.looked ∙ ap (λ n. stepped instance (Link n) (stepped instance (Look slot) s seen) found) c.from.ensures in (
+    let linked = linked_seen instance s c.look.new.seat c.link.new.seat seen found c.from.result c.args.cell is c.from.ensures c.in_ok-found.ensures.made.made in (
       subst (λ n. LinksAt c.args.cell n s c.link.new.seat) (sym c.front-front.ensures.value) (subst (LinksAt c.args.cell l.front s) (sym linked) (won_at instance s seen found c.args.cell (front_stays instance l seen is.some is.told is.below) e)),
-      wins instance s c.look.new.seat c.link.new.seat c.args.cell c.from.result seen found (finds g c) (ap (λ (x : Seated). seen_word x.known.local.seen_slot) is.looked) c.in_ok-found.ensures.made.allowed c.in_ok-found.ensures.made.made e c.from.ensures,
+      wins instance s c.look.new.seat c.link.new.seat c.args.cell c.from.result seen found (open_seen instance s c.look.new.seat seen is) (ap (λ (x : Seated). seen_word x.known.local.seen_slot) is.looked) c.in_ok-found.ensures.made.allowed c.in_ok-found.ensures.made.made e c.from.ensures,
     )

@@ -45,9 +45,12 @@ returns-then-not-names-clause-taken g c =
     let other : c.in_ok-found.found ≢ c.args.ticket + 1 = λ same. (let passes = c.names.ensures.1 same in absurd (cc (fails, passes))) in
     record {
       taken = record {
-        offered = (λ yes. absurd (false≢true yes), λ shows. (
-            let named = subst (λ (x : Seated). ShowsOffer x.known.local.seen_offer c.args.cell c.args.ticket) made.made shows in
-            absurd (other named.2)));
+        offered = (
+          λ yes. absurd (false≢true yes),
+          λ shows. (
+              let named = subst (λ (x : Seated). ShowsOffer x.known.local.seen_offer c.args.cell c.args.ticket) made.made shows in
+              absurd (other named.2)),
+        );
         noted = λ yes. absurd (false≢true yes);
         fits = λ yes. absurd (false≢true yes);
       };
