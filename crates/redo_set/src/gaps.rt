@@ -1,9 +1,8 @@
 //! The gaps that a write set leaves are noted in the ring of gaps.
 
 ghost use Rattle.std.specs.Prelude.{◌+◌, ◌<◌, ◌≤◌, IfSome, IfNone, OnErr, length};
-ghost use Rattle.cx_table.specs.Seats.{IsAtLimit};
+ghost use Rattle.cx_rule.specs.Seats.{IsAtLimit, StepsBy};
 ghost use Rattle.redo_set.specs.Gaps.{AreAllEnds, AreEnds, AreGapsNoted, IsNextLine, LeavesNoting, MayNote, NotesGaps, gaps_of};
-ghost use Rattle.cx_rule.specs.Seats.{StepsBy};
 
 use crate::set::WriteSet;
 use cx_base::{Halt, Object};

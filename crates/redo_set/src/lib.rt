@@ -13,8 +13,9 @@
 //! - A set is taken from the cell of another's entry, which the slot last looked at shows and a confirmed protection keeps: its offer word, and
 //!   where that is the ticket plus 1, exactly then, the number of its pairs and each pair. It is then noted whole with the ticket, so by the
 //!   table's rule a write set of the ticket, and what really is there fits what the seat has with it; beside the steps and the offer last seen
-//!   nothing else changes, also at a `Halt`: `take` (`taken`: `TakesOffered`; `leaves`). Where none is taken, the offer word was loaded in this call, by
-//!   the only step, and is another (`FindsUnoffered`); it halts only at the limit, where a further step is due (`halted`: `HaltsTakingSet`).
+//!   nothing else changes, also at a `Halt`: `take` (`taken`: `TakesOffered`; `leaves`). Where none is taken, the offer word was loaded in this
+//!   call, by the only step, and is another (`FindsUnoffered`); it halts only at the limit, where a further step is due (`halted`:
+//!   `HaltsTakingSet`).
 //! - A set that whatever fits tells to be one of an own entry's ticket is written beside the entry's cell, each word that differs from the one
 //!   there, and offered. What the seat had it has still, and what really is there fits; with `Halt` nothing is offered: `offer` (`offered`:
 //!   `OffersFitting`; `leaves`: `LeavesOffering`; `halts`: `WritesSet`).
