@@ -1,5 +1,5 @@
 -- What a look, an offer and a set that was taken leave of a replica that is the image after its place.
-use Rattle.std.proofs.Common.{All, inl, inr, ◌≡◌, ◌<◌, ◌⊎◌, ◌++◌, ℕ, List, [], map, slice_set, ap, arith, refl, sym, subst, ◌∙◌, Option, None}
+use Rattle.std.proofs.Common.{All, inl, inr, ◌≡◌, ◌<◌, ◌⊎◌, ◌++◌, ℕ, List, [], map, slice_set, ap, refl, sym, subst, ◌∙◌, Option, None}
 use Rattle.std.proofs.Math.Seq.{map-set_same}
 use Rattle.cx_base.specs.Memory.{Becomes}
 use Rattle.cx_base.specs.declared.object.Object.{Ghosts}
@@ -116,11 +116,15 @@ abbrev beside_both : Seated → Seated
 beside_both b = record b { known = record b.known { local = record b.known.local { seen_slot = None; seen_offer = None }; sets = [] } }
 
 module _ {O : Type 0} (r : Running O) (replica : ℕ) where
-  pub leaves_looked : (seen : Option SeenSlot) (before after : Seated) → IsSeatOf r after → after ≡ with_look seen before → LeavesOffered r replica before after
+  leaves_looked : (seen : Option SeenSlot) (before after : Seated) → IsSeatOf r after → after ≡ with_look seen before → LeavesOffered r replica before after
   leaves_looked seen before after of is = record { seat = of; rest = ap (beside_offered replica) is; since = on_one before after (ap (λ (s : Seated). s.known.local.steps) is) }
 
-  pub leaves_taken : (before mid after : Seated) → LeavesOffered r replica before mid → LeavesTaking r mid after → LeavesOffered r replica before after
+  leaves_taken : (before mid after : Seated) → LeavesOffered r replica before mid → LeavesTaking r mid after → LeavesOffered r replica before after
   leaves_taken before mid after was l = record { seat = l.of; rest = ap (beside_offered replica) l.seat ∙ was.rest; since = on_then before mid after was.since l.since }
+
+  -- a slot was looked at, and the offer behind it
+  pub leaves_behind : (seen : Option SeenSlot) (before mid after : Seated) → IsSeatOf r mid → mid ≡ with_look seen before → LeavesTaking r mid after → LeavesOffered r replica before after
+  leaves_behind seen before mid after of is l = leaves_taken before mid after (leaves_looked seen before mid of is) l
 
   pub leaves_stored : (before mid after : Seated) → LeavesOffered r replica before mid → IsSeatOf r after → beside_held replica after ≡ beside_held replica mid → StepsOn mid after → LeavesOffered r replica before after
   leaves_stored before mid after was of same on = record { seat = of; rest = ap beside_both same ∙ was.rest; since = on_then before mid after was.since on }

@@ -2,12 +2,13 @@ use Rattle.std.proofs.Common.{◌+◌, ◌++◌, ◌<◌, ◌∙◌, ap, inl, re
 use Rattle.core_queue.specs.NotedSets.{IsNotedSet}
 use Rattle.cx_core.specs.RingEvents.{Protects}
 use Rattle.cx_rule.specs.Fitting.{IsSetWithin, has_of}
+use Rattle.cx_rule.specs.Running.{IsSeatOf}
 use Rattle.cx_rule.specs.Seats.{Seated}
 use Rattle.redo_set.specs.Taking.{CountsTaken, sets_read}
-use Rattle.replica_sets.specs.Offered.{LeavesOffered}
+use Rattle.replica_sets.specs.Offered.{beside_offered}
 use Rattle.replica_sets.specs.Storing.{set_stores}
 use Rattle.cx_rule.proofs.Stepping.{on_same}
-use Rattle.replica_sets.proofs.Ready.{leaves_looked, leaves_stored, leaves_taken, ready_looked, ready_taken, ready_untaken, stored_since}
+use Rattle.replica_sets.proofs.Ready.{leaves_behind, leaves_stored, ready_looked, ready_taken, ready_untaken, stored_since}
 use Rattle.replica_sets.proofs.offered.replay_offered.Goals as goal
 
 pub take-requires : goal.take-requires
@@ -25,17 +26,12 @@ take-requires g c =
 pub returns-in_err-cell-clause-leaves : goal.returns-in_err-cell-clause-leaves
 returns-in_err-cell-clause-leaves g c =
     let same = c.in_err-cell.ensures.halted.same in
-    record { seat = c.in_err-cell.ensures.halted.of; rest = ap (λ (s : Seated). s) same; since = on_same c.args.seat.now c.see_cell.new.seat same }
-
--- behind a look and what was taken
-leaves_both : (g : _) (c : goal.After-take g) → LeavesOffered c.args.shared.now c.args.held.now.replica c.args.seat.now c.take.new.seat
-leaves_both g c =
-    let looked = c.in_ok-cell.ensures.made in
-    leaves_taken c.args.shared.now c.args.held.now.replica c.args.seat.now c.see_cell.new.seat c.take.new.seat
-    (leaves_looked c.args.shared.now c.args.held.now.replica _ c.args.seat.now c.see_cell.new.seat looked.of looked.seat) c.take.ensures.leaves
+    record { seat = subst (IsSeatOf c.args.shared.now) (sym same) c.requires.may.may.of; rest = ap (beside_offered c.args.held.now.replica) same; since = on_same c.args.seat.now c.see_cell.new.seat same }
 
 pub returns-in_err-taken-clause-leaves : goal.returns-in_err-taken-clause-leaves
-returns-in_err-taken-clause-leaves g c = leaves_both g c
+returns-in_err-taken-clause-leaves g c =
+    let looked = c.in_ok-cell.ensures.made in
+    leaves_behind c.args.shared.now c.args.held.now.replica _ c.args.seat.now c.see_cell.new.seat c.take.new.seat looked.of looked.seat c.take.ensures.leaves
 
 pub returns-then-not-taken : goal.returns-then-not-taken
 returns-then-not-taken g c =
@@ -47,7 +43,7 @@ returns-then-not-taken g c =
       replayed = ready_untaken g.O.Object t c.args.held.now c.args.ticket mid c.take.new.seat c.take.ensures.leaves kept
           (ready_looked g.O.Object t c.args.held.now c.args.ticket _ c.args.seat.now mid looked.of looked.seat c.requires.ready);
       brought = record { counted = kept ∙ ap (λ (s : Seated). s.known.sets) looked.seat; brought = tt };
-      leaves = leaves_both g c;
+      leaves = leaves_behind t c.args.held.now.replica _ c.args.seat.now mid c.take.new.seat looked.of looked.seat c.take.ensures.leaves;
     }
 
 pub store_set-requires : goal.store_set-requires
@@ -68,18 +64,13 @@ store_set-requires g c =
       };
     }
 
--- behind what was taken and stored
-leaves_all : (g : _) (c : goal.After-store_set g) → LeavesOffered c.args.shared.now c.args.held.now.replica c.args.seat.now c.store_set.new.seat
-leaves_all g c =
-    let looked = c.in_ok-cell.ensures.made in
-    let t = c.args.shared.now in
-    let replica = c.args.held.now.replica in
-    let e = c.store_set.ensures.leaves in
-    leaves_stored t replica c.args.seat.now c.take.new.seat c.store_set.new.seat
-    (leaves_taken t replica c.args.seat.now c.see_cell.new.seat c.take.new.seat (leaves_looked t replica _ c.args.seat.now c.see_cell.new.seat looked.of looked.seat) c.take.ensures.leaves) e.still.of e.rest e.since
-
 pub returns-in_err-store_set-clause-leaves : goal.returns-in_err-store_set-clause-leaves
-returns-in_err-store_set-clause-leaves g c = leaves_all g c
+returns-in_err-store_set-clause-leaves g c =
+    let t = c.args.shared.now in
+    let looked = c.in_ok-cell.ensures.made in
+    let e = c.store_set.ensures.leaves in
+    leaves_stored t c.args.held.now.replica c.args.seat.now c.take.new.seat c.store_set.new.seat
+    (leaves_behind t c.args.held.now.replica _ c.args.seat.now c.see_cell.new.seat c.take.new.seat looked.of looked.seat c.take.ensures.leaves) e.still.of e.rest e.since
 
 pub returns : goal.returns
 returns g c =
@@ -107,5 +98,6 @@ returns g c =
           stores = stored_since g.O.Object t c.args.held.now c.args.ticket _ c.args.seat.now mid c.take.new.seat c.store_set.new.seat c.take.new.into looked.seat c.take.ensures.leaves stored.done;
         };
       };
-      leaves = leaves_all g c;
+      leaves = leaves_stored t c.args.held.now.replica c.args.seat.now c.take.new.seat c.store_set.new.seat
+          (leaves_behind t c.args.held.now.replica _ c.args.seat.now mid c.take.new.seat looked.of looked.seat c.take.ensures.leaves) e.still.of e.rest e.since;
     }

@@ -1,6 +1,6 @@
 use Rattle.std.proofs.Common.{◌+◌, ◌∙◌, ap}
 use Rattle.cx_core.specs.QueueEvents.{cell_of}
-use Rattle.replica_sets.specs.Own.{HasApplied, LeavesOwn}
+use Rattle.replica_sets.specs.Own.{HasApplied}
 use Rattle.replica_sets.proofs.Ready.{applied_offered, leaves_held, leaves_set}
 use Rattle.replica_sets.proofs.own.step_and_offer.Goals as goal
 
@@ -17,13 +17,6 @@ returns-clause-applied g c =
     } in
     let offered = c.in_ok-offer.ensures.offered in
     applied_offered g.O.Object t c.args.held.now (c.args.ticket + 1) caller reply mid c.offer.new.seat c.in-Some.cell offered.offers.set (c.args.ticket + 1) c.offer.new.seat.known.local.steps c.offer.ensures.leaves.of offered.offers.seat c.offer.ensures.leaves.has offered.fits applied
-
--- the step of the entry, before anything is offered
-leaves_step : (g : _) (c : goal.After-apply_noting g) → LeavesOwn c.args.shared.now c.args.held.now.replica c.args.seat.now c.apply_noting.new.seat
-leaves_step g c = (let e = c.apply_noting.ensures.leaves in leaves_held c.args.shared.now c.args.held.now.replica c.args.seat.now c.apply_noting.new.seat e.still.of e.rest e.since)
-
-pub returns-in_err-whole-clause-leaves : goal.returns-in_err-whole-clause-leaves
-returns-in_err-whole-clause-leaves g c = leaves_step g c
 
 pub returns-in_err-offer-clause-leaves : goal.returns-in_err-offer-clause-leaves
 returns-in_err-offer-clause-leaves g c =
