@@ -6,7 +6,7 @@
 //! of them. Closing the table hands out its words and a `Trail`, the witness that a run has led there.
 //!
 //! - A run of loads is an event for each of its words, in order, each as its step call would tell it; it is refused only where the limit leaves
-//!   fewer steps than there are words, and then nothing changes: `load_words`, `read_words` (`made`, `short`, `none`: `Runs`).
+//!   fewer steps than there are words, and then nothing changes: `load_words`, `read_words` (`run`: `Runs`).
 //! - A write set is written beside the cell of the caller's own linked entry and offered where whatever fits tells it, and another's is looked at
 //!   and read under the protection that keeps its entry: `write_set`, `offer`, `load_offer`, `read_set` (`Steps`), and a run of words of it by
 //!   `read_set_words` (`Runs`). A seat lends the offers and the sets of its caller's cells: `CallerSeat::offered_cell`, `set_word`.

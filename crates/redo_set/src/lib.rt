@@ -8,7 +8,7 @@
 //! - A set takes a pair after its others, and refuses one, unchanged, exactly where it holds 256: `WriteSet::note` (`noted`, `full`, `same`).
 //!   To store it is then to store what it held, and that pair last: `last`.
 //! - A set is stored over any writable memory that has its addresses, pair by pair in order, for every pair of lists that stands; it halts only
-//!   where no access is left, with the first of its pairs stored: `apply_set` (`done`, `cut`, `halts`). Where the full image at a ticket is
+//!   where no access is left, with the first of its pairs stored: `apply_set` (`changes`, `cut`). Where the full image at a ticket is
 //!   there, and the set is a write set of that ticket, the full image after the entry is there afterwards: `next`.
 //! - A set is taken from the cell of another's entry, which the slot last looked at shows and a confirmed protection keeps: its offer word, and
 //!   where that is the ticket plus 1, exactly then, the number of its pairs and each pair. It is then noted whole with the ticket, so by the

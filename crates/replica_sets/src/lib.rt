@@ -11,10 +11,10 @@
 //!   ticket, and the pairs from there to the next (`tells`: `TellsSet`). So it may be offered (`told_sets_may_be_offered` of `cx_rule`). The gaps
 //!   that it leaves are noted in the ring for its ticket, which is in no contract: it changes nothing but the steps.
 //! - The set of the ticket that is the replica's place makes it the image after the next place, where its caller has that set: read whole,
-//!   or offered in an own cell. It is stored pair by pair, with no load: `store_set` (`ready`), and from the seat's memory `store_own_set`.
+//!   or offered in an own cell. It is stored pair by pair, with no load: `store_set` (`stored`: `IsSetStored`), and from the seat's memory `store_own_set`.
 //! - Another's entry is brought on so where it is offered: its set is taken from its cell, and then stored: `replay_offered` (`replayed`). A set that
 //!   is counted is noted whole, and its pairs were stored over the words that the replica had, in order and by no other access (`brought`:
-//!   `IsBroughtBySet`).
+//!   `BringsOffered`, `IsBroughtBySet`).
 //! - An own older entry is brought on by the set that the caller offered: `replay_own` (`replayed`); one that is done for the first time by its
 //!   step, whose write set is then offered: `step_and_offer` (`applied`: `HasApplied`).
 #![tactic(auto)]
