@@ -13,6 +13,7 @@ use Rattle.cx_rule.specs.Fitting.{Fitting}
 use Rattle.cx_rule.specs.Listed.{HasGap}
 use Rattle.cx_rule.specs.Running.{IsSeatOf, Running, instance_at}
 use Rattle.cx_rule.specs.Seats.{Seated, StepsBy, StepsOn, stepped}
+use Rattle.cx_rule.proofs.Stepping.{on_same, on_then_one}
 use Rattle.cx_table.specs.Gaps.{gaps_from}
 use Rattle.cx_table.specs.Runs.{Runs, no_step, one_more_step}
 use Rattle.cx_table.specs.GapMarks.{LeavesLoads, gap_notes, with_gaps}

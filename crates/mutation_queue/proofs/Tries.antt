@@ -1,5 +1,5 @@
 -- One try to link.
-use Rattle.std.proofs.Common.{◌≡◌, ◌≢◌, ◌+◌, ◌-◌, ◌%◌, ◌^◌, ◌<◌, ◌≤◌, ◌⊎◌, ℕ, max, min, Bool, true, false, cond, List, [], ◌∷◌, ◌++◌, length, slice_index, set, refl, sym, ap, subst, ◌∙◌, inl, inr, arith, Some, None}
+use Rattle.std.proofs.Common.{◌≡◌, ◌≢◌, ◌+◌, ◌-◌, ◌%◌, ◌^◌, ◌<◌, ◌≤◌, ◌⊎◌, ℕ, max, Bool, true, false, cond, List, [], ◌∷◌, ◌++◌, length, slice_index, set, refl, sym, ap, subst, ◌∙◌, inl, inr, arith, Some, None}
 use Rattle.std.proofs.lemmas.Bool.{cases_eq, cases_lt, eq-eqb, ne_eqb}
 use Rattle.std.proofs.lemmas.List.{append-nil}
 use Rattle.std.proofs.Math.Nat.{add-mod_right}
@@ -9,12 +9,13 @@ use Rattle.cx_core.specs.declared.kinds.Kind.TheVariants.{Link, Look}
 use Rattle.cx_core.specs.declared.local.Local.{Local}
 use Rattle.cx_core.specs.Events.{Guard}
 use Rattle.cx_core.specs.QueueEvents.{IsIdle, ShowsOpen, cell_of, entry_in, linked, lost, next_number, raised_front, seen_word}
-use Rattle.cx_core.specs.Layout.{cell_count, max_word}
+use Rattle.cx_core.specs.Layout.{cell_count}
 use Rattle.cx_core.specs.State.{Instance}
 use Rattle.cx_rule.specs.declared.rule.Noted.{Noted}
 use Rattle.cx_rule.specs.declared.rule.Times.{Times}
-use Rattle.cx_table.specs.Running.{IsSeatOf, Running}
+use Rattle.cx_table.specs.Running.{IsSeatOf, Running, instance_at}
 use Rattle.cx_table.specs.Seats.{IsAtLimit, Seated, shown_next, stepped, unseen}
+use Rattle.cx_table.specs.Steps.{Steps}
 use Rattle.cx_table.specs.Told.{LinkTold, LookTold}
 use Rattle.mutation_queue.specs.Leaves.{LeavesSeatPart, seat_number}
 use Rattle.mutation_queue.specs.Links.{FindsLink, FindsOpen, LinksAt, LinksNone, LinksPast, MayLink, WinsTry, but_front, but_linked, with_front, with_loss, with_win}
@@ -108,6 +109,40 @@ module _ (instance : Instance) (l : Local) (found : ℕ) (some : 1 ≤ instance.
         ] in
         (some2, elim (cases_lt t l.front) [ inl below ↦ absurd (same_slot t l.front (cell_count instance.callers) mods near below) | inr from_on ↦ from_on ])
 
+-- one look at the front's slot, where the number of callers, the front and the number of slots were read before it
+pub looked_at : {O : Type 0} {callers front slots : ℕ} (r : Running O) (step : O → List ℕ → List ℕ → List ℕ × List ℕ) (reads : O → List ℕ → Bool) (s t : Seated) (seen : ℕ) → callers ≡ r.callers → front ≡ s.known.local.front → slots ≡ cell_count callers →
+    Steps r step reads (Look (front % slots)) seen s t → Steps r step reads (Look (s.known.local.front % cell_count r.callers)) seen s t
+looked_at {slots = slots} r step reads s t seen number at count made =
+    subst (λ n. Steps r step reads (Look n) seen s t) (ap (λ f. f % slots) at ∙ ap (λ n. s.known.local.front % n) (count ∙ ap cell_count number)) made
+
+-- what such a look told that found no link from the front on
+pub record SeesOpen (instance : Instance) (s t : Seated) (seen : ℕ) : Type 0 where
+  pub some : 1 ≤ instance.callers
+  pub allowed : ¬ IsAtLimit s.known.local
+  pub told : LookTold instance (s.known.local.front % cell_count instance.callers) s.known.local seen
+  pub looked : t ≡ stepped instance (Look (s.known.local.front % cell_count instance.callers)) s seen
+  pub below : 0 < seen → link_ticket_of instance.callers seen < s.known.local.front
+
+pub sees_open : {O : Type 0} {callers front slots : ℕ} (r : Running O) (step : O → List ℕ → List ℕ → List ℕ × List ℕ) (reads : O → List ℕ → Bool) (s t : Seated) (seen : ℕ) → 1 ≤ callers → callers ≡ r.callers → front ≡ s.known.local.front → slots ≡ cell_count callers →
+    Steps r step reads (Look (front % slots)) seen s t → (0 < seen → link_ticket_of callers seen < front) → SeesOpen (instance_at r step reads) s t seen
+sees_open {callers = callers} r step reads s t seen some number at count made open_ =
+    let look = looked_at r step reads s t seen number at count made in
+    record {
+      some = omega (arith, some, number);
+      allowed = look.allowed;
+      told = look.told;
+      looked = look.made;
+      below = subst (λ n. 0 < seen → link_ticket_of n seen < s.known.local.front) number (subst (λ f. 0 < seen → link_ticket_of callers seen < f) at open_);
+    }
+
+-- the seat after a compare-exchange behind such a look
+pub linked_seen : (instance : Instance) (s t u : Seated) (seen found j cell : ℕ) → SeesOpen instance s t seen → j ≡ cell → u ≡ stepped instance (Link j) t found →
+    u ≡ stepped instance (Link cell) (stepped instance (Look (s.known.local.front % cell_count instance.callers)) s seen) found
+linked_seen instance s t u seen found j cell is same linked =
+    linked
+    ∙ ap (λ (x : Seated). stepped instance (Link j) x found) is.looked
+    ∙ ap (λ n. stepped instance (Link n) (stepped instance (Look (s.known.local.front % cell_count instance.callers)) s seen) found) same
+
 -- the slot of the front was taken
 pub taken : (instance : Instance) (s : Seated) (found : ℕ) → let slot = s.known.local.front % cell_count instance.callers in root_place_of instance.callers s.known.local.seen_cur ≤ s.known.local.front → 0 < found → s.known.local.front ≤ link_ticket_of instance.callers found →
     LinksPast instance.callers s (stepped instance (Look slot) s found)
@@ -153,7 +188,7 @@ pub finds_link : (instance : Instance) (s t : Seated) (found : ℕ) → ¬ IsAtL
     FindsLink instance.callers (with_front instance.callers) s t
 finds_link instance s t found allowed is some past = record { allowed = allowed; found = found; seat = is ∙ look_is instance s found; some = some; past = past }
 
-pub finds_open : (instance : Instance) (s t : Seated) (found : ℕ) → ¬ IsAtLimit s.known.local → t ≡ stepped instance (Look (s.known.local.front % cell_count instance.callers)) s found →
+finds_open : (instance : Instance) (s t : Seated) (found : ℕ) → ¬ IsAtLimit s.known.local → t ≡ stepped instance (Look (s.known.local.front % cell_count instance.callers)) s found →
     ShowsOpen instance.callers (Some (record { slot = s.known.local.front % cell_count instance.callers; word = found })) (raised_front instance.callers s.known.local.front found) → FindsOpen instance.callers s t
 finds_open instance s t found allowed is shows = record {
   allowed = allowed;
@@ -161,6 +196,10 @@ finds_open instance s t found allowed is shows = record {
   seat = is ∙ look_is instance s found;
   shows = subst (λ (x : Seated). ShowsOpen instance.callers x.known.local.seen_slot x.known.local.front) (sym is) shows;
 }
+
+-- so does a look that found no link from the front on
+pub open_seen : (instance : Instance) (s t : Seated) (seen : ℕ) → SeesOpen instance s t seen → FindsOpen instance.callers s t
+open_seen instance s t seen is = finds_open instance s t seen is.allowed is.looked (shows_open instance s.known.local seen is.some is.told is.below)
 
 -- a look alone links nothing
 pub none_open : (callers : ℕ) (s t : Seated) → FindsOpen callers s t → LinksNone s t

@@ -61,3 +61,8 @@ pub record Announces (j : ℕ) (words : List ℕ) (before after : Seated) : Type
 pub record IsAnnounced (base : Base) (cell : ℕ) (seat : Seated) : Type 0 where
   pub idle : IsIdle seat.known.local cell
   pub number : slice_index (cell_of seat.known.local cell).words 0 ≡ next_number base seat.known.local
+
+-- All words are in the cell, and the entry that they are may be linked.
+pub record AnnouncesEntry (base : Base) (j : ℕ) (words : List ℕ) (before after : Seated) : Type 0 where
+  pub announces : Announces j words before after
+  pub ready : IsAnnounced base j after

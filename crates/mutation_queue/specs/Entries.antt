@@ -1,5 +1,5 @@
 -- An entry that is read, word after word.
-use Rattle.std.specs.Prelude.{◌≡◌, ◌+◌, ◌<◌, ◌^◌, ◌⊎◌, ℕ, zero, suc, List, [], ◌∷◌, ◌++◌, length, Option}
+use Rattle.std.specs.Prelude.{◌≡◌, ◌+◌, ◌<◌, ◌≤◌, ◌^◌, ◌⊎◌, ℕ, zero, suc, List, [], ◌∷◌, ◌++◌, length, Option}
 use Rattle.cx_base.specs.declared.object.Object.{Ghosts}
 use Rattle.cx_core.specs.declared.entry.Entry.{Entry}
 use Rattle.cx_core.specs.declared.local.Local.{Local}
@@ -47,6 +47,11 @@ pub record MayRead {O : Type 0} (r : Running O) (ticket : ℕ) (seat : Seated) :
   pub linked : ticket < seat.known.local.front
   pub protected : Protects ticket seat.known.local.protection
 
+-- an entry that may be read and is not below the base
+pub record MayReplay {O : Type 0} (r : Running O) (ticket : ℕ) (seat : Seated) : Type 0 where
+  pub may : MayRead r ticket seat
+  pub later : r.base.place ≤ ticket
+
 -- one look at the ticket's slot, which the limit allowed, shows the ticket in a cell
 pub record Looked {O : Type 0} (r : Running O) (ticket cell : ℕ) (before after : Seated) : Type 0 where
   pub of : IsSeatOf r after
@@ -86,6 +91,11 @@ pub record IsNotedEntry (ticket : ℕ) (seat : Seated) (entry : Entry) : Type 0 
 pub record NotesEntry {O : Type 0} (o : Ghosts O) (r : Running O) (caller ticket : ℕ) (words : List ℕ) (seat : Seated) : Type 0 where
   pub each : (entry : Entry) → entry.caller ≡ caller → entry.number ∷ entry.op ≡ words → IsNotedEntry ticket seat entry
   pub fits : Fitting r.lines (o.lawful r.object) r.base (o.step r.object) seat.known
+
+-- The entry of this caller was read, with these words, and what is noted tells that it may come at its ticket.
+pub record ReadsLinked {O : Type 0} (o : Ghosts O) (r : Running O) (caller ticket : ℕ) (found : List ℕ) (before after : Seated) : Type 0 where
+  pub words : ReadsEntry caller ticket found before after
+  pub notes : NotesEntry o r caller ticket found after
 
 -- The limit was reached before the entry was read: at the look, or among the words, of which those read are noted.
 pub record HaltsReading (ticket : ℕ) (before after : Seated) : Type 0 where

@@ -3,7 +3,7 @@
 ghost use Rattle.std.specs.Prelude.{◌≡◌, ◌∷◌, OnErr, OnOk};
 ghost use Rattle.cx_core.specs.QueueEvents.{next_number};
 ghost use Rattle.cx_table.specs.Running.{IsSeatOf};
-ghost use Rattle.mutation_queue.specs.Cells.{Announces, HaltsIn, IsAnnounced, MayAnnounce};
+ghost use Rattle.mutation_queue.specs.Cells.{AnnouncesEntry, HaltsIn, MayAnnounce};
 
 use cx_base::{Halt, OP_WORDS, Object, OpWords};
 use cx_table::{CallerSeat, Shared};
@@ -18,8 +18,7 @@ pub fn announce<O: Object>(
     op: &OpWords,
 ) -> Result<(), Halt>
     requires may { MayAnnounce shared.now cell seat.old }
-    ensures announced { OnOk result (Announces cell (next_number shared.now.base seat.old.known.local ∷ op.now) seat.old seat.new) }
-    ensures ready { OnOk result (IsAnnounced shared.now.base cell seat.new) }
+    ensures announced { OnOk result (AnnouncesEntry shared.now.base cell (next_number shared.now.base seat.old.known.local ∷ op.now) seat.old seat.new) }
     ensures seat { IsSeatOf shared.now seat.new }
     ensures number { seat.new.known.local.number ≡ seat.old.known.local.number }
     ensures halted { OnErr result (HaltsIn cell (next_number shared.now.base seat.old.known.local ∷ op.now) seat.old seat.new) }

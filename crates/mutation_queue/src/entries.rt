@@ -1,10 +1,10 @@
 //! An entry is read from the cell that it was announced in.
 
-ghost use Rattle.std.specs.Prelude.{◌≤◌, ◌/◌, IfOk, OnErr, OnOk};
+ghost use Rattle.std.specs.Prelude.{◌/◌, IfOk, OnErr, OnOk};
 ghost use Rattle.cx_core.specs.QueueEvents.{ShowsTicket};
 ghost use Rattle.cx_table.specs.Calls.{MakesStep};
 ghost use Rattle.cx_table.specs.Running.{IsSeatOf};
-ghost use Rattle.mutation_queue.specs.Entries.{HaltsAmong, HaltsReading, Looked, MayRead, NotesEntry, ReadsEntry, ReadsWords};
+ghost use Rattle.mutation_queue.specs.Entries.{HaltsAmong, HaltsReading, Looked, MayRead, MayReplay, ReadsLinked, ReadsWords};
 
 use cx_base::{ENTRY_WORDS, Halt, Object, link_cell};
 use cx_core::layout::cell_count;
@@ -20,10 +20,8 @@ pub fn entry<O: Object>(
     ticket: u64,
     into: &mut [u64; ENTRY_WORDS],
 ) -> Result<u32, Halt>
-    requires may { MayRead shared.now ticket seat.old }
-    requires later { shared.now.base.place ≤ ticket }
-    ensures read { IfOk result (λ caller. ReadsEntry caller ticket into.new seat.old seat.new) }
-    ensures entry { IfOk result (λ caller. NotesEntry O.Object shared.now caller ticket into.new seat.new) }
+    requires may { MayReplay shared.now ticket seat.old }
+    ensures read { IfOk result (λ caller. ReadsLinked O.Object shared.now caller ticket into.new seat.old seat.new) }
     ensures halted { OnErr result (HaltsReading ticket seat.old seat.new) }
     ensures seat { IsSeatOf shared.now seat.new }
 {
@@ -34,8 +32,7 @@ pub fn entry<O: Object>(
 
 /// The cell of a ticket, by one look at its slot.
 fn find_cell<O: Object>(shared: &Shared<O>, seat: &mut CallerSeat, ticket: u64) -> Result<u64, Halt>
-    requires may { MayRead shared.now ticket seat.old }
-    requires later { shared.now.base.place ≤ ticket }
+    requires may { MayReplay shared.now ticket seat.old }
     ensures { MakesStep shared.now seat.old seat.new result (λ cell. Looked shared.now ticket cell seat.old seat.new) }
 {
     let callers = shared.callers();

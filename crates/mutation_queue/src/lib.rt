@@ -10,14 +10,14 @@
 //! - The least idle cell, and `None` exactly where all 16 hold tickets from the greatest FREE found on: `idle_cell` (`some`, `least`, `none`).
 //! - After an announce the cell has exactly the caller's next number and the operation, and no ticket, and beside it only the steps and the
 //!   mark that something is fresh have changed; it takes a step for the number and one for each other word that differs from what the caller
-//!   wrote there last, at most 145; it halts only at the limit: `announce` (`announced`, `ready`, `halted`).
+//!   wrote there last, at most 145; it halts only at the limit: `announce` (`announced`: `AnnouncesEntry`; `halted`).
 //! - `Linked` comes with the ticket, and exactly the announced entry is one more of the caller's; `Worn` where it was not linked and the front is
 //!   2^40; with `Again` each try found another's link; with `Again`, `Worn` and `Halt` nothing is linked: `link` (`tried`, `halted`). The tries
 //!   are told one by one, each with the seat after it: one is lost by a look at the front's slot that found another's link, or by a look that
 //!   found it open and an exchange that found another's link, and no step is made beside these (`made`: `MakesTries`, `LosesTries`). With `Halt`
 //!   fewer tries were lost, a ticket is left, and the next look or exchange was not allowed: `HaltsTries`.
 //! - An entry with a ticket below the front that a confirmed protection of the caller keeps is read whole, and each word of it is noted, so by
-//!   the table's rule it is the history's, and it is an entry that may come at its ticket: `entry` (`read`, `entry`, `halted`).
+//!   the table's rule it is the history's, and it is an entry that may come at its ticket: `entry` (`read`: `ReadsLinked`; `halted`).
 //! - Protecting the tickets from a place on takes two steps, or three where it answers `Behind`. That comes exactly where the LOW loaded is
 //!   above the place, and then no protection stands; else it is confirmed, and the LOW seen is at most the place; with `Halt` none is
 //!   confirmed, and the seat is the one before, the one after the place was stated, or the one after a LOW above it was loaded: `protect`

@@ -4,8 +4,9 @@ ghost use Rattle.std.specs.Prelude.{◌≤◌, List};
 ghost use Rattle.cx_base.specs.Codes.{root_place_of};
 ghost use Rattle.cx_core.specs.declared.local.Answer.{Answer};
 ghost use Rattle.cx_core.specs.declared.kinds.Kind.TheVariants.{Raise, Retire};
-ghost use Rattle.cx_rule.specs.Raises.{Raises, TellsAnswers, TellsReads, read_op_in};
+ghost use Rattle.cx_rule.specs.Raises.{Raises, read_op_in};
 ghost use Rattle.cx_rule.specs.Running.{IsSeatOf};
+ghost use Rattle.cx_rule.specs.Stores.{TellsAnswersIn, TellsReadsIn};
 ghost use Rattle.cx_table.specs.Calls.{MakesStep, MayStep};
 ghost use Rattle.cx_table.specs.Tokens.{IsWonOf};
 ghost use Rattle.strong_trylock.specs.Ends.{MakesOne};
@@ -23,9 +24,9 @@ pub fn make_durable<O: Object>(
     read: Option<AnsweredRead>,
 ) -> Result<(), Halt>
     requires may { MayStep O.Object shared.now (Raise code (read_op_in read)) seat.old }
-    requires told { (answers : List Answer) × TellsAnswers shared.now.lines (O.lawful shared.now.object) shared.now.base (O.step shared.now.object) seat.old.known (root_place_of shared.now.callers code) answers }
-    requires reads { TellsReads shared.now.lines (O.lawful shared.now.object) shared.now.base (O.step shared.now.object) seat.old.known read }
-    ensures { MakesStep shared.now seat.old seat.new result (λ _. (answers : List Answer) → TellsAnswers shared.now.lines (O.lawful shared.now.object) shared.now.base (O.step shared.now.object) seat.old.known (root_place_of shared.now.callers code) answers → Raises shared.now O.step O.only_reads code answers read.entry seat.old seat.new) }
+    requires told { (answers : List Answer) × TellsAnswersIn O.Object shared.now seat.old.known (root_place_of shared.now.callers code) answers }
+    requires reads { TellsReadsIn O.Object shared.now seat.old.known read }
+    ensures { MakesStep shared.now seat.old seat.new result (λ _. (answers : List Answer) → TellsAnswersIn O.Object shared.now seat.old.known (root_place_of shared.now.callers code) answers → Raises shared.now O.step O.only_reads code answers read.entry seat.old seat.new) }
 {
     shared.raise(seat, code, read)?;
     Ok(())

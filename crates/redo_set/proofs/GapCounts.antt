@@ -1,7 +1,6 @@
 -- How many gaps a set leaves, counted as their ends are found one behind another.
-use Rattle.std.proofs.Common.{◌≡◌, ◌≢◌, ◌+◌, ◌-◌, ◌*◌, ◌/◌, ◌<◌, ◌≤◌, inl, inr, ℕ, zero, suc, true, false, List, min, slice_index, refl, ap, sym, ◌∙◌, arith, ne_eqb, eq-eqb, if◌then◌else◌, Result, Ok, Err}
+use Rattle.std.proofs.Common.{◌≡◌, ◌≢◌, ◌+◌, ◌-◌, ◌*◌, ◌/◌, ◌<◌, ◌≤◌, inl, inr, ℕ, zero, suc, true, false, List, slice_index, refl, ap, sym, ◌∙◌, arith, ne_eqb, eq-eqb, if◌then◌else◌, Result, Ok, Err}
 use Rattle.std.proofs.lemmas.Bool.{cases_eq, or_from, or_left, or_right}
-use Rattle.cx_core.specs.Layout.{max_word}
 use Rattle.cx_rule.specs.Seats.{Seated, StepsBy}
 use Rattle.redo_set.specs.Gaps.{HasAddress, IsNextLine, LeavesGap, NotesGaps, gaps_of, is_among, lines_to, steps_on}
 
@@ -92,8 +91,3 @@ notes_most n most before after (Err e) few part =
     let under = part.1 in
     let is = part.2 in
     omega (arith, few, under, is, all)
-
--- and so many more take none back
-pub steps_since : (n steps : ℕ) → min steps max_word ≤ steps_on n steps
-steps_since zero steps = omega arith
-steps_since (suc n) steps = (let was = steps_since n steps in omega (arith, was))

@@ -12,6 +12,7 @@ use Rattle.cx_rule.specs.Listed.{TellsGap}
 use Rattle.cx_rule.specs.Offers.{TellsSet}
 use Rattle.cx_rule.specs.Running.{IsSeatOf, Running, instance_at}
 use Rattle.cx_rule.specs.Seats.{Seated, stepped}
+use Rattle.cx_rule.proofs.Stepping.{on_same, on_then_one}
 use Rattle.redo_set.specs.Gaps.{AreEnds, LeavesGap, LeavesNoting, MayNote, begin_of, with_steps}
 
 set_here : (xs : List ℕ) (k v : ℕ) → k < length xs → slice_index (slice_set xs k v) k ≡ v
@@ -83,6 +84,7 @@ module _ {O : Type 0} (o : Ghosts O) (r : Running O) where
   noting_none before after of same = record {
     seat = shown_so before.known.local.steps before after same;
     of = subst (IsSeatOf r) (sym same) of;
+    since = on_same before after same;
     fits = inl same;
   }
 
@@ -92,6 +94,7 @@ module _ {O : Type 0} (o : Ghosts O) (r : Running O) where
     seat = shown_so (one_more mid.known.local.steps) before after (
         step ∙ ap (λ x. stepped (instance_at r o.step o.only_reads) (NoteGap slot i v) x 0) was.seat ∙ (λ k. seat_with before (one_more mid.known.local.steps) (append-nil before.known.noted k)));
     of = of;
+    since = on_then_one before mid after was.since (ap (λ (x : Seated). x.known.local.steps) step);
     fits = inr fits;
   }
 

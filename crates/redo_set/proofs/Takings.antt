@@ -1,5 +1,5 @@
 -- Reading a write set, word after word.
-use Rattle.std.proofs.Common.{◌≡◌, ◌≢◌, ◌+◌, ◌*◌, ◌<◌, ◌≤◌, ◌==◌, if◌then◌else◌, ne_eqb, ℕ, zero, suc, List, [], ◌∷◌, ◌++◌, length, slice_index, refl, sym, ap, subst, ◌∙◌, arith, append-nil, zero-add, length-append, take, Option, Some}
+use Rattle.std.proofs.Common.{◌≡◌, ◌≢◌, ◌+◌, ◌*◌, ◌<◌, ◌≤◌, ◌==◌, if◌then◌else◌, ne_eqb, ℕ, zero, suc, List, [], ◌∷◌, ◌++◌, length, slice_index, refl, sym, ap, subst, ◌∙◌, arith, append-nil, zero-add, length-append, take, inl, Bool, Option, Some}
 use Rattle.std.proofs.lemmas.List.{append_assoc, get_or-take, get_or_append_left}
 use Rattle.std.specs.List.{slice_get}
 use Rattle.cx_base.specs.declared.object.Object.{Ghosts}
@@ -11,11 +11,13 @@ use Rattle.core_queue.specs.declared.notes.SetNoted.{SetNoted}
 use Rattle.core_queue.specs.NotedSets.{IsNotedSet}
 use Rattle.cx_rule.specs.declared.rule.Noted.{Noted}
 use Rattle.cx_rule.specs.Fitting.{Fitting}
-use Rattle.cx_rule.specs.Running.{Running, instance_at}
+use Rattle.cx_rule.specs.Running.{IsSeatOf, Running, instance_at}
 use Rattle.cx_rule.specs.Seats.{IsAtLimit, Seated, stepped}
+use Rattle.cx_rule.specs.Steps.{Halts, Steps}
+use Rattle.cx_rule.proofs.Stepping.{on_same, on_step, on_then, on_then_one}
 use Rattle.cx_table.specs.Runs.{Runs, no_step, one_more_step, set_reads_from}
 use Rattle.cx_table.specs.Seats.{StepsOn}
-use Rattle.redo_set.specs.Taking.{FindsUnoffered, IsReadingSet, LeavesTaking, ReadsFewer, ReadsSetWords, set_notes, sets_read, with_notes}
+use Rattle.redo_set.specs.Taking.{FindsUnoffered, HaltsReadingSet, HaltsTakingSet, IsReadingSet, LeavesTaking, ReadsFewer, ReadsSetWords, set_notes, sets_read, with_notes}
 
 abbrev note : ℕ → ℕ → ℕ → SetNoted
 note ticket i w = record { ticket = ticket; index = i; word = w }
@@ -36,8 +38,8 @@ shown_so seen steps notes s after is =
     is ∙ (λ k. with_notes (sym (ap (λ (x : Seated). x.known.local.seen_offer) is) k) (sym (ap (λ (x : Seated). x.known.local.steps) is) k) notes s)
 
 -- what a seat is after some notes it leaves
-pub leaves_of : (seen : Option SeenOffer) (steps : ℕ) (notes : List SetNoted) (s after : Seated) → after ≡ with_notes seen steps notes s → LeavesTaking s after
-leaves_of seen steps notes s after is = record { notes = notes; seat = shown_so seen steps notes s after is }
+pub leaves_of : {O : Type 0} (r : Running O) (seen : Option SeenOffer) (steps : ℕ) (notes : List SetNoted) (s after : Seated) → after ≡ with_notes seen steps notes s → IsSeatOf r after → StepsOn s after → LeavesTaking r s after
+leaves_of r seen steps notes s after is of since = record { notes = notes; seat = shown_so seen steps notes s after is; of = of; since = since }
 
 -- some words of a set were read, and a further one is to be
 pub reading_so : (cell ticket found steps : ℕ) (words : List ℕ) (s after : Seated) → found ≡ ticket + 1 → length words < 2 * slice_index words 0 + 1 →
@@ -50,19 +52,21 @@ reading_so cell ticket found steps words s after offered fewer is = record {
 }
 
 -- the limit was reached among the words
-pub fewer_so : (ticket from count : ℕ) (words : List ℕ) (s t after : Seated) → length words < count → t ≡ with_notes s.known.local.seen_offer t.known.local.steps (set_notes ticket from words) s → after ≡ t → ReadsFewer ticket from count s after
-fewer_so ticket from count words s t after fewer is same = record {
-  words = words;
-  fewer = fewer;
-  seat = subst (λ (x : Seated). x ≡ with_notes s.known.local.seen_offer x.known.local.steps (set_notes ticket from words) s) (sym same) is;
-}
+pub fewer_so : {O : Type 0} (r : Running O) (ticket from count : ℕ) (words : List ℕ) (s t after : Seated) → length words < count → t ≡ with_notes s.known.local.seen_offer t.known.local.steps (set_notes ticket from words) s → Halts r t after →
+    HaltsReadingSet ticket from count s after
+fewer_so r ticket from count words s t after fewer is halted =
+    let due : ReadsFewer ticket from count s t = record { words = words; fewer = fewer; seat = is } in
+    subst (HaltsReadingSet ticket from count s) (sym halted.same) (record { limit = halted.limit; due = due })
 
 none_is : (s : Seated) → s ≡ with_notes s.known.local.seen_offer s.known.local.steps [] s
 none_is s = ap (seat_with s s.known.local.seen_offer s.known.local.steps s.known.noted) (sym (append-nil s.known.sets))
 
--- nothing was made
-pub leaves_none : (s after : Seated) → after ≡ s → LeavesTaking s after
-leaves_none s after same = leaves_of s.known.local.seen_offer s.known.local.steps [] s after (same ∙ none_is s)
+-- the limit came first: nothing was made
+pub leaves_none : {O : Type 0} (r : Running O) (s after : Seated) → Halts r s after → LeavesTaking r s after
+leaves_none r s after h = leaves_of r s.known.local.seen_offer s.known.local.steps [] s after (h.same ∙ none_is s) h.seat (on_same s after h.same)
+
+pub halts_first : {O : Type 0} (r : Running O) (cell ticket : ℕ) (s after : Seated) → Halts r s after → HaltsTakingSet cell ticket s after
+halts_first r cell ticket s after h = record { limit = subst (λ (x : Seated). IsAtLimit x.known.local) (sym h.same) h.limit; due = inl h.same }
 
 -- an offer was looked at
 pub looked_is : (instance : Instance) (cell ticket found : ℕ) (s after : Seated) → after ≡ stepped instance (LoadOffer cell ticket) s found →
@@ -86,14 +90,47 @@ read_one instance cell ticket i v seen steps notes s t after is step =
     step ∙ ap (λ x. stepped instance (ReadSet cell ticket i) x v) is
     ∙ (λ k. seat_with s seen (one_more steps) (append-nil s.known.noted k) (append_assoc s.known.sets notes (note ticket i v ∷ []) k))
 
--- one step more takes none back
-pub one_since : (s t u : Seated) → StepsOn s t → u.known.local.steps ≡ one_more t.known.local.steps → StepsOn s u
-one_since s t u was is = omega (arith, was, is)
-
 -- notes behind notes
 pub notes_then : (seen : Option SeenOffer) (steps more_steps : ℕ) (notes more : List SetNoted) (s t u : Seated) → t ≡ with_notes seen steps notes s → u ≡ with_notes t.known.local.seen_offer more_steps more t → u ≡ with_notes seen more_steps (notes ++ more) s
 notes_then seen steps more_steps notes more s t u is next =
     next ∙ ap (λ (x : Seated). with_notes x.known.local.seen_offer more_steps more x) is ∙ (λ k. seat_with s seen more_steps s.known.noted (append_assoc s.known.sets notes more k))
+
+-- the seat after an offer was looked at and the words of its set were read
+pub set_is : (instance : Instance) (cell ticket found count steps : ℕ) (words : List ℕ) (s looked t u : Seated) → looked ≡ stepped instance (LoadOffer cell ticket) s found → t ≡ stepped instance (ReadSet cell ticket 0) looked count →
+    u ≡ with_notes t.known.local.seen_offer steps (set_notes ticket 1 words) t → u ≡ with_notes (Some (record { cell = cell; ticket = ticket; word = found })) steps (set_notes ticket 0 (count ∷ words)) s
+set_is instance cell ticket found count steps words s looked t u look one more =
+    let seen : Option SeenOffer = Some (record { cell = cell; ticket = ticket; word = found }) in
+    let first = read_one instance cell ticket 0 count seen (one_more s.known.local.steps) [] s looked t (looked_is instance cell ticket found s looked look) one in
+    notes_then seen (one_more (one_more s.known.local.steps)) steps (set_notes ticket 0 (count ∷ [])) (set_notes ticket 1 words) s t u first more
+
+module _ {O : Type 0} (r : Running O) where
+  -- what is left by one part and by the next
+  leaves_then : (s t u : Seated) → LeavesTaking r s t → LeavesTaking r t u → LeavesTaking r s u
+  leaves_then s t u one two = record {
+    notes = one.notes ++ two.notes;
+    seat = two.seat
+        ∙ ap (with_notes u.known.local.seen_offer u.known.local.steps two.notes) one.seat
+        ∙ (λ k. seat_with s u.known.local.seen_offer u.known.local.steps s.known.noted (append_assoc s.known.sets one.notes two.notes k));
+    of = two.of;
+    since = on_then s t u one.since two.since;
+  }
+
+  module _ (step : O → List ℕ → List ℕ → List ℕ × List ℕ) (reads : O → List ℕ → Bool) where
+    -- by the look at an offer
+    pub leaves_looked : (cell ticket found : ℕ) (s t : Seated) → Steps r step reads (LoadOffer cell ticket) found s t → LeavesTaking r s t
+    leaves_looked cell ticket found s t made =
+        leaves_of r (Some (record { cell = cell; ticket = ticket; word = found })) (one_more s.known.local.steps) [] s t (looked_is (instance_at r step reads) cell ticket found s t made.made) made.seat
+        (on_step r step reads (LoadOffer cell ticket) found s t made)
+
+    -- and by a word that was read
+    leaves_word : (cell ticket i v : ℕ) (s t : Seated) → Steps r step reads (ReadSet cell ticket i) v s t → LeavesTaking r s t
+    leaves_word cell ticket i v s t made =
+        leaves_of r s.known.local.seen_offer (one_more s.known.local.steps) (note ticket i v ∷ []) s t (read_one (instance_at r step reads) cell ticket i v s.known.local.seen_offer s.known.local.steps [] s s t (none_is s) made.made) made.seat
+        (on_step r step reads (ReadSet cell ticket i) v s t made)
+
+    pub leaves_set : (cell ticket found count : ℕ) (s looked t u : Seated) → Steps r step reads (LoadOffer cell ticket) found s looked → Steps r step reads (ReadSet cell ticket 0) count looked t → LeavesTaking r t u → LeavesTaking r s u
+    leaves_set cell ticket found count s looked t u look first rest =
+        leaves_then s t u (leaves_then s looked t (leaves_looked cell ticket found s looked look) (leaves_word cell ticket 0 count looked t first)) rest
 
 module _ {O : Type 0} (o : Ghosts O) (r : Running O) where
   pub words_none : (ticket from : ℕ) (s after : Seated) → after ≡ s → ReadsSetWords o r ticket from [] s after
@@ -113,6 +150,10 @@ module _ {O : Type 0} (o : Ghosts O) (r : Running O) where
         fits = λ _. fits;
       }
 
+  -- what was read leaves
+  pub leaves_read : (ticket from : ℕ) (words : List ℕ) (s after : Seated) → ReadsSetWords o r ticket from words s after → IsSeatOf r after → StepsOn s after → LeavesTaking r s after
+  leaves_read ticket from words s after read of since = leaves_of r s.known.local.seen_offer after.known.local.steps (set_notes ticket from words) s after read.seat of since
+
   -- what a run of reads leads to
   pub run_words : (cell ticket from : ℕ) (words : List ℕ) (before after : Seated) → Runs r o.step o.only_reads (o.lawful r.object) (set_reads_from cell ticket from) words before after → ReadsSetWords o r ticket from words before after
   run_words cell ticket from words before after (no_step _ _ _ nothing same) = subst (λ (ws : List ℕ). ReadsSetWords o r ticket from ws before after) (sym nothing) (words_none ticket from before after same)
@@ -121,9 +162,9 @@ module _ {O : Type 0} (o : Ghosts O) (r : Running O) where
       (words_more cell ticket from first found (from + length first) before mid after (run_words cell ticket from first before mid run) refl made.made fits)
 
   pub run_since : (cell ticket from : ℕ) (words : List ℕ) (before after : Seated) → Runs r o.step o.only_reads (o.lawful r.object) (set_reads_from cell ticket from) words before after → StepsOn before after
-  run_since cell ticket from words before after (no_step _ _ _ nothing same) = (let e = ap (λ (x : Seated). x.known.local.steps) same in omega (arith, e))
+  run_since cell ticket from words before after (no_step _ _ _ nothing same) = on_same before after same
   run_since cell ticket from words before after (one_more_step _ _ _ first found mid longer run made fits) =
-      one_since before mid after (run_since cell ticket from first before mid run) (ap (λ (x : Seated). x.known.local.steps) made.made)
+      on_then_one before mid after (run_since cell ticket from first before mid run) (ap (λ (x : Seated). x.known.local.steps) made.made)
 
 -- the words of a set are noted one by one
 noted_at : (ticket from i : ℕ) (words : List ℕ) → i < length words → slice_get (set_notes ticket from words) i ≡ Some (note ticket (from + i) (slice_index words i))

@@ -5,7 +5,7 @@ use Rattle.cx_core.specs.State.{one_more}
 use Rattle.cx_rule.specs.Fitting.{Fitting}
 use Rattle.cx_rule.specs.Offers.{TellsSet}
 use Rattle.cx_rule.specs.Running.{IsSeatOf, Running}
-use Rattle.cx_rule.specs.Seats.{Seated}
+use Rattle.cx_rule.specs.Seats.{Seated, StepsOn}
 use Rattle.cx_table.specs.GapMarks.{AreKept}
 
 -- the seat with this count of steps
@@ -78,8 +78,9 @@ pub record MayNote {O : Type 0} (o : Ghosts O) (r : Running O) (ticket : ℕ) (s
   pub small : ticket < 2 ^ 40
   pub tells : TellsSet r.lines (o.lawful r.object) r.base (o.step r.object) seat.known ticket set
 
--- nothing changed but the steps, and of what really is there some fits what is known
+-- nothing changed but the steps, of which none is taken back, and of what really is there some fits what is known
 pub record LeavesNoting {O : Type 0} (o : Ghosts O) (r : Running O) (before after : Seated) : Type 0 where
   pub seat : after ≡ with_steps after.known.local.steps before
   pub of : IsSeatOf r after
+  pub since : StepsOn before after
   pub fits : (after ≡ before) ⊎ Fitting r.lines (o.lawful r.object) r.base (o.step r.object) after.known

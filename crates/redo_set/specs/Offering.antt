@@ -1,5 +1,6 @@
 -- The write set of an own entry, as its caller writes it beside the entry's cell and offers it.
 use Rattle.std.specs.Prelude.{◌≡◌, ◌+◌, ◌*◌, ◌<◌, ◌⊎◌, ℕ, Bool, List, Some, slice_index, slice_set}
+use Rattle.cx_base.specs.declared.object.Object.{Ghosts}
 use Rattle.cx_core.specs.declared.entry.Entry.{Entry}
 use Rattle.cx_core.specs.declared.kinds.Kind.TheVariants.{WriteSet}
 use Rattle.cx_core.specs.QueueEvents.{cell_of}
@@ -7,8 +8,9 @@ use Rattle.cx_core.specs.SetEvents.{CanWriteSet}
 use Rattle.cx_rule.specs.declared.rule.Known.{Known}
 use Rattle.cx_rule.specs.Fitting.{has_of}
 use Rattle.cx_rule.specs.Running.{IsSeatOf, Running}
-use Rattle.cx_rule.specs.Seats.{Seated}
+use Rattle.cx_rule.specs.Seats.{Seated, StepsOn}
 use Rattle.cx_rule.specs.Steps.{Steps}
+use Rattle.cx_rule.specs.Stores.{FittingIn}
 
 -- the set of the own entry with a ticket may be written in a cell and offered
 pub record MayOffer {O : Type 0} (r : Running O) (cell ticket : ℕ) (seat : Seated) : Type 0 where
@@ -31,6 +33,11 @@ pub record OffersSet (j ticket : ℕ) (pairs : List ℕ) (before after : Seated)
   pub same : (i : ℕ) → i < 2 * slice_index pairs 0 + 1 → slice_index set i ≡ slice_index pairs i
   pub seat : after ≡ seat_with_set j set (ticket + 1) after.known.local.steps before
 
+-- they were offered, and what really is there fits what their caller then knows
+pub record OffersFitting {O : Type 0} (o : Ghosts O) (r : Running O) (j ticket : ℕ) (pairs : List ℕ) (before after : Seated) : Type 0 where
+  pub offers : OffersSet j ticket pairs before after
+  pub fits : FittingIn o r after.known
+
 -- a word that differed from the one in a cell's set was written by a step, and for one that did not nothing was done
 abbrev pub WritesDiffering : {O : Type 0} → Running O → (O → List ℕ → List ℕ → List ℕ × List ℕ) → (O → List ℕ → Bool) → ℕ → ℕ → ℕ → Seated → Seated → Type 0
 WritesDiffering r step reads j i v before after =
@@ -40,3 +47,9 @@ WritesDiffering r step reads j i v before after =
 pub record HasStill (before after : Known) : Type 0 where
   pub entry : (ticket : ℕ) (entry : Entry) → (has_of before).entry ticket entry → (has_of after).entry ticket entry
   pub set : (ticket : ℕ) (set : List ℕ) → (has_of before).set ticket set → (has_of after).set ticket set
+
+-- what an offer leaves: what the seat had it has, it is one of the table, and no step is taken back
+pub record LeavesOffering {O : Type 0} (r : Running O) (before after : Seated) : Type 0 where
+  pub has : HasStill before.known after.known
+  pub of : IsSeatOf r after
+  pub since : StepsOn before after

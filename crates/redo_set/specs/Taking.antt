@@ -12,7 +12,7 @@ use Rattle.core_queue.specs.declared.notes.SetNoted.{SetNoted}
 use Rattle.core_queue.specs.NotedSets.{IsNotedSet}
 use Rattle.cx_rule.specs.Fitting.{Fitting}
 use Rattle.cx_rule.specs.Running.{IsSeatOf, Running, instance_at}
-use Rattle.cx_rule.specs.Seats.{IsAtLimit, Seated, unseen}
+use Rattle.cx_rule.specs.Seats.{IsAtLimit, Seated, StepsOn, unseen}
 
 -- the offer of the entry with a ticket may be looked at in a cell: the slot last looked at shows it there, and a protection keeps it
 pub record MayTakeSet {O : Type 0} (r : Running O) (cell ticket : ℕ) (seat : Seated) : Type 0 where
@@ -50,10 +50,12 @@ abbrev pub CountsTaken : Seated → Seated → Bool → Type 0
 CountsTaken before after true = sets_read after.known.sets ≡ sets_read before.known.sets + 1
 CountsTaken before after false = after.known.sets ≡ before.known.sets
 
--- nothing changed but the steps and the offer last seen, and there may be more notes of sets
-pub record LeavesTaking (before after : Seated) : Type 0 where
+-- nothing changed but the steps, of which none is taken back, and the offer last seen, and there may be more notes of sets
+pub record LeavesTaking {O : Type 0} (r : Running O) (before after : Seated) : Type 0 where
   pub notes : List SetNoted
   pub seat : after ≡ with_notes after.known.local.seen_offer after.known.local.steps notes before
+  pub of : IsSeatOf r after
+  pub since : StepsOn before after
 
 -- A set was taken, exactly where the entry was seen to be offered: the set is noted whole with the ticket. What really is there then fits what
 -- its caller knows.
@@ -75,11 +77,22 @@ abbrev pub LooksForOffer : ℕ → ℕ → Seated → Seated → Bool → Type 0
 LooksForOffer cell ticket before after true = ¬ IsAtLimit before.known.local
 LooksForOffer cell ticket before after false = FindsUnoffered cell ticket before after
 
+-- A set was taken or not, each with what was looked at and how many sets were read.
+pub record TakesOffered {O : Type 0} (o : Ghosts O) (r : Running O) (cell ticket : ℕ) (set : List ℕ) (before after : Seated) (took : Bool) : Type 0 where
+  pub taken : Takes o r cell ticket set after took
+  pub looked : LooksForOffer cell ticket before after took
+  pub counted : CountsTaken before after took
+
 -- fewer words of a set than this number were read, from an index on, and noted, and nothing else changed but the steps
 pub record ReadsFewer (ticket from count : ℕ) (before after : Seated) : Type 0 where
   pub words : List ℕ
   pub fewer : length words < count
   pub seat : after ≡ with_notes before.known.local.seen_offer after.known.local.steps (set_notes ticket from words) before
+
+-- the limit was reached among the words of a set
+pub record HaltsReadingSet (ticket from count : ℕ) (before after : Seated) : Type 0 where
+  pub limit : IsAtLimit after.known.local
+  pub due : ReadsFewer ticket from count before after
 
 -- A further word of a set is to be read: the entry was seen to be offered in this call, and fewer words were noted than the set has.
 pub record IsReadingSet (cell ticket : ℕ) (before after : Seated) : Type 0 where
@@ -91,3 +104,8 @@ pub record IsReadingSet (cell ticket : ℕ) (before after : Seated) : Type 0 whe
 -- a further step is due in taking a set: no step was made, or a word of the set is to be read
 abbrev pub IsTakingSet : ℕ → ℕ → Seated → Seated → Type 0
 IsTakingSet cell ticket before after = (after ≡ before) ⊎ IsReadingSet cell ticket before after
+
+-- the limit was reached where a further step is due in taking a set
+pub record HaltsTakingSet (cell ticket : ℕ) (before after : Seated) : Type 0 where
+  pub limit : IsAtLimit after.known.local
+  pub due : IsTakingSet cell ticket before after

@@ -13,11 +13,12 @@
 //! - A set is taken from the cell of another's entry, which the slot last looked at shows and a confirmed protection keeps: its offer word, and
 //!   where that is the ticket plus 1, exactly then, the number of its pairs and each pair. It is then noted whole with the ticket, so by the
 //!   table's rule a write set of the ticket, and what really is there fits what the seat has with it; beside the steps and the offer last seen
-//!   nothing else changes, also at a `Halt`: `take` (`taken`: `Takes`; `leaves`). Where none is taken, the offer word was loaded in this call, by
-//!   the only step, and is another (`looked`: `FindsUnoffered`); it halts only where a further step is due (`due`: `IsTakingSet`).
+//!   nothing else changes, also at a `Halt`: `take` (`taken`: `TakesOffered`; `leaves`). Where none is taken, the offer word was loaded in this
+//!   call, by the only step, and is another (`FindsUnoffered`); it halts only at the limit, where a further step is due (`halted`:
+//!   `HaltsTakingSet`).
 //! - A set that whatever fits tells to be one of an own entry's ticket is written beside the entry's cell, each word that differs from the one
 //!   there, and offered. What the seat had it has still, and what really is there fits; with `Halt` nothing is offered: `offer` (`offered`:
-//!   `OffersSet`; `has`: `HasStill`; `halts`: `WritesSet`).
+//!   `OffersFitting`; `leaves`: `LeavesOffering`; `halts`: `WritesSet`).
 //! - The gaps that a set leaves between the lines of its addresses are noted for its ticket in the ring of gaps, where the table keeps gaps and they are
 //!   16 at most: as many steps are made as there are gaps, and fewer only where the limit ends it; else none (`note_gaps`: `noted`, `none`). Nothing of the
 //!   seat changes but the steps (`leaves`: `LeavesNoting`), so no clause says which gaps the words name; each names one that the set leaves untouched.

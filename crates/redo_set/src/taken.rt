@@ -1,9 +1,7 @@
 //! The write set of another's entry is taken from the entry's cell.
 
-ghost use Rattle.std.specs.Prelude.{◌≡◌, ◌+◌, ◌<◌, ◌≤◌, ◌↔◌, false, IfOk, IsTrue, OnErr, OnOk, length};
-ghost use Rattle.cx_table.specs.Running.{IsSeatOf};
-ghost use Rattle.cx_table.specs.Seats.{IsAtLimit, StepsOn};
-ghost use Rattle.redo_set.specs.Taking.{CountsTaken, IsTakingSet, LeavesTaking, LooksForOffer, MayReadSet, MayTakeSet, ReadsFewer, ReadsSetWords, Takes};
+ghost use Rattle.std.specs.Prelude.{◌≡◌, ◌+◌, ◌≤◌, ◌↔◌, IfOk, IsTrue, OnErr, OnOk, length};
+ghost use Rattle.redo_set.specs.Taking.{HaltsReadingSet, HaltsTakingSet, LeavesTaking, MayReadSet, MayTakeSet, ReadsSetWords, TakesOffered};
 
 use crate::set::WriteSet;
 use cx_base::{Halt, Object, SET_WORDS};
@@ -22,14 +20,9 @@ pub fn take<O: Object>(
     into: &mut WriteSet,
 ) -> Result<bool, Halt>
     requires may { MayTakeSet shared.now cell ticket seat.old }
-    ensures taken { IfOk result (λ taken. Takes O.Object shared.now cell ticket into.new seat.new taken) }
-    ensures looked { IfOk result (LooksForOffer cell ticket seat.old seat.new) }
-    ensures counted { IfOk result (CountsTaken seat.old seat.new) }
-    ensures leaves { LeavesTaking seat.old seat.new }
-    ensures since { StepsOn seat.old seat.new }
-    ensures seat { IsSeatOf shared.now seat.new }
-    ensures halts { OnErr result (IsAtLimit seat.new.known.local) }
-    ensures due { OnErr result (IsTakingSet cell ticket seat.old seat.new) }
+    ensures taken { IfOk result (TakesOffered O.Object shared.now cell ticket into.new seat.old seat.new) }
+    ensures halted { OnErr result (HaltsTakingSet cell ticket seat.old seat.new) }
+    ensures leaves { LeavesTaking shared.now seat.old seat.new }
 {
     let found = shared.load_offer(seat, cell, ticket)?;
     if !names(ticket, found) {
@@ -60,12 +53,9 @@ fn read_words<O: Object>(
     requires may { MayReadSet O.Object shared.now cell ticket seat.old }
     requires few { 1 + length into.old ≤ SET_WORDS }
     ensures read { OnOk result (ReadsSetWords O.Object shared.now ticket 1 into.new seat.old seat.new) }
-    ensures leaves { LeavesTaking seat.old seat.new }
-    ensures since { StepsOn seat.old seat.new }
+    ensures halted { OnErr result (HaltsReadingSet ticket 1 (length into.old) seat.old seat.new) }
+    ensures leaves { LeavesTaking shared.now seat.old seat.new }
     ensures long { length into.new ≡ length into.old }
-    ensures seat { IsSeatOf shared.now seat.new }
-    ensures halts { OnErr result (IsAtLimit seat.new.known.local) }
-    ensures due { OnErr result (ReadsFewer ticket 1 (length into.old) seat.old seat.new) }
 {
     if shared.read_set_words(seat, cell, ticket, 1, into) {
         return Ok(());
@@ -84,12 +74,9 @@ fn read_each<O: Object>(
     requires may { MayReadSet O.Object shared.now cell ticket seat.old }
     requires few { 1 + length into.old ≤ SET_WORDS }
     ensures read { OnOk result (ReadsSetWords O.Object shared.now ticket 1 into.new seat.old seat.new) }
-    ensures leaves { LeavesTaking seat.old seat.new }
-    ensures since { StepsOn seat.old seat.new }
+    ensures halted { OnErr result (HaltsReadingSet ticket 1 (length into.old) seat.old seat.new) }
+    ensures leaves { LeavesTaking shared.now seat.old seat.new }
     ensures long { length into.new ≡ length into.old }
-    ensures seat { IsSeatOf shared.now seat.new }
-    ensures halts { OnErr result (IsAtLimit seat.new.known.local) }
-    ensures due { OnErr result (ReadsFewer ticket 1 (length into.old) seat.old seat.new) }
 {
     for i in 0..into.len() {
         into[i] = shared.read_set(seat, cell, ticket, 1 + i as u64)?;

@@ -11,7 +11,7 @@ use Rattle.cx_core.specs.LockEvents.{exclusive_mark, passing, shared_by}
 use Rattle.cx_core.specs.Region.{region_words}
 use Rattle.cx_core.specs.RegionEvents.{loaded_into, stored_into}
 use Rattle.cx_core.specs.Rights.{held_dirty}
-use Rattle.cx_core.specs.State.{Instance, one_more}
+use Rattle.cx_core.specs.State.{Instance}
 use Rattle.cx_rule.specs.declared.rule.Known.{Known}
 use Rattle.cx_rule.specs.Fitting.{Fitting, SomeFits}
 use Rattle.cx_rule.specs.Running.{IsSeatOf, Running, instance_at}
@@ -20,12 +20,12 @@ use Rattle.cx_rule.specs.Steps.{Halts, Steps}
 use Rattle.cx_table.specs.Right.{Right}
 use Rattle.cx_table.specs.Runs.{Runs, loads_from, no_step, one_more_step}
 use Rattle.cx_table.specs.Tokens.{IsExclusiveOf, IsSharedOf, TriedShared}
-use Rattle.cx_table.specs.Seats.{StepsOn}
-use Rattle.replica.specs.Copies.{HoldsBoth, LeavesCopied, LoadsAtMost, LoadsFewer, SomeDiffers, StoresAsMany, beside_copy, but_loads}
+use Rattle.cx_rule.proofs.Stepping.{on_one, on_same, on_then, on_then_one}
+use Rattle.replica.specs.Copies.{HoldsBoth, HoldsBothIn, LeavesCopied, LoadsAtMost, LoadsFewer, SomeDiffers, StoresAsMany, beside_copy, but_loads}
 use Rattle.replica.specs.Held.{IsHeld, but_words}
 use Rattle.replica.specs.Laws.{shared_held}
 use Rattle.replica.proofs.Access.{beside, dirty_stored, still_on, unstored}
-use Rattle.replica.proofs.LineLoads.{Counts, IsRunOf, longer_run, no_run, one_store}
+use Rattle.replica.proofs.LineLoads.{Counts, IsRunOf, counts_on, longer_run, no_run, one_store}
 
 unloaded_all : (r i found : ℕ) (o : Option HeldShared) → option_map but_loads (option_map (loaded_into r i found) o) ≡ option_map but_loads o
 unloaded_all r i found None = refl
@@ -88,46 +88,56 @@ module _ {O : Type 0} (lines : ℕ) (r : Running O) (step : O → List ℕ → L
       both_still both s.seat (store_rest r step reads q at v before after s) fits
       (subst (λ (t : Seated). All (λ i. i < region_words lines) (held_dirty t.known.local.exclusive)) (sym s.made) (dirty_stored (λ i. i < region_words lines) at v before.known.local.exclusive below both.exclusive.dirty))
 
--- one step more takes none back
-one_since : (s t u : Seated) → StepsOn s t → u.known.local.steps ≡ one_more t.known.local.steps → StepsOn s u
-one_since s t u was is = omega (arith, was, is)
+-- runs of loads of two replicas were made, one behind the other
+pub record RunsBoth {O : Type 0} (o : Ghosts O) (r : Running O) (held source : Right) (from q p : ℕ) (us vs : List ℕ) (first mid last : Seated) : Type 0 where
+  pub leaves : LeavesCopied o r held source first last
+  pub one : IsRunOf q from us first.known mid.known
+  pub two : IsRunOf p from vs mid.known last.known
+  pub count : Counts (length us + length vs) first.known last.known
 
--- a run of loads leaves both rights, and tells of each of its words
-pub record HasRun {O : Type 0} (lines : ℕ) (r : Running O) (step : O → List ℕ → List ℕ → List ℕ × List ℕ) (lawful : List ℕ → Type 0) (held source : Right) (q from : ℕ) (words : List ℕ) (before after : Seated) : Type 0 where
-  pub both : HoldsBoth lines r lawful (step r.object) after held source
-  pub rest : beside_copy after ≡ beside_copy before
-  pub since : StepsOn before after
-  pub run : IsRunOf q from words before.known after.known
+module _ {O : Type 0} (o : Ghosts O) (r : Running O) (held source : Right) (from : ℕ) where
+  none_ran : (q : ℕ) (before after : Seated) → after ≡ before → HoldsBothIn o r before held source → LeavesCopied o r held source before after × IsRunOf q from [] before.known after.known
+  none_ran q before after same both =
+      subst (λ (s : Seated). LeavesCopied o r held source before s × IsRunOf q from [] before.known s.known) (sym same) (record { both = both; since = omega arith; rest = refl }, no_run q from before.known)
 
-module _ {O : Type 0} (lines : ℕ) (r : Running O) (step : O → List ℕ → List ℕ → List ℕ × List ℕ) (reads : O → List ℕ → Bool) (lawful : List ℕ → Type 0) (held source : Right) (q from : ℕ) where
-  none_ran : (before after : Seated) → after ≡ before → HoldsBoth lines r lawful (step r.object) before held source → HasRun lines r step lawful held source q from [] before after
-  none_ran before after same both =
-      subst (λ (s : Seated). HasRun lines r step lawful held source q from [] before s) (sym same) (record { both = both; rest = refl; since = omega arith; run = no_run q from before.known })
-
-  pub has_run : (words : List ℕ) (before after : Seated) → HoldsBoth lines r lawful (step r.object) before held source → Runs r step reads lawful (loads_from q from) words before after → HasRun lines r step lawful held source q from words before after
-  has_run words before after both (no_step _ _ _ nothing same) = subst (λ ws. HasRun lines r step lawful held source q from ws before after) (sym nothing) (none_ran before after same both)
-  has_run words before after both (one_more_step _ _ _ first found mid longer run made fits) =
-      let was = has_run first before mid both run in
-      let at = from + length first in
-      record {
-        both = both_load lines r step reads lawful held source mid after q at found was.both made fits;
-        rest = load_rest r step reads q at found mid after made ∙ was.rest;
-        since = one_since before mid after was.since (ap (λ (s : Seated). s.known.local.steps) made.made);
-        run = subst (λ ws. IsRunOf q from ws before.known after.known) (sym longer)
+  -- a run of loads leaves both rights, and tells of each of its words
+  pub one_run : (q : ℕ) (words : List ℕ) (before after : Seated) → HoldsBothIn o r before held source → Runs r o.step o.only_reads (o.lawful r.object) (loads_from q from) words before after → LeavesCopied o r held source before after × IsRunOf q from words before.known after.known
+  one_run q words before after both (no_step _ _ _ nothing same) = subst (λ ws. LeavesCopied o r held source before after × IsRunOf q from ws before.known after.known) (sym nothing) (none_ran q before after same both)
+  one_run q words before after both (one_more_step _ _ _ first found mid longer run made fits) =
+      let was = one_run q first before mid both run in
+      let at = from + length first in (
+        record {
+          both = both_load (o.line_count r.object) r o.step o.only_reads (o.lawful r.object) held source mid after q at found was.0.both made fits;
+          since = on_then_one before mid after was.0.since (ap (λ (s : Seated). s.known.local.steps) made.made);
+          rest = load_rest r o.step o.only_reads q at found mid after made ∙ was.0.rest;
+        },
+        subst (λ ws. IsRunOf q from ws before.known after.known) (sym longer)
             (subst (λ (k : Known). IsRunOf q from (first ++ found ∷ []) before.known k) (sym (ap (λ (s : Seated). s.known) made.made))
-            (longer_run (instance_at r step reads) q from found first before.known mid.known was.run));
+            (longer_run (instance_at r o.step o.only_reads) q from found first before.known mid.known was.1)),
+      )
+
+  -- and so do two, one behind the other
+  pub two_runs : (q p : ℕ) (us vs : List ℕ) (first mid last : Seated) → HoldsBothIn o r first held source → Runs r o.step o.only_reads (o.lawful r.object) (loads_from q from) us first mid → Runs r o.step o.only_reads (o.lawful r.object) (loads_from p from) vs mid last → RunsBoth o r held source from q p us vs first mid last
+  two_runs q p us vs first mid last both run then =
+      let one = one_run q us first mid both run in
+      let two = one_run p vs mid last one.0.both then in
+      record {
+        leaves = record { both = two.0.both; since = on_then first mid last one.0.since two.0.since; rest = two.0.rest ∙ one.0.rest };
+        one = one.1;
+        two = two.1;
+        count = counts_on (length us) (length vs) (length us + length vs) first.known mid.known last.known refl one.1.count two.1.count;
       }
 
-unmoved : {O : Type 0} (o : Ghosts O) (r : Running O) (held source : Right) (before after : Seated) → HoldsBoth (o.line_count r.object) r (o.lawful r.object) (o.step r.object) before held source → Halts r before after → LeavesCopied o r held source before after
-unmoved o r held source before after both halted = record { both = subst (λ (s : Seated). HoldsBoth (o.line_count r.object) r (o.lawful r.object) (o.step r.object) s held source) (sym halted.same) both; since = (let same = ap (λ (s : Seated). s.known.local.steps) halted.same in omega (arith, same)); rest = ap beside_copy halted.same }
+unmoved : {O : Type 0} (o : Ghosts O) (r : Running O) (held source : Right) (before after : Seated) → HoldsBothIn o r before held source → Halts r before after → LeavesCopied o r held source before after
+unmoved o r held source before after both halted = record { both = subst (λ (s : Seated). HoldsBothIn o r s held source) (sym halted.same) both; since = on_same before after halted.same; rest = ap beside_copy halted.same }
 
-module _ {O E : Type 0} (o : Ghosts O) (r : Running O) (held source : Right) (q at : ℕ) (before after : Seated) (both : HoldsBoth (o.line_count r.object) r (o.lawful r.object) (o.step r.object) before held source) where
+module _ {O E : Type 0} (o : Ghosts O) (r : Running O) (held source : Right) (q at : ℕ) (before after : Seated) (both : HoldsBothIn o r before held source) where
   -- what a store leaves, whether the step was made or refused
   pub store_leaves : {A : Type 0} (v : ℕ) (result : Result A E) → at < region_words (o.line_count r.object) → IfOk result (λ _. Steps r o.step o.only_reads (StoreWord q at v) 0 before after) → OnOk result (Fitting r.lines (o.lawful r.object) r.base (o.step r.object) after.known) → OnErr result (Halts r before after) →
       LeavesCopied o r held source before after
   store_leaves v (Ok x) below made fits halted = record {
     both = both_store (o.line_count r.object) r o.step o.only_reads (o.lawful r.object) held source before after q at v below both made fits;
-    since = one_since before before after (omega arith) (ap (λ (s : Seated). s.known.local.steps) made.made);
+    since = on_one before after (ap (λ (s : Seated). s.known.local.steps) made.made);
     rest = store_rest r o.step o.only_reads q at v before after made;
   }
   store_leaves v (Err e) below made fits halted = unmoved o r held source before after both halted

@@ -15,13 +15,14 @@ use Rattle.cx_rule.specs.declared.rule.Known.{Known}
 use Rattle.cx_rule.specs.declared.rule.Noted.{Noted}
 use Rattle.cx_rule.specs.Fitting.{SomeFits, loaded_of, loads_of}
 use Rattle.cx_rule.specs.Listed.{HasGap}
-use Rattle.cx_rule.specs.Running.{Running, instance_at}
-use Rattle.cx_rule.specs.Seats.{Seated, place_noted}
+use Rattle.cx_rule.specs.Running.{Running, StepsWithin, instance_at}
+use Rattle.cx_rule.specs.Seats.{Seated, StepsBy, place_noted}
+use Rattle.cx_rule.proofs.Stepping.{on_then}
 use Rattle.cx_table.specs.Gaps.{IsListedFrom}
 use Rattle.cx_table.specs.Right.{Right}
 use Rattle.cx_table.specs.GapMarks.{IsMarked, LeavesLoads, MarksChanged, with_gaps}
 use Rattle.cx_table.proofs.GapWalks.{walk_by}
-use Rattle.replica.specs.Copies.{HoldsBoth, IsCopiedTo, IsListed, MayList, Renews, RenewsListed, beside_copy, beside_listed, piece_at, skips_by, skips_piece, without_shared}
+use Rattle.replica.specs.Copies.{HaltsKeeping, HoldsBoth, HoldsBothIn, IsCopiedTo, IsListed, MayList, Renews, RenewsListed, beside_copy, beside_listed, piece_at, skips_by, skips_piece, without_shared}
 use Rattle.replica.specs.Laws.{shared_held}
 use Rattle.replica.specs.Regions.{HasPlace}
 use Rattle.replica.specs.Replays.{StoresNone, noted_place}
@@ -54,7 +55,7 @@ in_piece n k small = omega arith
 
 module _ {O : Type 0} (o : Ghosts O) (r : Running O) (to : ℕ) (marks : List Bool) (held source : Right) (before after : Seated) (may : MayList to before) (listed : IsListed o r to marks before)
     (copied : IsCopiedTo (skips_by false marks) (region_words (o.line_count r.object)) (region_words (o.line_count r.object)) before.known after.known) (rest : beside_copy after ≡ beside_copy before)
-    (both : HoldsBoth (o.line_count r.object) r (o.lawful r.object) (o.step r.object) after held source) where
+    (both : HoldsBothIn o r after held source) where
   abbrev region : ℕ
   region = region_words (o.line_count r.object)
 
@@ -119,7 +120,7 @@ module _ {O : Type 0} (o : Ghosts O) (r : Running O) (held source : Right) (befo
   local_is : after.known.local ≡ record before.known.local { steps = after.known.local.steps }
   local_is = ap (λ (s : Seated). s.known.local) leaves.seat
 
-  pub both_loaded : HoldsBoth (o.line_count r.object) r (o.lawful r.object) (o.step r.object) before held source → HoldsBoth (o.line_count r.object) r (o.lawful r.object) (o.step r.object) after held source
+  pub both_loaded : HoldsBothIn o r before held source → HoldsBothIn o r after held source
   both_loaded both =
       let lines = o.line_count r.object in
       elim leaves.fits [
@@ -156,8 +157,11 @@ module _ {O : Type 0} (o : Ghosts O) (r : Running O) (held source : Right) (befo
     rest = ap unnoted renews.rest ∙ ap (λ s. without_shared (beside_listed s)) leaves.seat;
   }
 
-  pub still_listed : (last : Seated) → beside_copy last ≡ beside_copy after → beside_listed last ≡ beside_listed before
-  still_listed last still = ap unnoted still ∙ ap beside_listed leaves.seat
+  pub listed_halts : (last : Seated) → HaltsKeeping beside_copy after last → HaltsKeeping beside_listed before last
+  listed_halts last halts = record { rest = ap unnoted halts.rest ∙ ap beside_listed leaves.seat; limit = halts.limit }
+
+  pub listed_within : (m n l : ℕ) (last : Seated) → m + n ≡ l → StepsBy m before after → StepsWithin r n after last → StepsWithin r l before last
+  listed_within m n l last all some within = record { seat = within.seat; since = on_then before after last leaves.since within.since; most = (let more = within.most in omega (arith, all, some, more)) }
 
 -- the lines that changed are marked where nothing is dirty
 pub listed_marks : {O : Type 0} (o : Ghosts O) (r : Running O) (to lines from : ℕ) (marks : List Bool) (before mid after : Seated) → mid ≡ before → LeavesLoads o r mid after →

@@ -17,7 +17,7 @@ use Rattle.cx_rule.specs.Steps.{Steps}
 use Rattle.cx_rule.proofs.HasMore.{some_same}
 use Rattle.cx_table.specs.Right.{Right}
 use Rattle.replica.specs.Flushes.{Persists}
-use Rattle.replica.specs.Held.{IsHeld, beside_held, but_loaded, but_words}
+use Rattle.replica.specs.Held.{IsHeldIn, beside_held, but_loaded, but_words}
 use Rattle.replica.specs.Laws.{image_same}
 use Rattle.replica.specs.Replays.{IsHeldImage}
 use Rattle.replica.proofs.Access.{beside, still_exclusive}
@@ -62,7 +62,7 @@ module _ {O : Type 0} (o : Ghosts O) (r : Running O) (held : Right) (at : ℕ) (
   dirty_after : (P Q : List ℕ → Type 0) → Steps r o.step o.only_reads (Persist held.replica at) 0 before after → P [] → ((xs : List ℕ) → Q xs → P (filter (λ x. cond (x == at) false true) xs)) → Q (held_dirty before.known.local.exclusive) → P (held_dirty after.known.local.exclusive)
   dirty_after P Q s none on q = subst (λ (t : Seated). P (held_dirty t.known.local.exclusive)) (sym s.made) (dirty_persisted P Q at before.known.local.exclusive none on q)
 
-  pub persists : Steps r o.step o.only_reads (Persist held.replica at) 0 before after → IsHeld (o.line_count r.object) r (o.lawful r.object) (o.step r.object) before held → Persists o r held before after
+  pub persists : Steps r o.step o.only_reads (Persist held.replica at) 0 before after → IsHeldIn o r before held → Persists o r held before after
   persists s of =
       let accesses : after.known.accesses ≡ before.known.accesses = ap (λ (t : Seated). t.known.accesses) s.made in
       let rest : beside_held held.replica after ≡ beside_held held.replica before =

@@ -1,6 +1,6 @@
 -- What an access does to the pairs that stand for a held replica.
-use Rattle.std.proofs.Common.{Bool, IsTrue, ◌||◌, cond, false, true, ◌==◌, ◌≡◌, ◌-◌, ◌^◌, ◌<◌, nat_lt, is_some, ℕ, List, [], ◌∷◌, ◌++◌, refl, ap, sym, subst, ◌∙◌, Result, Ok, Err, IfOk, OnErr, OnOk, Option, Some, None, arith}
-use Rattle.std.proofs.lemmas.List.{map-append}
+use Rattle.std.proofs.Common.{Bool, IsTrue, ◌||◌, cond, false, true, ◌==◌, ◌≡◌, ◌-◌, ◌^◌, ◌<◌, nat_lt, is_some, ℕ, List, [], ◌∷◌, ◌++◌, length, take, refl, ap, sym, subst, ◌∙◌, Result, Ok, Err, MatchResult, IfOk, OnErr, OnOk, Option, Some, None, arith}
+use Rattle.std.proofs.lemmas.List.{map-append, take_all}
 use Rattle.std.proofs.lemmas.List.Folds.{list_any-append}
 use Rattle.std.specs.List.{list_any}
 use Rattle.cx_base.specs.Memory.{AreAt, Loaded, Reads, Stored}
@@ -15,7 +15,7 @@ use Rattle.cx_rule.specs.Running.{Running}
 use Rattle.cx_rule.specs.Seats.{IsWithinLimit, Seated, place_noted}
 use Rattle.cx_rule.specs.Steps.{Halts}
 use Rattle.cx_table.specs.Right.{Right}
-use Rattle.replica.specs.Held.{Accesses, IsHeld, IsHeldShared, LoadsHeld, LoadsRun, LoadsShared, beside_held, beside_shared, left_of}
+use Rattle.replica.specs.Held.{Accesses, HaltsLoading, IsHeld, IsHeldShared, LoadsHeld, LoadsRun, LoadsShared, beside_held, beside_shared, left_of}
 use Rattle.replica.specs.Regions.{HasPlace, fits_shows, has_loaded, is_same}
 use Rattle.replica.proofs.Runs.{run_keeps, run_reads}
 
@@ -131,6 +131,16 @@ module _ {O E : Type 0} (lines : ℕ) (r : Running O) (lawful : List ℕ → Typ
   shared_since at began (Err e) made halts was = subst (λ s. HasMadeSteps began s) (sym halts.same) was
 
 -- ---- words from a place on
+
+-- whether all the words were loaded or not, some were
+pub some_run : {A E : Type 0} {load : ℕ → ℕ → Seated → Seated → Type 0} {from : ℕ} {old new : Seated} (result : Result A E) (words : List ℕ) → MatchResult result (λ _. LoadsRun load from words old new) (λ _. HaltsLoading load from words old new) → (n : ℕ) × LoadsRun load from (take n words) old new
+some_run {load = load} {from = from} {old = old} {new = new} (Ok x) words run = (length words, subst (λ ws. LoadsRun load from ws old new) (sym (take_all (length words) words (omega arith))) run)
+some_run (Err e) words halted = halted.some
+
+-- and what follows where all were loaded, follows of a result that is no error
+pub run_then : {A E P : Type 0} {load : ℕ → ℕ → Seated → Seated → Type 0} {from : ℕ} {words : List ℕ} {old new : Seated} (result : Result A E) → (LoadsRun load from words old new → P) → MatchResult result (λ _. LoadsRun load from words old new) (λ _. HaltsLoading load from words old new) → OnOk result P
+run_then (Ok x) follows run = follows run
+run_then (Err e) follows halted = tt
 
 module _ {O : Type 0} (lines : ℕ) (r : Running O) (lawful : List ℕ → Type 0) (step : List ℕ → List ℕ → List ℕ × List ℕ) (held : Right) (from : ℕ) (words : List ℕ) (old new : Seated) where
   pub stands_run : LoadsRun (LoadsHeld lines r lawful step held) from words old new → Reads (FitsKnown lines lawful r.base step old.known) (FitsKnown lines lawful r.base step new.known) (AreAt from words)

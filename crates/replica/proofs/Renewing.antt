@@ -1,10 +1,11 @@
 -- A replica over which another was copied, whose shared right was given back.
-use Rattle.std.proofs.Common.{false, true, ◌≡◌, ◌<◌, ℕ, Bool, cond, All, List, [], ◌∷◌, slice_index, refl, ap, sym, subst, ◌∙◌, arith, Some, None}
+use Rattle.std.proofs.Common.{false, true, ◌≡◌, ◌+◌, ◌<◌, ℕ, Bool, cond, All, List, [], ◌∷◌, ◌++◌, append-nil, slice_index, refl, ap, sym, subst, ◌∙◌, arith, Some, None, Result, Ok, Err}
 use Rattle.std.proofs.lemmas.List.Elements.{All-cons, All-contains, All-nil}
 use Rattle.std.proofs.lemmas.Option.{none-some}
 use Rattle.std.proofs.Math.Logic.{∥∥₁_elim}
 use Rattle.std.proofs.Props.{props}
 use Rattle.std.specs.List.{Contains}
+use Rattle.cx_base.specs.declared.object.Object.{Ghosts}
 use Rattle.cx_base.specs.Noted.{Note, NotesLead}
 use Rattle.cx_core.specs.declared.entry.Base.{Base}
 use Rattle.cx_core.specs.declared.local.Local.{Local}
@@ -13,14 +14,16 @@ use Rattle.cx_core.specs.Region.{region_words}
 use Rattle.cx_core.specs.Rights.{held_dirty, is_at, shared_on}
 use Rattle.cx_core.specs.State.{one_more}
 use Rattle.cx_rule.specs.Fitting.{Fitting, SomeFits, SomeReadFits, loaded_of, loads_of, word_noted}
-use Rattle.cx_rule.specs.Running.{Running}
-use Rattle.cx_rule.specs.Seats.{Seated, place_noted}
-use Rattle.cx_rule.specs.Steps.{StepsCopied}
+use Rattle.cx_rule.specs.Running.{Running, StepsWithin}
+use Rattle.cx_rule.specs.Seats.{IsAtLimit, Seated, StepsBy, place_noted}
+use Rattle.cx_rule.specs.Steps.{Halts, StepsCopied}
 use Rattle.cx_rule.proofs.Copying.{noted_place, noted_tells}
+use Rattle.cx_rule.proofs.Stepping.{on_still, on_then, on_then_one}
 use Rattle.seat_memory.specs.Copies.{IsCopiedWord}
+use Rattle.cx_table.specs.Calls.{MakesFittingStep}
 use Rattle.cx_table.specs.Right.{Right}
 use Rattle.cx_table.specs.Tokens.{IsExclusiveOf}
-use Rattle.replica.specs.Copies.{HoldsBoth}
+use Rattle.replica.specs.Copies.{HaltsKeeping, HoldsBoth, KeepsLoaded, LeavesCopied, Renews, beside_copy, without_shared}
 use Rattle.replica.specs.Held.{IsHeld}
 use Rattle.replica.specs.Replays.{IsHeldImage, StoresNone}
 use Rattle.replica.proofs.Access.{at_itself}
@@ -47,6 +50,15 @@ loaded_once lines lawful base loaded v p some last has = ∥∥₁_elim some (hl
     let fits = f.2.fits in
     let there = All-contains (λ (x : ℕ × ℕ). slice_index first x.0 ≡ x.1) loaded (0, p) (loads_there loaded first f.1 fits.leads) has in
     sym (noted_tells (region_words lines) (loads_of loaded) 0 v (omega arith) last first f.1 fits.origin.size.long fits.leads) ∙ ap (λ ws. slice_index ws 0) f.2.same ∙ there))
+
+-- a shared right is given back by one step
+pub released_steps : (q : ℕ) (l : Local) → (backed_off q l).steps ≡ one_more l.steps
+released_steps q l = by (is_at q (shared_on l)) (is_at q l.passer)
+  where
+    by : (a b : Bool) → (cond a (record l { shared = None; steps = one_more l.steps }) (cond b (record l { passer = None; steps = one_more l.steps }) (record l { downgraded = None; steps = one_more l.steps }))).steps ≡ one_more l.steps
+    by true b = refl
+    by false true = refl
+    by false false = refl
 
 module _ {O : Type 0} (lines : ℕ) (r : Running O) (step : O → List ℕ → List ℕ → List ℕ × List ℕ) (reads : O → List ℕ → Bool) (lawful : List ℕ → Type 0) (held source : Right) (found : ℕ) (before after : Seated)
     (both : HoldsBoth lines r lawful (step r.object) before held source) (copied : StepsCopied r step reads source.replica found before after) where
@@ -82,11 +94,40 @@ module _ {O : Type 0} (lines : ℕ) (r : Running O) (step : O → List ℕ → L
   renewed_place p first has =
       ap (λ (s : Seated). place_noted 0 s.known.accesses) copied.made ∙ place_is (loads_of (loaded_of old.shared)) 0 first.0 first.2 ∙ loaded_once lines lawful r.base (loaded_of old.shared) first.0 p both.shared.some first.2 has
 
--- a shared right is given back by one step
-pub released_steps : (q : ℕ) (l : Local) → (backed_off q l).steps ≡ one_more l.steps
-released_steps q l = by (is_at q (shared_on l)) (is_at q l.passer)
-  where
-    by : (a b : Bool) → (cond a (record l { shared = None; steps = one_more l.steps }) (cond b (record l { passer = None; steps = one_more l.steps }) (record l { downgraded = None; steps = one_more l.steps }))).steps ≡ one_more l.steps
-    by true b = refl
-    by false true = refl
-    by false false = refl
+-- a copy of which the words are those that the exclusive right then begins with, since the shared right was given back, renews
+module _ {O : Type 0} (o : Ghosts O) (r : Running O) (held source : Right) (first mid last : Seated) (leaves : LeavesCopied o r held source first mid) where
+  pub renewed : (found at : ℕ) → StepsCopied r o.step o.only_reads source.replica found mid last → IsExclusiveOf r.callers last held → Fitting r.lines (o.lawful r.object) r.base (o.step r.object) last.known → IsCopiedWord mid.known 0 → KeepsLoaded first mid → place_noted 0 mid.known.accesses ≡ at → Renews o r held at first last
+  renewed found at released right fits word loaded place =
+      let lines = o.line_count r.object in
+      let lawful = o.lawful r.object in
+      let both = leaves.both in
+      let image = renewed_image lines r o.step o.only_reads lawful held source found mid last both released word in
+      record {
+        ready = record {
+          is_held = renewed_held lines r o.step o.only_reads lawful held source found mid last both released right fits;
+          image = image.0;
+          place = image.1 ∙ place;
+        };
+        placed = λ p has. renewed_place lines r o.step o.only_reads lawful held source found mid last both released p word (loaded (0, p) has);
+        rest = ap beside_copy released.made
+            ∙ ap (λ (l : Local). beside_copy (record mid { known = record mid.known { local = l; noted = mid.known.noted ++ [] } })) (left lines r o.step o.only_reads lawful held source found mid last both released)
+            ∙ ap (λ ns. without_shared (beside_copy (record mid { known = record mid.known { noted = ns } }))) (append-nil mid.known.noted)
+            ∙ ap without_shared leaves.rest;
+      }
+
+  -- its steps are those of the copy, and one
+  module _ (n : ℕ) (bound : StepsBy n first mid) where
+    pub copied_within : StepsWithin r (n + 1) first mid
+    copied_within = record { seat = leaves.both.exclusive.of; since = leaves.since; most = omega (arith, bound) }
+
+    pub released_within : {E : Type 0} (result : Result ℕ E) → MakesFittingStep o r mid last result (λ found. StepsCopied r o.step o.only_reads source.replica found mid last) → StepsWithin r (n + 1) first last
+    released_within (Ok found) step =
+        let one : last.known.local.steps ≡ one_more mid.known.local.steps = ap (λ (s : Seated). s.known.local.steps) step.made.made ∙ released_steps source.replica mid.known.local in
+        record { seat = step.made.seat; since = on_then_one first mid last leaves.since one; most = omega (arith, bound, one) }
+    released_within (Err e) step =
+        let same = ap (λ (s : Seated). s.known.local.steps) step.halted.same in
+        record { seat = step.halted.seat; since = on_then first mid last leaves.since (on_still mid last same); most = omega (arith, bound, same) }
+
+  -- and where the limit ends it before the right was given back, nothing else is changed
+  pub release_halts : Halts r mid last → HaltsKeeping beside_copy first last
+  release_halts halted = record { rest = ap beside_copy halted.same ∙ leaves.rest; limit = subst (λ (s : Seated). IsAtLimit s.known.local) (sym halted.same) halted.limit }

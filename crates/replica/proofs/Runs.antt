@@ -1,7 +1,8 @@
 -- What the loads of a run tell together.
-use Rattle.std.proofs.Common.{◌≡◌, ◌+◌, ◌<◌, ℕ, Bool, List, [], ◌∷◌, ◌++◌, length, set, slice_index, take, ap, sym, subst, ◌∙◌, arith, below_more, length-append, Result, Ok, Err, OnErr, OnOk}
-use Rattle.std.proofs.lemmas.List.{get_or_append_left, length-take-le, take_all, take_more_set}
+use Rattle.std.proofs.Common.{◌≡◌, ◌+◌, ◌<◌, ℕ, Bool, List, [], ◌∷◌, ◌++◌, length, set, slice_index, take, ap, sym, subst, ◌∙◌, arith, below_more, length-append, Result, Ok, Err, MatchResult, OnErr, OnOk}
+use Rattle.std.proofs.lemmas.List.{get_or_append_left, length-take-le, take_more_set}
 use Rattle.std.proofs.Math.Seq.{get_or-append_seam}
+use Rattle.cx_base.specs.declared.object.Object.{Ghosts}
 use Rattle.cx_base.specs.Memory.{AreAt, Loaded, Reads}
 use Rattle.cx_base.proofs.ReadLemmas.{Reads-load, Reads-none}
 use Rattle.cx_core.specs.declared.kinds.Kind.{Kind}
@@ -10,7 +11,7 @@ use Rattle.cx_rule.specs.Running.{Running}
 use Rattle.cx_rule.specs.Seats.{Seated}
 use Rattle.cx_rule.specs.Steps.{Steps}
 use Rattle.cx_table.specs.Runs.{Runs, no_step, one_more_step}
-use Rattle.replica.specs.Held.{LoadsRun, no_load, one_more_load}
+use Rattle.replica.specs.Held.{EndsRun, HaltsLoading, LoadsRun, no_load, one_more_load}
 
 -- one word more stands behind others
 one_more_at : (from v : ℕ) (words now : List ℕ) → AreAt from words now → slice_index now (from + length words) ≡ v → AreAt from (words ++ v ∷ []) now
@@ -41,10 +42,11 @@ module _ {O : Type 0} (r : Running O) (step : O → List ℕ → List ℕ → Li
       let word : found ≡ slice_index words 0 = sym (ap (λ ws. slice_index ws 0) longer ∙ subst (λ n. slice_index (first ++ found ∷ []) n ≡ found) empty (get_or-append_seam first found [] 0)) in
       (subst (λ v. Steps r step reads (kinds 0) v before after) word (subst (λ s. Steps r step reads (kinds 0) found s after) (none_made first before mid empty run) (subst (λ n. Steps r step reads (kinds n) found mid after) empty last)), fits)
 
--- whether all the words were loaded or not, some were
-pub some_of : {A E : Type 0} (result : Result A E) (P : List ℕ → Type 0) (words : List ℕ) → OnOk result (P words) → OnErr result ((n : ℕ) × P (take n words)) → (n : ℕ) × P (take n words)
-some_of (Ok x) P words made short = (length words, subst P (sym (take_all (length words) words (omega arith))) made)
-some_of (Err e) P words made short = short
+-- what a call makes, whole or as far as the limit lets it, are loads, where such steps are
+pub loaded_run : {O A E : Type 0} (o : Ghosts O) (r : Running O) (kinds : ℕ → Kind) (load : ℕ → ℕ → Seated → Seated → Type 0) (from : ℕ) (result : Result A E) (words : List ℕ) (before after : Seated) → ((ws : List ℕ) → Runs r o.step o.only_reads (o.lawful r.object) kinds ws before after → LoadsRun load from ws before after) →
+    OnOk result (Runs r o.step o.only_reads (o.lawful r.object) kinds words before after) → OnErr result (EndsRun o r kinds words before after) → MatchResult result (λ _. LoadsRun load from words before after) (λ _. HaltsLoading load from words before after)
+loaded_run o r kinds load from (Ok x) words before after each made halted = each words made
+loaded_run o r kinds load from (Err e) words before after each made halted = record { limit = halted.limit; some = (halted.n, each (take halted.n words) halted.run) }
 
 pub on_err : {A E : Type 0} (r : Result A E) (X : Type 0) → X → OnErr r X
 on_err (Ok a) X x = tt

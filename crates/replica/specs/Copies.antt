@@ -1,5 +1,5 @@
 -- A replica held shared that is copied over one held exclusively.
-use Rattle.std.specs.Prelude.{true, false, ◌≡◌, ◌≢◌, ◌+◌, ◌/◌, ◌%◌, ◌<◌, ◌≤◌, ◌⊎◌, ◌==◌, ℕ, if◌then◌else◌, Bool, List, [], ◌∷◌, length, slice_index, slice_index_or, Some, None, Result, Ok, Err}
+use Rattle.std.specs.Prelude.{true, false, ◌≡◌, ◌≢◌, ◌+◌, ◌/◌, ◌%◌, ◌<◌, ◌≤◌, ◌⊎◌, ◌==◌, ℕ, if◌then◌else◌, Bool, List, [], ◌∷◌, length, slice_index, slice_index_or, Some, None, Result, Ok, Err, OnErr}
 use Rattle.std.specs.List.{Contains}
 use Rattle.std.specs.Option.{option_map}
 use Rattle.cx_base.specs.declared.object.Object.{Ghosts}
@@ -10,7 +10,7 @@ use Rattle.cx_rule.specs.declared.rule.Known.{Known}
 use Rattle.cx_core.specs.declared.local.HeldShared.{HeldShared}
 use Rattle.cx_rule.specs.Fitting.{AgreeTo, AreEqual, loaded_of, loads_of, word_noted}
 use Rattle.cx_rule.specs.Running.{Running, instance_at}
-use Rattle.cx_rule.specs.Seats.{Seated}
+use Rattle.cx_rule.specs.Seats.{IsAtLimit, Seated, StepsBy}
 use Rattle.seat_memory.specs.Copies.{IsCopiedWord}
 use Rattle.cx_table.specs.Right.{Right}
 use Rattle.cx_table.specs.GapMarks.{MarksChanged}
@@ -23,6 +23,10 @@ use Rattle.replica.specs.Replays.{IsReady, StoresNone, noted_place}
 pub record HoldsBoth {O : Type 0} (lines : ℕ) (r : Running O) (lawful : List ℕ → Type 0) (step : List ℕ → List ℕ → List ℕ × List ℕ) (seat : Seated) (held source : Right) : Type 0 where
   pub exclusive : IsHeld lines r lawful step seat held
   pub shared : IsHeldShared lines r lawful seat source
+
+-- the same by the store
+abbrev pub HoldsBothIn : {O : Type 0} → Ghosts O → Running O → Seated → Right → Right → Type 0
+HoldsBothIn o r = HoldsBoth (o.line_count r.object) r (o.lawful r.object) (o.step r.object)
 
 -- a replica held shared but for the words loaded
 abbrev pub but_loads : HeldShared → HeldShared
@@ -40,9 +44,14 @@ beside_copy s = record s {
 
 -- whatever was copied, both are held still, no step is taken back, and what a copy does not change is as it was
 pub record LeavesCopied {O : Type 0} (o : Ghosts O) (r : Running O) (held source : Right) (before after : Seated) : Type 0 where
-  pub both : HoldsBoth (o.line_count r.object) r (o.lawful r.object) (o.step r.object) after held source
+  pub both : HoldsBothIn o r after held source
   pub since : StepsOn before after
   pub rest : beside_copy after ≡ beside_copy before
+
+-- the limit ended a call, and what this shows of the seat is as it was
+pub record HaltsKeeping (beside : Seated → Seated) (before after : Seated) : Type 0 where
+  pub rest : beside after ≡ beside before
+  pub limit : IsAtLimit after.known.local
 
 -- the same with no replica held shared
 abbrev pub without_shared : Seated → Seated
@@ -208,3 +217,9 @@ LoadsFewer n before after = after.local.steps + stores_in before.accesses < befo
 abbrev pub EndsCopy : {A E : Type 0} → ℕ → ℕ → Known → Known → Result A E → Type 0
 EndsCopy n region before after (Ok x) = LoadsAtMost n before after
 EndsCopy n region before after (Err e) = LoadsFewer n before after ⊎ SomeDiffers region after
+
+-- A part of a copy makes at most this number of loads, and with its stores at most this number of steps, and no error comes but at the limit.
+pub record EndsPart {A E : Type 0} (loads steps region : ℕ) (before after : Seated) (result : Result A E) : Type 0 where
+  pub counts : EndsCopy loads region before.known after.known result
+  pub bound : StepsBy steps before after
+  pub limit : OnErr result (IsAtLimit after.known.local)

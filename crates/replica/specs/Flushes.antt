@@ -6,7 +6,7 @@ use Rattle.cx_rule.specs.Running.{Running}
 use Rattle.cx_rule.specs.Seats.{IsAtLimit, Seated}
 use Rattle.cx_table.specs.Right.{Right}
 use Rattle.cx_table.specs.Seats.{StepsOn}
-use Rattle.replica.specs.Held.{IsHeld, beside_held}
+use Rattle.replica.specs.Held.{IsHeldIn, beside_held}
 
 -- no word is dirty
 abbrev pub IsFlushed : Seated → Type 0
@@ -23,7 +23,7 @@ EndsFlushing seat (Err e) = HaltsFlushing seat
 
 -- words of a replica held exclusively were persisted: beside what is dirty and the steps, of which none is taken back, nothing is changed
 pub record Persists {O : Type 0} (o : Ghosts O) (r : Running O) (held : Right) (before after : Seated) : Type 0 where
-  pub still : IsHeld (o.line_count r.object) r (o.lawful r.object) (o.step r.object) after held
+  pub still : IsHeldIn o r after held
   pub accesses : after.known.accesses ≡ before.known.accesses
   pub since : StepsOn before after
   pub rest : beside_held held.replica after ≡ beside_held held.replica before

@@ -38,12 +38,20 @@ pub record IsHeld {O : Type 0} (lines : ℕ) (r : Running O) (lawful : List ℕ 
   pub some : SomeFits lines lawful r.base step seat.known
   pub dirty : All (λ i. i < region_words lines) (held_dirty seat.known.local.exclusive)
 
+-- the same by the store: its lines, what is lawful of its words, and its step
+abbrev pub IsHeldIn : {O : Type 0} → Ghosts O → Running O → Seated → Right → Type 0
+IsHeldIn o r = IsHeld (o.line_count r.object) r (o.lawful r.object) (o.step r.object)
+
 -- the same of a replica held shared
 pub record IsHeldShared {O : Type 0} (lines : ℕ) (r : Running O) (lawful : List ℕ → Type 0) (seat : Seated) (held : Right) : Type 0 where
   pub sized : IsSized lines r
   pub of : IsSeatOf r seat
   pub right : IsSharedOf r.callers seat held
   pub some : SomeReadFits lines lawful r.base (loaded_of seat.known.local.shared)
+
+-- the same by the store
+abbrev pub IsHeldSharedIn : {O : Type 0} → Ghosts O → Running O → Seated → Right → Type 0
+IsHeldSharedIn o r = IsHeldShared (o.line_count r.object) r (o.lawful r.object)
 
 -- a replica held exclusively but for its words, and which of them are dirty
 abbrev pub but_words : HeldExclusive → HeldExclusive
@@ -75,7 +83,7 @@ beside_shared r s = record s {
 
 -- whatever accesses of a replica held exclusively were made, it is held still, no step is taken back, and what no access changes is as it was
 pub record LeavesHeld {O : Type 0} (o : Ghosts O) (r : Running O) (held : Right) (before after : Seated) : Type 0 where
-  pub still : IsHeld (o.line_count r.object) r (o.lawful r.object) (o.step r.object) after held
+  pub still : IsHeldIn o r after held
   pub since : StepsOn before after
   pub rest : beside_held held.replica after ≡ beside_held held.replica before
 
@@ -112,3 +120,8 @@ pub record EndsRun {O : Type 0} (o : Ghosts O) (r : Running O) (kinds : ℕ → 
 pub data LoadsRun (load : ℕ → ℕ → Seated → Seated → Type 0) (from : ℕ) : List ℕ → Seated → Seated → Type 0 where
   no_load : (words : List ℕ) (before after : Seated) → words ≡ [] → after ≡ before → LoadsRun load from words before after
   one_more_load : (words : List ℕ) (before after : Seated) (first : List ℕ) (word : ℕ) (mid : Seated) → words ≡ first ++ word ∷ [] → LoadsRun load from first before mid → load (from + length first) word mid after → LoadsRun load from words before after
+
+-- The limit ended loads of words from a place on, of which the first were made.
+pub record HaltsLoading (load : ℕ → ℕ → Seated → Seated → Type 0) (from : ℕ) (words : List ℕ) (before after : Seated) : Type 0 where
+  pub limit : IsAtLimit after.known.local
+  pub some : (n : ℕ) × LoadsRun load from (take n words) before after

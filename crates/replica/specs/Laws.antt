@@ -4,6 +4,7 @@ use Rattle.std.proofs.Common.{ap, sym, subst, ◌∙◌, eq-eqb}
 use Rattle.std.proofs.lemmas.List.Elements.{All-nil}
 use Rattle.std.proofs.lemmas.Option.{none-some}
 use Rattle.std.specs.Option.{option_map}
+use Rattle.cx_base.specs.declared.object.Object.{Ghosts}
 use Rattle.cx_core.specs.declared.entry.Base.{Base}
 use Rattle.cx_core.specs.declared.kinds.Kind.TheVariants.{TryExclusive}
 use Rattle.cx_core.specs.declared.local.HeldShared.{HeldShared}
@@ -28,6 +29,10 @@ pub record IsTaken {O : Type 0} (lines : ℕ) (r : Running O) (lawful : List ℕ
   pub is_held : IsHeld lines r lawful step seat held
   pub none : seat.known.accesses ≡ []
   pub clean : held_dirty seat.known.local.exclusive ≡ []
+
+-- the same by the store
+abbrev pub IsTakenIn : {O : Type 0} → Ghosts O → Running O → Seated → Right → Type 0
+IsTakenIn o r = IsTaken (o.line_count r.object) r (o.lawful r.object) (o.step r.object)
 
 pub taken_held : {O : Type 0} (lines : ℕ) (r : Running O) (step : O → List ℕ → List ℕ → List ℕ × List ℕ) (reads : O → List ℕ → Bool) (lawful : List ℕ → Type 0) (q found : ℕ) (before after : Seated) (held : Right) →
     IsSized lines r → Steps r step reads (TryExclusive q) found before after → TriedExclusive r.callers q after found (Some held) → Fitting r.lines lawful r.base (step r.object) after.known → IsTaken lines r lawful (step r.object) after held

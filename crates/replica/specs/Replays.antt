@@ -11,9 +11,10 @@ use Rattle.cx_rule.specs.declared.rule.Known.{Known}
 use Rattle.cx_rule.specs.Fitting.{FitsKnown, HasEntry, IsReplayedToPlace, entries_of}
 use Rattle.cx_rule.specs.Running.{Running}
 use Rattle.cx_rule.specs.Seats.{IsWithinLimit, Seated, place_noted}
+use Rattle.cx_rule.specs.Stores.{FitsIn}
 use Rattle.cx_table.specs.Right.{Right}
 use Rattle.cx_table.specs.Seats.{StepsOn}
-use Rattle.replica.specs.Held.{IsHeld, beside_held}
+use Rattle.replica.specs.Held.{IsHeldIn, beside_held}
 use Rattle.replica.specs.Regions.{HasPlace}
 
 -- no access is a store
@@ -30,15 +31,23 @@ pub record IsHeldImage (lines : ℕ) (lawful : List ℕ → Type 0) (base : Base
   pub begun : HasPlace known.accesses
   pub replayed : IsReplayedToPlace lines lawful base step known
 
+-- the same by the store
+abbrev pub IsHeldImageIn : {O : Type 0} → Ghosts O → Running O → Known → Type 0
+IsHeldImageIn o r = IsHeldImage (o.line_count r.object) (o.lawful r.object) r.base (o.step r.object)
+
 -- a replica is held exclusively that is the image after this place
 pub record IsReady {O : Type 0} (o : Ghosts O) (r : Running O) (held : Right) (at : ℕ) (seat : Seated) : Type 0 where
-  pub is_held : IsHeld (o.line_count r.object) r (o.lawful r.object) (o.step r.object) seat held
-  pub image : IsHeldImage (o.line_count r.object) (o.lawful r.object) r.base (o.step r.object) seat.known
+  pub is_held : IsHeldIn o r seat held
+  pub image : IsHeldImageIn o r seat.known
   pub place : noted_place seat ≡ at
 
 -- whatever fits the accesses of a replica, the last entry of this caller there has this reply
 abbrev pub ShowsReply : ℕ → (List ℕ → Type 0) → Base → (List ℕ → List ℕ → List ℕ × List ℕ) → Known → ℕ → List ℕ → Type 0
 ShowsReply lines lawful base step known number reply = (first now : List ℕ) → FitsKnown lines lawful base step known first now → slot_reply number now ≡ reply
+
+-- the same by the store
+abbrev pub ShowsReplyIn : {O : Type 0} → Ghosts O → Running O → Known → ℕ → List ℕ → Type 0
+ShowsReplyIn o r = ShowsReply (o.line_count r.object) (o.lawful r.object) r.base (o.step r.object)
 
 -- the caller has an entry with the place of the replica held exclusively as its ticket, and it is one that may come there
 pub record ComesNext (entry : Entry) (seat : Seated) : Type 0 where
@@ -48,13 +57,13 @@ pub record ComesNext (entry : Entry) (seat : Seated) : Type 0 where
 
 -- whatever fits the accesses of the replica held exclusively, a full step can be done on it
 pub record CanStep {O : Type 0} (o : Ghosts O) (r : Running O) (seat : Seated) : Type 0 where
-  pub place : Always (FitsKnown (o.line_count r.object) (o.lawful r.object) r.base (o.step r.object) seat.known) (λ region. place_of region < 2 ^ 40)
-  pub object : Always (FitsKnown (o.line_count r.object) (o.lawful r.object) r.base (o.step r.object) seat.known) (λ region. o.lawful r.object (object_part region))
+  pub place : Always (FitsIn o r seat.known) (λ region. place_of region < 2 ^ 40)
+  pub object : Always (FitsIn o r seat.known) (λ region. o.lawful r.object (object_part region))
   pub begun : HasPlace seat.known.accesses
 
 -- what a full step leaves, whether it was done or not
 pub record IsAfterFullStep {O : Type 0} (o : Ghosts O) (r : Running O) (held : Right) (before after : Seated) : Type 0 where
-  pub still : IsHeld (o.line_count r.object) r (o.lawful r.object) (o.step r.object) after held
+  pub still : IsHeldIn o r after held
   pub begun : HasPlace after.known.accesses
   pub within : IsWithinLimit after.known.local
   pub since : StepsOn before after

@@ -1,13 +1,12 @@
 //! A replica behind another is renewed by the lines alone that changed between their places, where the ring of gaps tells them.
 
-ghost use Rattle.std.specs.Prelude.{◌≡◌, ◌+◌, ◌-◌, ◌*◌, min, IfOk, IsTrue, OnErr};
+ghost use Rattle.std.specs.Prelude.{◌+◌, ◌-◌, ◌*◌, min, IfOk, IsTrue, OnErr};
 ghost use Rattle.cx_core.specs.Layout.{gap_slots};
 ghost use Rattle.cx_core.specs.Region.{region_words};
-ghost use Rattle.cx_rule.specs.Running.{IsSeatOf};
-ghost use Rattle.cx_rule.specs.Seats.{IsAtLimit, StepsBy};
+ghost use Rattle.cx_rule.specs.Running.{StepsWithin};
+ghost use Rattle.cx_rule.specs.Seats.{StepsBy};
 ghost use Rattle.cx_table.specs.GapMarks.{LeavesLoads};
-ghost use Rattle.cx_table.specs.Seats.{StepsOn};
-ghost use Rattle.replica.specs.Copies.{HoldsBoth, IsListed, MayList, Renews, RenewsListed, beside_copy, beside_listed};
+ghost use Rattle.replica.specs.Copies.{HaltsKeeping, HoldsBothIn, IsListed, MayList, Renews, RenewsListed, beside_copy, beside_listed};
 ghost use Rattle.replica.specs.Replays.{noted_place};
 
 use crate::copy::{copy_marked, renew_from};
@@ -32,14 +31,11 @@ pub fn renew_listed<O: Object>(
     source: SharedHold,
     to: u64,
 ) -> Result<u64, Halt>
-    requires both { HoldsBoth (O.line_count shared.now.object) shared.now (O.lawful shared.now.object) (O.step shared.now.object) seat.old held.now source }
+    requires both { HoldsBothIn O.Object shared.now seat.old held.now source }
     requires may { MayList to seat.old }
     ensures renewed { IfOk result (λ place. RenewsListed O.Object shared.now held.now place seat.old seat.new) }
-    ensures steps { StepsBy (16 * min (to - noted_place seat.old) (gap_slots shared.now.callers) + 3 * region_words (O.line_count shared.now.object) + 1) seat.old seat.new }
-    ensures since { StepsOn seat.old seat.new }
-    ensures still { OnErr result (beside_listed seat.new ≡ beside_listed seat.old) }
-    ensures seat { IsSeatOf shared.now seat.new }
-    ensures halts { OnErr result (IsAtLimit seat.new.known.local) }
+    ensures halted { OnErr result (HaltsKeeping beside_listed seat.old seat.new) }
+    ensures within { StepsWithin shared.now (16 * min (to - noted_place seat.old) (gap_slots shared.now.callers) + 3 * region_words (O.line_count shared.now.object) + 1) seat.old seat.new }
 {
     let mut marks = [false; MOST_PIECES];
     if mark_listed(shared, seat, held, &source, to, &mut marks) {
@@ -59,12 +55,11 @@ fn mark_listed<O: Object>(
     to: u64,
     marks: &mut [bool],
 ) -> bool
-    requires { HoldsBoth (O.line_count shared.now.object) shared.now (O.lawful shared.now.object) (O.step shared.now.object) seat.old held.now source.now }
+    requires { HoldsBothIn O.Object shared.now seat.old held.now source.now }
     ensures listed { IsTrue result → IsListed O.Object shared.now to marks.new seat.new }
     ensures leaves { LeavesLoads O.Object shared.now seat.old seat.new }
     ensures steps { StepsBy (16 * min (to - noted_place seat.old) (gap_slots shared.now.callers)) seat.old seat.new }
-    ensures since { StepsOn seat.old seat.new }
-    ensures both { HoldsBoth (O.line_count shared.now.object) shared.now (O.lawful shared.now.object) (O.step shared.now.object) seat.new held.now source.now }
+    ensures both { HoldsBothIn O.Object shared.now seat.new held.now source.now }
 {
     let _ = held;
     let _ = source;
@@ -90,15 +85,12 @@ fn renew_marked<O: Object>(
     to: u64,
     marks: &[bool],
 ) -> Result<u64, Halt>
-    requires both { HoldsBoth (O.line_count shared.now.object) shared.now (O.lawful shared.now.object) (O.step shared.now.object) seat.old held.now source }
+    requires both { HoldsBothIn O.Object shared.now seat.old held.now source }
     requires may { MayList to seat.old }
     requires listed { IsListed O.Object shared.now to marks.now seat.old }
     ensures renewed { IfOk result (λ place. Renews O.Object shared.now held.now place seat.old seat.new) }
-    ensures steps { StepsBy (3 * region_words (O.line_count shared.now.object) + 1) seat.old seat.new }
-    ensures since { StepsOn seat.old seat.new }
-    ensures still { OnErr result (beside_copy seat.new ≡ beside_copy seat.old) }
-    ensures seat { IsSeatOf shared.now seat.new }
-    ensures halts { OnErr result (IsAtLimit seat.new.known.local) }
+    ensures halted { OnErr result (HaltsKeeping beside_copy seat.old seat.new) }
+    ensures within { StepsWithin shared.now (3 * region_words (O.line_count shared.now.object) + 1) seat.old seat.new }
 {
     let _ = to;
     let place = copy_marked(shared, seat, held, &source, marks, false)?;

@@ -6,8 +6,8 @@ ghost use Rattle.cx_core.specs.Region.{region_words};
 ghost use Rattle.cx_core.specs.Rights.{held_dirty};
 ghost use Rattle.cx_rule.specs.Steps.{Halts};
 ghost use Rattle.replica.specs.Flushes.{EndsFlushing, Persists};
-ghost use Rattle.replica.specs.Held.{IsHeld};
-ghost use Rattle.replica.specs.Replays.{IsHeldImage};
+ghost use Rattle.replica.specs.Held.{IsHeldIn};
+ghost use Rattle.replica.specs.Replays.{IsHeldImageIn};
 
 use cx_base::{Halt, Object};
 use cx_table::{CallerSeat, Exclusive, Shared};
@@ -19,10 +19,10 @@ pub fn flush<O: Object>(
     seat: &mut CallerSeat,
     held: &Exclusive,
 ) -> Result<(), Halt>
-    requires { IsHeld (O.line_count shared.now.object) shared.now (O.lawful shared.now.object) (O.step shared.now.object) seat.old held.now }
+    requires { IsHeldIn O.Object shared.now seat.old held.now }
     ensures clean { EndsFlushing seat.new result }
     ensures persists { Persists O.Object shared.now held.now seat.old seat.new }
-    ensures image { IsHeldImage (O.line_count shared.now.object) (O.lawful shared.now.object) shared.now.base (O.step shared.now.object) seat.old.known → IsHeldImage (O.line_count shared.now.object) (O.lawful shared.now.object) shared.now.base (O.step shared.now.object) seat.new.known }
+    ensures image { IsHeldImageIn O.Object shared.now seat.old.known → IsHeldImageIn O.Object shared.now seat.new.known }
 {
     while let Some(at) = seat.some_dirty() {
         persist_dirty(shared, seat, held, at)?;
@@ -37,7 +37,7 @@ fn persist_dirty<O: Object>(
     held: &Exclusive,
     at: u64,
 ) -> Result<(), Halt>
-    requires held { IsHeld (O.line_count shared.now.object) shared.now (O.lawful shared.now.object) (O.step shared.now.object) seat.old held.now }
+    requires held { IsHeldIn O.Object shared.now seat.old held.now }
     requires at { at < region_words (O.line_count shared.now.object) }
     requires dirty { Contains (held_dirty seat.old.known.local.exclusive) at }
     ensures fewer { OnOk result (length (held_dirty seat.new.known.local.exclusive) < length (held_dirty seat.old.known.local.exclusive)) }

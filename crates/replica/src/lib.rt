@@ -9,7 +9,7 @@
 //! - A replica held exclusively is a memory, and one held shared is a memory for loads: `Region`, `ReadRegion` (`Memory`). Its pairs are those
 //!   that fit what the seat noted, so any object runs on it unchanged; a load and a store are one step each, and `Halt` comes exactly where the
 //!   seat's limit leaves none. Several words are loaded by one call, and each is noted as its own load would be; where the limit leaves fewer
-//!   steps the first of them are loaded: `load_held_words`, `load_shared_words` (`made`: `LoadsRun`; `some`, `halted`).
+//!   steps the first of them are loaded: `load_held_words`, `load_shared_words` (`loaded`: `LoadsRun`, `HaltsLoading`).
 //! - The place of a region, and the number and reply of a caller's last entry in it: `place`, `outcome` (`read`).
 //! - A replica into which nothing was stored is the image after its place: `begin` (`ready`: `IsReady`); the full step of the entry of
 //!   its place, which the caller has to have and which has to be a lawful one, makes it the image after the next, in which the entry's caller
@@ -20,11 +20,11 @@
 //!   (`copied`: `CopiesReplica`). Each word that became dirty had another value before than the source has, so it lies in a line that differed
 //!   (`DirtiesDiffering`). Beside one for each word stored it makes at most two steps for each word; with `Halt` it made fewer, or a word is
 //!   left to store that was loaded of both and differs (`steps`: `EndsCopy`), and both rights stand (`leaves`). Given the shared
-//!   right back, the words copied are those that the exclusive right began with: `renew_from` (`renewed`: `Renews`; `steps`), at the place that
+//!   right back, the words copied are those that the exclusive right began with: `renew_from` (`renewed`: `Renews`; `within`), at the place that
 //!   was loaded of the source, by `release_copied` (`made`: `StepsCopied`).
 //! - A replica into which nothing was stored is renewed by the lines alone that changed between the two places, where the ring of gaps tells
 //!   them for each ticket between, and else by all: `renew_listed` (`renewed`: `RenewsListed`, the same but for the gaps noted). It makes 16 steps at
-//!   most for each ticket between, of as many as the ring keeps, beside three for each word and one (`steps`: `StepsBy`), also where it halts.
+//!   most for each ticket between, of as many as the ring keeps, beside three for each word and one (`within`: `StepsWithin`), also where it halts.
 //!
 //! Tested (`table_tests`): a caller takes a replica, replays its own linked entry, flushes and downgrades, and another caller reads place,
 //! number and reply there; each limit of steps from 0 to 454, the first that does not halt; each limit of steps of a run of loads, by the words

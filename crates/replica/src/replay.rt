@@ -4,11 +4,11 @@
 ghost use Rattle.std.specs.Prelude.{◌≡◌, ◌+◌, ◌<◌, OnErr, OnOk, IfOk, Some};
 ghost use Rattle.cx_base.specs.Memory.{Becomes};
 ghost use Rattle.cx_core.specs.Step.{IsStepped};
-ghost use Rattle.cx_rule.specs.Fitting.{FitsKnown};
 ghost use Rattle.cx_rule.specs.Steps.{Halts};
-ghost use Rattle.replica.specs.Held.{IsHeld, LeavesHeld, left_of};
+ghost use Rattle.cx_rule.specs.Stores.{FitsIn};
+ghost use Rattle.replica.specs.Held.{IsHeldIn, LeavesHeld, left_of};
 ghost use Rattle.replica.specs.Regions.{SameRegion, region_fixed};
-ghost use Rattle.replica.specs.Replays.{IsAfterFullStep, CanStep, ComesNext, IsReady, ShowsReply, StoresNone, noted_place};
+ghost use Rattle.replica.specs.Replays.{IsAfterFullStep, CanStep, ComesNext, IsReady, ShowsReplyIn, StoresNone, noted_place};
 
 use crate::region::Region;
 use crate::words::HeldWords;
@@ -26,7 +26,7 @@ pub fn begin<O: Object>(
     seat: &mut CallerSeat,
     held: &Exclusive,
 ) -> Result<u64, Halt>
-    requires held { IsHeld (O.line_count shared.now.object) shared.now (O.lawful shared.now.object) (O.step shared.now.object) seat.old held.now }
+    requires held { IsHeldIn O.Object shared.now seat.old held.now }
     requires unchanged { StoresNone seat.old.known.accesses }
     ensures ready { IfOk result (λ place. IsReady O.Object shared.now held.now place seat.new) }
     ensures unstored { OnOk result (StoresNone seat.new.known.accesses) }
@@ -50,7 +50,7 @@ pub fn apply<O: Object>(
     requires ready { IsReady O.Object shared.now held.now (noted_place seat.old) seat.old }
     requires next { ComesNext entry.now seat.old }
     ensures ready { OnOk result (IsReady O.Object shared.now held.now (noted_place seat.old + 1) seat.new) }
-    ensures replied { OnOk result (ShowsReply (O.line_count shared.now.object) (O.lawful shared.now.object) shared.now.base (O.step shared.now.object) seat.new.known entry.now.caller reply.new) }
+    ensures replied { OnOk result (ShowsReplyIn O.Object shared.now seat.new.known entry.now.caller reply.new) }
     ensures halts { OnErr result (left_of seat.new.known.local ≡ Some 0) }
     ensures leaves { IsAfterFullStep O.Object shared.now held.now seat.old seat.new }
 {
@@ -65,10 +65,10 @@ fn step_held<O: Object>(
     entry: &Entry,
     reply: &mut OpWords,
 ) -> Result<(), Halt>
-    requires held { IsHeld (O.line_count shared.now.object) shared.now (O.lawful shared.now.object) (O.step shared.now.object) seat.old held.now }
+    requires held { IsHeldIn O.Object shared.now seat.old held.now }
     requires can { CanStep O.Object shared.now seat.old }
     requires caller { entry.now.caller < 8 }
-    ensures done { OnOk result (Becomes (FitsKnown (O.line_count shared.now.object) (O.lawful shared.now.object) shared.now.base (O.step shared.now.object) seat.old.known) (FitsKnown (O.line_count shared.now.object) (O.lawful shared.now.object) shared.now.base (O.step shared.now.object) seat.new.known) (IsStepped (O.step shared.now.object) entry.now reply.new)) }
+    ensures done { OnOk result (Becomes (FitsIn O.Object shared.now seat.old.known) (FitsIn O.Object shared.now seat.new.known) (IsStepped (O.step shared.now.object) entry.now reply.new)) }
     ensures halts { OnErr result (left_of seat.new.known.local ≡ Some 0) }
     ensures leaves { IsAfterFullStep O.Object shared.now held.now seat.old seat.new }
 {

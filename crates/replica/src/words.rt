@@ -1,15 +1,14 @@
 //! What a region stands on: a running table that lends the accesses of a replica held.
 
-ghost use Rattle.std.specs.Prelude.{◌≡◌, ◌+◌, ◌^◌, ◌<◌, ◌≤◌, ℕ, List, true, false, OnErr, OnOk, IfOk, length, take};
+ghost use Rattle.std.specs.Prelude.{◌≡◌, ◌+◌, ◌^◌, ◌<◌, ◌≤◌, ℕ, List, true, false, OnErr, OnOk, IfOk, MatchResult, length};
 ghost use Rattle.cx_core.specs.Region.{region_words};
 ghost use Rattle.cx_core.specs.RegionEvents.{CanLoad};
 ghost use Rattle.cx_rule.specs.Running.{IsSeatOf, Running};
-ghost use Rattle.cx_rule.specs.Seats.{IsAtLimit};
 ghost use Rattle.cx_rule.specs.Steps.{Halts, Steps};
 ghost use Rattle.cx_core.specs.declared.kinds.Kind.TheVariants.{LoadWord};
 ghost use Rattle.cx_table.specs.Calls.{MakesFittingStep, MayStep};
 ghost use Rattle.cx_table.specs.Runs.{Runs, StartsAt, loads_from};
-ghost use Rattle.replica.specs.Held.{Accesses, EndsRun, IsHeld, IsHeldShared, LoadsHeld, LoadsRun, LoadsShared};
+ghost use Rattle.replica.specs.Held.{Accesses, EndsRun, HaltsLoading, IsHeld, IsHeldShared, LoadsHeld, LoadsRun, LoadsShared};
 
 use cx_base::{Halt, Object};
 use cx_table::{CallerSeat, Exclusive, Shared, SharedHold};
@@ -68,9 +67,9 @@ pub trait HeldWords {
         requires held { IsHeld (line_count self.now) (running self.now) (lawful self.now) (step self.now) seat.old held.now }
         requires start { StartsAt (running self.now) held.now.replica start }
         requires within { from + length into.old ≤ region_words (line_count self.now) }
-        ensures made { OnOk result (LoadsRun (LoadsHeld (line_count self.now) (running self.now) (lawful self.now) (step self.now) held.now) from into.new seat.old seat.new) }
-        ensures some { (n : ℕ) × LoadsRun (LoadsHeld (line_count self.now) (running self.now) (lawful self.now) (step self.now) held.now) from (take n into.new) seat.old seat.new }
-        ensures halted { OnErr result (IsAtLimit seat.new.known.local) }
+        ensures loaded { MatchResult result
+            (λ _. LoadsRun (LoadsHeld (line_count self.now) (running self.now) (lawful self.now) (step self.now) held.now) from into.new seat.old seat.new)
+            (λ _. HaltsLoading (LoadsHeld (line_count self.now) (running self.now) (lawful self.now) (step self.now) held.now) from into.new seat.old seat.new) }
         ensures length { length into.new ≡ length into.old };
 
     /// Stores a word of the replica held exclusively. `Halt` comes exactly where the seat's steps equal its limit.
@@ -113,9 +112,9 @@ pub trait HeldWords {
         requires held { IsHeldShared (line_count self.now) (running self.now) (lawful self.now) seat.old held.now }
         requires start { StartsAt (running self.now) held.now.replica start }
         requires within { from + length into.old ≤ region_words (line_count self.now) }
-        ensures made { OnOk result (LoadsRun (LoadsShared (line_count self.now) (running self.now) (lawful self.now) held.now) from into.new seat.old seat.new) }
-        ensures some { (n : ℕ) × LoadsRun (LoadsShared (line_count self.now) (running self.now) (lawful self.now) held.now) from (take n into.new) seat.old seat.new }
-        ensures halted { OnErr result (IsAtLimit seat.new.known.local) }
+        ensures loaded { MatchResult result
+            (λ _. LoadsRun (LoadsShared (line_count self.now) (running self.now) (lawful self.now) held.now) from into.new seat.old seat.new)
+            (λ _. HaltsLoading (LoadsShared (line_count self.now) (running self.now) (lawful self.now) held.now) from into.new seat.old seat.new) }
         ensures length { length into.new ≡ length into.old };
 }
 

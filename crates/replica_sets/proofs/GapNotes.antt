@@ -9,8 +9,8 @@ use Rattle.cx_rule.specs.Offers.{TellsSet}
 use Rattle.cx_rule.specs.Running.{Running}
 use Rattle.cx_rule.specs.Seats.{IsAtLimit, IsWithinLimit, Seated}
 use Rattle.cx_rule.proofs.HasMore.{fits_same, some_same}
+use Rattle.cx_rule.proofs.Stepping.{on_then}
 use Rattle.cx_table.specs.Right.{Right}
-use Rattle.cx_table.specs.Seats.{StepsOn}
 use Rattle.redo_set.specs.Gaps.{LeavesNoting}
 use Rattle.redo_set.proofs.GapEnds.{told_still}
 use Rattle.replica.specs.Held.{IsHeld, beside_held}
@@ -48,12 +48,12 @@ module _ {O : Type 0} (o : Ghosts O) (r : Running O) (held : Right) (before afte
   pub replied_noting : (caller : ℕ) (reply : List ℕ) → ShowsReply (o.line_count r.object) (o.lawful r.object) r.base (o.step r.object) before.known caller reply → ShowsReply (o.line_count r.object) (o.lawful r.object) r.base (o.step r.object) after.known caller reply
   replied_noting caller reply shows first now f = shows first now (fits_same (o.line_count r.object) (o.lawful r.object) r.base (o.step r.object) before.known after.known has_still accesses_are first now f)
 
-  pub accessed_noting : (first : Seated) → IsWithinLimit after.known.local → StepsOn before after → IsAfterFullStep o r held first before → IsAfterFullStep o r held first after
-  accessed_noting first within on was = record {
+  pub accessed_noting : (first : Seated) → IsWithinLimit after.known.local → IsAfterFullStep o r held first before → IsAfterFullStep o r held first after
+  accessed_noting first within was = record {
     still = held_noting was.still;
     begun = subst HasPlace (sym accesses_are) was.begun;
     within = within;
-    since = (let one = was.since in omega (arith, one, on));
+    since = on_then first before after was.since leaves.since;
     rest = ap (beside_held held.replica) leaves.seat ∙ was.rest;
   }
 

@@ -1,5 +1,5 @@
 -- What a look, an offer and a set that was taken leave of a replica that is the image after its place.
-use Rattle.std.proofs.Common.{All, inl, inr, ◌≡◌, ◌<◌, ◌⊎◌, ◌++◌, ℕ, List, [], map, slice_set, ap, arith, refl, sym, subst, ◌∙◌, Option, None}
+use Rattle.std.proofs.Common.{All, inl, inr, ◌≡◌, ◌<◌, ◌⊎◌, ◌++◌, ℕ, List, [], map, slice_set, ap, refl, sym, subst, ◌∙◌, Option, None}
 use Rattle.std.proofs.Math.Seq.{map-set_same}
 use Rattle.cx_base.specs.Memory.{Becomes}
 use Rattle.cx_base.specs.declared.object.Object.{Ghosts}
@@ -8,18 +8,17 @@ use Rattle.cx_core.specs.declared.local.SeenSlot.{SeenSlot}
 use Rattle.cx_core.specs.QueueEvents.{cell_of}
 use Rattle.cx_core.specs.Region.{region_words}
 use Rattle.cx_core.specs.Rights.{held_dirty}
-use Rattle.cx_core.specs.State.{one_more}
 use Rattle.cx_core.proofs.ListLemmas.{slice_get-append_left}
 use Rattle.core_queue.specs.declared.notes.SetNoted.{SetNoted}
 use Rattle.core_queue.specs.NotedSets.{IsNotedSet}
 use Rattle.cx_rule.specs.declared.rule.Known.{Known}
 use Rattle.cx_rule.specs.Fitting.{Fitting, FitsKnown, FitsOn, Has, IsOwnSet, HasEntry, SomeFits, entries_of, has_of}
 use Rattle.cx_rule.specs.Running.{IsSeatOf, Running}
-use Rattle.cx_rule.specs.Seats.{Seated}
+use Rattle.cx_rule.specs.Seats.{Seated, StepsOn}
 use Rattle.cx_rule.proofs.HasMore.{HasMore, fits_more, fits_same, some_same}
+use Rattle.cx_rule.proofs.Stepping.{on_one, on_then}
 use Rattle.cx_table.specs.Right.{Right}
 use Rattle.cx_table.specs.Tokens.{IsExclusiveOf}
-use Rattle.cx_table.specs.Seats.{StepsOn}
 use Rattle.mutation_queue.specs.Entries.{with_look}
 use Rattle.redo_set.specs.Offering.{HasStill, seat_with_set}
 use Rattle.redo_set.specs.Sets.{put_over}
@@ -62,31 +61,31 @@ module _ {O : Type 0} (o : Ghosts O) (r : Running O) (held : Right) (at : ℕ) w
         place = ap noted_place is ∙ was.place;
       }
 
-  held_noted : (before after : Seated) → IsSeatOf r after → (l : LeavesTaking before after) → SomeFits (o.line_count r.object) (o.lawful r.object) r.base (o.step r.object) after.known → IsHeld (o.line_count r.object) r (o.lawful r.object) (o.step r.object) before held → IsHeld (o.line_count r.object) r (o.lawful r.object) (o.step r.object) after held
-  held_noted before after of l some was = record {
+  held_noted : (before after : Seated) → (l : LeavesTaking r before after) → SomeFits (o.line_count r.object) (o.lawful r.object) r.base (o.step r.object) after.known → IsHeld (o.line_count r.object) r (o.lawful r.object) (o.step r.object) before held → IsHeld (o.line_count r.object) r (o.lawful r.object) (o.step r.object) after held
+  held_noted before after l some was = record {
     sized = was.sized;
-    of = of;
+    of = l.of;
     right = subst (λ s. IsExclusiveOf r.callers s held) (sym l.seat) (let right : IsExclusiveOf r.callers (with_notes after.known.local.seen_offer after.known.local.steps l.notes before) held = record { few = was.right.few; caller = was.right.caller; holds = was.right.holds } in right);
     some = some;
     dirty = subst (λ (s : Seated). All (λ i. i < region_words (o.line_count r.object)) (held_dirty s.known.local.exclusive)) (sym l.seat) was.dirty;
   }
 
   -- a set was taken
-  pub ready_taken : (before after : Seated) → IsSeatOf r after → LeavesTaking before after → Fitting r.lines (o.lawful r.object) r.base (o.step r.object) after.known → IsReady o r held at before → IsReady o r held at after
-  ready_taken before after of l fits was = record {
-    is_held = held_noted before after of l (subst (λ n. SomeFits n (o.lawful r.object) r.base (o.step r.object) after.known) was.is_held.sized.lines_are fits.exclusive) was.is_held;
+  pub ready_taken : (before after : Seated) → LeavesTaking r before after → Fitting r.lines (o.lawful r.object) r.base (o.step r.object) after.known → IsReady o r held at before → IsReady o r held at after
+  ready_taken before after l fits was = record {
+    is_held = held_noted before after l (subst (λ n. SomeFits n (o.lawful r.object) r.base (o.step r.object) after.known) was.is_held.sized.lines_are fits.exclusive) was.is_held;
     image = image_more (o.line_count r.object) (o.lawful r.object) r.base (o.step r.object) before.known after.known
         (subst (λ (s : Seated). HasMore (has_of before.known) (has_of s.known)) (sym l.seat) (sets_more before.known l.notes)) (ap (λ (s : Seated). s.known.accesses) l.seat) was.image;
     place = ap noted_place l.seat ∙ was.place;
   }
 
   -- an offer was looked at, and no set was taken
-  pub ready_untaken : (before after : Seated) → IsSeatOf r after → LeavesTaking before after → after.known.sets ≡ before.known.sets → IsReady o r held at before → IsReady o r held at after
-  ready_untaken before after of l kept was =
+  pub ready_untaken : (before after : Seated) → LeavesTaking r before after → after.known.sets ≡ before.known.sets → IsReady o r held at before → IsReady o r held at after
+  ready_untaken before after l kept was =
       let has : has_of after.known ≡ has_of before.known = ap (λ (s : Seated). has_with s.known after.known.sets) l.seat ∙ ap (has_with before.known) kept in
       let accesses = ap (λ (s : Seated). s.known.accesses) l.seat in
       record {
-        is_held = held_noted before after of l (some_same (o.line_count r.object) (o.lawful r.object) r.base (o.step r.object) before.known after.known has accesses was.is_held.some) was.is_held;
+        is_held = held_noted before after l (some_same (o.line_count r.object) (o.lawful r.object) r.base (o.step r.object) before.known after.known has accesses was.is_held.some) was.is_held;
         image = image_same (o.line_count r.object) (o.lawful r.object) r.base (o.step r.object) before.known after.known has accesses was.image;
         place = ap noted_place l.seat ∙ was.place;
       }
@@ -95,7 +94,7 @@ module _ {O : Type 0} (o : Ghosts O) (r : Running O) (held : Right) (at : ℕ) w
   fits s = FitsKnown (o.line_count r.object) (o.lawful r.object) r.base (o.step r.object) s.known
 
   -- what is stored over a replica once a slot was looked at and a set was taken, is stored over the words that it had
-  pub stored_since : (seen : Option SeenSlot) (before mid taken after : Seated) (set : List ℕ) → mid ≡ with_look seen before → LeavesTaking mid taken → Becomes (fits taken) (fits after) (λ was now. now ≡ put_over set was) →
+  pub stored_since : (seen : Option SeenSlot) (before mid taken after : Seated) (set : List ℕ) → mid ≡ with_look seen before → LeavesTaking r mid taken → Becomes (fits taken) (fits after) (λ was now. now ≡ put_over set was) →
       Becomes (fits before) (fits after) (λ was now. now ≡ put_over set was)
   stored_since seen before mid taken after set looked l becomes =
       let lines = o.line_count r.object in
@@ -112,25 +111,23 @@ module _ {O : Type 0} (o : Ghosts O) (r : Running O) (held : Right) (at : ℕ) w
             (was, fits_same lines lawful r.base step before.known mid.known has accesses first was (fits_more lines lawful r.base step (has_of mid.known) (has_of taken.known) more mid.known.accesses first was (subst (λ xs. FitsOn lines lawful r.base step (has_of taken.known) xs first was) still b.1)), b.2));
       }
 
--- a look is one step, and none is taken back behind it
-pub since_taken : (seen : Option SeenSlot) (before mid after : Seated) → mid ≡ with_look seen before → StepsOn mid after → StepsOn before after
-since_taken seen before mid after looked on =
-    let one : mid.known.local.steps ≡ one_more before.known.local.steps = ap (λ (s : Seated). s.known.local.steps) looked in
-    omega (arith, one, on)
-
 -- a seat beside what work on the replica held exclusively changes, beside what is seen and noted of sets too
 abbrev beside_both : Seated → Seated
 beside_both b = record b { known = record b.known { local = record b.known.local { seen_slot = None; seen_offer = None }; sets = [] } }
 
 module _ {O : Type 0} (r : Running O) (replica : ℕ) where
-  pub leaves_looked : (seen : Option SeenSlot) (before after : Seated) → IsSeatOf r after → after ≡ with_look seen before → LeavesOffered r replica before after
-  leaves_looked seen before after of is = record { seat = of; rest = ap (beside_offered replica) is }
+  leaves_looked : (seen : Option SeenSlot) (before after : Seated) → IsSeatOf r after → after ≡ with_look seen before → LeavesOffered r replica before after
+  leaves_looked seen before after of is = record { seat = of; rest = ap (beside_offered replica) is; since = on_one before after (ap (λ (s : Seated). s.known.local.steps) is) }
 
-  pub leaves_taken : (before mid after : Seated) → LeavesOffered r replica before mid → IsSeatOf r after → LeavesTaking mid after → LeavesOffered r replica before after
-  leaves_taken before mid after was of l = record { seat = of; rest = ap (beside_offered replica) l.seat ∙ was.rest }
+  leaves_taken : (before mid after : Seated) → LeavesOffered r replica before mid → LeavesTaking r mid after → LeavesOffered r replica before after
+  leaves_taken before mid after was l = record { seat = l.of; rest = ap (beside_offered replica) l.seat ∙ was.rest; since = on_then before mid after was.since l.since }
 
-  pub leaves_stored : (before mid after : Seated) → LeavesOffered r replica before mid → IsSeatOf r after → beside_held replica after ≡ beside_held replica mid → LeavesOffered r replica before after
-  leaves_stored before mid after was of same = record { seat = of; rest = ap beside_both same ∙ was.rest }
+  -- a slot was looked at, and the offer behind it
+  pub leaves_behind : (seen : Option SeenSlot) (before mid after : Seated) → IsSeatOf r mid → mid ≡ with_look seen before → LeavesTaking r mid after → LeavesOffered r replica before after
+  leaves_behind seen before mid after of is l = leaves_taken before mid after (leaves_looked seen before mid of is) l
+
+  pub leaves_stored : (before mid after : Seated) → LeavesOffered r replica before mid → IsSeatOf r after → beside_held replica after ≡ beside_held replica mid → StepsOn mid after → LeavesOffered r replica before after
+  leaves_stored before mid after was of same on = record { seat = of; rest = ap beside_both same ∙ was.rest; since = on_then before mid after was.since on }
 
 -- a seat but for the sets and the offers of the caller's cells
 abbrev beside_cells : Seated → Seated
@@ -141,16 +138,16 @@ abbrev own_with : ℕ → Seated → List Cell → Seated
 own_with replica s cells = (let b = beside_held replica s in record b { known = record b.known { local = record b.known.local { cells = cells } } })
 
 module _ {O : Type 0} (r : Running O) (replica : ℕ) where
-  pub leaves_held : (before after : Seated) → IsSeatOf r after → beside_held replica after ≡ beside_held replica before → LeavesOwn r replica before after
-  leaves_held before after of same = record { seat = of; rest = ap beside_cells same }
+  pub leaves_held : (before after : Seated) → IsSeatOf r after → beside_held replica after ≡ beside_held replica before → StepsOn before after → LeavesOwn r replica before after
+  leaves_held before after of same on = record { seat = of; rest = ap beside_cells same; since = on }
 
   -- words of an own set were written, or it was offered
-  pub leaves_set : (before mid after : Seated) (j : ℕ) (set : List ℕ) (offer steps : ℕ) → LeavesOwn r replica before mid → IsSeatOf r after → after ≡ seat_with_set j set offer steps mid → LeavesOwn r replica before after
-  leaves_set before mid after j set offer steps was of is =
+  pub leaves_set : (before mid after : Seated) (j : ℕ) (set : List ℕ) (offer steps : ℕ) → LeavesOwn r replica before mid → IsSeatOf r after → after ≡ seat_with_set j set offer steps mid → StepsOn mid after → LeavesOwn r replica before after
+  leaves_set before mid after j set offer steps was of is on =
       let cell : Cell = record (cell_of mid.known.local j) { set = set; offer = offer } in
       let same : map but_set (slice_set mid.known.local.cells j cell) ≡ map but_set mid.known.local.cells =
       map-set_same but_set mid.known.local.cells j cell (record { words = []; ticket = None; set = []; offer = 0 }) refl in
-      record { seat = of; rest = ap (beside_own replica) is ∙ ap (own_with replica mid) same ∙ was.rest }
+      record { seat = of; rest = ap (beside_own replica) is ∙ ap (own_with replica mid) same ∙ was.rest; since = on_then before mid after was.since on }
 
 -- an own set was offered
 pub applied_offered : {O : Type 0} (o : Ghosts O) (r : Running O) (held : Right) (at caller : ℕ) (reply : List ℕ) (before after : Seated) (j : ℕ) (set : List ℕ) (offer steps : ℕ) → IsSeatOf r after → after ≡ seat_with_set j set offer steps before →

@@ -2,32 +2,31 @@
 use Rattle.std.proofs.Common.{true, ◌≡◌, ◌+◌, ◌*◌, ◌^◌, ◌<◌, ◌++◌, ◌∷◌, [], ℕ, suc, List, slice_index, slice_set, refl, ap, sym, ◌∙◌, arith, Result, Ok, Err, IfOk, OnErr, OnOk}
 use Rattle.std.proofs.lemmas.List.{append_assoc, append-nil}
 use Rattle.cx_base.specs.declared.object.Object.{Ghosts}
-use Rattle.cx_base.specs.Memory.{Becomes, Stored}
+use Rattle.cx_base.specs.Memory.{Becomes}
 use Rattle.cx_base.specs.Noted.{Note}
 use Rattle.cx_core.specs.WriteSet.{stored}
-use Rattle.cx_rule.specs.Fitting.{FitsKnown, has_of}
+use Rattle.cx_rule.specs.Fitting.{has_of}
 use Rattle.cx_rule.specs.Running.{Running}
 use Rattle.cx_rule.specs.Seats.{IsWithinLimit, Seated}
 use Rattle.cx_rule.specs.Steps.{Halts}
+use Rattle.cx_rule.specs.Stores.{FitsIn}
 use Rattle.cx_table.specs.Right.{Right}
 use Rattle.redo_set.specs.Sets.{put_over}
 use Rattle.replica.proofs.Replaying.{set_on}
 use Rattle.replica.proofs.RegionLaws.{held_after, since_after, stands_stored}
 use Rattle.replica.specs.Held.{Accesses, IsHeld, beside_held}
 use Rattle.replica.specs.Regions.{HasPlace}
-use Rattle.replica_sets.specs.Storing.{stores_to}
+use Rattle.replica_sets.specs.Storing.{IsPairStored, stores_to}
 use Rattle.replica.specs.Replays.{IsAfterFullStep, IsHeldImage, IsReady, noted_place}
 
--- whether all pairs were stored or not
-pub stored_ready : {O X E : Type 0} (o : Ghosts O) (r : Running O) (held : Right) (set : List ℕ) (before after : Seated) → (result : Result X E) →
+-- once all pairs were stored
+pub stored_ready : {O : Type 0} (o : Ghosts O) (r : Running O) (held : Right) (set : List ℕ) (before after : Seated) →
     IsHeldImage (o.line_count r.object) (o.lawful r.object) r.base (o.step r.object) before.known → (has_of before.known).set (noted_place before) set → IsAfterFullStep o r held before after →
-    OnOk result (Becomes (FitsKnown (o.line_count r.object) (o.lawful r.object) r.base (o.step r.object) before.known) (FitsKnown (o.line_count r.object) (o.lawful r.object) r.base (o.step r.object) after.known) (λ was now. now ≡ put_over set was)) →
-    OnOk result (IsReady o r held (noted_place before + 1) after)
+    Becomes (FitsIn o r before.known) (FitsIn o r after.known) (λ was now. now ≡ put_over set was) → IsReady o r held (noted_place before + 1) after
 unfolding put_over
-stored_ready o r held set before after (Ok x) image had leaves becomes =
+stored_ready o r held set before after image had leaves becomes =
     let on = set_on (o.line_count r.object) (o.lawful r.object) r.base (o.step r.object) before.known after.known set (ap (λ (s : Seated). has_of s.known) leaves.rest) leaves.begun leaves.still.some image had becomes in
     record { is_held = leaves.still; image = on.0; place = on.1 }
-stored_ready o r held set before after (Err e) image had leaves becomes = tt
 
 one_more : (n : ℕ) → n + 1 ≡ suc n
 one_more n = omega arith
@@ -47,8 +46,8 @@ as_if_ok P (Err e) p = tt
 -- a store of a pair, as one access, whether it was made or not
 module _ {O A E : Type 0} (o : Ghosts O) (r : Running O) (held : Right) (at v : ℕ) (before after : Seated) where
   pub pair_stored : (result : Result A E) → v < 2 ^ 64 → OnOk result (Accesses (o.line_count r.object) r (o.lawful r.object) (o.step r.object) held (true, at, v) before after) →
-      OnOk result (Stored at v (FitsKnown (o.line_count r.object) (o.lawful r.object) r.base (o.step r.object) before.known) (FitsKnown (o.line_count r.object) (o.lawful r.object) r.base (o.step r.object) after.known))
-  pair_stored (Ok x) small made = stands_stored {E = E} (o.line_count r.object) r (o.lawful r.object) (o.step r.object) held before after at v (Ok x) small made
+      OnOk result (IsPairStored o r at v before after)
+  pair_stored (Ok x) small made = record { done = stands_stored {E = E} (o.line_count r.object) r (o.lawful r.object) (o.step r.object) held before after at v (Ok x) small made; stores = made.accesses }
   pair_stored (Err e) small made = tt
 
   same_rest : (result : Result A E) → OnOk result (Accesses (o.line_count r.object) r (o.lawful r.object) (o.step r.object) held (true, at, v) before after) → OnErr result (Halts r before after) → beside_held held.replica after ≡ beside_held held.replica before

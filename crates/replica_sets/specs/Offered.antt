@@ -3,12 +3,12 @@ use Rattle.std.specs.Prelude.{◌≡◌, ◌+◌, ◌++◌, true, false, ℕ, Bo
 use Rattle.cx_base.specs.Memory.{Becomes}
 use Rattle.cx_base.specs.declared.object.Object.{Ghosts}
 use Rattle.core_queue.specs.NotedSets.{IsNotedSet}
-use Rattle.cx_rule.specs.Fitting.{FitsKnown}
 use Rattle.cx_rule.specs.Running.{IsSeatOf, Running}
-use Rattle.cx_rule.specs.Seats.{Seated}
+use Rattle.cx_rule.specs.Seats.{Seated, StepsOn}
+use Rattle.cx_rule.specs.Stores.{FitsIn}
 use Rattle.cx_table.specs.Right.{Right}
 use Rattle.redo_set.specs.Sets.{put_over}
-use Rattle.redo_set.specs.Taking.{sets_read}
+use Rattle.redo_set.specs.Taking.{CountsTaken, sets_read}
 use Rattle.replica.specs.Held.{beside_held}
 use Rattle.replica.specs.Replays.{IsReady}
 use Rattle.replica_sets.specs.Storing.{set_stores}
@@ -17,10 +17,11 @@ use Rattle.replica_sets.specs.Storing.{set_stores}
 abbrev pub beside_offered : ℕ → Seated → Seated
 beside_offered replica s = (let b = beside_held replica s in record b { known = record b.known { local = record b.known.local { seen_slot = None; seen_offer = None }; sets = [] } })
 
--- whatever was made of it, the seat is one of the table, and what no such work changes is as it was
+-- whatever was made of it, the seat is one of the table, what no such work changes is as it was, and no step is taken back
 pub record LeavesOffered {O : Type 0} (r : Running O) (replica : ℕ) (before after : Seated) : Type 0 where
   pub seat : IsSeatOf r after
   pub rest : beside_offered replica after ≡ beside_offered replica before
+  pub since : StepsOn before after
 
 -- where the set was taken the replica is the image after the next place, and else after this one
 abbrev pub ReplaysOffered : {O : Type 0} → Ghosts O → Running O → Right → ℕ → Seated → Bool → Type 0
@@ -37,9 +38,14 @@ pub record StoresSet (ticket : ℕ) (set : List ℕ) (before after : Seated) : T
 -- Such a set was stored over the words that the replica held exclusively had.
 pub record IsBroughtBySet {O : Type 0} (o : Ghosts O) (r : Running O) (ticket : ℕ) (set : List ℕ) (before after : Seated) : Type 0 where
   pub by : StoresSet ticket set before after
-  pub stores : Becomes (FitsKnown (o.line_count r.object) (o.lawful r.object) r.base (o.step r.object) before.known) (FitsKnown (o.line_count r.object) (o.lawful r.object) r.base (o.step r.object) after.known) (λ was now. now ≡ put_over set was)
+  pub stores : Becomes (FitsIn o r before.known) (FitsIn o r after.known) (λ was now. now ≡ put_over set was)
 
 -- where a set was taken, the replica was brought on by it
 abbrev pub BringsBySet : {O : Type 0} → Ghosts O → Running O → ℕ → List ℕ → Seated → Seated → Bool → Type 0
 BringsBySet o r ticket set before after true = IsBroughtBySet o r ticket set before after
 BringsBySet o r ticket set before after false = Unit {0}
+
+-- A set that was taken is counted, and the replica was brought on by it.
+pub record BringsOffered {O : Type 0} (o : Ghosts O) (r : Running O) (ticket : ℕ) (set : List ℕ) (before after : Seated) (taken : Bool) : Type 0 where
+  pub counted : CountsTaken before after taken
+  pub brought : BringsBySet o r ticket set before after taken

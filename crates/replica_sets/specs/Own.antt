@@ -3,7 +3,7 @@ use Rattle.std.specs.Prelude.{◌≡◌, ℕ, List, [], map}
 use Rattle.cx_base.specs.declared.object.Object.{Ghosts}
 use Rattle.cx_core.specs.declared.local.Cell.{Cell}
 use Rattle.cx_rule.specs.Running.{IsSeatOf, Running}
-use Rattle.cx_rule.specs.Seats.{Seated}
+use Rattle.cx_rule.specs.Seats.{Seated, StepsOn}
 use Rattle.cx_table.specs.Right.{Right}
 use Rattle.replica.specs.Held.{beside_held}
 use Rattle.replica.specs.Replays.{IsReady, ShowsReply}
@@ -21,7 +21,8 @@ but_set c = record { words = c.words; ticket = c.ticket; set = []; offer = 0 }
 abbrev pub beside_own : ℕ → Seated → Seated
 beside_own replica s = (let b = beside_held replica s in record b { known = record b.known { local = record b.known.local { cells = map but_set s.known.local.cells } } })
 
--- whatever was made of it, the seat is one of the table, and what no such work changes is as it was
+-- whatever was made of it, the seat is one of the table, what no such work changes is as it was, and no step is taken back
 pub record LeavesOwn {O : Type 0} (r : Running O) (replica : ℕ) (before after : Seated) : Type 0 where
   pub seat : IsSeatOf r after
   pub rest : beside_own replica after ≡ beside_own replica before
+  pub since : StepsOn before after

@@ -1,10 +1,16 @@
 -- A write set that leads a replica held exclusively on from the image after its place.
-use Rattle.std.specs.Prelude.{true, ◌+◌, ◌*◌, ◌<◌, ℕ, zero, suc, List, [], ◌∷◌, ◌++◌, slice_index}
+use Rattle.std.specs.Prelude.{true, ◌≡◌, ◌+◌, ◌*◌, ◌<◌, ℕ, zero, suc, List, [], ◌∷◌, ◌++◌, slice_index}
+use Rattle.cx_base.specs.declared.object.Object.{Ghosts}
+use Rattle.cx_base.specs.Memory.{Becomes, Stored}
 use Rattle.cx_base.specs.Noted.{Note}
 use Rattle.cx_core.specs.QueueEvents.{cell_of}
 use Rattle.cx_rule.specs.Fitting.{IsSetWithin, has_of}
+use Rattle.cx_rule.specs.Running.{Running}
 use Rattle.cx_rule.specs.Seats.{Seated}
-use Rattle.replica.specs.Replays.{noted_place}
+use Rattle.cx_rule.specs.Stores.{FitsIn}
+use Rattle.cx_table.specs.Right.{Right}
+use Rattle.redo_set.specs.Sets.{put_over}
+use Rattle.replica.specs.Replays.{IsReady, noted_place}
 
 -- the caller has a write set with the place of the replica held exclusively as its ticket, and its addresses are those of a region's words
 pub record SetComesNext (region : ℕ) (set : List ℕ) (seat : Seated) : Type 0 where
@@ -24,3 +30,14 @@ stores_to (suc m) set = stores_to m set ++ (true, slice_index set (2 * m + 1), s
 -- and of all its pairs
 unfoldable pub set_stores : List ℕ → List Note
 set_stores set = stores_to (slice_index set 0) set
+
+-- A word was stored over the replica held exclusively, by one access.
+pub record IsPairStored {O : Type 0} (o : Ghosts O) (r : Running O) (at v : ℕ) (before after : Seated) : Type 0 where
+  pub done : Stored at v (FitsIn o r before.known) (FitsIn o r after.known)
+  pub stores : after.known.accesses ≡ before.known.accesses ++ (true, at, v) ∷ []
+
+-- The pairs of a set were stored over the replica held exclusively, in order and nothing else: it is the image after the next place.
+pub record IsSetStored {O : Type 0} (o : Ghosts O) (r : Running O) (held : Right) (set : List ℕ) (before after : Seated) : Type 0 where
+  pub ready : IsReady o r held (noted_place before + 1) after
+  pub done : Becomes (FitsIn o r before.known) (FitsIn o r after.known) (λ was now. now ≡ put_over set was)
+  pub stores : after.known.accesses ≡ before.known.accesses ++ set_stores set

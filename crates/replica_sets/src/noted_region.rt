@@ -5,14 +5,14 @@ ghost use Rattle.cx_base.specs.Memory.{Becomes};
 ghost use Rattle.cx_core.specs.Region.{region_words};
 ghost use Rattle.cx_core.specs.Step.{IsStepped};
 ghost use Rattle.cx_rule.specs.Fitting.{FitsKnown};
-ghost use Rattle.cx_rule.specs.Offers.{TellsSet};
 ghost use Rattle.cx_rule.specs.Seats.{IsWithinLimit};
+ghost use Rattle.cx_rule.specs.Stores.{FitsIn, TellsSetIn};
 ghost use Rattle.cx_table.specs.Runs.{StartsAt};
 ghost use Rattle.cx_table.specs.Seats.{HasMadeSteps};
 ghost use Rattle.replica_sets.specs.Noting.{BeginsNoting, CanNote, IsNotingOf, Notes};
 ghost use Rattle.replica.specs.Held.{IsHeld, left_of};
 ghost use Rattle.replica.specs.Regions.{HasPlace};
-ghost use Rattle.replica.specs.Replays.{IsAfterFullStep, ComesNext, IsReady, ShowsReply, noted_place};
+ghost use Rattle.replica.specs.Replays.{IsAfterFullStep, ComesNext, IsReady, ShowsReplyIn, noted_place};
 
 use cx_base::{Halt, Memory, Object, OpWords};
 use cx_core::{Entry, full_step_into};
@@ -134,8 +134,8 @@ fn step_noting<O: Object>(
     reply: &mut OpWords,
 ) -> (Result<(), Halt>, bool)
     requires { CanNote O.Object shared.now held.now entry.now seat.old }
-    ensures done { OnOk result.0 (Becomes (FitsKnown (O.line_count shared.now.object) (O.lawful shared.now.object) shared.now.base (O.step shared.now.object) seat.old.known) (FitsKnown (O.line_count shared.now.object) (O.lawful shared.now.object) shared.now.base (O.step shared.now.object) seat.new.known) (IsStepped (O.step shared.now.object) entry.now reply.new)) }
-    ensures noted { IsTrue result.1 → ∥ Notes (FitsKnown (O.line_count shared.now.object) (O.lawful shared.now.object) shared.now.base (O.step shared.now.object) seat.old.known) (FitsKnown (O.line_count shared.now.object) (O.lawful shared.now.object) shared.now.base (O.step shared.now.object) seat.new.known) (region_words (O.line_count shared.now.object)) set.new ∥₁ }
+    ensures done { OnOk result.0 (Becomes (FitsIn O.Object shared.now seat.old.known) (FitsIn O.Object shared.now seat.new.known) (IsStepped (O.step shared.now.object) entry.now reply.new)) }
+    ensures noted { IsTrue result.1 → ∥ Notes (FitsIn O.Object shared.now seat.old.known) (FitsIn O.Object shared.now seat.new.known) (region_words (O.line_count shared.now.object)) set.new ∥₁ }
     ensures halts { OnErr result.0 (left_of seat.new.known.local ≡ Some 0) }
     ensures leaves { IsAfterFullStep O.Object shared.now held.now seat.old seat.new }
 {
@@ -153,8 +153,8 @@ fn step_as<O: Object, J: Began>(
 ) -> (Result<(), Halt>, bool)
     requires can { CanNote O.Object shared.now held.now entry.now seat.old }
     requires began { J.known ≡ seat.old.known }
-    ensures done { OnOk result.0 (Becomes (FitsKnown (O.line_count shared.now.object) (O.lawful shared.now.object) shared.now.base (O.step shared.now.object) seat.old.known) (FitsKnown (O.line_count shared.now.object) (O.lawful shared.now.object) shared.now.base (O.step shared.now.object) seat.new.known) (IsStepped (O.step shared.now.object) entry.now reply.new)) }
-    ensures noted { IsTrue result.1 → ∥ Notes (FitsKnown (O.line_count shared.now.object) (O.lawful shared.now.object) shared.now.base (O.step shared.now.object) J.known) (FitsKnown (O.line_count shared.now.object) (O.lawful shared.now.object) shared.now.base (O.step shared.now.object) seat.new.known) (region_words (O.line_count shared.now.object)) set.new ∥₁ }
+    ensures done { OnOk result.0 (Becomes (FitsIn O.Object shared.now seat.old.known) (FitsIn O.Object shared.now seat.new.known) (IsStepped (O.step shared.now.object) entry.now reply.new)) }
+    ensures noted { IsTrue result.1 → ∥ Notes (FitsIn O.Object shared.now J.known) (FitsIn O.Object shared.now seat.new.known) (region_words (O.line_count shared.now.object)) set.new ∥₁ }
     ensures halts { OnErr result.0 (left_of seat.new.known.local ≡ Some 0) }
     ensures leaves { IsAfterFullStep O.Object shared.now held.now seat.old seat.new }
 {
@@ -178,8 +178,8 @@ pub fn apply_noting<O: Object>(
 ) -> Result<bool, Halt>
     requires ready { IsReady O.Object shared.now held.now (noted_place seat.old) seat.old }
     requires next { ComesNext entry.now seat.old }
-    ensures ready { OnOk result (IsReady O.Object shared.now held.now (noted_place seat.old + 1) seat.new × ShowsReply (O.line_count shared.now.object) (O.lawful shared.now.object) shared.now.base (O.step shared.now.object) seat.new.known entry.now.caller reply.new) }
-    ensures tells { IfOk result (λ whole. IsTrue whole → TellsSet (O.line_count shared.now.object) (O.lawful shared.now.object) shared.now.base (O.step shared.now.object) seat.new.known (noted_place seat.old) set.new) }
+    ensures ready { OnOk result (IsReady O.Object shared.now held.now (noted_place seat.old + 1) seat.new × ShowsReplyIn O.Object shared.now seat.new.known entry.now.caller reply.new) }
+    ensures tells { IfOk result (λ whole. IsTrue whole → TellsSetIn O.Object shared.now seat.new.known (noted_place seat.old) set.new) }
     ensures halts { OnErr result (left_of seat.new.known.local ≡ Some 0) }
     ensures leaves { IsAfterFullStep O.Object shared.now held.now seat.old seat.new }
 {
@@ -204,8 +204,8 @@ fn apply_telling<O: Object>(
 ) -> Result<bool, Halt>
     requires ready { IsReady O.Object shared.now held.now (noted_place seat.old) seat.old }
     requires next { ComesNext entry.now seat.old }
-    ensures ready { OnOk result (IsReady O.Object shared.now held.now (noted_place seat.old + 1) seat.new × ShowsReply (O.line_count shared.now.object) (O.lawful shared.now.object) shared.now.base (O.step shared.now.object) seat.new.known entry.now.caller reply.new) }
-    ensures tells { IfOk result (λ whole. IsTrue whole → TellsSet (O.line_count shared.now.object) (O.lawful shared.now.object) shared.now.base (O.step shared.now.object) seat.new.known (noted_place seat.old) set.new) }
+    ensures ready { OnOk result (IsReady O.Object shared.now held.now (noted_place seat.old + 1) seat.new × ShowsReplyIn O.Object shared.now seat.new.known entry.now.caller reply.new) }
+    ensures tells { IfOk result (λ whole. IsTrue whole → TellsSetIn O.Object shared.now seat.new.known (noted_place seat.old) set.new) }
     ensures halts { OnErr result (left_of seat.new.known.local ≡ Some 0) }
     ensures leaves { IsAfterFullStep O.Object shared.now held.now seat.old seat.new }
 {

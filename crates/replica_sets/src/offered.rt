@@ -1,13 +1,11 @@
 //! Another's entry is brought onto a replica held exclusively by its write set, where it is offered.
 
-ghost use Rattle.std.specs.Prelude.{◌≤◌, IfOk, MatchResult};
+ghost use Rattle.std.specs.Prelude.{IfOk, MatchResult};
 ghost use Rattle.cx_rule.specs.Seats.{IsAtLimit};
 ghost use Rattle.cx_table.specs.Calls.{MakesStep};
-ghost use Rattle.cx_table.specs.Seats.{StepsOn};
-ghost use Rattle.mutation_queue.specs.Entries.{Looked, MayRead};
-ghost use Rattle.redo_set.specs.Taking.{CountsTaken};
+ghost use Rattle.mutation_queue.specs.Entries.{Looked, MayReplay};
 ghost use Rattle.replica.specs.Replays.{IsReady};
-ghost use Rattle.replica_sets.specs.Offered.{BringsBySet, LeavesOffered, ReplaysOffered};
+ghost use Rattle.replica_sets.specs.Offered.{BringsOffered, LeavesOffered, ReplaysOffered};
 
 use crate::stored_set::store_set;
 use cx_base::{Halt, Object, link_cell};
@@ -26,13 +24,10 @@ pub fn replay_offered<O: Object>(
     set: &mut WriteSet,
 ) -> Result<bool, Halt>
     requires ready { IsReady O.Object shared.now held.now ticket seat.old }
-    requires may { MayRead shared.now ticket seat.old }
-    requires later { shared.now.base.place ≤ ticket }
+    requires may { MayReplay shared.now ticket seat.old }
     ensures replayed { MatchResult result (ReplaysOffered O.Object shared.now held.now ticket seat.new) (λ _. IsAtLimit seat.new.known.local) }
-    ensures counted { IfOk result (CountsTaken seat.old seat.new) }
-    ensures brought { IfOk result (BringsBySet O.Object shared.now ticket set.new seat.old seat.new) }
+    ensures brought { IfOk result (BringsOffered O.Object shared.now ticket set.new seat.old seat.new) }
     ensures leaves { LeavesOffered shared.now held.now.replica seat.old seat.new }
-    ensures since { StepsOn seat.old seat.new }
 {
     let cell = see_cell(shared, seat, ticket)?;
     let taken = take(shared, seat, cell, ticket, set)?;
@@ -45,8 +40,7 @@ pub fn replay_offered<O: Object>(
 
 /// The cell of a ticket, by one look at its slot.
 fn see_cell<O: Object>(shared: &Shared<O>, seat: &mut CallerSeat, ticket: u64) -> Result<u64, Halt>
-    requires may { MayRead shared.now ticket seat.old }
-    requires later { shared.now.base.place ≤ ticket }
+    requires may { MayReplay shared.now ticket seat.old }
     ensures { MakesStep shared.now seat.old seat.new result (λ cell. Looked shared.now ticket cell seat.old seat.new) }
 {
     let callers = shared.callers();

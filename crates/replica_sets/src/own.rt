@@ -6,7 +6,6 @@ ghost use Rattle.cx_core.specs.QueueEvents.{cell_of};
 ghost use Rattle.cx_core.specs.Region.{region_words};
 ghost use Rattle.cx_rule.specs.Fitting.{IsSetWithin};
 ghost use Rattle.cx_rule.specs.Seats.{IsAtLimit};
-ghost use Rattle.cx_table.specs.Seats.{StepsOn};
 ghost use Rattle.replica.specs.Replays.{ComesNext, IsReady};
 ghost use Rattle.replica.specs.Held.{IsSized, LeavesHeld};
 ghost use Rattle.replica_sets.specs.Offered.{ReplaysOffered};
@@ -77,7 +76,6 @@ pub fn step_and_offer<O: Object>(
     requires next { ComesNext entry.now seat.old }
     ensures applied { MatchResult result (λ _. HasApplied O.Object shared.now held.now (ticket + 1) entry.now.caller reply.new seat.new) (λ _. IsAtLimit seat.new.known.local) }
     ensures leaves { LeavesOwn shared.now held.now.replica seat.old seat.new }
-    ensures since { StepsOn seat.old seat.new }
 {
     let whole = apply_noting(shared, seat, held, entry, set, reply)?;
     if !whole {

@@ -1,16 +1,12 @@
 //! A write set is stored over a replica held exclusively: from the image after its place, by a set with that place as its ticket, to the
 //! image after the next.
 
-ghost use Rattle.std.specs.Prelude.{true, ◌≡◌, ◌+◌, ◌<◌, ◌∷◌, ◌++◌, [], ℕ, OnErr, OnOk, Some};
-ghost use Rattle.cx_base.specs.Memory.{Becomes, Stored};
-ghost use Rattle.cx_core.specs.QueueEvents.{cell_of};
+ghost use Rattle.std.specs.Prelude.{◌≡◌, ◌+◌, ◌<◌, OnErr, OnOk, Some};
 ghost use Rattle.cx_core.specs.Region.{region_words};
-ghost use Rattle.cx_rule.specs.Fitting.{FitsKnown, IsSetWithin};
-ghost use Rattle.redo_set.specs.Sets.{put_over};
-ghost use Rattle.replica.specs.Held.{IsHeld, left_of};
+ghost use Rattle.replica.specs.Held.{IsHeldIn, left_of};
 ghost use Rattle.replica.specs.Regions.{HasPlace};
 ghost use Rattle.replica.specs.Replays.{IsAfterFullStep, IsReady, noted_place};
-ghost use Rattle.replica_sets.specs.Storing.{OwnSetComesNext, SetComesNext, set_stores};
+ghost use Rattle.replica_sets.specs.Storing.{IsPairStored, IsSetStored, OwnSetComesNext, SetComesNext};
 
 use cx_base::{Halt, Object};
 use cx_table::{CallerSeat, Exclusive, Shared};
@@ -27,27 +23,7 @@ pub fn store_set<O: Object>(
 ) -> Result<(), Halt>
     requires ready { IsReady O.Object shared.now held.now (noted_place seat.old) seat.old }
     requires next { SetComesNext (region_words (O.line_count shared.now.object)) set.now seat.old }
-    ensures ready { OnOk result (IsReady O.Object shared.now held.now (noted_place seat.old + 1) seat.new) }
-    ensures done { OnOk result (Becomes (FitsKnown (O.line_count shared.now.object) (O.lawful shared.now.object) shared.now.base (O.step shared.now.object) seat.old.known) (FitsKnown (O.line_count shared.now.object) (O.lawful shared.now.object) shared.now.base (O.step shared.now.object) seat.new.known) (λ before now. now ≡ put_over set.now before)) }
-    ensures stores { OnOk result (seat.new.known.accesses ≡ seat.old.known.accesses ++ set_stores set.now) }
-    ensures halts { OnErr result (left_of seat.new.known.local ≡ Some 0) }
-    ensures leaves { IsAfterFullStep O.Object shared.now held.now seat.old seat.new }
-{
-    put_pairs(shared, seat, held, set)
-}
-
-/// Stores the pairs of a set over a replica held exclusively.
-fn put_pairs<O: Object>(
-    shared: &Shared<O>,
-    seat: &mut CallerSeat,
-    held: &Exclusive,
-    set: &WriteSet,
-) -> Result<(), Halt>
-    requires held { IsHeld (O.line_count shared.now.object) shared.now (O.lawful shared.now.object) (O.step shared.now.object) seat.old held.now }
-    requires begun { HasPlace seat.old.known.accesses }
-    requires within { IsSetWithin (region_words (O.line_count shared.now.object)) set.now }
-    ensures done { OnOk result (Becomes (FitsKnown (O.line_count shared.now.object) (O.lawful shared.now.object) shared.now.base (O.step shared.now.object) seat.old.known) (FitsKnown (O.line_count shared.now.object) (O.lawful shared.now.object) shared.now.base (O.step shared.now.object) seat.new.known) (λ before now. now ≡ put_over set.now before)) }
-    ensures stores { OnOk result (seat.new.known.accesses ≡ seat.old.known.accesses ++ set_stores set.now) }
+    ensures stored { OnOk result (IsSetStored O.Object shared.now held.now set.now seat.old seat.new) }
     ensures halts { OnErr result (left_of seat.new.known.local ≡ Some 0) }
     ensures leaves { IsAfterFullStep O.Object shared.now held.now seat.old seat.new }
 {
@@ -73,23 +49,6 @@ pub fn store_own_set<O: Object>(
     ensures halts { OnErr result (left_of seat.new.known.local ≡ Some 0) }
     ensures leaves { IsAfterFullStep O.Object shared.now held.now seat.old seat.new }
 {
-    put_own_pairs(shared, seat, held, cell)
-}
-
-/// Stores the pairs of the set of an own cell over a replica held exclusively.
-fn put_own_pairs<O: Object>(
-    shared: &Shared<O>,
-    seat: &mut CallerSeat,
-    held: &Exclusive,
-    cell: u64,
-) -> Result<(), Halt>
-    requires held { IsHeld (O.line_count shared.now.object) shared.now (O.lawful shared.now.object) (O.step shared.now.object) seat.old held.now }
-    requires begun { HasPlace seat.old.known.accesses }
-    requires within { (cell < 16) × IsSetWithin (region_words (O.line_count shared.now.object)) (cell_of seat.old.known.local cell).set }
-    ensures done { OnOk result (Becomes (FitsKnown (O.line_count shared.now.object) (O.lawful shared.now.object) shared.now.base (O.step shared.now.object) seat.old.known) (FitsKnown (O.line_count shared.now.object) (O.lawful shared.now.object) shared.now.base (O.step shared.now.object) seat.new.known) (λ before now. now ≡ put_over (cell_of seat.old.known.local cell).set before)) }
-    ensures halts { OnErr result (left_of seat.new.known.local ≡ Some 0) }
-    ensures leaves { IsAfterFullStep O.Object shared.now held.now seat.old seat.new }
-{
     let _steps = seat.steps();
     for m in 0..seat.set_word(cell, 0) {
         let at = seat.set_word(cell, 2 * m + 1);
@@ -107,11 +66,10 @@ fn put_pair<O: Object>(
     at: u64,
     v: u64,
 ) -> Result<(), Halt>
-    requires held { IsHeld (O.line_count shared.now.object) shared.now (O.lawful shared.now.object) (O.step shared.now.object) seat.old held.now }
+    requires held { IsHeldIn O.Object shared.now seat.old held.now }
     requires begun { HasPlace seat.old.known.accesses }
     requires at { at < region_words (O.line_count shared.now.object) }
-    ensures done { OnOk result (Stored at v (FitsKnown (O.line_count shared.now.object) (O.lawful shared.now.object) shared.now.base (O.step shared.now.object) seat.old.known) (FitsKnown (O.line_count shared.now.object) (O.lawful shared.now.object) shared.now.base (O.step shared.now.object) seat.new.known)) }
-    ensures stores { OnOk result (seat.new.known.accesses ≡ seat.old.known.accesses ++ (true, at, v) ∷ []) }
+    ensures stored { OnOk result (IsPairStored O.Object shared.now at v seat.old seat.new) }
     ensures halts { OnErr result (left_of seat.new.known.local ≡ Some 0) }
     ensures leaves { IsAfterFullStep O.Object shared.now held.now seat.old seat.new }
 {

@@ -4,7 +4,7 @@
 ghost use Rattle.std.specs.Prelude.{◌≡◌, None, OnOk};
 ghost use Rattle.cx_core.specs.declared.kinds.Kind.TheVariants.{BackOff, ReleaseExclusive};
 ghost use Rattle.cx_core.specs.LockEvents.{IsClean};
-ghost use Rattle.cx_table.specs.Fitting.{IsReplayed, IsReplayedToPlace};
+ghost use Rattle.cx_rule.specs.Stores.{IsReplayedIn, IsReplayedToPlaceIn};
 ghost use Rattle.cx_table.specs.Calls.{MakesStep};
 ghost use Rattle.cx_table.specs.Tokens.{IsDowngradedOf, IsExclusiveOf, IsSharedOf};
 ghost use Rattle.strong_trylock.specs.Ends.{Downgrades, Ends, but_downgraded};
@@ -22,7 +22,7 @@ pub fn downgrade<O: Object>(
 ) -> Result<Downgraded, Halt>
     requires held { HasRight IsExclusiveOf shared.now seat.old held }
     requires clean { IsClean shared.now.callers held.replica seat.old.known.local }
-    requires replayed { IsReplayedToPlace shared.now.lines (O.lawful shared.now.object) shared.now.base (O.step shared.now.object) seat.old.known }
+    requires replayed { IsReplayedToPlaceIn O.Object shared.now seat.old.known }
     ensures { MakesStep shared.now seat.old seat.new result (λ token. Downgrades shared.now O.step O.only_reads held.replica seat.old seat.new token) }
 {
     let (_found, token) = shared.downgrade(seat, held)?;
@@ -38,7 +38,7 @@ pub fn release<O: Object>(
 ) -> Result<(), Halt>
     requires held { HasRight IsExclusiveOf shared.now seat.old held }
     requires clean { IsClean shared.now.callers held.replica seat.old.known.local }
-    requires replayed { IsReplayed shared.now.lines (O.lawful shared.now.object) shared.now.base (O.step shared.now.object) seat.old.known }
+    requires replayed { IsReplayedIn O.Object shared.now seat.old.known }
     ensures { MakesStep shared.now seat.old seat.new result (λ _. Ends shared.now O.step O.only_reads (ReleaseExclusive held.replica) (record (all_rights seat.old) { exclusive = None }) seat.old seat.new) }
 {
     shared.release_exclusive(seat, held)?;

@@ -2,8 +2,8 @@
 
 ghost use Rattle.std.specs.Prelude.{IfOk, OnErr, OnOk};
 ghost use Rattle.cx_core.specs.declared.kinds.Kind.TheVariants.{TryExclusive, TryShared};
+ghost use Rattle.cx_rule.specs.Stores.{FittingIn};
 ghost use Rattle.cx_table.specs.Calls.{MakesFittingStep, MayStep};
-ghost use Rattle.cx_table.specs.Fitting.{Fitting};
 ghost use Rattle.strong_trylock.specs.Tries.{HaltsShared, TriesExclusive, TriesShared};
 
 use cx_base::{Halt, Object};
@@ -55,7 +55,7 @@ pub fn try_shared<O: Object>(
 ) -> Result<SharedTried, Halt>
     requires { MayStep O.Object shared.now (TryShared r) seat.old }
     ensures tried { IfOk result (λ tried. TriesShared shared.now O.step O.only_reads r seat.old seat.new tried) }
-    ensures fits { OnOk result (Fitting shared.now.lines (O.lawful shared.now.object) shared.now.base (O.step shared.now.object) seat.new.known) }
+    ensures fits { OnOk result (FittingIn O.Object shared.now seat.new.known) }
     ensures halted { OnErr result (HaltsShared shared.now O.step O.only_reads r seat.old seat.new) }
 {
     let (found, token) = shared.try_shared(seat, r as u64)?;

@@ -3,7 +3,7 @@ use Rattle.cx_core.specs.declared.kinds.Kind.TheVariants.{WriteCell}
 use Rattle.cx_core.specs.QueueEvents.{cell_of, next_number}
 use Rattle.cx_table.specs.Steps.{Steps}
 use Rattle.mutation_queue.proofs.Results.{on_err}
-use Rattle.mutation_queue.proofs.Writes.{HasTo, announces, halts_at, has_first, has_new, has_run}
+use Rattle.mutation_queue.proofs.Writes.{HasTo, announced_ready, announces, halts_at, has_first, has_new, has_run}
 use Rattle.mutation_queue.proofs.announcement.announce.Goals as goal
 
 pub loop-at-init : goal.loop-at-init
@@ -66,5 +66,5 @@ returns-clause-announced g c =
     let s = c.args.seat.now in
     let words = next_number c.args.shared.now.base s.known.local ∷ c.args.op.now in
     let end : c.loop-at.at ≡ 144 = omega (arith, c.loop-at-test.false, c.loop-at.invariant.most) in
-    announces s c.args.cell words c.next_number-number.ensures.cells c.requires.may.few (omega (arith, c.told-op)) c.loop-at.seat
-    (subst (λ n. HasTo c.args.cell words n s c.loop-at.seat) end c.loop-at.invariant.to)
+    let done = announces s c.args.cell words c.next_number-number.ensures.cells c.requires.may.few (omega (arith, c.told-op)) c.loop-at.seat (subst (λ n. HasTo c.args.cell words n s c.loop-at.seat) end c.loop-at.invariant.to) in
+    record { announces = done; ready = (announced_ready c.args.shared.now c.args.cell c.args.op.now s c.loop-at.seat done c.requires.may.of).0 }

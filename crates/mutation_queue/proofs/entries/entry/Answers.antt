@@ -10,9 +10,11 @@ returns-in_err-read_words-clause-halted g c =
 
 pub returns-clause-read : goal.returns-clause-read
 returns-clause-read g c =
-    reads_entry g.O.Object c.args.shared.now (c.in_ok-cell.cell / 16) c.args.ticket c.in_ok-cell.cell c.read_words.new.into c.args.seat.now c.find_cell.new.seat c.read_words.new.seat
-    c.in_ok-cell.ensures.made c.in_ok-read_words.ensures.read c.read_words.array_long
-
-pub returns-clause-entry : goal.returns-clause-entry
-returns-clause-entry g c =
-    notes_entry g.O.Object c.args.shared.now (c.in_ok-cell.cell / 16) c.args.ticket c.read_words.new.into c.args.seat.now c.read_words.new.seat c.in_ok-read_words.ensures.read.fits c.requires.later c.in_ok-cell.ensures.made.small (returns-clause-read g c)
+    let caller = c.in_ok-cell.cell / 16 in
+    let found = c.read_words.new.into in
+    let s = c.args.seat.now in
+    let t = c.read_words.new.seat in
+    let look = c.in_ok-cell.ensures.made in
+    let read = c.in_ok-read_words.ensures.read in
+    let words = reads_entry g.O.Object c.args.shared.now caller c.args.ticket c.in_ok-cell.cell found s c.find_cell.new.seat t look read c.read_words.array_long in
+    record { words = words; notes = notes_entry g.O.Object c.args.shared.now caller c.args.ticket found s t read.fits c.requires.may.later look.small words }

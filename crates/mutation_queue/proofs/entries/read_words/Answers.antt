@@ -1,4 +1,4 @@
-use Rattle.std.proofs.Common.{◌/◌, subst, arith, refl, OnErr, OnOk}
+use Rattle.std.proofs.Common.{◌/◌, subst, arith, OnErr, OnOk}
 use Rattle.cx_table.specs.Seats.{Seated}
 use Rattle.mutation_queue.specs.Entries.{HaltsAmong, ReadsWords}
 use Rattle.mutation_queue.proofs.EntryReads.{run_read}

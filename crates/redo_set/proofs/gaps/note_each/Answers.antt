@@ -4,7 +4,7 @@ use Rattle.cx_core.specs.Gaps.{gap_of}
 use Rattle.cx_core.specs.State.{one_more}
 use Rattle.cx_rule.specs.Seats.{Seated}
 use Rattle.redo_set.specs.Gaps.{LeavesGap, NotesGaps, steps_on}
-use Rattle.redo_set.proofs.GapCounts.{steps_next, steps_since}
+use Rattle.redo_set.proofs.GapCounts.{steps_next}
 use Rattle.redo_set.proofs.GapEnds.{begins_at, noting_more, noting_none, told_gap}
 use Rattle.redo_set.proofs.gaps.note_each.Goals as goal
 
@@ -47,13 +47,3 @@ pub returns-clause-noted : goal.returns-clause-noted
 returns-clause-noted g c =
     let all : c.loop-k.k ≡ length c.args.ends.now = omega (arith, c.loop-k-test.false, c.loop-k.auto.k-end) in
     c.loop-k.invariant.steps ∙ ap (λ n. steps_on n c.args.seat.now.known.local.steps) all
-
-pub returns-in_err-note_gap-clause-since : goal.returns-in_err-note_gap-clause-since
-returns-in_err-note_gap-clause-since g c =
-    let is = ap (λ (s : Seated). s.known.local.steps) c.in_err-note_gap.ensures.halted.same ∙ c.loop-k.invariant.steps in
-    omega (arith, is, steps_since c.loop-k.k c.args.seat.now.known.local.steps)
-
-pub returns-clause-since : goal.returns-clause-since
-returns-clause-since g c =
-    let is = c.loop-k.invariant.steps in
-    omega (arith, is, steps_since c.loop-k.k c.args.seat.now.known.local.steps)

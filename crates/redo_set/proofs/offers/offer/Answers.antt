@@ -3,9 +3,9 @@ use Rattle.std.proofs.lemmas.Option.{slice_get-get_or}
 use Rattle.cx_core.specs.QueueEvents.{cell_of}
 use Rattle.cx_rule.specs.Running.{IsSeatOf, instance_at}
 use Rattle.cx_rule.specs.Seats.{Seated}
+use Rattle.cx_rule.proofs.Stepping.{on_same, on_then, on_then_one}
 use Rattle.redo_set.specs.Offering.{OffersSet}
 use Rattle.redo_set.proofs.Offerings.{HasWritten, no_cell, offered_now, offers_still, put_can, tells_written, writes_of, writes_still, written_kept, written_more, written_none}
-use Rattle.redo_set.proofs.Takings.{one_since}
 use Rattle.redo_set.proofs.offers.offer.Goals as goal
 
 pub loop-i-init : goal.loop-i-init
@@ -39,8 +39,8 @@ loop-i-preserved g c =
       ];
       of = elim c.in_ok-write_differing.ensures.made [ inl same ↦ subst (IsSeatOf c.args.shared.now) (sym same.1) c.loop-i.invariant.of | inr made ↦ made.seat ];
       since = elim c.in_ok-write_differing.ensures.made [
-        | inl same ↦ (let is = ap (λ (x : Seated). x.known.local.steps) same.1 in let was = c.loop-i.invariant.since in omega (arith, is, was))
-        | inr made ↦ one_since s c.loop-i.seat c.write_differing.new.seat c.loop-i.invariant.since (ap (λ (x : Seated). x.known.local.steps) made.made)
+        | inl same ↦ on_then s c.loop-i.seat c.write_differing.new.seat c.loop-i.invariant.since (on_same c.loop-i.seat c.write_differing.new.seat same.1)
+        | inr made ↦ on_then_one s c.loop-i.seat c.write_differing.new.seat c.loop-i.invariant.since (ap (λ (x : Seated). x.known.local.steps) made.made)
       ];
     }
 
@@ -59,17 +59,29 @@ offer-requires-clause-told g c =
     tells_written c.args.seat.now c.args.cell c.requires.may.can c.number.ensures.cells r.lines (g.O.Object.lawful r.object) r.base (g.O.Object.step r.object) c.args.ticket c.args.set.now c.loop-i.seat c.requires.may.named
     (all_written c.loop-i.i c.len.result (slice_index c.args.set.now 0) c.args.cell c.args.set.now c.args.seat.now c.loop-i.seat c.loop-i-test.false c.loop-i.auto.i-end c.len.ensures.count c.loop-i.invariant.written) c.requires.told
 
-pub returns-in_err-write_differing-clause-has : goal.returns-in_err-write_differing-clause-has
-returns-in_err-write_differing-clause-has g c =
+pub returns-in_err-write_differing-clause-leaves : goal.returns-in_err-write_differing-clause-leaves
+returns-in_err-write_differing-clause-leaves g c =
     let s = c.args.seat.now in
     let cells = c.number.ensures.cells in
-    writes_still s c.args.cell c.requires.may.can cells c.write_differing.new.seat (writes_of s c.args.cell c.requires.may.can cells c.args.set.now c.loop-i.i c.loop-i.seat c.write_differing.new.seat c.loop-i.invariant.written c.in_err-write_differing.ensures.halted.same)
+    let t = c.write_differing.new.seat in
+    let halted = c.in_err-write_differing.ensures.halted in
+    record {
+      has = writes_still s c.args.cell c.requires.may.can cells t (writes_of s c.args.cell c.requires.may.can cells c.args.set.now c.loop-i.i c.loop-i.seat t c.loop-i.invariant.written halted.same);
+      of = halted.seat;
+      since = on_then s c.loop-i.seat t c.loop-i.invariant.since (on_same c.loop-i.seat t halted.same);
+    }
 
-pub returns-in_err-offer-clause-has : goal.returns-in_err-offer-clause-has
-returns-in_err-offer-clause-has g c =
+pub returns-in_err-offer-clause-leaves : goal.returns-in_err-offer-clause-leaves
+returns-in_err-offer-clause-leaves g c =
     let s = c.args.seat.now in
     let cells = c.number.ensures.cells in
-    writes_still s c.args.cell c.requires.may.can cells c.offer.new.seat (writes_of s c.args.cell c.requires.may.can cells c.args.set.now c.loop-i.i c.loop-i.seat c.offer.new.seat c.loop-i.invariant.written c.in_err-offer.ensures.halted.same)
+    let t = c.offer.new.seat in
+    let halted = c.in_err-offer.ensures.halted in
+    record {
+      has = writes_still s c.args.cell c.requires.may.can cells t (writes_of s c.args.cell c.requires.may.can cells c.args.set.now c.loop-i.i c.loop-i.seat t c.loop-i.invariant.written halted.same);
+      of = halted.seat;
+      since = on_then s c.loop-i.seat t c.loop-i.invariant.since (on_same c.loop-i.seat t halted.same);
+    }
 
 -- what was offered
 offers : (g : _) (c : goal.In_ok-offer g) → OffersSet c.args.cell c.args.ticket c.args.set.now c.args.seat.now c.offer.new.seat
@@ -78,22 +90,13 @@ offers g c =
     (all_written c.loop-i.i c.len.result (slice_index c.args.set.now 0) c.args.cell c.args.set.now c.args.seat.now c.loop-i.seat c.loop-i-test.false c.loop-i.auto.i-end c.len.ensures.count c.loop-i.invariant.written) c.in_ok-offer.ensures.made.made
 
 pub returns-clause-offered : goal.returns-clause-offered
-returns-clause-offered g c = offers g c
+returns-clause-offered g c = record { offers = offers g c; fits = c.in_ok-offer.ensures.fits }
 
-pub returns-clause-has : goal.returns-clause-has
-returns-clause-has g c = offers_still c.args.seat.now c.args.cell c.requires.may.can c.number.ensures.cells c.args.ticket c.args.set.now c.offer.new.seat (offers g c)
-
-pub returns-in_err-write_differing-clause-since : goal.returns-in_err-write_differing-clause-since
-returns-in_err-write_differing-clause-since g c =
-    let same = ap (λ (x : Seated). x.known.local.steps) c.in_err-write_differing.ensures.halted.same in
-    let was = c.loop-i.invariant.since in
-    omega (arith, same, was)
-
-pub returns-in_err-offer-clause-since : goal.returns-in_err-offer-clause-since
-returns-in_err-offer-clause-since g c =
-    let same = ap (λ (x : Seated). x.known.local.steps) c.in_err-offer.ensures.halted.same in
-    let was = c.loop-i.invariant.since in
-    omega (arith, same, was)
-
-pub returns-clause-since : goal.returns-clause-since
-returns-clause-since g c = one_since c.args.seat.now c.loop-i.seat c.offer.new.seat c.loop-i.invariant.since (ap (λ (x : Seated). x.known.local.steps) c.in_ok-offer.ensures.made.made)
+pub returns-clause-leaves : goal.returns-clause-leaves
+returns-clause-leaves g c =
+    let made = c.in_ok-offer.ensures.made in
+    record {
+      has = offers_still c.args.seat.now c.args.cell c.requires.may.can c.number.ensures.cells c.args.ticket c.args.set.now c.offer.new.seat (offers g c);
+      of = made.seat;
+      since = on_then_one c.args.seat.now c.loop-i.seat c.offer.new.seat c.loop-i.invariant.since (ap (λ (x : Seated). x.known.local.steps) made.made);
+    }

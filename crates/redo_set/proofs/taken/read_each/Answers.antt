@@ -4,10 +4,11 @@ use Rattle.cx_core.specs.declared.kinds.Kind.TheVariants.{ReadSet}
 use Rattle.cx_core.specs.Events.{Guard}
 use Rattle.cx_rule.specs.Running.{instance_at}
 use Rattle.cx_rule.specs.Seats.{Seated, unseen}
+use Rattle.cx_rule.proofs.Stepping.{on_then_one}
 use Rattle.cx_table.proofs.Runs.{take_set}
-use Rattle.redo_set.specs.Taking.{ReadsSetWords}
+use Rattle.redo_set.specs.Taking.{LeavesTaking, ReadsSetWords}
 use Rattle.redo_set.proofs.Results.{on_err}
-use Rattle.redo_set.proofs.Takings.{fewer_so, one_since, words_more, words_none}
+use Rattle.redo_set.proofs.Takings.{fewer_so, leaves_read, words_more, words_none}
 use Rattle.redo_set.proofs.taken.read_each.Goals as goal
 
 pub loop-i-init : goal.loop-i-init
@@ -31,19 +32,24 @@ loop-i-preserved g c =
           (words_more g.O.Object c.args.shared.now c.args.cell c.args.ticket 1 (take i c.loop-i.into) v (1 + i) c.args.seat.now c.loop-i.seat c.read_set.new.seat c.loop-i.invariant.read (omega (arith, length-take i c.loop-i.into, below)) ok.made.made ok.fits);
       long = length-set c.loop-i.into i v ∙ c.loop-i.invariant.long;
       of = ok.made.seat;
-      since = one_since c.args.seat.now c.loop-i.seat c.read_set.new.seat c.loop-i.invariant.since (ap (λ (s : Seated). s.known.local.steps) ok.made.made);
+      since = on_then_one c.args.seat.now c.loop-i.seat c.read_set.new.seat c.loop-i.invariant.since (ap (λ (s : Seated). s.known.local.steps) ok.made.made);
     }
 
-pub returns-in_err-into-clause-due : goal.returns-in_err-into-clause-due
-returns-in_err-into-clause-due g c =
+pub returns-in_err-into-clause-halted : goal.returns-in_err-into-clause-halted
+returns-in_err-into-clause-halted g c =
     let i = c.loop-i.i in
     let below : i < length c.args.into.now = c.loop-i-test.true in
     let inv = c.loop-i.invariant in
     on_err c.from_residual.result _
-    (fewer_so c.args.ticket 1 (length c.args.into.now) (take i c.loop-i.into) c.args.seat.now c.loop-i.seat c.read_set.new.seat (omega (arith, length-take i c.loop-i.into, below, inv.long)) inv.read.seat c.in_err-into.ensures.halted.same)
+    (fewer_so c.args.shared.now c.args.ticket 1 (length c.args.into.now) (take i c.loop-i.into) c.args.seat.now c.loop-i.seat c.read_set.new.seat (omega (arith, length-take i c.loop-i.into, below, inv.long)) inv.read.seat c.in_err-into.ensures.halted)
 
-pub returns-in_err-into-clause-since : goal.returns-in_err-into-clause-since
-returns-in_err-into-clause-since g c =
-    let same = ap (λ (s : Seated). s.known.local.steps) c.in_err-into.ensures.halted.same in
-    let was = c.loop-i.invariant.since in
-    omega (arith, same, was)
+pub returns-in_err-into-clause-leaves : goal.returns-in_err-into-clause-leaves
+returns-in_err-into-clause-leaves g c =
+    let inv = c.loop-i.invariant in
+    subst (LeavesTaking c.args.shared.now c.args.seat.now) (sym c.in_err-into.ensures.halted.same)
+    (leaves_read g.O.Object c.args.shared.now c.args.ticket 1 (take c.loop-i.i c.loop-i.into) c.args.seat.now c.loop-i.seat inv.read inv.of inv.since)
+
+pub returns-clause-leaves : goal.returns-clause-leaves
+returns-clause-leaves g c =
+    let inv = c.loop-i.invariant in
+    leaves_read g.O.Object c.args.shared.now c.args.ticket 1 (take c.loop-i.i c.loop-i.into) c.args.seat.now c.loop-i.seat inv.read inv.of inv.since

@@ -1,8 +1,7 @@
-use Rattle.std.proofs.Common.{length, refl, subst, sym, OnErr, OnOk, ℕ}
+use Rattle.std.proofs.Common.{length, subst, sym, OnErr, OnOk, ℕ}
 use Rattle.cx_rule.specs.Seats.{Seated}
-use Rattle.cx_table.specs.Seats.{StepsOn}
-use Rattle.redo_set.specs.Taking.{LeavesTaking, MayReadSet, ReadsFewer, ReadsSetWords, set_notes}
-use Rattle.redo_set.proofs.Takings.{leaves_of, run_since, run_words}
+use Rattle.redo_set.specs.Taking.{HaltsReadingSet, LeavesTaking, MayReadSet, ReadsSetWords}
+use Rattle.redo_set.proofs.Takings.{leaves_read, run_since, run_words}
 use Rattle.redo_set.proofs.taken.read_words.Goals as goal
 
 pub returns-then-read_set_words-clause-read : goal.returns-then-read_set_words-clause-read
@@ -11,8 +10,12 @@ returns-then-read_set_words-clause-read g c =
 
 pub returns-then-read_set_words-clause-leaves : goal.returns-then-read_set_words-clause-leaves
 returns-then-read_set_words-clause-leaves g c =
-    let read = run_words g.O.Object c.args.shared.now c.args.cell c.args.ticket 1 c.read_set_words.new.into c.args.seat.now c.read_set_words.new.seat c.if-read_set_words.ensures.run in
-    leaves_of c.args.seat.now.known.local.seen_offer c.read_set_words.new.seat.known.local.steps (set_notes c.args.ticket 1 c.read_set_words.new.into) c.args.seat.now c.read_set_words.new.seat read.seat
+    let r = c.args.shared.now in
+    let words = c.read_set_words.new.into in
+    let s = c.args.seat.now in
+    let t = c.read_set_words.new.seat in
+    let run = c.if-read_set_words.ensures.run in
+    leaves_read g.O.Object r c.args.ticket 1 words s t (run_words g.O.Object r c.args.cell c.args.ticket 1 words s t run) c.read_set_words.ensures.seat (run_since g.O.Object r c.args.cell c.args.ticket 1 words s t run)
 
 pub read_each-requires-clause-may : goal.read_each-requires-clause-may
 read_each-requires-clause-may g c = subst (MayReadSet g.O.Object c.args.shared.now c.args.cell c.args.ticket) (sym c.if-read_set_words.ensures.run.0) c.requires.may
@@ -22,16 +25,9 @@ returns-clause-read g c =
     subst (λ (s : Seated). OnOk c.read_each.result (ReadsSetWords g.O.Object c.args.shared.now c.args.ticket 1 c.read_each.new.into s c.read_each.new.seat)) c.if-read_set_words.ensures.run.0 c.read_each.ensures.read
 
 pub returns-clause-leaves : goal.returns-clause-leaves
-returns-clause-leaves g c = subst (λ (s : Seated). LeavesTaking s c.read_each.new.seat) c.if-read_set_words.ensures.run.0 c.read_each.ensures.leaves
+returns-clause-leaves g c = subst (λ (s : Seated). LeavesTaking c.args.shared.now s c.read_each.new.seat) c.if-read_set_words.ensures.run.0 c.read_each.ensures.leaves
 
-pub returns-clause-due : goal.returns-clause-due
-returns-clause-due g c =
-    subst (λ (n : ℕ). OnErr c.read_each.result (ReadsFewer c.args.ticket 1 n c.args.seat.now c.read_each.new.seat)) c.if-read_set_words.ensures.length
-    (subst (λ (s : Seated). OnErr c.read_each.result (ReadsFewer c.args.ticket 1 (length c.read_set_words.new.into) s c.read_each.new.seat)) c.if-read_set_words.ensures.run.0 c.read_each.ensures.due)
-
-pub returns-then-read_set_words-clause-since : goal.returns-then-read_set_words-clause-since
-returns-then-read_set_words-clause-since g c =
-    run_since g.O.Object c.args.shared.now c.args.cell c.args.ticket 1 c.read_set_words.new.into c.args.seat.now c.read_set_words.new.seat c.if-read_set_words.ensures.run
-
-pub returns-clause-since : goal.returns-clause-since
-returns-clause-since g c = subst (λ (s : Seated). StepsOn s c.read_each.new.seat) c.if-read_set_words.ensures.run.0 c.read_each.ensures.since
+pub returns-clause-halted : goal.returns-clause-halted
+returns-clause-halted g c =
+    subst (λ (n : ℕ). OnErr c.read_each.result (HaltsReadingSet c.args.ticket 1 n c.args.seat.now c.read_each.new.seat)) c.if-read_set_words.ensures.length
+    (subst (λ (s : Seated). OnErr c.read_each.result (HaltsReadingSet c.args.ticket 1 (length c.read_set_words.new.into) s c.read_each.new.seat)) c.if-read_set_words.ensures.run.0 c.read_each.ensures.halted)

@@ -1,6 +1,6 @@
 use Rattle.std.proofs.Common.{◌+◌, ap, subst, sym, arith}
 use Rattle.cx_rule.specs.Seats.{Seated}
-use Rattle.replica.specs.Copies.{HoldsBoth}
+use Rattle.replica.specs.Copies.{HoldsBothIn}
 use Rattle.replica.specs.Replays.{noted_place}
 use Rattle.replica.proofs.Listing.{both_loaded, listed_marks}
 use Rattle.replica.proofs.by_lines.mark_listed.Goals as goal
@@ -14,7 +14,7 @@ pub returns-clause-both : goal.returns-clause-both
 returns-clause-both g c =
     let t = c.args.shared.now in
     both_loaded g.O.Object t c.args.held.now c.args.source.now c.some_dirty.new.self c.mark_changed.new.seat c.mark_changed.ensures.leaves
-    (subst (λ (s : Seated). HoldsBoth (g.O.Object.line_count t.object) t (g.O.Object.lawful t.object) (g.O.Object.step t.object) s c.args.held.now c.args.source.now) (sym c.some_dirty.ensures.same) c.requires)
+    (subst (λ (s : Seated). HoldsBothIn g.O.Object t s c.args.held.now c.args.source.now) (sym c.some_dirty.ensures.same) c.requires)
 
 pub returns-clause-steps : goal.returns-clause-steps
 returns-clause-steps g c =
@@ -22,9 +22,3 @@ returns-clause-steps g c =
     let place = ap (λ (s : Seated). noted_place s) c.some_dirty.ensures.same in
     let most = c.mark_changed.ensures.steps in
     omega (arith, same, place, most, c.noted_place-from.ensures, c.callers.ensures.value, c.if-to-from.false)
-
-pub returns-clause-since : goal.returns-clause-since
-returns-clause-since g c =
-    let same = ap (λ (s : Seated). s.known.local.steps) c.some_dirty.ensures.same in
-    let more = c.mark_changed.ensures.leaves.since in
-    omega (arith, same, more)

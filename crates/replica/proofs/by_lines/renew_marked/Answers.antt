@@ -1,8 +1,8 @@
-use Rattle.std.proofs.Common.{◌≡◌, rules, arith, refl, ap, ◌∙◌}
-use Rattle.cx_core.specs.State.{one_more}
-use Rattle.cx_rule.specs.Seats.{Seated}
+use Rattle.std.proofs.Common.{◌*◌, arith, refl}
+use Rattle.cx_core.specs.Region.{region_words}
 use Rattle.replica.proofs.Listing.{listed_from}
-use Rattle.replica.proofs.Renewing.{released_steps, renewed_held, renewed_image, renewed_place}
+use Rattle.replica.proofs.Renewing.{copied_within, release_halts, released_within, renewed}
+use Rattle.replica.proofs.Runs.{on_err}
 use Rattle.replica.proofs.by_lines.renew_marked.Goals as goal
 
 pub release_listed-requires-clause-listed : goal.release_listed-requires-clause-listed
@@ -12,49 +12,26 @@ release_listed-requires-clause-listed g c =
 
 pub returns-clause-renewed : goal.returns-clause-renewed
 returns-clause-renewed g c =
-    let t = c.args.shared.now in
-    let lines = g.O.Object.line_count t.object in
-    let lawful = g.O.Object.lawful t.object in
-    let step = g.O.Object.step in
-    let reads = g.O.Object.only_reads in
-    let found = c.in_ok-release_listed.field-0 in
-    let mid = c.copy_marked.new.seat in
-    let last = c.release_listed.new.seat in
-    let made = c.in_ok-place.ensures.copied in
-    let place = made.copied.agree 0 (omega arith) refl in
-    let both = c.in_ok-place.ensures.leaves.both in
-    let released = c.in_ok-release_listed.ensures.step.made in
-    let image = renewed_image lines t step reads lawful c.args.held.now c.args.source found mid last both released place in
-    record {
-      ready = record {
-        is_held = renewed_held lines t step reads lawful c.args.held.now c.args.source found mid last both released c.in_ok-release_listed.ensures.held c.in_ok-release_listed.ensures.step.fits;
-        image = image.0;
-        place = image.1 ∙ made.place;
-      };
-      placed = λ p has. renewed_place lines t step reads lawful c.args.held.now c.args.source found mid last both released p place (made.copied.loaded (0, p) has);
-      rest = search rules;
-    }
+    let copied = c.in_ok-place.ensures.copied in
+    let released = c.in_ok-release_listed.ensures in
+    renewed g.O.Object c.args.shared.now c.args.held.now c.args.source c.args.seat.now c.copy_marked.new.seat c.release_listed.new.seat c.copy_marked.ensures.leaves c.in_ok-release_listed.field-0 c.in_ok-place.place
+    released.step.made released.held released.step.fits (copied.copied.agree 0 (omega arith) refl) copied.copied.loaded copied.place
 
-pub returns-in_err-release_listed-clause-steps : goal.returns-in_err-release_listed-clause-steps
-returns-in_err-release_listed-clause-steps g c =
-    let before = c.copy_marked.ensures.bound in
-    let most = ap (λ (s : Seated). s.known.local.steps) c.in_err-release_listed.ensures.step.halted.same in
-    omega (arith, before, most)
+pub returns-in_err-place-clause-halted : goal.returns-in_err-place-clause-halted
+returns-in_err-place-clause-halted g c = on_err c.from_residual.result _ (record { rest = c.copy_marked.ensures.leaves.rest; limit = c.in_err-place.ensures.halts })
 
-pub returns-clause-steps : goal.returns-clause-steps
-returns-clause-steps g c =
-    let before = c.copy_marked.ensures.bound in
-    let most : c.release_listed.new.seat.known.local.steps ≡ one_more c.copy_marked.new.seat.known.local.steps = ap (λ (s : Seated). s.known.local.steps) c.in_ok-release_listed.ensures.step.made.made ∙ released_steps c.args.source.replica c.copy_marked.new.seat.known.local in
-    omega (arith, before, most)
+pub returns-in_err-release_listed-clause-halted : goal.returns-in_err-release_listed-clause-halted
+returns-in_err-release_listed-clause-halted g c =
+    on_err c.from_residual-in_err-release_listed.result _ (release_halts g.O.Object c.args.shared.now c.args.held.now c.args.source c.args.seat.now c.copy_marked.new.seat c.release_listed.new.seat c.copy_marked.ensures.leaves c.in_err-release_listed.ensures.step.halted)
 
-pub returns-in_err-release_listed-clause-since : goal.returns-in_err-release_listed-clause-since
-returns-in_err-release_listed-clause-since g c =
-    let before = c.copy_marked.ensures.leaves.since in
-    let same = ap (λ (s : Seated). s.known.local.steps) c.in_err-release_listed.ensures.step.halted.same in
-    omega (arith, before, same)
+pub returns-in_err-place-clause-within : goal.returns-in_err-place-clause-within
+returns-in_err-place-clause-within g c =
+    copied_within g.O.Object c.args.shared.now c.args.held.now c.args.source c.args.seat.now c.copy_marked.new.seat c.copy_marked.new.seat c.copy_marked.ensures.leaves (3 * region_words (g.O.Object.line_count c.args.shared.now.object)) c.copy_marked.ensures.bound
 
-pub returns-clause-since : goal.returns-clause-since
-returns-clause-since g c =
-    let before = c.copy_marked.ensures.leaves.since in
-    let one : c.release_listed.new.seat.known.local.steps ≡ one_more c.copy_marked.new.seat.known.local.steps = ap (λ (s : Seated). s.known.local.steps) c.in_ok-release_listed.ensures.step.made.made ∙ released_steps c.args.source.replica c.copy_marked.new.seat.known.local in
-    omega (arith, before, one)
+pub returns-in_err-release_listed-clause-within : goal.returns-in_err-release_listed-clause-within
+returns-in_err-release_listed-clause-within g c =
+    released_within g.O.Object c.args.shared.now c.args.held.now c.args.source c.args.seat.now c.copy_marked.new.seat c.release_listed.new.seat c.copy_marked.ensures.leaves (3 * region_words (g.O.Object.line_count c.args.shared.now.object)) c.copy_marked.ensures.bound c.release_listed.result c.release_listed.ensures.step
+
+pub returns-clause-within : goal.returns-clause-within
+returns-clause-within g c =
+    released_within g.O.Object c.args.shared.now c.args.held.now c.args.source c.args.seat.now c.copy_marked.new.seat c.release_listed.new.seat c.copy_marked.ensures.leaves (3 * region_words (g.O.Object.line_count c.args.shared.now.object)) c.copy_marked.ensures.bound c.release_listed.result c.release_listed.ensures.step

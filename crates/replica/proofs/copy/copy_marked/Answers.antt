@@ -59,8 +59,8 @@ loop-line-preserved g c =
       both = c.copy_unskipped.ensures.leaves.both;
       copied = subst (λ n. IsCopiedTo (skips_by c.args.all c.args.marks.now) n (region_words lines) c.args.seat.now.known c.copy_unskipped.new.seat.known) next
           (c.in_ok-copy_unskipped.ensures.copied (region_words lines) c.args.seat.now.known (omega (arith, long, count, c.piece_lines-count.ensures.left)) was.copied);
-      counts = loads_on (16 * line) (2 * length (take (8 * some) c.loop-line.held_words)) (16 * (line + some)) c.args.seat.now.known c.loop-line.seat.known c.copy_unskipped.new.seat.known (omega (arith, long)) was.counts c.in_ok-copy_unskipped.ensures.steps;
-      bound = (let before = was.bound in let most = c.copy_unskipped.ensures.bound in omega (arith, before, most, long));
+      counts = loads_on (16 * line) (2 * length (take (8 * some) c.loop-line.held_words)) (16 * (line + some)) c.args.seat.now.known c.loop-line.seat.known c.copy_unskipped.new.seat.known (omega (arith, long)) was.counts c.in_ok-copy_unskipped.ensures.ends.counts;
+      bound = (let before = was.bound in let most = c.copy_unskipped.ensures.ends.bound in omega (arith, before, most, long));
       since = (let before = was.since in let more = c.copy_unskipped.ensures.leaves.since in omega (arith, before, more));
       rest = c.copy_unskipped.ensures.leaves.rest ∙ was.rest;
       within = c.piece_lines-count.ensures.left;
@@ -79,7 +79,7 @@ returns-in_err-copy_unskipped-clause-steps g c =
     let long = length-take-le (8 * some) c.loop-line.held_words within in
     at_err _ c.from_residual.result (EndsCopy (2 * region) region c.args.seat.now.known c.copy_unskipped.new.seat.known) c.from_residual.ensures.1
     (λ e. short_on (16 * c.loop-line.line) (2 * length (take (8 * some) c.loop-line.held_words)) (2 * region) region c.args.seat.now.known c.loop-line.seat.known c.copy_unskipped.new.seat.known
-    (omega (arith, long, count, c.piece_lines-count.ensures.left)) c.loop-line.invariant.counts c.in_err-copy_unskipped.ensures.steps)
+    (omega (arith, long, count, c.piece_lines-count.ensures.left)) c.loop-line.invariant.counts c.in_err-copy_unskipped.ensures.ends.counts)
 
 pub returns-clause-steps : goal.returns-clause-steps
 returns-clause-steps g c =
@@ -95,7 +95,7 @@ returns-in_err-copy_unskipped-clause-bound g c =
     let within : 8 * some ≤ length c.loop-line.held_words = omega (arith, c.piece_lines-count.ensures.few, c.loop-line.invariant.held_long) in
     let long = length-take-le (8 * some) c.loop-line.held_words within in
     let before = c.loop-line.invariant.bound in
-    let most = c.copy_unskipped.ensures.bound in
+    let most = c.copy_unskipped.ensures.ends.bound in
     omega (arith, before, most, long, count, c.piece_lines-count.ensures.left)
 
 pub returns-clause-bound : goal.returns-clause-bound

@@ -1,14 +1,14 @@
 use Rattle.std.proofs.Common.{◌≡◌, ◌-◌, ◌*◌, ◌%◌, ◌≤◌, ◌⊎◌, length}
 use Rattle.cx_core.specs.Region.{region_words}
 use Rattle.cx_table.specs.Seats.{StepsOn}
-use Rattle.replica.specs.Copies.{HoldsBoth, IsCopiedTo, LoadsAtMost, beside_copy, skips_by}
+use Rattle.replica.specs.Copies.{HoldsBothIn, IsCopiedTo, LoadsAtMost, beside_copy, skips_by}
 use Rattle.replica.proofs.copy.copy_marked.Given as goal
 use Rattle.cx_rule.specs.Seats.{StepsBy}
 
 -- of the lines so far those are copied that are not skipped, and a piece begins
 abbrev pub invariant-loop-line : goal.invariant-loop-line
 invariant-loop-line g l = record {
-  both : HoldsBoth (g.O.Object.line_count l.shared.object) l.shared (g.O.Object.lawful l.shared.object) (g.O.Object.step l.shared.object) l.seat l.held l.source;
+  both : HoldsBothIn g.O.Object l.shared l.seat l.held l.source;
   copied : IsCopiedTo (skips_by l.all l.marks) (8 * l.line) (region_words (g.O.Object.line_count l.shared.object)) l.fn.seat.known l.seat.known;
   counts : LoadsAtMost (16 * l.line) l.fn.seat.known l.seat.known;
   bound : StepsBy (24 * l.line) l.fn.seat l.seat;

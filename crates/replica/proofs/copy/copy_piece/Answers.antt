@@ -5,7 +5,7 @@ use Rattle.cx_core.specs.Region.{region_words}
 use Rattle.cx_rule.specs.declared.rule.Known.{Known}
 use Rattle.cx_rule.specs.Seats.{Seated}
 use Rattle.line_lanes.specs.Lines.{DiffersInLine}
-use Rattle.replica.specs.Copies.{AreSeen, CopiesOn, EndsCopy, HoldsBoth, IsCopiedTo, LoadsAtMost, beside_copy}
+use Rattle.replica.specs.Copies.{AreSeen, CopiesOn, EndsPart, HoldsBothIn, IsCopiedTo, LoadsAtMost, beside_copy}
 use Rattle.replica.proofs.CopySteps.{at_err, loads_fewer, loads_most, loads_on, short_on}
 use Rattle.replica.proofs.LineCopies.{on_same_line, on_stored_line}
 use Rattle.replica.proofs.copy.copy_piece.Goals.{then-differs-line+in_ok-store_line, else-differs-line}
@@ -44,11 +44,11 @@ loop-line-preserved g c =
           let now = w.seat-is in
           let knows = ap (λ (s : Seated). s.known) now in
           record {
-            both = subst (λ (s : Seated). HoldsBoth (g.O.Object.line_count t.object) t (g.O.Object.lawful t.object) (g.O.Object.step t.object) s c.args.held.now c.args.source.now) (sym now) after.leaves.both;
+            both = subst (λ (s : Seated). HoldsBothIn g.O.Object t s c.args.held.now c.args.source.now) (sym now) after.leaves.both;
             seen = subst (λ (k : Known). AreSeen from (8 * (line + 1)) n us vs k) (sym knows) (λ i least below. after.stored.seen i (omega (arith, least)) below);
             copied = subst (λ (k : Known). CopiesOn from (from + 8 * (line + 1)) before k) (sym knows) (on_stored_line from line before known w.store_line.new.seat.known was.copied after.stored.copied);
-            counts = subst (λ (k : Known). LoadsAtMost most before k) (sym knows) (loads_on most 0 most before known w.store_line.new.seat.known (omega arith) was.counts after.steps);
-            bound = (let is = ap (λ (k : Known). k.local.steps) knows in let before = was.bound in let most = after.bound in omega (arith, is, before, most));
+            counts = subst (λ (k : Known). LoadsAtMost most before k) (sym knows) (loads_on most 0 most before known w.store_line.new.seat.known (omega arith) was.counts after.ends.counts);
+            bound = (let is = ap (λ (k : Known). k.local.steps) knows in let before = was.bound in let most = after.ends.bound in omega (arith, is, before, most));
             since = (let is = ap (λ (s : Seated). s.known.local.steps) now in let before = was.since in let more = after.leaves.since in omega (arith, is, before, more));
             rest = ap beside_copy now ∙ after.leaves.rest ∙ was.rest;
           })
@@ -59,7 +59,7 @@ loop-line-preserved g c =
           let marked : line < length c.differing.new.out = subst (λ m. line < m) (sym (c.differing.auto.out ∙ length-take-le _ _ lines)) c.loop-line-test.true in
           let none : ¬ DiffersInLine us vs line = λ d. false≢true (sym w.if-differs-line.false ∙ get_or_append_left c.differing.new.out _ false line marked ∙ (c.differing.ensures line marked).1 d) in
           record {
-            both = subst (λ (s : Seated). HoldsBoth (g.O.Object.line_count t.object) t (g.O.Object.lawful t.object) (g.O.Object.step t.object) s c.args.held.now c.args.source.now) (sym now) was.both;
+            both = subst (λ (s : Seated). HoldsBothIn g.O.Object t s c.args.held.now c.args.source.now) (sym now) was.both;
             seen = subst (λ (k : Known). AreSeen from (8 * (line + 1)) n us vs k) (sym knows) (λ i least below. was.seen i (omega (arith, least)) below);
             copied = subst (λ (k : Known). CopiesOn from (from + 8 * (line + 1)) before k) (sym knows) (on_same_line us vs from line n before known in_line none was.seen was.copied);
             counts = subst (λ (k : Known). LoadsAtMost most before k) (sym knows) was.counts;
@@ -74,32 +74,29 @@ returns-clause-copied g c =
     let end : c.args.from + 8 * c.loop-line.line ≡ c.args.from + length c.args.held_words.now = omega (arith, c.loop-line-test.false, c.loop-line.auto.line-end, c.requires.lines.whole) in
     subst (λ m. CopiesOn c.args.from m c.args.seat.now.known c.loop-line.seat.known) end c.loop-line.invariant.copied
 
-pub returns-in_err-load_piece-clause-steps : goal.returns-in_err-load_piece-clause-steps
-returns-in_err-load_piece-clause-steps g c =
-    let most = 2 * length c.args.held_words.now in
-    at_err _ c.from_residual.result (EndsCopy most (region_words (g.O.Object.line_count c.args.shared.now.object)) c.args.seat.now.known c.load_piece.new.seat.known) c.from_residual.ensures.1
-    (λ e. inl (loads_fewer most c.args.seat.now.known c.load_piece.new.seat.known c.in_err-load_piece.ensures.steps))
+pub returns-in_err-load_piece-clause-ends : goal.returns-in_err-load_piece-clause-ends
+returns-in_err-load_piece-clause-ends g c =
+    let n = length c.args.held_words.now in
+    let after = c.in_err-load_piece.ensures in
+    let fewer = after.steps.0 in
+    at_err _ c.from_residual.result (EndsPart (2 * n) (3 * n) (region_words (g.O.Object.line_count c.args.shared.now.object)) c.args.seat.now c.load_piece.new.seat) c.from_residual.ensures.1
+    (λ e. record { counts = inl (loads_fewer (2 * n) c.args.seat.now.known c.load_piece.new.seat.known after.steps); bound = omega (arith, fewer); limit = after.halts })
 
-pub returns-in_err-store_line-clause-steps : goal.returns-in_err-store_line-clause-steps
-returns-in_err-store_line-clause-steps g c =
-    let most = 2 * length c.args.held_words.now in
+pub returns-in_err-store_line-clause-ends : goal.returns-in_err-store_line-clause-ends
+returns-in_err-store_line-clause-ends g c =
+    let n = length c.args.held_words.now in
     let region = region_words (g.O.Object.line_count c.args.shared.now.object) in
-    at_err _ c.from_residual-in_err-store_line.result (EndsCopy most region c.args.seat.now.known c.store_line.new.seat.known) c.from_residual-in_err-store_line.ensures.1
-    (λ e. short_on most 0 most region c.args.seat.now.known c.loop-line.seat.known c.store_line.new.seat.known (omega arith) c.loop-line.invariant.counts c.in_err-store_line.ensures.steps)
+    let was = c.loop-line.invariant in
+    let after = c.in_err-store_line.ensures.ends in
+    let before = was.bound in
+    let most = after.bound in
+    at_err _ c.from_residual-in_err-store_line.result (EndsPart (2 * n) (3 * n) region c.args.seat.now c.store_line.new.seat) c.from_residual-in_err-store_line.ensures.1 (λ e. record {
+      counts = short_on (2 * n) 0 (2 * n) region c.args.seat.now.known c.loop-line.seat.known c.store_line.new.seat.known (omega arith) was.counts after.counts;
+      bound = omega (arith, before, most, c.loop-line-test.true);
+      limit = after.limit;
+    })
 
-pub returns-clause-steps : goal.returns-clause-steps
-returns-clause-steps g c = c.loop-line.invariant.counts
-
-pub returns-in_err-load_piece-clause-bound : goal.returns-in_err-load_piece-clause-bound
-returns-in_err-load_piece-clause-bound g c = (let fewer = c.in_err-load_piece.ensures.steps.0 in omega (arith, fewer))
-
-pub returns-in_err-store_line-clause-bound : goal.returns-in_err-store_line-clause-bound
-returns-in_err-store_line-clause-bound g c =
-    let before = c.loop-line.invariant.bound in
-    let most = c.store_line.ensures.bound in
-    omega (arith, before, most, c.loop-line-test.true)
-
-pub returns-clause-bound : goal.returns-clause-bound
-returns-clause-bound g c =
+pub returns-clause-ends : goal.returns-clause-ends
+returns-clause-ends g c =
     let most = c.loop-line.invariant.bound in
-    omega (arith, most, c.loop-line-test.false, c.loop-line.auto.line-end)
+    record { counts = c.loop-line.invariant.counts; bound = omega (arith, most, c.loop-line-test.false, c.loop-line.auto.line-end); limit = tt }

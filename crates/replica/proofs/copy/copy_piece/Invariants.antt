@@ -1,13 +1,13 @@
 use Rattle.std.proofs.Common.{◌≡◌, ◌+◌, ◌*◌, length}
 use Rattle.cx_table.specs.Seats.{StepsOn}
-use Rattle.replica.specs.Copies.{AreSeen, CopiesOn, HoldsBoth, LoadsAtMost, beside_copy}
+use Rattle.replica.specs.Copies.{AreSeen, CopiesOn, HoldsBothIn, LoadsAtMost, beside_copy}
 use Rattle.replica.proofs.copy.copy_piece.Given as goal
 use Rattle.cx_rule.specs.Seats.{StepsBy}
 
 -- the lines so far are copied, and the others are as they were loaded
 abbrev pub invariant-loop-line : goal.invariant-loop-line
 invariant-loop-line g l = record {
-  both : HoldsBoth (g.O.Object.line_count l.shared.object) l.shared (g.O.Object.lawful l.shared.object) (g.O.Object.step l.shared.object) l.seat l.held l.source;
+  both : HoldsBothIn g.O.Object l.shared l.seat l.held l.source;
   seen : AreSeen l.from (8 * l.line) (length l.held_words) l.held_words l.source_words l.seat.known;
   copied : CopiesOn l.from (l.from + 8 * l.line) l.fn.seat.known l.seat.known;
   counts : LoadsAtMost (2 * length l.fn.held_words) l.fn.seat.known l.seat.known;

@@ -11,6 +11,9 @@ returns-then-is_skipped-clause-copied g c = λ region first below copied.
     on_skipped (skips_by c.args.all c.args.marks.now) from (from + length c.args.held_words.now) region first c.args.seat.now.known (omega arith)
     (λ i least under. ap (skips_piece c.args.all c.args.marks.now) (c.requires.piece i least under ∙ sym c.piece_of.ensures) ∙ sym skipped) copied
 
+pub returns-then-is_skipped-clause-ends : goal.returns-then-is_skipped-clause-ends
+returns-then-is_skipped-clause-ends g c = record { counts = omega arith; bound = omega arith; limit = tt }
+
 pub returns-clause-copied : goal.returns-clause-copied
 returns-clause-copied g c =
     let skips = skips_by c.args.all c.args.marks.now in

@@ -1,53 +1,31 @@
-use Rattle.std.proofs.Common.{◌≡◌, rules, arith, ap, ◌∙◌}
-use Rattle.cx_core.specs.State.{one_more}
-use Rattle.cx_rule.specs.Seats.{Seated}
-use Rattle.replica.proofs.Renewing.{released_steps, renewed_held, renewed_image, renewed_place}
+use Rattle.std.proofs.Common.{◌*◌, arith}
+use Rattle.cx_core.specs.Region.{region_words}
+use Rattle.replica.proofs.Renewing.{copied_within, release_halts, released_within, renewed}
+use Rattle.replica.proofs.Runs.{on_err}
 use Rattle.replica.proofs.copy.renew_from.Goals as goal
 
 pub returns-clause-renewed : goal.returns-clause-renewed
 returns-clause-renewed g c =
-    let t = c.args.shared.now in
-    let lines = g.O.Object.line_count t.object in
-    let lawful = g.O.Object.lawful t.object in
-    let step = g.O.Object.step in
-    let reads = g.O.Object.only_reads in
-    let found = c.in_ok-release_copied.field-0 in
-    let mid = c.copy_from.new.seat in
-    let last = c.release_copied.new.seat in
     let copied = c.in_ok-place.ensures.copied in
-    let both = c.in_ok-place.ensures.leaves.both in
-    let made = c.in_ok-release_copied.ensures.step.made in
-    let image = renewed_image lines t step reads lawful c.args.held.now c.args.source found mid last both made (copied.agree 0 (omega arith)) in
-    record {
-      ready = record {
-        is_held = renewed_held lines t step reads lawful c.args.held.now c.args.source found mid last both made c.in_ok-release_copied.ensures.held c.in_ok-release_copied.ensures.step.fits;
-        image = image.0;
-        place = image.1 ∙ copied.place;
-      };
-      placed = λ p has. renewed_place lines t step reads lawful c.args.held.now c.args.source found mid last both made p (copied.agree 0 (omega arith)) (copied.loaded (0, p) has);
-      rest = search rules;
-    }
+    let released = c.in_ok-release_copied.ensures in
+    renewed g.O.Object c.args.shared.now c.args.held.now c.args.source c.args.seat.now c.copy_from.new.seat c.release_copied.new.seat c.copy_from.ensures.leaves c.in_ok-release_copied.field-0 c.in_ok-place.place
+    released.step.made released.held released.step.fits (copied.agree 0 (omega arith)) copied.loaded copied.place
 
-pub returns-in_err-release_copied-clause-steps : goal.returns-in_err-release_copied-clause-steps
-returns-in_err-release_copied-clause-steps g c =
-    let before = c.copy_from.ensures.bound in
-    let most = ap (λ (s : Seated). s.known.local.steps) c.in_err-release_copied.ensures.step.halted.same in
-    omega (arith, before, most)
+pub returns-in_err-place-clause-halted : goal.returns-in_err-place-clause-halted
+returns-in_err-place-clause-halted g c = on_err c.from_residual.result _ (record { rest = c.copy_from.ensures.leaves.rest; limit = c.in_err-place.ensures.halts })
 
-pub returns-clause-steps : goal.returns-clause-steps
-returns-clause-steps g c =
-    let before = c.copy_from.ensures.bound in
-    let most : c.release_copied.new.seat.known.local.steps ≡ one_more c.copy_from.new.seat.known.local.steps = ap (λ (s : Seated). s.known.local.steps) c.in_ok-release_copied.ensures.step.made.made ∙ released_steps c.args.source.replica c.copy_from.new.seat.known.local in
-    omega (arith, before, most)
+pub returns-in_err-release_copied-clause-halted : goal.returns-in_err-release_copied-clause-halted
+returns-in_err-release_copied-clause-halted g c =
+    on_err c.from_residual-in_err-release_copied.result _ (release_halts g.O.Object c.args.shared.now c.args.held.now c.args.source c.args.seat.now c.copy_from.new.seat c.release_copied.new.seat c.copy_from.ensures.leaves c.in_err-release_copied.ensures.step.halted)
 
-pub returns-in_err-release_copied-clause-since : goal.returns-in_err-release_copied-clause-since
-returns-in_err-release_copied-clause-since g c =
-    let before = c.copy_from.ensures.leaves.since in
-    let same = ap (λ (s : Seated). s.known.local.steps) c.in_err-release_copied.ensures.step.halted.same in
-    omega (arith, before, same)
+pub returns-in_err-place-clause-within : goal.returns-in_err-place-clause-within
+returns-in_err-place-clause-within g c =
+    copied_within g.O.Object c.args.shared.now c.args.held.now c.args.source c.args.seat.now c.copy_from.new.seat c.copy_from.new.seat c.copy_from.ensures.leaves (3 * region_words (g.O.Object.line_count c.args.shared.now.object)) c.copy_from.ensures.bound
 
-pub returns-clause-since : goal.returns-clause-since
-returns-clause-since g c =
-    let before = c.copy_from.ensures.leaves.since in
-    let one : c.release_copied.new.seat.known.local.steps ≡ one_more c.copy_from.new.seat.known.local.steps = ap (λ (s : Seated). s.known.local.steps) c.in_ok-release_copied.ensures.step.made.made ∙ released_steps c.args.source.replica c.copy_from.new.seat.known.local in
-    omega (arith, before, one)
+pub returns-in_err-release_copied-clause-within : goal.returns-in_err-release_copied-clause-within
+returns-in_err-release_copied-clause-within g c =
+    released_within g.O.Object c.args.shared.now c.args.held.now c.args.source c.args.seat.now c.copy_from.new.seat c.release_copied.new.seat c.copy_from.ensures.leaves (3 * region_words (g.O.Object.line_count c.args.shared.now.object)) c.copy_from.ensures.bound c.release_copied.result c.release_copied.ensures.step
+
+pub returns-clause-within : goal.returns-clause-within
+returns-clause-within g c =
+    released_within g.O.Object c.args.shared.now c.args.held.now c.args.source c.args.seat.now c.copy_from.new.seat c.release_copied.new.seat c.copy_from.ensures.leaves (3 * region_words (g.O.Object.line_count c.args.shared.now.object)) c.copy_from.ensures.bound c.release_copied.result c.release_copied.ensures.step

@@ -3,8 +3,8 @@ use Rattle.cx_core.specs.Region.{region_words}
 use Rattle.cx_rule.specs.declared.rule.Known.{Known}
 use Rattle.cx_rule.specs.Running.{instance_at}
 use Rattle.cx_core.specs.declared.kinds.Kind.TheVariants.{StoreWord}
-use Rattle.cx_rule.specs.Seats.{Seated, known_after}
-use Rattle.replica.specs.Copies.{AreSeen, CopiesOn, EndsCopy, HoldsBoth, LoadsAtMost, SomeDiffers, beside_copy}
+use Rattle.cx_rule.specs.Seats.{IsAtLimit, Seated, known_after}
+use Rattle.replica.specs.Copies.{AreSeen, CopiesOn, EndsPart, HoldsBothIn, LoadsAtMost, SomeDiffers, beside_copy}
 use Rattle.replica.proofs.CopySteps.{at_err, loads_on, store_counts}
 use Rattle.replica.proofs.LineCopies.{on_over, on_same, seen_behind}
 use Rattle.replica.proofs.copy.store_line.Goals.{then-held_words-i+in_ok-store_copied, else-held_words-i}
@@ -29,7 +29,7 @@ loop-i-preserved g c =
           let now = w.seat-is in
           let knows = ap (λ (s : Seated). s.known) now ∙ after.known in
           record {
-            both = subst (λ (s : Seated). HoldsBoth (g.O.Object.line_count t.object) t (g.O.Object.lawful t.object) (g.O.Object.step t.object) s c.args.held.now c.args.source.now) (sym now) after.leaves.both;
+            both = subst (λ (s : Seated). HoldsBothIn g.O.Object t s c.args.held.now c.args.source.now) (sym now) after.leaves.both;
             seen = subst (λ (k : Known). AreSeen c.args.from (i + 1) n us vs k) (sym knows) (seen_behind instance c.args.held.now.replica us vs c.args.from n i (slice_index vs i) known was.seen);
             copied = subst (λ (k : Known). CopiesOn start (c.args.from + (i + 1)) before k) (sym knows)
                 (on_over instance c.args.held.now.replica us vs start c.args.from i n before known (omega arith) below w.if-held_words-i.true was.seen was.copied);
@@ -42,7 +42,7 @@ loop-i-preserved g c =
           let now = w.seat-is in
           let knows = ap (λ (s : Seated). s.known) now in
           record {
-            both = subst (λ (s : Seated). HoldsBoth (g.O.Object.line_count t.object) t (g.O.Object.lawful t.object) (g.O.Object.step t.object) s c.args.held.now c.args.source.now) (sym now) was.both;
+            both = subst (λ (s : Seated). HoldsBothIn g.O.Object t s c.args.held.now c.args.source.now) (sym now) was.both;
             seen = subst (λ (k : Known). AreSeen c.args.from (i + 1) n us vs k) (sym knows) (λ k least within. was.seen k (omega (arith, least)) within);
             copied = subst (λ (k : Known). CopiesOn start (c.args.from + (i + 1)) before k) (sym knows) (on_same us vs start c.args.from i n before known below w.if-held_words-i.false was.seen was.copied);
             counts = subst (λ (k : Known). LoadsAtMost 0 before k) (sym knows) was.counts;
@@ -61,8 +61,8 @@ returns-clause-stored g c =
       copied = subst (λ m. CopiesOn start m c.args.seat.now.known c.loop-i.seat.known) end c.loop-i.invariant.copied;
     }
 
-pub returns-in_err-store_copied-clause-steps : goal.returns-in_err-store_copied-clause-steps
-returns-in_err-store_copied-clause-steps g c =
+pub returns-in_err-store_copied-clause-ends : goal.returns-in_err-store_copied-clause-ends
+returns-in_err-store_copied-clause-ends g c =
     let region = region_words (g.O.Object.line_count c.args.shared.now.object) in
     let was = c.loop-i.invariant in
     let i = c.loop-i.i in
@@ -76,16 +76,16 @@ returns-in_err-store_copied-clause-steps g c =
       apart = c.if-held_words-i.true;
       seen = was.seen i (omega arith) below;
     } in
-    at_err _ c.from_residual.result (EndsCopy 0 region c.args.seat.now.known c.store_copied.new.seat.known) c.from_residual.ensures.1
-    (λ e. inr (subst (λ (s : Seated). SomeDiffers region s.known) (sym c.in_err-store_copied.ensures.halted.same) differs))
+    let halted = c.in_err-store_copied.ensures.halted in
+    let same = ap (λ (s : Seated). s.known.local.steps) halted.same in
+    let most = was.bound in
+    at_err _ c.from_residual.result (EndsPart 0 8 region c.args.seat.now c.store_copied.new.seat) c.from_residual.ensures.1 (λ e. record {
+      counts = inr (subst (λ (s : Seated). SomeDiffers region s.known) (sym halted.same) differs);
+      bound = omega (arith, same, most, c.loop-i-test.true);
+      limit = subst (λ (s : Seated). IsAtLimit s.known.local) (sym halted.same) halted.limit;
+    })
 
-pub returns-in_err-store_copied-clause-bound : goal.returns-in_err-store_copied-clause-bound
-returns-in_err-store_copied-clause-bound g c =
-    let same = ap (λ (s : Seated). s.known.local.steps) c.in_err-store_copied.ensures.halted.same in
+pub returns-clause-ends : goal.returns-clause-ends
+returns-clause-ends g c =
     let most = c.loop-i.invariant.bound in
-    omega (arith, same, most, c.loop-i-test.true)
-
-pub returns-clause-bound : goal.returns-clause-bound
-returns-clause-bound g c =
-    let most = c.loop-i.invariant.bound in
-    omega (arith, most, c.loop-i-test.false, c.loop-i.auto.i-end)
+    record { counts = c.loop-i.invariant.counts; bound = omega (arith, most, c.loop-i-test.false, c.loop-i.auto.i-end); limit = tt }

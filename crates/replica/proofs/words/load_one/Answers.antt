@@ -1,4 +1,4 @@
-use Rattle.std.proofs.Common.{◌≡◌, ◌+◌, length, false, refl, subst, arith, slice_index}
+use Rattle.std.proofs.Common.{◌≡◌, ◌+◌, length, false, subst, arith, slice_index}
 use Rattle.cx_core.specs.declared.kinds.Kind.TheVariants.{LoadWord}
 use Rattle.cx_rule.specs.Steps.{Steps}
 use Rattle.cx_table.specs.Runs.{loads_from}

@@ -22,12 +22,12 @@ note_gaps-requires g c =
 pub returns-in_err-note_gaps-clause-leaves : goal.returns-in_err-note_gaps-clause-leaves
 returns-in_err-note_gaps-clause-leaves g c =
     accessed_noting g.O.Object c.args.shared.now c.args.held.now c.apply_telling.new.seat c.note_gaps.new.seat c.note_gaps.ensures.leaves c.args.seat.now
-    (at_within c.note_gaps.new.seat.known.local c.in_err-note_gaps.ensures.halts) c.note_gaps.ensures.since c.apply_telling.ensures.leaves
+    (at_within c.note_gaps.new.seat.known.local c.in_err-note_gaps.ensures.halts) c.apply_telling.ensures.leaves
 
 pub returns-clause-leaves : goal.returns-clause-leaves
 returns-clause-leaves g c =
     accessed_noting g.O.Object c.args.shared.now c.args.held.now c.apply_telling.new.seat c.note_gaps.new.seat c.note_gaps.ensures.leaves c.args.seat.now
-    c.steps-steps.ensures.within c.note_gaps.ensures.since c.apply_telling.ensures.leaves
+    c.steps-steps.ensures.within c.apply_telling.ensures.leaves
 
 pub returns-clause-ready : goal.returns-clause-ready
 returns-clause-ready g c =

@@ -1,4 +1,4 @@
-use Rattle.std.proofs.Common.{◌+◌, ◌∙◌, ap, arith}
+use Rattle.std.proofs.Common.{◌+◌, ◌∙◌, ap}
 use Rattle.cx_core.specs.QueueEvents.{cell_of}
 use Rattle.replica_sets.specs.Own.{HasApplied}
 use Rattle.replica_sets.proofs.Ready.{applied_offered, leaves_held, leaves_set}
@@ -16,35 +16,23 @@ returns-clause-applied g c =
       replied = e.1;
     } in
     let offered = c.in_ok-offer.ensures.offered in
-    applied_offered g.O.Object t c.args.held.now (c.args.ticket + 1) caller reply mid c.offer.new.seat c.in-Some.cell offered.set (c.args.ticket + 1) c.offer.new.seat.known.local.steps c.offer.ensures.seat offered.seat c.offer.ensures.has c.in_ok-offer.ensures.fits applied
+    applied_offered g.O.Object t c.args.held.now (c.args.ticket + 1) caller reply mid c.offer.new.seat c.in-Some.cell offered.offers.set (c.args.ticket + 1) c.offer.new.seat.known.local.steps c.offer.ensures.leaves.of offered.offers.seat c.offer.ensures.leaves.has offered.fits applied
 
 pub returns-in_err-offer-clause-leaves : goal.returns-in_err-offer-clause-leaves
 returns-in_err-offer-clause-leaves g c =
-    let t = c.args.shared.now in
-    let replica = c.args.held.now.replica in
     let mid = c.apply_noting.new.seat in
     let e = c.apply_noting.ensures.leaves in
     let cell = c.in-Some.cell in
+    let left = c.offer.ensures.leaves in
     let written = c.in_err-offer.ensures.halts.0 in
-    leaves_set t replica c.args.seat.now mid c.offer.new.seat cell written.set (cell_of mid.known.local cell).offer c.offer.new.seat.known.local.steps (leaves_held t replica c.args.seat.now mid e.still.of e.rest) c.offer.ensures.seat written.seat
+    leaves_set c.args.shared.now c.args.held.now.replica c.args.seat.now mid c.offer.new.seat cell written.set (cell_of mid.known.local cell).offer c.offer.new.seat.known.local.steps
+    (leaves_held c.args.shared.now c.args.held.now.replica c.args.seat.now mid e.still.of e.rest e.since) left.of written.seat left.since
 
 pub returns-clause-leaves : goal.returns-clause-leaves
 returns-clause-leaves g c =
-    let t = c.args.shared.now in
-    let replica = c.args.held.now.replica in
     let mid = c.apply_noting.new.seat in
     let e = c.apply_noting.ensures.leaves in
-    let offered = c.in_ok-offer.ensures.offered in
-    leaves_set t replica c.args.seat.now mid c.offer.new.seat c.in-Some.cell offered.set (c.args.ticket + 1) c.offer.new.seat.known.local.steps (leaves_held t replica c.args.seat.now mid e.still.of e.rest) c.offer.ensures.seat offered.seat
-
-pub returns-in_err-offer-clause-since : goal.returns-in_err-offer-clause-since
-returns-in_err-offer-clause-since g c =
-    let before = c.apply_noting.ensures.leaves.since in
-    let more = c.offer.ensures.since in
-    omega (arith, before, more)
-
-pub returns-clause-since : goal.returns-clause-since
-returns-clause-since g c =
-    let before = c.apply_noting.ensures.leaves.since in
-    let more = c.offer.ensures.since in
-    omega (arith, before, more)
+    let left = c.offer.ensures.leaves in
+    let offers = c.in_ok-offer.ensures.offered.offers in
+    leaves_set c.args.shared.now c.args.held.now.replica c.args.seat.now mid c.offer.new.seat c.in-Some.cell offers.set (c.args.ticket + 1) c.offer.new.seat.known.local.steps
+    (leaves_held c.args.shared.now c.args.held.now.replica c.args.seat.now mid e.still.of e.rest e.since) left.of offers.seat left.since

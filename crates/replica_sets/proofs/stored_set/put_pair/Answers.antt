@@ -2,8 +2,8 @@ use Rattle.std.proofs.Common.{arith}
 use Rattle.replica_sets.proofs.Stored.{pair_leaves, pair_stored}
 use Rattle.replica_sets.proofs.stored_set.put_pair.Goals as goal
 
-pub returns-clause-done : goal.returns-clause-done
-returns-clause-done g c =
+pub returns-clause-stored : goal.returns-clause-stored
+returns-clause-stored g c =
     pair_stored g.O.Object c.args.shared.now c.args.held.now c.args.at c.args.v c.args.seat.now c.store_held.new.seat c.store_held.result (omega arith) c.store_held.ensures.made
 
 pub returns-clause-leaves : goal.returns-clause-leaves

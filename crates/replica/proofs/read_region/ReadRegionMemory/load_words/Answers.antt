@@ -1,14 +1,13 @@
 use Rattle.std.proofs.Common.{◌==◌, take, refl, ap}
-use Rattle.std.proofs.lemmas.Result.{on_ok_weaker}
 use Rattle.cx_rule.specs.Seats.{Seated}
-use Rattle.replica.proofs.RegionLaws.{rest_shared_run, shared_run, since_shared_run, stands_shared_run, still_limited}
+use Rattle.replica.proofs.RegionLaws.{rest_shared_run, run_then, shared_run, since_shared_run, some_run, stands_shared_run, still_limited}
 use Rattle.replica.proofs.read_region.ReadRegionMemory.load_words.Goals as goal
 
 pub invariant_of-self : goal.invariant_of-self
 invariant_of-self g c =
     let region = c.args.self.now in
     let table = region.table.now in
-    let some = c.load_shared_words.ensures.some in
+    let some = some_run c.load_shared_words.result c.load_shared_words.new.into c.load_shared_words.ensures.loaded in
     let after = shared_run (g.T.HeldWords.line_count table) (g.T.HeldWords.running table) (g.T.HeldWords.lawful table) region.held.now c.args.at (take some.0 c.load_shared_words.new.into) region.seat.now c.load_shared_words.new.seat region.placed some.1 region.of region.within region.place in
     record {
       of = after.0;
@@ -22,13 +21,13 @@ pub returns-clause-read : goal.returns-clause-read
 returns-clause-read g c =
     let region = c.args.self.now in
     let table = region.table.now in
-    on_ok_weaker c.load_shared_words.result (stands_shared_run (g.T.HeldWords.line_count table) (g.T.HeldWords.running table) (g.T.HeldWords.lawful table) region.held.now c.args.at c.load_shared_words.new.into region.seat.now c.load_shared_words.new.seat) c.load_shared_words.ensures.made
+    run_then c.load_shared_words.result (stands_shared_run (g.T.HeldWords.line_count table) (g.T.HeldWords.running table) (g.T.HeldWords.lawful table) region.held.now c.args.at c.load_shared_words.new.into region.seat.now c.load_shared_words.new.seat) c.load_shared_words.ensures.loaded
 
 pub returns-clause-unchanged : goal.returns-clause-unchanged
 returns-clause-unchanged g c =
     let region = c.args.self.now in
     let table = region.table.now in
-    let some = c.load_shared_words.ensures.some in
+    let some = some_run c.load_shared_words.result c.load_shared_words.new.into c.load_shared_words.ensures.loaded in
     let read = stands_shared_run (g.T.HeldWords.line_count table) (g.T.HeldWords.running table) (g.T.HeldWords.lawful table) region.held.now c.args.at (take some.0 c.load_shared_words.new.into) region.seat.now c.load_shared_words.new.seat some.1 in
     record { from = λ first now s. (now, (read.from first now s).0, refl) }
 
@@ -36,7 +35,7 @@ pub returns-clause-framed : goal.returns-clause-framed
 returns-clause-framed g c =
     let region = c.args.self.now in
     let table = region.table.now in
-    let some = c.load_shared_words.ensures.some in
+    let some = some_run c.load_shared_words.result c.load_shared_words.new.into c.load_shared_words.ensures.loaded in
     let rest = rest_shared_run (g.T.HeldWords.line_count table) (g.T.HeldWords.running table) (g.T.HeldWords.lawful table) region.held.now c.args.at (take some.0 c.load_shared_words.new.into) region.seat.now c.load_shared_words.new.seat some.1 in
     record {
       size_kept = refl;

@@ -1,23 +1,16 @@
-use Rattle.std.proofs.Common.{arith, take}
-use Rattle.std.proofs.lemmas.Result.{on_err_weaker, on_ok_weaker}
-use Rattle.replica.specs.Held.{LoadsRun, LoadsShared}
+use Rattle.std.proofs.Common.{arith}
+use Rattle.cx_table.specs.Runs.{loads_from}
+use Rattle.replica.specs.Held.{LoadsShared}
 use Rattle.replica.proofs.Access.{shared_guard, loads_of_run}
-use Rattle.replica.proofs.Runs.{some_of}
+use Rattle.replica.proofs.Runs.{loaded_run}
 use Rattle.replica.proofs.words.SharedHeldWords.load_shared_words.Goals as goal
 
 pub load_run-requires-clause-guard : goal.load_run-requires-clause-guard
 load_run-requires-clause-guard g c = λ i below. shared_guard _ c.args.self.now _ c.args.held.now c.replica.result _ c.args.seat.now c.replica.ensures c.requires.held (let within = c.requires.within in omega (arith, within, below))
 
-pub returns-clause-made : goal.returns-clause-made
-returns-clause-made g c =
+pub returns-clause-loaded : goal.returns-clause-loaded
+returns-clause-loaded g c =
     let t = c.args.self.now in
-    on_ok_weaker c.load_run.result (loads_of_run (g.O.Object.line_count t.object) t g.O.Object.step g.O.Object.only_reads (g.O.Object.lawful t.object) c.args.held.now c.replica.result c.args.from c.load_run.new.into c.args.seat.now c.load_run.new.seat c.replica.ensures c.requires.held) c.load_run.ensures.made
-
-pub returns-clause-some : goal.returns-clause-some
-returns-clause-some g c =
-    let t = c.args.self.now in
-    some_of c.load_run.result (λ ws. LoadsRun (LoadsShared (g.O.Object.line_count t.object) t (g.O.Object.lawful t.object) c.args.held.now) c.args.from ws c.args.seat.now c.load_run.new.seat) c.load_run.new.into (returns-clause-made g c)
-    (on_err_weaker c.load_run.result (λ h. (h.n, loads_of_run (g.O.Object.line_count t.object) t g.O.Object.step g.O.Object.only_reads (g.O.Object.lawful t.object) c.args.held.now c.replica.result c.args.from (take h.n c.load_run.new.into) c.args.seat.now c.load_run.new.seat c.replica.ensures c.requires.held h.run)) c.load_run.ensures.halted)
-
-pub returns-clause-halted : goal.returns-clause-halted
-returns-clause-halted g c = on_err_weaker c.load_run.result (λ h. h.limit) c.load_run.ensures.halted
+    loaded_run g.O.Object t (loads_from c.replica.result c.args.from) (LoadsShared (g.O.Object.line_count t.object) t (g.O.Object.lawful t.object) c.args.held.now) c.args.from c.load_run.result c.load_run.new.into c.args.seat.now c.load_run.new.seat
+    (λ ws. loads_of_run (g.O.Object.line_count t.object) t g.O.Object.step g.O.Object.only_reads (g.O.Object.lawful t.object) c.args.held.now c.replica.result c.args.from ws c.args.seat.now c.load_run.new.seat c.replica.ensures c.requires.held)
+    c.load_run.ensures.made c.load_run.ensures.halted

@@ -1,16 +1,16 @@
 use Rattle.std.proofs.Common.{◌≡◌, ◌≤◌, ◌++◌, slice_index}
 use Rattle.cx_base.specs.Memory.{Becomes}
 use Rattle.cx_core.specs.WriteSet.{stored}
-use Rattle.cx_rule.specs.Fitting.{FitsKnown}
+use Rattle.cx_rule.specs.Stores.{FitsIn}
 use Rattle.replica.specs.Replays.{IsAfterFullStep}
 use Rattle.replica_sets.specs.Storing.{stores_to}
-use Rattle.replica_sets.proofs.stored_set.put_pairs.Given as goal
+use Rattle.replica_sets.proofs.stored_set.store_set.Given as goal
 
 abbrev pub invariant-loop-m : goal.invariant-loop-m
 invariant-loop-m g l = record {
   end : l.m-end ≡ slice_index l.set 0;
   few : l.m-end ≤ 256;
-  done : Becomes (FitsKnown (g.O.Object.line_count l.shared.object) (g.O.Object.lawful l.shared.object) l.shared.base (g.O.Object.step l.shared.object) l.fn.seat.known) (FitsKnown (g.O.Object.line_count l.shared.object) (g.O.Object.lawful l.shared.object) l.shared.base (g.O.Object.step l.shared.object) l.seat.known) (λ before now. now ≡ stored l.m l.set before);
+  done : Becomes (FitsIn g.O.Object l.shared l.fn.seat.known) (FitsIn g.O.Object l.shared l.seat.known) (λ before now. now ≡ stored l.m l.set before);
   stores : l.seat.known.accesses ≡ l.fn.seat.known.accesses ++ stores_to l.m l.set;
   leaves : IsAfterFullStep g.O.Object l.shared l.held l.fn.seat l.seat;
 }
