@@ -20,7 +20,7 @@
 //!   from which to a next just its pairs were stored (`BringsEntries`), between which and the seat before one entry no word of a set is read
 //!   (`BringsAtMost`, within the crate). A turn that gives nothing reads no word of a set.
 //!   The reply to the caller's last entry there, for whatever fits what was noted, is the one that the step of that entry gave (`IsReplayedPast`),
-//!   or is loaded where the last entry was applied otherwise: `own_outcome`. Where cells from the replica's place on are closed it is a copy of the
+//!   or is loaded from the replica where the last entry was applied otherwise. Where cells from the replica's place on are closed it is a copy of the
 //!   current one first: of the lines alone that changed, where the ring of gaps tells them. It is made durable and downgraded: `prepare` (`prepared`).
 //! - A turn for a linked entry answers it with its reply, and meets at most one refusal, or one was met and nothing is answered, and the caller
 //!   is at rest again; where it halts the entry is not answered, or it is and the win stands that is still to be retired, and no refusal was
@@ -55,6 +55,6 @@ pub use current::{query_held, query_part, read_current};
 pub use lookup::{Seen, read_turn};
 pub use preparation::prepare;
 pub use renewal::{keep, unguard};
-pub use replay::{own_outcome, replay_to};
+pub use replay::replay_to;
 pub use scratch::Scratch;
 pub use updates::update_turn;

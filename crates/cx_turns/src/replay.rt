@@ -85,7 +85,7 @@ fn own_reply<O: Object>(
     if replied {
         return Ok(());
     }
-    own_outcome(shared, seat, held, reply)
+    load_own(shared, seat, held, reply)
 }
 
 /// Applies the entries from the place of a replica held exclusively up to a ticket, in order, each by its write set where the caller has that
@@ -271,23 +271,6 @@ fn set_entry(entry: &mut Entry, caller: u32, words: &[u64; ENTRY_WORDS])
     entry.caller = caller;
     entry.number = words[0];
     entry.op.copy_from_slice(&words[1..]);
-}
-
-/// Reads the reply to the caller's own last entry in a replica held exclusively, which is the image after its place. `Halt` comes
-/// only where the seat's steps equal its limit.
-pub fn own_outcome<O: Object>(
-    shared: &Shared<O>,
-    seat: &mut CallerSeat,
-    held: &Exclusive,
-    reply: &mut OpWords,
-) -> Result<(), Halt>
-    requires ready { IsReady O.Object shared.now held.now (noted_place seat.old) seat.old }
-    ensures reply { MatchResult result (λ _. ShowsReplyIn O.Object shared.now seat.new.known seat.new.known.local.number reply.new) (λ _. IsAtLimit seat.new.known.local) }
-    ensures ready { IsReady O.Object shared.now held.now (noted_place seat.old) seat.new }
-    ensures rest { beside_held held.now.replica seat.new ≡ beside_held held.now.replica seat.old }
-    ensures since { StepsOn seat.old seat.new }
-{
-    load_own(shared, seat, held, reply)
 }
 
 /// Loads the reply to the caller's own last entry in a replica held exclusively.

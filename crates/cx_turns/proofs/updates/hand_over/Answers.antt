@@ -74,4 +74,4 @@ returns-in-Passed-clause-turns g c =
     let published = passed_published g.O.Object r ticket reply c.in-Passed.found c.args.seat.now mid e.rest ready p in
     let answered = c.answer.ensures.answered ticket reply published in
     passed_turns ticket c.args.seat.now mid c.answer.new.seat e.rest e.counted e.most g.O.Object r c.in-Passed.found reply c.answer.result e answered c.answer.ensures.halted
-        (on_answer g.O.Object r c.in-Passed.found ticket reply c.answer.result mid c.answer.new.seat answered c.answer.ensures.halted)
+    (on_answer g.O.Object r c.in-Passed.found ticket reply c.answer.result mid c.answer.new.seat answered c.answer.ensures.halted)
