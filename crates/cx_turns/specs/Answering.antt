@@ -77,7 +77,7 @@ abbrev pub TurnsFor : ℕ → Seated → Seated → Option (List ℕ) → Type 0
 TurnsFor ticket before after (Some reply) = AnswersEntry 1 ticket reply before after
 TurnsFor ticket before after None = TurnRefused before after
 
--- it was made, and so the limit allowed a step
+-- the same of one that did not halt: the limit allowed a step
 pub record TurnsUpdating (ticket : ℕ) (before after : Seated) (reply : Option (List ℕ)) : Type 0 where
   pub allowed : ¬ IsAtLimit before.known.local
   pub turned : TurnsFor ticket before after reply

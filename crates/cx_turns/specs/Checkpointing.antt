@@ -42,7 +42,7 @@ abbrev pub TakesTurn : {O : Type 0} → Ghosts O → Running O → List ℕ → 
 TakesTurn o r image before after (Some place) = TakesImage o r image place before after
 TakesTurn o r image before after None = TurnRefused before after × StepsBy 4 before after × StepsOn before after × TakesNone before after
 
--- it was made, and so the limit allowed a step
+-- the same of one that did not halt: the limit allowed a step
 pub record TurnsTaking {O : Type 0} (o : Ghosts O) (r : Running O) (image : List ℕ) (before after : Seated) (place : Option ℕ) : Type 0 where
   pub allowed : ¬ IsAtLimit before.known.local
   pub turned : TakesTurn o r image before after place

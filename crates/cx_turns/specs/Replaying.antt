@@ -78,7 +78,7 @@ pub record AppliesAnother {O : Type 0} (o : Ghosts O) (r : Running O) (held : Ri
   pub counted : CountsTaken before after taken
   pub by_sets : BringsAtMost ticket before after
 
--- It was so, and the sets of others that were taken stay counted.
+-- Another's entry was applied so, and the sets of others that were taken stay counted.
 pub record ReplaysAnother {O : Type 0} (o : Ghosts O) (r : Running O) (held : Right) (ticket taken : ℕ) (before : Seated) (now : ℕ) (after : Seated) : Type 0 where
   pub ready : IsReady o r held (ticket + 1) after
   pub counted : KeepsCount taken before now after

@@ -106,7 +106,7 @@ pub record TurnsIn {O : Type 0} (r : Running O) (beside : Seated → Seated) (n 
   pub front : before.known.local.front ≤ after.known.local.front
   pub steps : StepsBy n before after
 
--- the same of one that loads CUR: the code that was seen of it does not fall
+-- the same of a call that may raise the front and loads CUR: the code that was seen of it does not fall
 pub record RisesIn {O : Type 0} (r : Running O) (beside : Seated → Seated) (before after : Seated) : Type 0 where
   pub turns : Turns r beside before after
   pub rises : before.known.local.seen_cur ≤ after.known.local.seen_cur

@@ -1,6 +1,6 @@
 //! A replica is made ready to be published.
 
-ghost use Rattle.std.specs.Prelude.{◌<◌, ◌≡◌, IfOk, MatchResult, OnErr, OnOk};
+ghost use Rattle.std.specs.Prelude.{◌<◌, ◌≡◌, IfOk, MatchResult, OnOk};
 ghost use Rattle.cx_rule.specs.Seats.{IsAtLimit};
 ghost use Rattle.cx_turns.specs.Bringing.{CountsEntries, CountsIn};
 ghost use Rattle.cx_turns.specs.Keeping.{IsUnrefused, MayKeep, no_others, others};
@@ -30,8 +30,7 @@ pub fn prepare<O: Object>(
 ) -> Result<Option<Downgraded>, Halt>
     requires ready { MayTurn shared.now ticket seat.old }
     ensures allowed { OnOk result (¬ IsAtLimit seat.old.known.local) }
-    ensures prepared { IfOk result (TriesPrepare O.Object shared.now ticket reply.new seat.old seat.new) }
-    ensures halted { OnErr result (HaltsTurn seat.old seat.new) }
+    ensures prepared { MatchResult result (TriesPrepare O.Object shared.now ticket reply.new seat.old seat.new) (λ _. HaltsTurn seat.old seat.new) }
     ensures counted { IfOk result (CountsIn scratch.old.taken seat.old scratch.new.taken seat.new) }
     ensures turns { Turns shared.now beside_prepare seat.old seat.new }
 {
@@ -53,8 +52,7 @@ fn renew<O: Object>(
     requires taken { IsTakenIn O.Object shared.now seat.old held }
     requires alone { others seat.old.known.local ≡ no_others }
     requires ready { MayKeep ticket seat.old }
-    ensures prepared { IfOk result (TriesPrepare O.Object shared.now ticket reply.new seat.old seat.new) }
-    ensures halted { OnErr result (HaltsTurn seat.old seat.new) }
+    ensures prepared { MatchResult result (TriesPrepare O.Object shared.now ticket reply.new seat.old seat.new) (λ _. HaltsTurn seat.old seat.new) }
     ensures counted { IfOk result (CountsIn scratch.old.taken seat.old scratch.new.taken seat.new) }
     ensures turns { Turns shared.now beside_prepare seat.old seat.new }
 {
