@@ -16,16 +16,17 @@ use Rattle.cx_core.specs.State.{one_more}
 use Rattle.cx_core.proofs.RootCodes.{code_place}
 use Rattle.cx_rule.specs.Raises.{TellsAnswers, TellsReply}
 use Rattle.cx_rule.specs.Running.{Running}
-use Rattle.cx_rule.specs.Seats.{IsAtLimit, Seated, unanswered_ticket}
+use Rattle.cx_rule.specs.Seats.{IsAtLimit, Seated, StepsOn, unanswered_ticket}
 use Rattle.cx_rule.specs.Steps.{Halts, Steps}
 use Rattle.cx_rule.specs.Timing.{EndsIn}
 use Rattle.cx_rule.specs.Fitting.{has_of}
 use Rattle.cx_rule.proofs.Raising.{reply_still, tells_one}
+use Rattle.cx_rule.proofs.Stepping.{on_then}
 use Rattle.cx_table.specs.Right.{Right, WonRight}
 use Rattle.cx_table.specs.Tokens.{IsWonOf}
-use Rattle.cx_turns.specs.Answering.{AnswersBy, AnswersEntry, AnswersNone, AnswersOne, AnswersReadBy, HaltsFor, HaltsLookup, HaltsWon, IsPublishedFor, IsReadyFor, beside_hand_over, beside_settling, with_answer, reads_with}
+use Rattle.cx_turns.specs.Answering.{AnswersBy, AnswersEntry, AnswersNone, AnswersOne, AnswersReadBy, HaltsFor, HaltsLookup, HaltsWon, IsPublishedFor, IsReadyFor, beside_hand_over, beside_settling, beside_update, with_answer, reads_with}
 use Rattle.cx_turns.specs.Preparing.{Prepares}
-use Rattle.cx_turns.specs.Turns.{IsAtRest, TurnsIn, beside_prepare, cur_rises}
+use Rattle.cx_turns.specs.Turns.{IsAtRest, Turns, TurnsIn, beside_prepare, but_sets, cur_rises}
 use Rattle.mutation_queue.specs.Leaves.{LeavesSeatPart}
 use Rattle.publish.proofs.Options.{none_of, some_of}
 use Rattle.publish.specs.Publishing.{LeavesRest, PassedBy, beside_publish, place_in}
@@ -234,17 +235,31 @@ module _ {O : Type 0} (o : Ghosts O) (r : Running O) (code ticket : ℕ) (reply 
         let met : last.known.local.met ≡ before.known.local.met = ap (λ (t : Seated). t.known.local.met) s.made ∙ ap (λ (t : Seated). t.known.local.met) by.made in
         record { rest = retired_rests rest ended; met = omega (arith, met); most = omega (arith, met); answered = ap (λ (t : Seated). t.known.local.answered) s.made ∙ raised_answered; ended = retired_ended }
 
+-- a seat but for what a raise that answers an entry changes of it
+abbrev but_answers : Seated → Seated
+but_answers s = record s { known = record s.known { local = record s.known.local { raised = 0; floor = 0; answered = [] }; times = record s.known.times { answered = [] } } }
+
 -- what a publication and the few steps behind it leave of the seat
-pub settled_turns : {O : Type 0} (r : Running O) (n : ℕ) (before mid after : Seated) → n ≤ 2 → LeavesRest r 1 before mid → LeavesSeatPart r beside_settling n mid after → TurnsIn r beside_hand_over (3 + cur_rises before after) before after
-settled_turns r n before mid after few leaves last =
+pub settled_turns : {O : Type 0} (r : Running O) (n : ℕ) (before mid after : Seated) → n ≤ 2 → LeavesRest r 1 before mid → LeavesSeatPart r beside_settling n mid after → StepsOn mid after → TurnsIn r beside_hand_over (3 + cur_rises before after) before after
+settled_turns r n before mid after few leaves last since =
     let cur : after.known.local.seen_cur ≡ mid.known.local.seen_cur = ap (λ (s : Seated). s.known.local.seen_cur) last.rest in
     let front : after.known.local.front ≡ mid.known.local.front = ap (λ (s : Seated). s.known.local.front) last.rest in
     record {
       seat = last.of;
+      since = on_then before mid after leaves.since since;
       rest = ap beside_hand_over last.rest ∙ ap beside_hand_over leaves.rest;
       front = (let rose = leaves.front in omega (arith, rose, front));
       steps = (let most = leaves.steps in let more = last.steps in omega (arith, most, more, cur, few));
     }
+
+-- what a turn for an entry leaves of the seat that prepared a replica and handed it over
+pub handed_turns : {O : Type 0} (r : Running O) (n : ℕ) (before mid after : Seated) → Turns r beside_prepare before mid → TurnsIn r beside_hand_over n mid after → Turns r beside_update before after
+handed_turns r n before mid after prepared handed = record {
+  seat = handed.seat;
+  since = on_then before mid after prepared.since handed.since;
+  rest = ap but_sets handed.rest ∙ ap but_answers prepared.rest;
+  front = (let low = prepared.front in let high = handed.front in omega (arith, low, high));
+}
 
 -- what comes after a publication, by which at most one refusal was met
 module _ (ticket : ℕ) (before mid after : Seated) (rest : beside_publish mid ≡ beside_publish before) (low : before.known.local.met ≤ mid.known.local.met) (high : mid.known.local.met ≤ before.known.local.met + 1) where
@@ -283,10 +298,10 @@ module _ (ticket : ℕ) (before mid after : Seated) (rest : beside_publish mid �
   }
 
   -- what the raise leaves of the seat, whether it was made or not
-  pub passed_turns : {O X E : Type 0} (o : Ghosts O) (r : Running O) (code : ℕ) (reply : List ℕ) (result : Result X E) → LeavesRest r 1 before mid → OnOk result (AnswersBy o r code ticket reply mid after) → OnErr result (Halts r mid after) → TurnsIn r beside_hand_over (3 + cur_rises before after) before after
-  passed_turns o r code reply (Ok x) leaves by none = settled_turns r 1 before mid after (omega arith) leaves (raised_leaves o r code ticket reply mid after by)
-  passed_turns o r code reply (Err e) leaves none h =
-      settled_turns r 0 before mid after (omega arith) leaves (record { of = h.seat; rest = ap beside_settling h.same; steps = (let same = ap (λ (s : Seated). s.known.local.steps) h.same in omega (arith, same)) })
+  pub passed_turns : {O X E : Type 0} (o : Ghosts O) (r : Running O) (code : ℕ) (reply : List ℕ) (result : Result X E) → LeavesRest r 1 before mid → OnOk result (AnswersBy o r code ticket reply mid after) → OnErr result (Halts r mid after) → StepsOn mid after → TurnsIn r beside_hand_over (3 + cur_rises before after) before after
+  passed_turns o r code reply (Ok x) leaves by none since = settled_turns r 1 before mid after (omega arith) leaves (raised_leaves o r code ticket reply mid after by) since
+  passed_turns o r code reply (Err e) leaves none h since =
+      settled_turns r 0 before mid after (omega arith) leaves (record { of = h.seat; rest = ap beside_settling h.same; steps = (let same = ap (λ (s : Seated). s.known.local.steps) h.same in omega (arith, same)) }) since
 
   -- the raise by it answers the entry
   pub passed_answers : {O : Type 0} (o : Ghosts O) (r : Running O) (code : ℕ) (reply : List ℕ) → IsPublishedFor o r code ticket reply mid → mid.known.local.won ≡ None → AnswersBy o r code ticket reply mid after → AnswersEntry 1 ticket reply before after

@@ -1,7 +1,9 @@
 -- What calls bring on by write sets, one after another.
-use Rattle.std.proofs.Common.{◌≡◌, ◌+◌, inl, inr, ℕ, List, refl, ap, ◌∙◌, arith, Option, Some, None, Result, Ok, Err, IfOk}
+use Rattle.std.proofs.Common.{◌≡◌, ◌+◌, inl, inr, ℕ, List, min, refl, ap, sym, ◌∙◌, arith, Option, Some, None, Result, Ok, Err, IfOk}
+use Rattle.cx_core.specs.Layout.{max_word}
 use Rattle.cx_rule.specs.Seats.{Seated}
-use Rattle.cx_turns.specs.Bringing.{BringsAtMost, BringsEntries, BringsIn, BringsOn, none_yet, one_more}
+use Rattle.cx_turns.specs.Bringing.{BringsAtMost, BringsEntries, BringsOn, CountsEntries, CountsIn, none_yet, one_more}
+use Rattle.cx_turns.specs.Turns.{KeepsCount}
 use Rattle.redo_set.specs.Taking.{sets_read}
 use Rattle.replica_sets.specs.Offered.{StoresSet}
 
@@ -43,8 +45,25 @@ pub at_most_behind : (ticket : ℕ) (s u v : Seated) → u.known.sets ≡ s.know
 at_most_behind ticket s u v before (inl same) = inl (same ∙ before)
 at_most_behind ticket s u v before (inr (set, mid, same, stores)) = inr (set, mid, same ∙ before, stores)
 
--- the same of a turn that may give nothing
-pub in_before : {X E : Type 0} (s t v : Seated) → t.known.sets ≡ s.known.sets → (result : Result (Option X) E) → IfOk result (BringsIn {X = X} t v) → IfOk result (BringsIn {X = X} s v)
-in_before s t v before (Ok (Some x)) brought = brings_around s t v v before brought refl
-in_before s t v before (Ok None) same = same ∙ before
-in_before s t v before (Err e) brought = tt
+-- nothing more is noted of sets, and nothing more is counted
+pub counted_same : (taken now : ℕ) (before after : Seated) → now ≡ taken → after.known.sets ≡ before.known.sets → KeepsCount taken before now after
+counted_same taken now before after still same was = still ∙ was ∙ sym (ap (λ ns. min (sets_read ns) max_word) same)
+
+-- the same where they are counted
+pub counts_around : (taken now : ℕ) (s t u v : Seated) → t.known.sets ≡ s.known.sets → CountsEntries taken t now u → v.known.sets ≡ u.known.sets → CountsEntries taken s now v
+counts_around taken now s t u v before counts after = record {
+  counted = λ was. counted_same now now u v refl after (counts.counted (counted_same taken taken s t refl before was));
+  by_sets = brings_around s t u v before counts.by_sets after;
+}
+
+pub counts_none : (taken now : ℕ) (s v : Seated) → now ≡ taken → v.known.sets ≡ s.known.sets → CountsEntries taken s now v
+counts_none taken now s v still same = record { counted = counted_same taken now s v still same; by_sets = brings_none s v same }
+
+pub counts_then : (taken mid now : ℕ) (s u v : Seated) → CountsEntries taken s mid u → CountsEntries mid u now v → CountsEntries taken s now v
+counts_then taken mid now s u v a b = record { counted = λ was. b.counted (a.counted was); by_sets = brings_then s u v a.by_sets b.by_sets }
+
+-- and of a turn that may give nothing
+pub counts_before : {X E : Type 0} (taken now : ℕ) (s t v : Seated) → t.known.sets ≡ s.known.sets → (result : Result (Option X) E) → IfOk result (CountsIn {X = X} taken t now v) → IfOk result (CountsIn {X = X} taken s now v)
+counts_before taken now s t v before (Ok (Some x)) counts = record { counted = λ was. counts.counted (counted_same taken taken s t refl before was); by_sets = brings_around s t v v before counts.by_sets refl }
+counts_before taken now s t v before (Ok None) counts = record { counted = λ was. counts.counted (counted_same taken taken s t refl before was); by_sets = counts.by_sets ∙ before }
+counts_before taken now s t v before (Err e) counts = tt

@@ -1,5 +1,5 @@
 -- What a turn by which an image is taken does to the seat.
-use Rattle.std.proofs.Common.{◌≡◌, ◌+◌, ◌-◌, ◌==◌, ◌<◌, inl, inr, ℕ, Bool, false, cond, List, [], ◌∷◌, ◌++◌, append-nil, length, length-append, slice_index, refl, ap, sym, subst, ◌∙◌, arith, Some, None, Result, Ok, Err, MatchResult, OnErr, OnOk, drop, set, suc, take}
+use Rattle.std.proofs.Common.{◌≡◌, ◌+◌, ◌-◌, ◌==◌, ◌<◌, inl, inr, ℕ, Bool, false, cond, List, [], ◌∷◌, ◌++◌, append-nil, length, length-append, slice_index, refl, ap, sym, subst, ◌∙◌, arith, Some, None, Result, Ok, Err, MatchResult, drop, set, suc, take}
 use Rattle.std.proofs.lemmas.Bool.{cases_eq}
 use Rattle.std.proofs.lemmas.List.{drop_all, get_or_append_left, get_or_push, length-drop, length-set, length-take}
 use Rattle.std.proofs.lemmas.List.Elements.{Contains-append_left}
@@ -18,9 +18,10 @@ use Rattle.cx_core.specs.Rights.{is_at, shared_on}
 use Rattle.cx_core.specs.State.{one_more}
 use Rattle.cx_rule.specs.Fitting.{TellsWords, base_of, loaded_of, loads_of, word_noted}
 use Rattle.cx_rule.specs.Running.{Running}
-use Rattle.cx_rule.specs.Seats.{IsAtLimit, Seated, unanswered_ticket}
+use Rattle.cx_rule.specs.Seats.{IsAtLimit, Seated, StepsOn, unanswered_ticket}
 use Rattle.cx_rule.specs.Steps.{Halts, Steps, StepsTaking}
 use Rattle.cx_rule.proofs.Copying.{here_or, or_there}
+use Rattle.cx_rule.proofs.Stepping.{on_one, on_same, on_then, on_then_one}
 use Rattle.cx_table.specs.Right.{Right}
 use Rattle.cx_table.specs.Tokens.{IsTakenFrom}
 use Rattle.cx_turns.specs.Answering.{MayLook}
@@ -31,6 +32,7 @@ use Rattle.cx_turns.specs.Turns.{IsAtRest, Turns}
 use Rattle.replica.specs.Held.{IsHeldShared, LoadsRun, LoadsShared, no_load, one_more_load, beside_shared}
 use Rattle.replica.proofs.Access.{at_itself}
 use Rattle.replica.proofs.LineLoads.{loads_more, noted_more}
+use Rattle.replica.proofs.RegionLaws.{since_shared_run}
 use Rattle.replica.proofs.Renewing.{loaded_once}
 use Rattle.strong_trylock.specs.Held.{AllRights, all_rights}
 
@@ -90,13 +92,18 @@ module _ {O : Type 0} (lines : ℕ) (r : Running O) (lawful : List ℕ → Type 
 -- the place was loaded, and then the words behind it
 module _ {O : Type 0} (o : Ghosts O) (r : Running O) (hold : Right) (v : ℕ) (words : List ℕ) (first mid last : Seated) (one : LoadsShared (o.line_count r.object) r (o.lawful r.object) hold 0 v first mid) where
   pub some_loaded : LoadsSome o r hold first mid
-  some_loaded = record { held = one.still; rest = one.rest; kept = load_kept (o.line_count r.object) r (o.lawful r.object) hold 0 v first mid one }
+  some_loaded = record { held = one.still; since = on_one first mid one.steps; rest = one.rest; kept = load_kept (o.line_count r.object) r (o.lawful r.object) hold 0 v first mid one }
 
   module _ (two : LoadsRun (LoadsShared (o.line_count r.object) r (o.lawful r.object) hold) 1 words mid last) where
     pub all_loaded : LoadsSome o r hold first last
     all_loaded =
         let run = run_loads (o.line_count r.object) r (o.lawful r.object) hold 1 words mid last one.still two in
-        record { held = run.still; rest = run.rest ∙ one.rest; kept = λ x has. run.kept x (some_loaded.kept x has) }
+        record {
+          held = run.still;
+          since = since_shared_run (o.line_count r.object) r (o.lawful r.object) hold 1 words mid last first.known.local.steps two some_loaded.since;
+          rest = run.rest ∙ one.rest;
+          kept = λ x has. run.kept x (some_loaded.kept x has);
+        }
 
     pub image_loaded : length r.base.words ≡ 1 + length words → LoadsImage o r hold (v ∷ words) first last
     image_loaded count =
@@ -128,10 +135,6 @@ put_words (x ∷ xs) v words some = ap (λ ys. v ∷ (words ++ ys)) (drop_all (l
 pub rest_length : (xs : List ℕ) (v : ℕ) (words : List ℕ) → 0 < length xs → length words ≡ length (take (length (set xs 0 v) - 1) (drop 1 (set xs 0 v))) → length xs ≡ 1 + length words
 rest_length xs v words some is = omega (arith, is, length-set xs 0 v, length-drop 1 (set xs 0 v), length-take (length (set xs 0 v) - 1) (drop 1 (set xs 0 v)), some)
 
-pub both_ways : {A E : Type 0} (P Q : Type 0) (result : Result A E) → OnOk result P → OnErr result Q → MatchResult result (λ _. P) (λ _. Q)
-both_ways P Q (Ok x) p q = p
-both_ways P Q (Err e) p q = q
-
 pub only_err : {A E : Type 0} (P Q : Type 0) (R : E → Type 0) (result : Result A E) → IsErrAnd result R → Q → MatchResult result (λ _. P) (λ _. Q)
 only_err P Q R (Ok x) err q = absurd err
 only_err P Q R (Err e) err q = q
@@ -139,6 +142,7 @@ only_err P Q R (Err e) err q = q
 pub none_loaded : {O : Type 0} (o : Ghosts O) (r : Running O) (hold : Right) (first last : Seated) → IsHeldShared (o.line_count r.object) r (o.lawful r.object) first hold → last ≡ first → LoadsSome o r hold first last
 none_loaded o r hold first last held same = record {
   held = subst (λ s. IsHeldShared (o.line_count r.object) r (o.lawful r.object) s hold) (sym same) held;
+  since = on_same first last same;
   rest = ap (beside_shared hold.replica) same;
   kept = λ x has. subst (λ s. Contains (loaded_of s.known.local.shared) x) (sym same) has;
 }
@@ -185,7 +189,7 @@ module _ {O : Type 0} (o : Ghosts O) (r : Running O) (hold : Right) (first s : S
   loads_rest = ap beside_checkpoint loads.rest
 
   pub loads_turns : Turns r beside_checkpoint first s
-  loads_turns = record { seat = loads.held.of; rest = loads_rest; front = (let same = ap (λ (x : Seated). x.known.local.front) loads.rest in omega (arith, same)) }
+  loads_turns = record { seat = loads.held.of; since = loads.since; rest = loads_rest; front = (let same = ap (λ (x : Seated). x.known.local.front) loads.rest in omega (arith, same)) }
 
   pub loads_halt : IsAtLimit s.known.local → HaltsImage first s
   loads_halt limit =
@@ -199,6 +203,7 @@ module _ {O : Type 0} (o : Ghosts O) (r : Running O) (hold : Right) (first s : S
   pub unraised_turns : (u : Seated) → Halts r s u → Turns r beside_checkpoint first u
   unraised_turns u h = record {
     seat = h.seat;
+    since = on_then first s u loads.since (on_same s u h.same);
     rest = ap beside_checkpoint h.same ∙ loads_rest;
     front = (let a = ap (λ (x : Seated). x.known.local.front) h.same in let b = ap (λ (x : Seated). x.known.local.front) loads.rest in omega (arith, a, b));
   }
@@ -221,6 +226,9 @@ module _ {O : Type 0} (o : Ghosts O) (r : Running O) (hold : Right) (first s : S
         ∙ (λ i. put (append-nil s.known.local.answered i) (append-nil s.known.local.seen_reads i) (append-nil s.known.times.answered i) (append-nil s.known.times.reads i))
         ∙ loads_rest
 
+    raised_since : StepsOn first u
+    raised_since = on_then_one first s u loads.since (ap (λ (x : Seated). x.known.local.steps) raise.made)
+
     raised_front : u.known.local.front ≡ first.known.local.front
     raised_front = ap (λ (x : Seated). x.known.local.front) raise.made ∙ ap (λ (x : Seated). x.known.local.front) loads.rest
 
@@ -237,6 +245,7 @@ module _ {O : Type 0} (o : Ghosts O) (r : Running O) (hold : Right) (first s : S
     pub unreleased_turns : (v : Seated) → Halts r u v → Turns r beside_checkpoint first v
     unreleased_turns v h = record {
       seat = h.seat;
+      since = on_then first u v raised_since (on_same u v h.same);
       rest = ap beside_checkpoint h.same ∙ raised_rest;
       front = (let a = ap (λ (x : Seated). x.known.local.front) h.same in omega (arith, a, raised_front));
     }
@@ -271,6 +280,7 @@ module _ {O : Type 0} (o : Ghosts O) (r : Running O) (hold : Right) (first s : S
       pub taken_turns : Turns r beside_checkpoint first v
       taken_turns = record {
         seat = steps.seat;
+        since = on_then_one first u v raised_since (ap (λ (x : Seated). x.known.local.steps) released);
         rest = ap beside_checkpoint released ∙ raised_rest;
         front = (let a = ap (λ (x : Seated). x.known.local.front) released in omega (arith, a, raised_front));
       }

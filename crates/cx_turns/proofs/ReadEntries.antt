@@ -15,7 +15,7 @@ use Rattle.cx_rule.proofs.HasMore.{HasMore, noted_more}
 use Rattle.cx_table.specs.Right.{Right}
 use Rattle.cx_table.specs.Tokens.{IsExclusiveOf}
 use Rattle.cx_turns.specs.Replaying.{IsApplied, ReadsNext}
-use Rattle.mutation_queue.specs.Entries.{MayRead, ReadsEntry, notes_of, with_look, with_read}
+use Rattle.mutation_queue.specs.Entries.{MayReplay, ReadsEntry, notes_of, with_look, with_read}
 use Rattle.replica.specs.Held.{IsHeld}
 use Rattle.replica.specs.Replays.{ComesNext, IsReady, noted_place}
 use Rattle.replica.specs.Laws.{image_more}
@@ -67,11 +67,10 @@ own_comes at entry seat mine few place = record {
 }
 
 -- an entry may still be read
-pub may_still : {O : Type 0} (r : Running O) (at : ℕ) (before after : Seated) → IsSeatOf r after → after.known.local.front ≡ before.known.local.front → after.known.local.protection ≡ before.known.local.protection → MayRead r at before → MayRead r at after
-may_still r at before after of front protection may = record {
-  of = of;
-  linked = subst (λ n. at < n) (sym front) may.linked;
-  protected = subst (Protects at) (sym protection) may.protected;
+pub may_still : {O : Type 0} (r : Running O) (at : ℕ) (before after : Seated) → IsSeatOf r after → after.known.local.front ≡ before.known.local.front → after.known.local.protection ≡ before.known.local.protection → MayReplay r at before → MayReplay r at after
+may_still r at before after of front protection was = record {
+  may = record { of = of; linked = subst (λ n. at < n) (sym front) was.may.linked; protected = subst (Protects at) (sym protection) was.may.protected };
+  later = was.later;
 }
 
 -- where its reply is not given, the replica alone is told

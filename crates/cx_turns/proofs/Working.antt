@@ -79,10 +79,6 @@ rights_beside s =
 pub rights_kept : (before after : Seated) → beside_replay after ≡ beside_replay before → all_rights after ≡ all_rights before
 rights_kept before after same = sym (rights_beside after) ∙ ap all_rights same ∙ rights_beside before
 
--- nothing more is noted of sets, and nothing more is counted
-pub counted_same : (taken now : ℕ) (before after : Seated) → now ≡ taken → after.known.sets ≡ before.known.sets → KeepsCount taken before now after
-counted_same taken now before after still same was = still ∙ was ∙ sym (ap (λ ns. min (sets_read ns) max_word) same)
-
 one_more_counted : (n most : ℕ) → min (min n most + 1) most ≡ min (n + 1) most
 one_more_counted n most = omega arith
 

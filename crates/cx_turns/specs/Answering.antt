@@ -1,5 +1,5 @@
 -- The result of a turn that answers its caller's entry, and of one that answers a read.
-use Rattle.std.specs.Prelude.{◌≡◌, ◌≢◌, ◌+◌, ◌<◌, ◌≤◌, ◌⊎◌, false, ℕ, List, [], ◌∷◌, ◌++◌, length, slice_get, Option, Some, None}
+use Rattle.std.specs.Prelude.{◌≡◌, ◌≢◌, ◌+◌, ◌<◌, ◌≤◌, ◌⊎◌, false, ℕ, List, [], ◌∷◌, ◌++◌, length, slice_get, IfSome, Option, Some, None}
 use Rattle.std.specs.Option.{option_map}
 use Rattle.cx_base.specs.Codes.{root_place_of}
 use Rattle.cx_base.specs.declared.object.Object.{Ghosts}
@@ -77,6 +77,11 @@ abbrev pub TurnsFor : ℕ → Seated → Seated → Option (List ℕ) → Type 0
 TurnsFor ticket before after (Some reply) = AnswersEntry 1 ticket reply before after
 TurnsFor ticket before after None = TurnRefused before after
 
+-- the same of one that did not halt: the limit allowed a step
+pub record TurnsUpdating (ticket : ℕ) (before after : Seated) (reply : Option (List ℕ)) : Type 0 where
+  pub allowed : ¬ IsAtLimit before.known.local
+  pub turned : TurnsFor ticket before after reply
+
 -- no entry is answered
 pub record AnswersNone (before after : Seated) : Type 0 where
   pub same : after.known.local.answered ≡ before.known.local.answered
@@ -139,6 +144,14 @@ seen_at reply place = option_map (λ p. record { place = p; reply = reply }) pla
 abbrev pub LooksUp : List ℕ → Seated → Seated → Option Seen → Type 0
 LooksUp op before after (Some found) = AnswersRead before.known.local.steps op found.place found.reply before after
 LooksUp op before after None = TurnRefused before after × StepsBy 4 before after × StepsOn before after
+
+-- The result of a turn for a read, which the limit allowed, by the place that was read. That is the place of the code last found in CUR, and not
+-- above the front.
+pub record TurnsLooking (callers : ℕ) (op reply : List ℕ) (before after : Seated) (found : Option ℕ) : Type 0 where
+  pub allowed : ¬ IsAtLimit before.known.local
+  pub turned : LooksUp op before after (seen_at reply found)
+  pub place : IfSome found (λ place. place ≡ root_place_of callers after.known.local.seen_cur)
+  pub reached : IfSome found (λ place. place ≤ after.known.local.front)
 
 -- The step limit was reached, and a further step was due. Before the raise no read is answered, and behind it this one is, and the shared
 -- right is still to be given back.

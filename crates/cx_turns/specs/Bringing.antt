@@ -1,6 +1,7 @@
 -- The entries of others that a call brings onto a replica by their write sets.
 use Rattle.std.specs.Prelude.{◌≡◌, ◌+◌, ◌⊎◌, ℕ, List, Option, Some, None}
 use Rattle.cx_rule.specs.Seats.{Seated}
+use Rattle.cx_turns.specs.Turns.{KeepsCount}
 use Rattle.redo_set.specs.Taking.{sets_read}
 use Rattle.replica_sets.specs.Offered.{StoresSet}
 
@@ -20,7 +21,17 @@ pub record BringsEntries (before after : Seated) : Type 0 where
   pub on : BringsOn before count after
   pub read : sets_read after.known.sets ≡ sets_read before.known.sets + count
 
+-- beside them the sets of others that were taken stay counted
+pub record CountsEntries (taken : ℕ) (before : Seated) (now : ℕ) (after : Seated) : Type 0 where
+  pub counted : KeepsCount taken before now after
+  pub by_sets : BringsEntries before after
+
 -- what a turn that may give nothing brings on: then no word of a set was read
 abbrev pub BringsIn : {X : Type 0} → Seated → Seated → Option X → Type 0
 BringsIn before after (Some x) = BringsEntries before after
 BringsIn before after None = after.known.sets ≡ before.known.sets
+
+-- beside that they stay counted
+pub record CountsIn {X : Type 0} (taken : ℕ) (before : Seated) (now : ℕ) (after : Seated) (given : Option X) : Type 0 where
+  pub counted : KeepsCount taken before now after
+  pub by_sets : BringsIn before after given

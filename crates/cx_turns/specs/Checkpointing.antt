@@ -10,11 +10,11 @@ use Rattle.cx_rule.specs.Fitting.{TellsWords, loaded_of}
 use Rattle.cx_rule.specs.Raises.{known_answered}
 use Rattle.cx_rule.specs.Rule.{IsLawfulLocal}
 use Rattle.cx_rule.specs.Running.{IsSeatOf, Running, instance_at}
-use Rattle.cx_rule.specs.Seats.{Seated, StepsBy, unanswered_ticket}
+use Rattle.cx_rule.specs.Seats.{IsAtLimit, Seated, StepsBy, unanswered_ticket}
 use Rattle.cx_table.specs.Right.{Right}
 use Rattle.cx_turns.specs.Answering.{beside_raise}
 use Rattle.cx_turns.specs.Turns.{HaltsTurn, IsAtRest, StepsOn, TurnRefused}
-use Rattle.replica.specs.Held.{IsHeldShared, beside_shared}
+use Rattle.replica.specs.Held.{IsHeldSharedIn, beside_shared}
 
 -- what no such turn changes: what no step of a turn does before its raise, but the greatest code that DUR was raised by, the floor, and the
 -- images that the caller took
@@ -42,6 +42,11 @@ abbrev pub TakesTurn : {O : Type 0} → Ghosts O → Running O → List ℕ → 
 TakesTurn o r image before after (Some place) = TakesImage o r image place before after
 TakesTurn o r image before after None = TurnRefused before after × StepsBy 4 before after × StepsOn before after × TakesNone before after
 
+-- the same of one that did not halt: the limit allowed a step
+pub record TurnsTaking {O : Type 0} (o : Ghosts O) (r : Running O) (image : List ℕ) (before after : Seated) (place : Option ℕ) : Type 0 where
+  pub allowed : ¬ IsAtLimit before.known.local
+  pub turned : TakesTurn o r image before after place
+
 -- The step limit was reached, and a further step was due. No image was taken.
 pub record HaltsImage (before after : Seated) : Type 0 where
   pub halts : HaltsTurn before after
@@ -49,7 +54,7 @@ pub record HaltsImage (before after : Seated) : Type 0 where
 
 -- The current replica is held shared at its place, and beside it the caller is at rest, with each of its entries answered.
 pub record IsAtCurrent {O : Type 0} (o : Ghosts O) (r : Running O) (seat : Seated) (hold : Right) : Type 0 where
-  pub held : IsHeldShared (o.line_count r.object) r (o.lawful r.object) seat hold
+  pub held : IsHeldSharedIn o r seat hold
   pub place : Contains (loaded_of seat.known.local.shared) (0, root_place_of r.callers seat.known.local.seen_cur)
   pub rest : IsAtRest (record seat.known.local { shared = None; fresh = false })
   pub answered : unanswered_ticket seat.known.local ≡ None
@@ -60,9 +65,10 @@ pub record RaisesCurrent {O : Type 0} (o : Ghosts O) (r : Running O) (code : ℕ
   pub lawful : IsLawfulLocal (instance_at r o.step o.only_reads) before.known.local
   pub seat : IsSeatOf r after
 
--- words of the replica held shared were loaded, and nothing else was done
+-- words of the replica held shared were loaded, no step was taken back, and nothing else was done
 pub record LoadsSome {O : Type 0} (o : Ghosts O) (r : Running O) (hold : Right) (before after : Seated) : Type 0 where
-  pub held : IsHeldShared (o.line_count r.object) r (o.lawful r.object) after hold
+  pub held : IsHeldSharedIn o r after hold
+  pub since : StepsOn before after
   pub rest : beside_shared hold.replica after ≡ beside_shared hold.replica before
   pub kept : (x : ℕ × ℕ) → Contains (loaded_of before.known.local.shared) x → Contains (loaded_of after.known.local.shared) x
 

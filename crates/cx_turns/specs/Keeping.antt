@@ -16,9 +16,9 @@ use Rattle.cx_rule.specs.Seats.{Seated}
 use Rattle.cx_table.specs.Right.{Right}
 use Rattle.cx_turns.specs.Turns.{StepsOn, TurnRefused}
 use Rattle.mutation_queue.specs.Protections.{MeetsNone, ShowsRootOutdated}
-use Rattle.replica.specs.Copies.{HoldsBoth}
-use Rattle.replica.specs.Held.{IsHeld, IsHeldShared}
-use Rattle.replica.specs.Replays.{IsHeldImage, noted_place}
+use Rattle.replica.specs.Copies.{HoldsBothIn}
+use Rattle.replica.specs.Held.{IsHeldIn, IsHeldSharedIn}
+use Rattle.replica.specs.Replays.{IsHeldImageIn, noted_place}
 use Rattle.strong_trylock.specs.Held.{AllRights, all_rights}
 
 -- the rights of a caller beside the exclusive one, its scan, and the replicas that were refused
@@ -40,8 +40,8 @@ no_others = record { shared = None; passer = None; downgraded = None; won = None
 -- a replica is held exclusively that is the image after its place, and beside it the caller has no right and no scan, and nothing is
 -- refused
 pub record IsAtImage {O : Type 0} (o : Ghosts O) (r : Running O) (seat : Seated) (held : Right) : Type 0 where
-  pub is_held : IsHeld (o.line_count r.object) r (o.lawful r.object) (o.step r.object) seat held
-  pub image : IsHeldImage (o.line_count r.object) (o.lawful r.object) r.base (o.step r.object) seat.known
+  pub is_held : IsHeldIn o r seat held
+  pub image : IsHeldImageIn o r seat.known
   pub alone : others seat.known.local ≡ no_others
 
 -- The entries from the replica's place up to a ticket may be read: there is none, and no protection stands, or the tickets from the place
@@ -85,7 +85,7 @@ pub record SeesCurrentReplica {O : Type 0} (o : Ghosts O) (r : Running O) (befor
 -- The replica that the code last loaded from CUR names is held shared beside these rights, at that code's place, and nothing ended that
 -- code's use.
 pub record HoldsCurrent {O : Type 0} (o : Ghosts O) (r : Running O) (rights : AllRights) (before after : Seated) (hold : Right) : Type 0 where
-  pub held : IsHeldShared (o.line_count r.object) r (o.lawful r.object) after hold
+  pub held : IsHeldSharedIn o r after hold
   pub here : hold.replica ≡ root_replica_of r.callers after.known.local.seen_cur
   pub place : Contains (loaded_of after.known.local.shared) (0, root_place_of r.callers after.known.local.seen_cur)
   pub with : all_rights after ≡ record rights { shared = Some hold.replica }
@@ -113,7 +113,7 @@ pub record MayKeep (ticket : ℕ) (seat : Seated) : Type 0 where
 -- A replica held exclusively was found behind the ring, and the current one is held shared beside it, at the place of the code last
 -- loaded from CUR. Beside these the caller has no right, no protection and no scan, and nothing is refused.
 pub record HoldsSource {O : Type 0} (o : Ghosts O) (r : Running O) (seat : Seated) (held source : Right) : Type 0 where
-  pub both : HoldsBoth (o.line_count r.object) r (o.lawful r.object) (o.step r.object) seat held source
+  pub both : HoldsBothIn o r seat held source
   pub alone : others seat.known.local ≡ record no_others { shared = Some source.replica }
   pub none : seat.known.local.protection ≡ Unprotected
   pub place : Contains (loaded_of seat.known.local.shared) (0, root_place_of r.callers seat.known.local.seen_cur)

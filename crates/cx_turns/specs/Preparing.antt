@@ -2,9 +2,10 @@
 use Rattle.std.specs.Prelude.{◌≡◌, ◌<◌, ℕ, List, [], Option, Some, None}
 use Rattle.cx_base.specs.declared.object.Object.{Ghosts}
 use Rattle.cx_core.specs.declared.local.Protection.TheVariants.{Unprotected}
-use Rattle.cx_rule.specs.Fitting.{IsReplayedToPlace, SomeFits}
+use Rattle.cx_rule.specs.Fitting.{SomeFits}
 use Rattle.cx_rule.specs.Running.{Running}
 use Rattle.cx_rule.specs.Seats.{Seated}
+use Rattle.cx_rule.specs.Stores.{IsReplayedToPlaceIn}
 use Rattle.cx_table.specs.Right.{Right}
 use Rattle.cx_table.specs.Tokens.{IsDowngradedOf}
 use Rattle.cx_turns.specs.Turns.{TurnRefused}
@@ -18,7 +19,7 @@ pub record Prepares {O : Type 0} (o : Ghosts O) (r : Running O) (ticket : ℕ) (
   pub downgraded : after.known.local.downgraded ≡ Some (record { replica = held.replica; place = noted_place after })
   pub place : ticket < noted_place after
   pub rights : all_rights after ≡ record no_rights { downgraded = Some held.replica }
-  pub replayed : IsReplayedToPlace r.lines (o.lawful r.object) r.base (o.step r.object) after.known
+  pub replayed : IsReplayedToPlaceIn o r after.known
   pub reply : ShowsReply r.lines (o.lawful r.object) r.base (o.step r.object) after.known after.known.local.number answer
   pub some : SomeFits r.lines (o.lawful r.object) r.base (o.step r.object) after.known
   pub protection : after.known.local.protection ≡ Unprotected

@@ -11,7 +11,7 @@ use Rattle.cx_rule.specs.Seats.{Seated, StepsBy}
 use Rattle.cx_table.specs.Right.{Right}
 use Rattle.cx_turns.specs.Keeping.{HoldsCurrent}
 use Rattle.cx_turns.specs.Turns.{MeetsRefusal, StepsOn}
-use Rattle.replica.specs.Held.{IsHeldShared}
+use Rattle.replica.specs.Held.{IsHeldSharedIn}
 use Rattle.strong_trylock.specs.Held.{all_rights, no_rights}
 
 -- what no read changes: the seat but for the shared right and what was tried and loaded of it, whether what was seen of CUR is
@@ -41,5 +41,5 @@ pub record MayReadReply {O : Type 0} (r : Running O) (seat : Seated) : Type 0 wh
 
 -- a replica is held shared whose place was loaded
 pub record HoldsPlace {O : Type 0} (o : Ghosts O) (r : Running O) (place : ℕ) (seat : Seated) (hold : Right) : Type 0 where
-  pub held : IsHeldShared (o.line_count r.object) r (o.lawful r.object) seat hold
+  pub held : IsHeldSharedIn o r seat hold
   pub loaded : Contains (loaded_of seat.known.local.shared) (0, place)

@@ -6,16 +6,18 @@ use Rattle.cx_base.specs.declared.object.Object.{Ghosts}
 use Rattle.cx_core.specs.declared.entry.Entry.{Entry}
 use Rattle.cx_core.specs.declared.local.HeldShared.{HeldShared}
 use Rattle.cx_core.specs.declared.local.Protection.TheVariants.{Unprotected}
-use Rattle.cx_rule.specs.Fitting.{Fitting, FitsKnown}
 use Rattle.cx_rule.specs.Running.{Running}
 use Rattle.cx_rule.specs.Seats.{IsWithinLimit, Seated}
+use Rattle.cx_rule.specs.Stores.{FitsIn, FittingIn}
 use Rattle.cx_table.specs.Right.{Right}
-use Rattle.cx_turns.specs.Turns.{but_sets, unguarded}
-use Rattle.mutation_queue.specs.Entries.{IsNotedEntry, ReadsEntry}
+use Rattle.cx_turns.specs.Bringing.{BringsAtMost}
+use Rattle.cx_turns.specs.Turns.{KeepsCount, but_sets, unguarded}
+use Rattle.mutation_queue.specs.Entries.{IsNotedEntry, MayReplay, ReadsEntry}
+use Rattle.redo_set.specs.Taking.{CountsTaken}
 use Rattle.replica.specs.Flushes.{IsFlushed}
-use Rattle.replica.specs.Held.{IsHeld, beside_held, but_words}
+use Rattle.replica.specs.Held.{IsHeldIn, beside_held, but_words}
 use Rattle.replica.specs.Regions.{HasPlace}
-use Rattle.replica.specs.Replays.{IsHeldImage, IsReady, ShowsReply, noted_place}
+use Rattle.replica.specs.Replays.{IsHeldImageIn, IsReady, ShowsReplyIn, noted_place}
 
 -- a replica held shared but for what is loaded of it
 abbrev pub but_shared_loads : HeldShared → HeldShared
@@ -45,39 +47,59 @@ beside_replay s = but_sets (beside_work s)
 pub record ReadsNext {O : Type 0} (o : Ghosts O) (r : Running O) (ticket : ℕ) (entry : Entry) (before after : Seated) : Type 0 where
   pub read : ReadsEntry entry.caller ticket (entry.number ∷ entry.op) before after
   pub noted : IsNotedEntry ticket after entry
-  pub fits : Fitting r.lines (o.lawful r.object) r.base (o.step r.object) after.known
+  pub fits : FittingIn o r after.known
 
 -- A replica held exclusively is the image after a place above a ticket, no word of it is dirty, and the caller's last entry there
 -- has this reply.
 pub record IsBroughtUp {O : Type 0} (o : Ghosts O) (r : Running O) (held : Right) (ticket : ℕ) (seat : Seated) (reply : List ℕ) : Type 0 where
-  pub is_held : IsHeld (o.line_count r.object) r (o.lawful r.object) (o.step r.object) seat held
-  pub image : IsHeldImage (o.line_count r.object) (o.lawful r.object) r.base (o.step r.object) seat.known
+  pub is_held : IsHeldIn o r seat held
+  pub image : IsHeldImageIn o r seat.known
   pub clean : IsFlushed seat
   pub place : ticket < noted_place seat
-  pub reply_is : ShowsReply (o.line_count r.object) (o.lawful r.object) r.base (o.step r.object) seat.known seat.known.local.number reply
+  pub reply_is : ShowsReplyIn o r seat.known seat.known.local.number reply
   pub none : seat.known.local.protection ≡ Unprotected
 
--- a replica held exclusively is the image after a place above a ticket
-pub record IsReplayedPast {O : Type 0} (o : Ghosts O) (r : Running O) (held : Right) (ticket : ℕ) (seat : Seated) : Type 0 where
+-- A replica held exclusively is the image after a place above a ticket. Where the last entry that was applied is the caller's own and its step
+-- was done, the replica has this reply for the caller.
+pub record IsReplayedPast {O : Type 0} (o : Ghosts O) (r : Running O) (held : Right) (ticket : ℕ) (reply : List ℕ) (seat : Seated) (own : Bool) : Type 0 where
   pub ready : IsReady o r held (noted_place seat) seat
   pub place : ticket < noted_place seat
+  pub replied : IsTrue own → ShowsReplyIn o r seat.known seat.known.local.number reply
+
+-- the entry whose ticket is the place of a replica held exclusively may be applied to it
+pub record MayApply {O : Type 0} (o : Ghosts O) (r : Running O) (held : Right) (at : ℕ) (seat : Seated) : Type 0 where
+  pub ready : IsReady o r held at seat
+  pub may : MayReplay r at seat
+
+-- Another's entry with a ticket was applied to a replica held exclusively, which is the image after the next place: by its write set, where one was
+-- taken, and else by its step.
+pub record AppliesAnother {O : Type 0} (o : Ghosts O) (r : Running O) (held : Right) (ticket : ℕ) (before after : Seated) (taken : Bool) : Type 0 where
+  pub ready : IsReady o r held (ticket + 1) after
+  pub counted : CountsTaken before after taken
+  pub by_sets : BringsAtMost ticket before after
+
+-- Another's entry was applied so, and the sets of others that were taken stay counted.
+pub record ReplaysAnother {O : Type 0} (o : Ghosts O) (r : Running O) (held : Right) (ticket taken : ℕ) (before : Seated) (now : ℕ) (after : Seated) : Type 0 where
+  pub ready : IsReady o r held (ticket + 1) after
+  pub counted : KeepsCount taken before now after
+  pub by_sets : BringsAtMost ticket before after
 
 -- The entry with a ticket was applied to a replica held exclusively, which is the image after the next place. Where it is the caller's own and
 -- its step was done, the replica has this reply for the caller.
 pub record IsApplied {O : Type 0} (o : Ghosts O) (r : Running O) (held : Right) (ticket : ℕ) (reply : List ℕ) (seat : Seated) (own : Bool) : Type 0 where
   pub ready : IsReady o r held (ticket + 1) seat
-  pub replied : IsTrue own → ShowsReply (o.line_count r.object) (o.lawful r.object) r.base (o.step r.object) seat.known seat.known.local.number reply
+  pub replied : IsTrue own → ShowsReplyIn o r seat.known seat.known.local.number reply
 
 -- It is the image after the place that it had, no word of it is dirty, and the caller's last entry there has this reply.
 pub record IsReplicaSettled {O : Type 0} (o : Ghosts O) (r : Running O) (held : Right) (before after : Seated) (reply : List ℕ) : Type 0 where
   pub ready : IsReady o r held (noted_place before) after
   pub clean : IsFlushed after
-  pub reply_is : ShowsReply (o.line_count r.object) (o.lawful r.object) r.base (o.step r.object) after.known after.known.local.number reply
+  pub reply_is : ShowsReplyIn o r after.known after.known.local.number reply
 
 -- Words of the replica held were loaded, and nothing else is changed.
 pub record LoadsOnly {O : Type 0} (o : Ghosts O) (r : Running O) (held : Right) (before after : Seated) : Type 0 where
-  pub still : IsHeld (o.line_count r.object) r (o.lawful r.object) (o.step r.object) after held
-  pub unchanged : Becomes (FitsKnown (o.line_count r.object) (o.lawful r.object) r.base (o.step r.object) before.known) (FitsKnown (o.line_count r.object) (o.lawful r.object) r.base (o.step r.object) after.known) ◌≡◌
+  pub still : IsHeldIn o r after held
+  pub unchanged : Becomes (FitsIn o r before.known) (FitsIn o r after.known) ◌≡◌
   pub begun : HasPlace after.known.accesses
   pub within : IsWithinLimit after.known.local
   pub rest : beside_held held.replica after ≡ beside_held held.replica before

@@ -6,7 +6,7 @@ use Rattle.cx_core.specs.State.{one_more}
 use Rattle.cx_rule.specs.Running.{IsSeatOf, Running}
 use Rattle.cx_rule.specs.Seats.{IsAtLimit, Seated}
 use Rattle.cx_table.specs.Right.{Right}
-use Rattle.replica.specs.Laws.{IsTaken}
+use Rattle.replica.specs.Laws.{IsTakenIn}
 use Rattle.strong_trylock.specs.Held.{all_rights, no_rights}
 
 -- what exclusive tries leave as it was: the seat but for the exclusive right, what was tried and noted, and the counts of steps
@@ -28,7 +28,7 @@ pub record MayTake {O : Type 0} (r : Running O) (seat : Seated) : Type 0 where
 
 -- a replica was just taken, which is the caller's only right
 pub record TakesOne {O : Type 0} (o : Ghosts O) (r : Running O) (before after : Seated) (held : Right) : Type 0 where
-  pub taken : IsTaken (o.line_count r.object) r (o.lawful r.object) (o.step r.object) after held
+  pub taken : IsTakenIn o r after held
   pub rights : all_rights after ≡ record no_rights { exclusive = Some held.replica }
   pub refused : after.known.local.refused ≡ []
   pub met : after.known.local.met ≡ before.known.local.met

@@ -8,8 +8,8 @@ use Rattle.cx_core.specs.Rights.{exclusive_on}
 use Rattle.cx_rule.specs.Running.{IsSeatOf, Running}
 use Rattle.cx_rule.specs.Seats.{IsAtLimit, Seated, StepsBy}
 use Rattle.cx_rule.specs.Timing.{KeepsTimes}
+pub use Rattle.cx_rule.specs.Seats.{StepsOn}
 use Rattle.redo_set.specs.Taking.{sets_read}
-pub use Rattle.cx_table.specs.Seats.{StepsOn}
 use Rattle.replica_sets.specs.Own.{but_set}
 use Rattle.strong_trylock.specs.Held.{all_rights, no_rights}
 
@@ -84,23 +84,32 @@ IsCounted taken seat = taken ≡ min (sets_read seat.known.sets) max_word
 abbrev pub KeepsCount : ℕ → Seated → ℕ → Seated → Type 0
 KeepsCount taken before now after = IsCounted taken before → IsCounted now after
 
--- what a call leaves of a seat: it is one of the table, and what the call does not change, which this function gives, is as it was
+-- what a call leaves of a seat: it is one of the table, no step is taken back, and what the call does not change, which this function gives,
+-- is as it was
 pub record KeepsSeat {O : Type 0} (r : Running O) (beside : Seated → Seated) (before after : Seated) : Type 0 where
   pub seat : IsSeatOf r after
+  pub since : StepsOn before after
   pub rest : beside after ≡ beside before
 
 -- the same of a call that may raise the front
 pub record Turns {O : Type 0} (r : Running O) (beside : Seated → Seated) (before after : Seated) : Type 0 where
   pub seat : IsSeatOf r after
+  pub since : StepsOn before after
   pub rest : beside after ≡ beside before
   pub front : before.known.local.front ≤ after.known.local.front
 
 -- the same of a call that may raise the front, by at most this many steps
 pub record TurnsIn {O : Type 0} (r : Running O) (beside : Seated → Seated) (n : ℕ) (before after : Seated) : Type 0 where
   pub seat : IsSeatOf r after
+  pub since : StepsOn before after
   pub rest : beside after ≡ beside before
   pub front : before.known.local.front ≤ after.known.local.front
   pub steps : StepsBy n before after
+
+-- the same of a call that may raise the front and loads CUR: the code that was seen of it does not fall
+pub record RisesIn {O : Type 0} (r : Running O) (beside : Seated → Seated) (before after : Seated) : Type 0 where
+  pub turns : Turns r beside before after
+  pub rises : before.known.local.seen_cur ≤ after.known.local.seen_cur
 
 -- by how much what was seen of CUR rose: at least by one for each exchange that was lost
 abbrev pub cur_rises : Seated → Seated → ℕ

@@ -1,13 +1,13 @@
 //! A turn by which a caller takes the image of the current replica, while others go on. `Halt` comes only where no access is left.
 
-ghost use Rattle.std.specs.Prelude.{◌≡◌, ◌≤◌, IfOk, MatchResult, None, OnErr, OnOk, length};
+ghost use Rattle.std.specs.Prelude.{◌≡◌, IfOk, MatchResult, None, OnErr, length};
 ghost use Rattle.cx_rule.specs.Running.{IsSeatOf};
 ghost use Rattle.cx_rule.specs.Seats.{IsAtLimit, unanswered_ticket};
 ghost use Rattle.cx_rule.specs.Steps.{Halts};
-ghost use Rattle.cx_turns.specs.Checkpointing.{HaltsImage, IsAtCurrent, LoadsImage, LoadsSome, RaisesCurrent, TakesImage, TakesTurn, beside_checkpoint};
+ghost use Rattle.cx_turns.specs.Checkpointing.{HaltsImage, IsAtCurrent, LoadsImage, LoadsSome, RaisesCurrent, TakesImage, TurnsTaking, beside_checkpoint};
 ghost use Rattle.cx_turns.specs.Answering.{MayLook};
-ghost use Rattle.cx_turns.specs.Turns.{StepsOn, Turns};
-ghost use Rattle.replica.specs.Held.{IsHeldShared};
+ghost use Rattle.cx_turns.specs.Turns.{RisesIn, Turns};
+ghost use Rattle.replica.specs.Held.{IsHeldSharedIn};
 
 use crate::current::take_current;
 use cx_base::{Halt, Object};
@@ -25,12 +25,9 @@ pub fn checkpoint_turn<O: Object>(
 ) -> Result<Option<u64>, Halt>
     requires ready { MayLook shared.now seat.old }
     requires words { length into.old ≡ length shared.now.base.words }
-    ensures allowed { OnOk result (¬ IsAtLimit seat.old.known.local) }
-    ensures turned { IfOk result (TakesTurn O.Object shared.now into.new seat.old seat.new) }
+    ensures turned { IfOk result (TurnsTaking O.Object shared.now into.new seat.old seat.new) }
     ensures halted { OnErr result (HaltsImage seat.old seat.new) }
-    ensures turns { Turns shared.now beside_checkpoint seat.old seat.new }
-    ensures since { StepsOn seat.old seat.new }
-    ensures rises { seat.old.known.local.seen_cur ≤ seat.new.known.local.seen_cur }
+    ensures turns { RisesIn shared.now beside_checkpoint seat.old seat.new }
     ensures length { length into.new ≡ length into.old }
 {
     shared.load_cur(seat)?;
@@ -52,7 +49,6 @@ fn take_image<O: Object>(
     ensures taken { IfOk result (λ place. TakesImage O.Object shared.now into.new place seat.old seat.new) }
     ensures halted { OnErr result (HaltsImage seat.old seat.new) }
     ensures turns { Turns shared.now beside_checkpoint seat.old seat.new }
-    ensures since { StepsOn seat.old seat.new }
     ensures same { seat.new.known.local.seen_cur ≡ seat.old.known.local.seen_cur }
     ensures length { length into.new ≡ length into.old }
 {
@@ -84,10 +80,9 @@ fn load_image<O: Object>(
     hold: &SharedHold,
     into: &mut [u64],
 ) -> Result<(), Halt>
-    requires held { IsHeldShared (O.line_count shared.now.object) shared.now (O.lawful shared.now.object) seat.old hold.now }
+    requires held { IsHeldSharedIn O.Object shared.now seat.old hold.now }
     requires words { length into.old ≡ length shared.now.base.words }
     ensures loaded { MatchResult result (λ _. LoadsImage O.Object shared.now hold.now into.new seat.old seat.new) (λ _. LoadsSome O.Object shared.now hold.now seat.old seat.new × IsAtLimit seat.new.known.local) }
-    ensures since { StepsOn seat.old seat.new }
     ensures length { length into.new ≡ length into.old }
 {
     let start = shared.start_shared(seat, hold);

@@ -14,7 +14,7 @@ ghost use Rattle.cx_turns.specs.Keeping.{HoldsCurrent, TakesCurrent};
 ghost use Rattle.cx_turns.specs.Reads.{HoldsPlace, IsReplyRead, MayReadReply, ReadsCurrent, beside_read};
 ghost use Rattle.cx_turns.specs.Turns.{HaltsTurn, KeepsSeat, StepsOn};
 ghost use Rattle.mutation_queue.specs.Leaves.{LeavesSeatPart};
-ghost use Rattle.replica.specs.Held.{IsHeldShared, beside_shared};
+ghost use Rattle.replica.specs.Held.{IsHeldSharedIn, beside_shared};
 ghost use Rattle.strong_trylock.specs.Held.{all_rights, no_rights};
 
 use cx_base::{Halt, Memory, Object, OpWords, root_place, root_replica};
@@ -89,7 +89,6 @@ pub fn read_current<O: Object>(
     requires reads { IsTrue (O.only_reads shared.now.object op.now) }
     ensures read { MatchResult result (ReadsCurrent O.Object shared.now op.now reply.new seat.old seat.new) (λ _. HaltsTurn seat.old seat.new) }
     ensures keeps { KeepsSeat shared.now beside_read seat.old seat.new }
-    ensures since { StepsOn seat.old seat.new }
 {
     // callers are some
     let _callers = shared.callers();
@@ -111,7 +110,6 @@ fn read_taken<O: Object>(
     requires reads { IsTrue (O.only_reads shared.now.object op.now) }
     ensures read { MatchResult result (IsReplyRead O.Object shared.now op.now reply.new seat.old seat.new) (λ _. HaltsTurn seat.old seat.new) }
     ensures keeps { KeepsSeat shared.now beside_read seat.old seat.new }
-    ensures since { StepsOn seat.old seat.new }
 {
     let place = root_place(shared.callers(), seat.seen_cur());
     query_held(shared, seat, &hold, place, op, reply)?;
@@ -149,7 +147,7 @@ fn test_place<O: Object>(
     seat: &mut CallerSeat,
     hold: SharedHold,
 ) -> Result<Option<SharedHold>, Halt>
-    requires held { IsHeldShared (O.line_count shared.now.object) shared.now (O.lawful shared.now.object) seat.old hold }
+    requires held { IsHeldSharedIn O.Object shared.now seat.old hold }
     requires here { hold.replica ≡ root_replica_of shared.now.callers seat.old.known.local.seen_cur }
     requires apart { is_at hold.replica (exclusive_on seat.old.known.local) ≡ false }
     requires fresh { seat.old.known.local.fresh ≡ true }

@@ -16,11 +16,11 @@
 //!   set, where the caller has that in an own cell or takes it from another's, or by its step, the caller's own from its seat, and each other read
 //!   under a protection. Which of these it is, and whether the set of an own step is offered, is in no contract. But the sets of others that were
 //!   taken are counted, and own ones are not: where no call halts the count is right up to 2^64 - 1, where it stays (`counted`, of `replay_to`,
-//!   `prepare` and `update_turn`). As many sets were read as entries were brought on by them: of each there is a seat from which to a
-//!   next just its pairs were stored (`by_sets`: `BringsEntries`), between which and the seat before one entry no word of a set is read
+//!   `prepare` and `update_turn`: `CountsEntries`, `CountsIn`). As many sets were read as entries were brought on by them: of each there is a seat
+//!   from which to a next just its pairs were stored (`BringsEntries`), between which and the seat before one entry no word of a set is read
 //!   (`BringsAtMost`, within the crate). A turn that gives nothing reads no word of a set.
-//!   The reply to the caller's last entry there, for whatever fits what was noted, is the one that the step of that entry gave (`replied`), or is
-//!   loaded where the last entry was applied otherwise: `own_outcome`. Where cells from the replica's place on are closed it is a copy of the
+//!   The reply to the caller's last entry there, for whatever fits what was noted, is the one that the step of that entry gave (`IsReplayedPast`),
+//!   or is loaded from the replica where the last entry was applied otherwise. Where cells from the replica's place on are closed it is a copy of the
 //!   current one first: of the lines alone that changed, where the ring of gaps tells them. It is made durable and downgraded: `prepare` (`prepared`).
 //! - A turn for a linked entry answers it with its reply, and meets at most one refusal, or one was met and nothing is answered, and the caller
 //!   is at rest again; where it halts the entry is not answered, or it is and the win stands that is still to be retired, and no refusal was
@@ -29,13 +29,13 @@
 //!   above each ticket and not below any place that the caller was answered before; where it halts the read is not answered, or it is and the
 //!   shared right stands that is still to be given back: `read_turn` (`turned`, `halted`, `turns`), over `read_current`.
 //! - A turn by which the image of the current replica is taken loads all its words under one shared right, raises DUR by its code, and makes them one
-//!   image more that the caller took, a lawful base at that code's place: `checkpoint_turn` (`turned`: `TakesTurn`; `halted`, `turns`). It is refused as a
-//!   read's is, and where it halts no image is taken.
-//! - A turn for a read that is refused makes at most 4 steps: `read_turn` (`turned`: `LooksUp`). Of a turn for an entry each part outside replay,
-//!   copy and flush has a bound: `take_any` makes at most two tries for each caller (`leaves`), and what publishes, answers and retires makes 3
-//!   steps and one for each later code that was found (`hand_over`). What an object loads and stores is not counted.
-//! - No step is taken back, where the count is not at its end, whether a call halts or not: `since` of each (`StepsOn`). Where an object runs on a
-//!   replica that is since the region keeps the count that it began with.
+//!   image more that the caller took, a lawful base at that code's place: `checkpoint_turn` (`turned`: `TurnsTaking`; `halted`, `turns`). It is
+//!   refused as a read's is, and where it halts no image is taken.
+//! - A turn for a read that is refused makes at most 4 steps: `read_turn` (`turned`: `TurnsLooking`). Of a turn for an entry each part outside
+//!   replay, copy and flush has a bound: `take_any` makes at most two tries for each caller (`leaves`), and what publishes, answers and retires makes
+//!   3 steps and one for each later code that was found (`hand_over`). What an object loads and stores is not counted.
+//! - No step is taken back, where the count is not at its end, whether a call halts or not: `since` of each, or of its `turns` or `keeps`
+//!   (`StepsOn`). Where an object runs on a replica that is since the region keeps the count that it began with.
 //! - No refusal is taken back, whether a turn halts or not: `counted` of `HaltsTurn` and `HaltsFor`, and `met` of the others.
 #![tactic(auto)]
 
@@ -55,6 +55,6 @@ pub use current::{query_held, query_part, read_current};
 pub use lookup::{Seen, read_turn};
 pub use preparation::prepare;
 pub use renewal::{keep, unguard};
-pub use replay::{own_outcome, replay_to};
+pub use replay::replay_to;
 pub use scratch::Scratch;
 pub use updates::update_turn;

@@ -1,14 +1,14 @@
 //! A turn for a read beside the queue: the current replica is read, and DUR is raised by its code, by which the read is answered.
 
-ghost use Rattle.std.specs.Prelude.{◌≡◌, ◌≤◌, IfOk, IfSome, IsTrue, MatchResult, None, OnErr, OnOk, Some};
+ghost use Rattle.std.specs.Prelude.{◌≡◌, IfOk, IsTrue, MatchResult, None, OnErr, OnOk, Some};
 ghost use Rattle.cx_core.specs.RootEvents.{CanAnswer};
 ghost use Rattle.cx_rule.specs.Raises.{TellsRead};
 ghost use Rattle.cx_base.specs.Codes.{root_place_of};
 ghost use Rattle.cx_rule.specs.Running.{IsSeatOf, instance_at};
-ghost use Rattle.cx_rule.specs.Seats.{IsAtLimit, unanswered_ticket};
+ghost use Rattle.cx_rule.specs.Seats.{unanswered_ticket};
 ghost use Rattle.cx_rule.specs.Steps.{Halts};
-ghost use Rattle.cx_turns.specs.Answering.{AnswersRead, AnswersReadBy, HaltsLookup, IsLookedUp, LooksUp, MayLook, beside_lookup, seen_at};
-ghost use Rattle.cx_turns.specs.Turns.{StepsOn, Turns, TurnsIn};
+ghost use Rattle.cx_turns.specs.Answering.{AnswersRead, AnswersReadBy, HaltsLookup, IsLookedUp, MayLook, TurnsLooking, beside_lookup};
+ghost use Rattle.cx_turns.specs.Turns.{RisesIn, TurnsIn};
 
 use crate::current::read_current;
 use cx_base::{Halt, Object, OpWords, root_place};
@@ -35,14 +35,9 @@ pub fn read_turn<O: Object>(
 ) -> Result<Option<u64>, Halt>
     requires ready { MayLook shared.now seat.old }
     requires reads { IsTrue (O.only_reads shared.now.object op.now) }
-    ensures allowed { OnOk result (¬ IsAtLimit seat.old.known.local) }
-    ensures turned { IfOk result (λ place. LooksUp op.now seat.old seat.new (seen_at reply.new place)) }
+    ensures turned { IfOk result (TurnsLooking shared.now.callers op.now reply.new seat.old seat.new) }
     ensures halted { OnErr result (HaltsLookup seat.old.known.local.steps op.now seat.old seat.new) }
-    ensures turns { Turns shared.now beside_lookup seat.old seat.new }
-    ensures since { StepsOn seat.old seat.new }
-    ensures rises { seat.old.known.local.seen_cur ≤ seat.new.known.local.seen_cur }
-    ensures place { IfOk result (λ found. IfSome found (λ place. place ≡ root_place_of shared.now.callers seat.new.known.local.seen_cur)) }
-    ensures reached { IfOk result (λ found. IfSome found (λ place. place ≤ seat.new.known.local.front)) }
+    ensures turns { RisesIn shared.now beside_lookup seat.old seat.new }
 {
     shared.load_cur(seat)?;
     let Some(hold) = read_current(shared, seat, op, reply)? else {
@@ -66,7 +61,6 @@ fn settle_read<O: Object>(
     ensures answered { OnOk result (AnswersRead seat.old.known.times.loaded op.now (root_place_of shared.now.callers seat.old.known.local.seen_cur) reply.now seat.old seat.new) }
     ensures halted { OnErr result (HaltsLookup seat.old.known.times.loaded op.now seat.old seat.new) }
     ensures turns { TurnsIn shared.now beside_lookup 2 seat.old seat.new }
-    ensures since { StepsOn seat.old seat.new }
     ensures same { seat.new.known.local.seen_cur ≡ seat.old.known.local.seen_cur }
 {
     let code = seat.seen_cur();

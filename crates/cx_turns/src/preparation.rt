@@ -1,12 +1,12 @@
 //! A replica is made ready to be published.
 
-ghost use Rattle.std.specs.Prelude.{◌<◌, ◌≡◌, IfOk, MatchResult, OnErr, OnOk};
+ghost use Rattle.std.specs.Prelude.{◌<◌, ◌≡◌, IfOk, MatchResult, OnOk};
 ghost use Rattle.cx_rule.specs.Seats.{IsAtLimit};
-ghost use Rattle.cx_turns.specs.Bringing.{BringsEntries, BringsIn};
+ghost use Rattle.cx_turns.specs.Bringing.{CountsEntries, CountsIn};
 ghost use Rattle.cx_turns.specs.Keeping.{IsUnrefused, MayKeep, no_others, others};
 ghost use Rattle.cx_turns.specs.Preparing.{Prepares, TriesPrepare};
-ghost use Rattle.cx_turns.specs.Turns.{HaltsTurn, KeepsCount, MayTurn, StepsOn, Turns, beside_prepare};
-ghost use Rattle.replica.specs.Laws.{IsTaken};
+ghost use Rattle.cx_turns.specs.Turns.{HaltsTurn, MayTurn, Turns, beside_prepare};
+ghost use Rattle.replica.specs.Laws.{IsTakenIn};
 
 use crate::acquisition::take_any;
 use crate::renewal::keep;
@@ -30,12 +30,9 @@ pub fn prepare<O: Object>(
 ) -> Result<Option<Downgraded>, Halt>
     requires ready { MayTurn shared.now ticket seat.old }
     ensures allowed { OnOk result (¬ IsAtLimit seat.old.known.local) }
-    ensures prepared { IfOk result (TriesPrepare O.Object shared.now ticket reply.new seat.old seat.new) }
-    ensures halted { OnErr result (HaltsTurn seat.old seat.new) }
-    ensures counted { OnOk result (KeepsCount scratch.old.taken seat.old scratch.new.taken seat.new) }
-    ensures by_sets { IfOk result (BringsIn seat.old seat.new) }
+    ensures prepared { MatchResult result (TriesPrepare O.Object shared.now ticket reply.new seat.old seat.new) (λ _. HaltsTurn seat.old seat.new) }
+    ensures counted { IfOk result (CountsIn scratch.old.taken seat.old scratch.new.taken seat.new) }
     ensures turns { Turns shared.now beside_prepare seat.old seat.new }
-    ensures since { StepsOn seat.old seat.new }
 {
     match take_any(shared, seat)? {
         Some(held) => renew(shared, seat, held, ticket, scratch, reply),
@@ -52,15 +49,12 @@ fn renew<O: Object>(
     scratch: &mut Scratch,
     reply: &mut OpWords,
 ) -> Result<Option<Downgraded>, Halt>
-    requires taken { IsTaken (O.line_count shared.now.object) shared.now (O.lawful shared.now.object) (O.step shared.now.object) seat.old held }
+    requires taken { IsTakenIn O.Object shared.now seat.old held }
     requires alone { others seat.old.known.local ≡ no_others }
     requires ready { MayKeep ticket seat.old }
-    ensures prepared { IfOk result (TriesPrepare O.Object shared.now ticket reply.new seat.old seat.new) }
-    ensures halted { OnErr result (HaltsTurn seat.old seat.new) }
-    ensures counted { OnOk result (KeepsCount scratch.old.taken seat.old scratch.new.taken seat.new) }
-    ensures by_sets { IfOk result (BringsIn seat.old seat.new) }
+    ensures prepared { MatchResult result (TriesPrepare O.Object shared.now ticket reply.new seat.old seat.new) (λ _. HaltsTurn seat.old seat.new) }
+    ensures counted { IfOk result (CountsIn scratch.old.taken seat.old scratch.new.taken seat.new) }
     ensures turns { Turns shared.now beside_prepare seat.old seat.new }
-    ensures since { StepsOn seat.old seat.new }
 {
     begin(shared, seat, &held)?;
     match keep(shared, seat, held, ticket)? {
@@ -81,10 +75,8 @@ fn finish<O: Object>(
     requires kept { IsUnrefused O.Object shared.now ticket seat.old seat.old held }
     requires linked { ticket < seat.old.known.local.front }
     ensures prepared { MatchResult result (Prepares O.Object shared.now ticket reply.new seat.old seat.new) (λ _. HaltsTurn seat.old seat.new) }
-    ensures counted { OnOk result (KeepsCount scratch.old.taken seat.old scratch.new.taken seat.new) }
-    ensures by_sets { OnOk result (BringsEntries seat.old seat.new) }
+    ensures counted { OnOk result (CountsEntries scratch.old.taken seat.old scratch.new.taken seat.new) }
     ensures turns { Turns shared.now beside_prepare seat.old seat.new }
-    ensures since { StepsOn seat.old seat.new }
 {
     bring_up(shared, seat, &held, ticket, scratch, reply)?;
     let held = downgrade(shared, seat, held)?;

@@ -38,7 +38,6 @@ pub fn keep<O: Object>(
     requires unstored { StoresNone seat.old.known.accesses }
     ensures kept { MatchResult result (TriesKeep O.Object shared.now ticket seat.old seat.new) (λ _. HaltsHolding held.replica seat.old seat.new) }
     ensures turns { Turns shared.now beside_turn seat.old seat.new }
-    ensures since { StepsOn seat.old seat.new }
 {
     if guard(shared, seat, ticket)? {
         return Ok(Some(held));
@@ -82,7 +81,6 @@ fn copy_current<O: Object>(
     requires linked { ticket < seat.old.known.local.front }
     ensures kept { MatchResult result (TriesKeep O.Object shared.now ticket seat.old seat.new) (λ _. HaltsHolding held.replica seat.old seat.new) }
     ensures turns { Turns shared.now beside_turn seat.old seat.new }
-    ensures since { StepsOn seat.old seat.new }
 {
     // refusals are counted in a word
     let _met = seat.met();
@@ -105,7 +103,6 @@ fn load_current<O: Object>(
     requires held { IsAtImage O.Object shared.now seat.old held.now }
     ensures seen { MatchResult result (λ _. SeesCurrentReplica O.Object shared.now seat.old seat.new held.now) (λ _. Halts shared.now seat.old seat.new) }
     ensures turns { TurnsIn shared.now beside_turn 1 seat.old seat.new }
-    ensures since { StepsOn seat.old seat.new }
 {
     let _ = held;
     shared.load_cur(seat)?;
@@ -126,7 +123,6 @@ fn copy_and_keep<O: Object>(
     requires linked { ticket < seat.old.known.local.front }
     ensures kept { MatchResult result (TriesKeep O.Object shared.now ticket seat.old seat.new) (λ _. HaltsHolding held.replica seat.old seat.new) }
     ensures turns { Turns shared.now beside_turn seat.old seat.new }
-    ensures since { StepsOn seat.old seat.new }
 {
     // refusals are counted in a word
     let _met = seat.met();
@@ -151,7 +147,6 @@ fn give_up<O: Object>(
     ensures ended { MatchResult result (λ _. IsAtRest seat.new.known.local) (λ _. HaltsHolding held.replica seat.old seat.new) }
     ensures met { seat.new.known.local.met ≡ seat.old.known.local.met }
     ensures turns { Turns shared.now beside_turn seat.old seat.new }
-    ensures since { StepsOn seat.old seat.new }
 {
     flush(shared, seat, &held)?;
     release(shared, seat, held)?;

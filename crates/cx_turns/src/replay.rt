@@ -1,20 +1,19 @@
 //! A replica held exclusively is brought up to a ticket by the entries of the queue.
 
-ghost use Rattle.std.specs.Prelude.{◌+◌, ◌<◌, ◌∷◌, ◌≡◌, ◌≤◌, IfOk, IsTrue, MatchResult, OnOk, Some, true, ℕ};
+ghost use Rattle.std.specs.Prelude.{◌+◌, ◌<◌, ◌∷◌, ◌≡◌, ◌≤◌, IsTrue, MatchResult, OnOk, Some, true, ℕ};
 ghost use Rattle.cx_base.specs.Memory.{Reads};
 ghost use Rattle.cx_core.specs.Region.{slot_reply};
 ghost use Rattle.cx_core.specs.RingEvents.{Protects};
-ghost use Rattle.cx_rule.specs.Fitting.{FitsKnown};
 ghost use Rattle.cx_rule.specs.Seats.{IsAtLimit};
-ghost use Rattle.cx_turns.specs.Bringing.{BringsAtMost, BringsEntries};
+ghost use Rattle.cx_rule.specs.Stores.{FitsIn};
+ghost use Rattle.cx_turns.specs.Bringing.{CountsEntries};
 ghost use Rattle.cx_turns.specs.Keeping.{IsUnrefused};
-ghost use Rattle.cx_turns.specs.Replaying.{IsApplied, IsBroughtUp, IsReplayedPast, IsReplicaSettled, LoadsOnly, ReadsNext, beside_bringing, beside_replay, beside_work};
-ghost use Rattle.cx_turns.specs.Turns.{KeepsSeat, KeepsCount, StepsOn};
-ghost use Rattle.mutation_queue.specs.Entries.{MayRead};
-ghost use Rattle.redo_set.specs.Taking.{CountsTaken};
-ghost use Rattle.replica.specs.Held.{IsHeld, beside_held, left_of};
+ghost use Rattle.cx_turns.specs.Replaying.{AppliesAnother, IsApplied, IsBroughtUp, IsReplayedPast, IsReplicaSettled, LoadsOnly, MayApply, ReadsNext, ReplaysAnother, beside_bringing, beside_replay, beside_work};
+ghost use Rattle.cx_turns.specs.Turns.{KeepsSeat, StepsOn};
+ghost use Rattle.mutation_queue.specs.Entries.{MayReplay};
+ghost use Rattle.replica.specs.Held.{IsHeldIn, beside_held, left_of};
 ghost use Rattle.replica.specs.Regions.{HasPlace};
-ghost use Rattle.replica.specs.Replays.{IsReady, ShowsReply, noted_place};
+ghost use Rattle.replica.specs.Replays.{IsReady, ShowsReplyIn, noted_place};
 ghost use Rattle.seat_memory.specs.Summaries.{IsOwnEntry};
 
 use crate::renewal::unguard;
@@ -41,10 +40,8 @@ pub(crate) fn bring_up<O: Object>(
     requires kept { IsUnrefused O.Object shared.now ticket seat.old seat.old held.now }
     requires linked { ticket < seat.old.known.local.front }
     ensures brought { MatchResult result (λ _. IsBroughtUp O.Object shared.now held.now ticket seat.new reply.new) (λ _. IsAtLimit seat.new.known.local) }
-    ensures counted { OnOk result (KeepsCount scratch.old.taken seat.old scratch.new.taken seat.new) }
-    ensures by_sets { OnOk result (BringsEntries seat.old seat.new) }
+    ensures counted { OnOk result (CountsEntries scratch.old.taken seat.old scratch.new.taken seat.new) }
     ensures keeps { KeepsSeat shared.now beside_bringing seat.old seat.new }
-    ensures since { StepsOn seat.old seat.new }
 {
     let replied = replay_to(shared, seat, held, ticket, scratch, reply)?;
     unguard(shared, seat)?;
@@ -61,10 +58,9 @@ fn settle<O: Object>(
     reply: &mut OpWords,
 ) -> Result<(), Halt>
     requires ready { IsReady O.Object shared.now held.now (noted_place seat.old) seat.old }
-    requires given { IsTrue replied → ShowsReply (O.line_count shared.now.object) (O.lawful shared.now.object) shared.now.base (O.step shared.now.object) seat.old.known seat.old.known.local.number reply.old }
+    requires given { IsTrue replied → ShowsReplyIn O.Object shared.now seat.old.known seat.old.known.local.number reply.old }
     ensures settled { MatchResult result (λ _. IsReplicaSettled O.Object shared.now held.now seat.old seat.new reply.new) (λ _. IsAtLimit seat.new.known.local) }
     ensures keeps { KeepsSeat shared.now beside_work seat.old seat.new }
-    ensures since { StepsOn seat.old seat.new }
 {
     own_reply(shared, seat, held, replied, reply)?;
     flush(shared, seat, held)?;
@@ -80,8 +76,8 @@ fn own_reply<O: Object>(
     reply: &mut OpWords,
 ) -> Result<(), Halt>
     requires ready { IsReady O.Object shared.now held.now (noted_place seat.old) seat.old }
-    requires given { IsTrue replied → ShowsReply (O.line_count shared.now.object) (O.lawful shared.now.object) shared.now.base (O.step shared.now.object) seat.old.known seat.old.known.local.number reply.old }
-    ensures reply { MatchResult result (λ _. ShowsReply (O.line_count shared.now.object) (O.lawful shared.now.object) shared.now.base (O.step shared.now.object) seat.new.known seat.new.known.local.number reply.new) (λ _. IsAtLimit seat.new.known.local) }
+    requires given { IsTrue replied → ShowsReplyIn O.Object shared.now seat.old.known seat.old.known.local.number reply.old }
+    ensures reply { MatchResult result (λ _. ShowsReplyIn O.Object shared.now seat.new.known seat.new.known.local.number reply.new) (λ _. IsAtLimit seat.new.known.local) }
     ensures ready { IsReady O.Object shared.now held.now (noted_place seat.old) seat.new }
     ensures rest { beside_held held.now.replica seat.new ≡ beside_held held.now.replica seat.old }
     ensures since { StepsOn seat.old seat.new }
@@ -89,7 +85,7 @@ fn own_reply<O: Object>(
     if replied {
         return Ok(());
     }
-    own_outcome(shared, seat, held, reply)
+    load_own(shared, seat, held, reply)
 }
 
 /// Applies the entries from the place of a replica held exclusively up to a ticket, in order, each by its write set where the caller has that
@@ -108,12 +104,9 @@ pub fn replay_to<O: Object>(
     requires ready { IsReady O.Object shared.now held.now (noted_place seat.old) seat.old }
     requires linked { ticket < seat.old.known.local.front }
     requires protected { (t : ℕ) → noted_place seat.old ≤ t → t ≤ ticket → Protects t seat.old.known.local.protection }
-    ensures replayed { MatchResult result (λ _. IsReplayedPast O.Object shared.now held.now ticket seat.new) (λ _. IsAtLimit seat.new.known.local) }
-    ensures replied { IfOk result (λ own. IsTrue own → ShowsReply (O.line_count shared.now.object) (O.lawful shared.now.object) shared.now.base (O.step shared.now.object) seat.new.known seat.new.known.local.number reply.new) }
-    ensures counted { OnOk result (KeepsCount scratch.old.taken seat.old scratch.new.taken seat.new) }
-    ensures by_sets { OnOk result (BringsEntries seat.old seat.new) }
+    ensures replayed { MatchResult result (IsReplayedPast O.Object shared.now held.now ticket reply.new seat.new) (λ _. IsAtLimit seat.new.known.local) }
+    ensures counted { OnOk result (CountsEntries scratch.old.taken seat.old scratch.new.taken seat.new) }
     ensures keeps { KeepsSeat shared.now beside_replay seat.old seat.new }
-    ensures since { StepsOn seat.old seat.new }
 {
     // tickets are few
     let _front = seat.front();
@@ -137,14 +130,10 @@ fn replay_next<O: Object>(
     scratch: &mut Scratch,
     reply: &mut OpWords,
 ) -> Result<bool, Halt>
-    requires ready { IsReady O.Object shared.now held.now at seat.old }
-    requires may { MayRead shared.now at seat.old }
-    requires later { shared.now.base.place ≤ at }
+    requires may { MayApply O.Object shared.now held.now at seat.old }
     ensures applied { MatchResult result (IsApplied O.Object shared.now held.now at reply.new seat.new) (λ _. IsAtLimit seat.new.known.local) }
-    ensures counted { OnOk result (KeepsCount scratch.old.taken seat.old scratch.new.taken seat.new) }
-    ensures by_sets { OnOk result (BringsEntries seat.old seat.new) }
+    ensures counted { OnOk result (CountsEntries scratch.old.taken seat.old scratch.new.taken seat.new) }
     ensures keeps { KeepsSeat shared.now beside_replay seat.old seat.new }
-    ensures since { StepsOn seat.old seat.new }
 {
     let done = replay_own(shared, seat, held, at)?;
     if done {
@@ -173,7 +162,6 @@ fn step_own<O: Object>(
     ensures applied { MatchResult result (λ _. IsApplied O.Object shared.now held.now at reply.new seat.new true) (λ _. IsAtLimit seat.new.known.local) }
     ensures count { (scratch.new.taken ≡ scratch.old.taken) × (seat.new.known.sets ≡ seat.old.known.sets) }
     ensures keeps { KeepsSeat shared.now beside_replay seat.old seat.new }
-    ensures since { StepsOn seat.old seat.new }
 {
     // callers are few
     let _callers = shared.callers();
@@ -191,14 +179,9 @@ fn replay_another<O: Object>(
     scratch: &mut Scratch,
     reply: &mut OpWords,
 ) -> Result<(), Halt>
-    requires ready { IsReady O.Object shared.now held.now at seat.old }
-    requires may { MayRead shared.now at seat.old }
-    requires later { shared.now.base.place ≤ at }
-    ensures applied { MatchResult result (λ _. IsReady O.Object shared.now held.now (at + 1) seat.new) (λ _. IsAtLimit seat.new.known.local) }
-    ensures counted { OnOk result (KeepsCount scratch.old.taken seat.old scratch.new.taken seat.new) }
-    ensures by_sets { OnOk result (BringsAtMost at seat.old seat.new) }
+    requires may { MayApply O.Object shared.now held.now at seat.old }
+    ensures applied { MatchResult result (λ _. ReplaysAnother O.Object shared.now held.now at scratch.old.taken seat.old scratch.new.taken seat.new) (λ _. IsAtLimit seat.new.known.local) }
     ensures keeps { KeepsSeat shared.now beside_replay seat.old seat.new }
-    ensures since { StepsOn seat.old seat.new }
 {
     let Scratch {
         words,
@@ -225,14 +208,9 @@ fn apply_another<O: Object>(
     set: &mut WriteSet,
     reply: &mut OpWords,
 ) -> Result<bool, Halt>
-    requires ready { IsReady O.Object shared.now held.now at seat.old }
-    requires may { MayRead shared.now at seat.old }
-    requires later { shared.now.base.place ≤ at }
-    ensures applied { MatchResult result (λ _. IsReady O.Object shared.now held.now (at + 1) seat.new) (λ _. IsAtLimit seat.new.known.local) }
-    ensures counted { IfOk result (CountsTaken seat.old seat.new) }
-    ensures by_sets { OnOk result (BringsAtMost at seat.old seat.new) }
+    requires may { MayApply O.Object shared.now held.now at seat.old }
+    ensures applied { MatchResult result (AppliesAnother O.Object shared.now held.now at seat.old seat.new) (λ _. IsAtLimit seat.new.known.local) }
     ensures keeps { KeepsSeat shared.now beside_replay seat.old seat.new }
-    ensures since { StepsOn seat.old seat.new }
 {
     let taken = replay_offered(shared, seat, held, at, set)?;
     if taken {
@@ -254,14 +232,9 @@ fn step_another<O: Object>(
     set: &mut WriteSet,
     reply: &mut OpWords,
 ) -> Result<bool, Halt>
-    requires ready { IsReady O.Object shared.now held.now at seat.old }
-    requires may { MayRead shared.now at seat.old }
-    requires later { shared.now.base.place ≤ at }
-    ensures applied { MatchResult result (λ _. IsReady O.Object shared.now held.now (at + 1) seat.new) (λ _. IsAtLimit seat.new.known.local) }
-    ensures counted { IfOk result (CountsTaken seat.old seat.new) }
-    ensures by_sets { OnOk result (BringsAtMost at seat.old seat.new) }
+    requires may { MayApply O.Object shared.now held.now at seat.old }
+    ensures applied { MatchResult result (AppliesAnother O.Object shared.now held.now at seat.old seat.new) (λ _. IsAtLimit seat.new.known.local) }
     ensures keeps { KeepsSeat shared.now beside_replay seat.old seat.new }
-    ensures since { StepsOn seat.old seat.new }
 {
     read_next(shared, seat, at, words, next)?;
     // its caller may have been in the midst of its own step, which takes about as long as this reading
@@ -281,11 +254,9 @@ fn read_next<O: Object>(
     words: &mut [u64; ENTRY_WORDS],
     next: &mut Entry,
 ) -> Result<(), Halt>
-    requires may { MayRead shared.now ticket seat.old }
-    requires later { shared.now.base.place ≤ ticket }
+    requires may { MayReplay shared.now ticket seat.old }
     ensures read { MatchResult result (λ _. ReadsNext O.Object shared.now ticket next.new seat.old seat.new) (λ _. IsAtLimit seat.new.known.local) }
     ensures keeps { KeepsSeat shared.now beside_work seat.old seat.new }
-    ensures since { StepsOn seat.old seat.new }
 {
     let caller = entry(shared, seat, ticket, words)?;
     set_entry(next, caller, words);
@@ -302,23 +273,6 @@ fn set_entry(entry: &mut Entry, caller: u32, words: &[u64; ENTRY_WORDS])
     entry.op.copy_from_slice(&words[1..]);
 }
 
-/// Reads the reply to the caller's own last entry in a replica held exclusively, which is the image after its place. `Halt` comes
-/// only where the seat's steps equal its limit.
-pub fn own_outcome<O: Object>(
-    shared: &Shared<O>,
-    seat: &mut CallerSeat,
-    held: &Exclusive,
-    reply: &mut OpWords,
-) -> Result<(), Halt>
-    requires ready { IsReady O.Object shared.now held.now (noted_place seat.old) seat.old }
-    ensures reply { MatchResult result (λ _. ShowsReply (O.line_count shared.now.object) (O.lawful shared.now.object) shared.now.base (O.step shared.now.object) seat.new.known seat.new.known.local.number reply.new) (λ _. IsAtLimit seat.new.known.local) }
-    ensures ready { IsReady O.Object shared.now held.now (noted_place seat.old) seat.new }
-    ensures rest { beside_held held.now.replica seat.new ≡ beside_held held.now.replica seat.old }
-    ensures since { StepsOn seat.old seat.new }
-{
-    load_own(shared, seat, held, reply)
-}
-
 /// Loads the reply to the caller's own last entry in a replica held exclusively.
 fn load_own<O: Object>(
     shared: &Shared<O>,
@@ -326,9 +280,9 @@ fn load_own<O: Object>(
     held: &Exclusive,
     reply: &mut OpWords,
 ) -> Result<(), Halt>
-    requires held { IsHeld (O.line_count shared.now.object) shared.now (O.lawful shared.now.object) (O.step shared.now.object) seat.old held.now }
+    requires held { IsHeldIn O.Object shared.now seat.old held.now }
     requires begun { HasPlace seat.old.known.accesses }
-    ensures read { MatchResult result (λ _. Reads (FitsKnown (O.line_count shared.now.object) (O.lawful shared.now.object) shared.now.base (O.step shared.now.object) seat.old.known) (FitsKnown (O.line_count shared.now.object) (O.lawful shared.now.object) shared.now.base (O.step shared.now.object) seat.new.known) (λ region. slot_reply seat.old.known.local.number region ≡ reply.new)) (λ _. left_of seat.new.known.local ≡ Some 0) }
+    ensures read { MatchResult result (λ _. Reads (FitsIn O.Object shared.now seat.old.known) (FitsIn O.Object shared.now seat.new.known) (λ region. slot_reply seat.old.known.local.number region ≡ reply.new)) (λ _. left_of seat.new.known.local ≡ Some 0) }
     ensures loads { LoadsOnly O.Object shared.now held.now seat.old seat.new }
     ensures since { StepsOn seat.old seat.new }
 {

@@ -2,12 +2,12 @@
 
 ghost use Rattle.std.specs.Prelude.{◌+◌, ◌≡◌, IfOk, List, OnErr, OnOk, Some, ℕ};
 ghost use Rattle.cx_rule.specs.Running.{IsSeatOf};
-ghost use Rattle.cx_rule.specs.Seats.{IsAtLimit, unanswered_ticket};
+ghost use Rattle.cx_rule.specs.Seats.{unanswered_ticket};
 ghost use Rattle.cx_rule.specs.Steps.{Halts};
 ghost use Rattle.cx_table.specs.Tokens.{IsDowngradedOf, IsWonOf};
-ghost use Rattle.cx_turns.specs.Answering.{AnswersBy, AnswersEntry, HaltsFor, HaltsWon, IsPublishedFor, IsReadyFor, TurnsFor, beside_hand_over, beside_settling, beside_update};
-ghost use Rattle.cx_turns.specs.Bringing.{BringsIn};
-ghost use Rattle.cx_turns.specs.Turns.{KeepsCount, MayTurn, StepsOn, Turns, TurnsIn, cur_rises};
+ghost use Rattle.cx_turns.specs.Answering.{AnswersBy, AnswersEntry, HaltsFor, HaltsWon, IsPublishedFor, IsReadyFor, TurnsUpdating, beside_hand_over, beside_settling, beside_update};
+ghost use Rattle.cx_turns.specs.Bringing.{CountsIn};
+ghost use Rattle.cx_turns.specs.Turns.{MayTurn, StepsOn, Turns, TurnsIn, cur_rises};
 ghost use Rattle.mutation_queue.specs.Leaves.{LeavesSeatPart};
 ghost use Rattle.strong_trylock.specs.Held.{HasRight};
 
@@ -31,13 +31,10 @@ pub fn update_turn<O: Object>(
 ) -> Result<Option<OpWords>, Halt>
     requires ready { MayTurn shared.now ticket seat.old }
     requires last { unanswered_ticket seat.old.known.local ≡ Some ticket }
-    ensures allowed { OnOk result (¬ IsAtLimit seat.old.known.local) }
-    ensures turned { IfOk result (TurnsFor ticket seat.old seat.new) }
+    ensures turned { IfOk result (TurnsUpdating ticket seat.old seat.new) }
     ensures halted { OnErr result (HaltsFor shared.now.callers ticket seat.old seat.new) }
-    ensures counted { OnOk result (KeepsCount scratch.old.taken seat.old scratch.new.taken seat.new) }
-    ensures by_sets { IfOk result (BringsIn seat.old seat.new) }
+    ensures counted { IfOk result (CountsIn scratch.old.taken seat.old scratch.new.taken seat.new) }
     ensures turns { Turns shared.now beside_update seat.old seat.new }
-    ensures since { StepsOn seat.old seat.new }
 {
     let mut reply = [0; OP_WORDS];
     let Some(held) = prepare(shared, seat, ticket, scratch, &mut reply)? else {
@@ -58,7 +55,6 @@ fn hand_over<O: Object>(
     ensures answered { (ticket : ℕ) (reply : List ℕ) → IsReadyFor O.Object shared.now ticket reply seat.old → OnOk result (AnswersEntry 1 ticket reply seat.old seat.new) }
     ensures halted { (ticket : ℕ) (reply : List ℕ) → IsReadyFor O.Object shared.now ticket reply seat.old → OnErr result (HaltsFor shared.now.callers ticket seat.old seat.new) }
     ensures turns { TurnsIn shared.now beside_hand_over (3 + cur_rises seat.old seat.new) seat.old seat.new }
-    ensures since { StepsOn seat.old seat.new }
 {
     match publish(shared, seat, held)? {
         Published::Won(won) => settle_won(shared, seat, won),

@@ -1,7 +1,7 @@
 use Rattle.std.proofs.Common.{◌*◌, ◌∙◌, arith, subst, sym}
 use Rattle.cx_rule.specs.Seats.{IsAtLimit, Seated}
 use Rattle.cx_turns.proofs.Refusals.{refusing_more}
-use Rattle.cx_turns.proofs.Stepping.{on_then}
+use Rattle.cx_rule.proofs.Stepping.{on_then}
 use Rattle.cx_turns.specs.Taking.{TriesOne}
 use Rattle.cx_turns.proofs.acquisition.take_any.Goals as goal
 

@@ -1,8 +1,7 @@
 use Rattle.std.proofs.Common.{◌≡◌}
 use Rattle.cx_rule.specs.Running.{IsSeatOf}
-use Rattle.cx_rule.specs.Seats.{IsAtLimit, StepsBy}
+use Rattle.cx_rule.specs.Seats.{IsAtLimit, StepsBy, StepsOn}
 use Rattle.cx_turns.specs.Taking.{beside_tries}
-use Rattle.cx_turns.specs.Turns.{StepsOn}
 use Rattle.cx_turns.proofs.Refusals.{IsRefusing}
 use Rattle.cx_turns.proofs.acquisition.take_any.Given as goal
 

@@ -1,10 +1,8 @@
-use Rattle.std.proofs.Common.{◌<◌, length, take, subst, sym, arith}
-use Rattle.std.proofs.lemmas.Result.{on_err_weaker, on_ok_weaker}
+use Rattle.std.proofs.Common.{◌<◌, length, subst, sym, take, arith}
+use Rattle.std.proofs.lemmas.Result.{MatchResult-weaker}
 use Rattle.cx_rule.specs.Seats.{IsAtLimit}
 use Rattle.cx_turns.specs.Checkpointing.{LoadsImage}
-use Rattle.cx_turns.proofs.Images.{all_loaded, both_ways, image_loaded, none_loaded, only_err, put_words, rest_length}
-use Rattle.cx_turns.proofs.Stepping.{on_one}
-use Rattle.replica.proofs.RegionLaws.{since_shared_run}
+use Rattle.cx_turns.proofs.Images.{all_loaded, image_loaded, none_loaded, only_err, put_words, rest_length}
 use Rattle.cx_turns.proofs.checkpoint.load_image.Goals as goal
 
 pub returns-in_err-into-clause-loaded : goal.returns-in_err-into-clause-loaded
@@ -27,14 +25,6 @@ returns-clause-loaded g c =
     let e = c.load_shared_words.ensures in
     let size = c.requires.held.sized.region in
     let some : 0 < length c.args.into.now = omega (arith, c.requires.words, size) in
-    both_ways _ _ c.load_shared_words.result
-    (on_ok_weaker c.load_shared_words.result (λ run. subst (λ image. LoadsImage o t h image first last) (sym (put_words c.args.into.now v ws some)) (image_loaded o t h v ws first mid last one run (let count = rest_length c.args.into.now v ws some e.length in omega (arith, count, c.requires.words)))) e.made)
-    (on_err_weaker c.load_shared_words.result (λ limit. (all_loaded o t h v (take e.some.0 ws) first mid last one e.some.1, limit)) e.halted)
-
-pub returns-clause-since : goal.returns-clause-since
-returns-clause-since g c =
-    let t = c.args.shared.now in
-    let first = c.args.seat.now in
-    let mid = c.load_shared.new.seat in
-    let e = c.load_shared_words.ensures in
-    since_shared_run (g.O.Object.line_count t.object) t (g.O.Object.lawful t.object) c.args.hold.now 1 (take e.some.0 c.load_shared_words.new.into) mid c.load_shared_words.new.seat first.known.local.steps e.some.1 (on_one first mid c.in_ok-into.ensures.made.steps)
+    MatchResult-weaker c.load_shared_words.result e.loaded
+    (λ _ run. subst (λ image. LoadsImage o t h image first last) (sym (put_words c.args.into.now v ws some)) (image_loaded o t h v ws first mid last one run (let count = rest_length c.args.into.now v ws some e.length in omega (arith, count, c.requires.words))))
+    (λ _ halted. (all_loaded o t h v (take halted.some.0 ws) first mid last one halted.some.1, halted.limit))

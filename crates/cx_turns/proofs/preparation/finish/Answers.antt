@@ -1,9 +1,10 @@
-use Rattle.std.proofs.Common.{ap, refl}
+use Rattle.std.proofs.Common.{◌∙◌, ap, arith, refl}
 use Rattle.cx_rule.specs.Seats.{Seated}
-use Rattle.cx_turns.proofs.Bringing.{brings_around}
+use Rattle.cx_turns.specs.Turns.{beside_prepare, beside_turn}
+use Rattle.cx_turns.proofs.Bringing.{counts_around}
 use Rattle.cx_turns.proofs.Renewed.{finished}
 use Rattle.cx_core.specs.declared.kinds.Kind.TheVariants.{Downgrade}
-use Rattle.cx_turns.proofs.Stepping.{on_step, on_then}
+use Rattle.cx_rule.proofs.Stepping.{on_step, on_then}
 use Rattle.cx_turns.proofs.preparation.finish.Goals as goal
 
 pub returns-clause-prepared : goal.returns-clause-prepared
@@ -14,11 +15,22 @@ returns-clause-prepared g c =
     finished g.O.Object t c.args.ticket c.args.seat.now c.bring_up.new.seat c.downgrade.new.seat c.args.held c.in_ok-held.held c.bring_up.new.reply
     at.alone at.is_held.right.holds e.brought e.keeps.rest c.in_ok-held.ensures.made
 
-pub returns-clause-by_sets : goal.returns-clause-by_sets
-returns-clause-by_sets g c =
-    brings_around c.args.seat.now c.args.seat.now c.bring_up.new.seat c.downgrade.new.seat refl c.in_ok-bring_up.ensures.by_sets (ap (λ (s : Seated). s.known.sets) c.in_ok-held.ensures.made.made.made)
+pub returns-clause-counted : goal.returns-clause-counted
+returns-clause-counted g c =
+    counts_around c.args.scratch.now.taken c.bring_up.new.scratch.taken c.args.seat.now c.args.seat.now c.bring_up.new.seat c.downgrade.new.seat refl c.in_ok-bring_up.ensures.counted
+    (ap (λ (s : Seated). s.known.sets) c.in_ok-held.ensures.made.made.made)
 
-pub returns-clause-since : goal.returns-clause-since
-returns-clause-since g c =
+pub returns-clause-turns : goal.returns-clause-turns
+returns-clause-turns g c =
+    let s = c.args.seat.now in
+    let mid = c.bring_up.new.seat in
+    let last = c.downgrade.new.seat in
     let made = c.in_ok-held.ensures.made in
-    on_then c.args.seat.now c.bring_up.new.seat c.downgrade.new.seat c.bring_up.ensures.since (on_step c.args.shared.now g.O.Object.step g.O.Object.only_reads (Downgrade c.args.held.replica) made.found c.bring_up.new.seat c.downgrade.new.seat made.made)
+    let e = c.bring_up.ensures.keeps in
+    let front = ap (λ (x : Seated). x.known.local.front) made.made.made ∙ ap (λ (x : Seated). x.known.local.front) e.rest in
+    record {
+      seat = made.made.seat;
+      since = on_then s mid last e.since (on_step c.args.shared.now g.O.Object.step g.O.Object.only_reads (Downgrade c.args.held.replica) made.found mid last made.made);
+      rest = ap beside_prepare made.made.made ∙ ap beside_turn e.rest;
+      front = omega (arith, front);
+    }

@@ -1,12 +1,23 @@
-use Rattle.std.proofs.Common.{ap}
+use Rattle.std.proofs.Common.{◌∙◌, ap, arith}
 use Rattle.cx_rule.specs.Seats.{Seated}
-use Rattle.cx_turns.proofs.Bringing.{in_before}
-use Rattle.cx_turns.proofs.Stepping.{on_then}
+use Rattle.cx_turns.specs.Turns.{beside_prepare}
+use Rattle.cx_turns.proofs.Bringing.{counts_before}
+use Rattle.cx_rule.proofs.Stepping.{on_then}
 use Rattle.cx_turns.proofs.preparation.prepare.Goals as goal
 
-pub returns-in-Some-clause-by_sets : goal.returns-in-Some-clause-by_sets
-returns-in-Some-clause-by_sets g c =
-    in_before c.args.seat.now c.take_any.new.seat c.renew.new.seat (ap (λ (s : Seated). s.known.sets) c.take_any.ensures.leaves.rest) c.renew.result c.renew.ensures.by_sets
+pub returns-in-Some-clause-counted : goal.returns-in-Some-clause-counted
+returns-in-Some-clause-counted g c =
+    counts_before c.args.scratch.now.taken c.renew.new.scratch.taken c.args.seat.now c.take_any.new.seat c.renew.new.seat (ap (λ (s : Seated). s.known.sets) c.take_any.ensures.leaves.rest) c.renew.result c.renew.ensures.counted
 
-pub returns-in-Some-clause-since : goal.returns-in-Some-clause-since
-returns-in-Some-clause-since g c = on_then c.args.seat.now c.take_any.new.seat c.renew.new.seat c.take_any.ensures.since c.renew.ensures.since
+pub returns-in-Some-clause-turns : goal.returns-in-Some-clause-turns
+returns-in-Some-clause-turns g c =
+    let e = c.take_any.ensures in
+    let f = c.renew.ensures.turns in
+    let front = ap (λ (s : Seated). s.known.local.front) e.leaves.rest in
+    let rose = f.front in
+    record {
+      seat = f.seat;
+      since = on_then c.args.seat.now c.take_any.new.seat c.renew.new.seat e.since f.since;
+      rest = f.rest ∙ ap beside_prepare e.leaves.rest;
+      front = omega (arith, front, rose);
+    }

@@ -1,9 +1,10 @@
 use Rattle.std.proofs.Common.{ap, refl, ◌∙◌}
 use Rattle.cx_rule.specs.Fitting.{has_of}
 use Rattle.cx_rule.specs.Seats.{Seated}
-use Rattle.cx_turns.proofs.Bringing.{brings_around}
+use Rattle.cx_rule.proofs.Stepping.{on_then}
+use Rattle.cx_turns.proofs.Bringing.{counts_around}
 use Rattle.cx_turns.proofs.Kept.{held_same, shows_same}
-use Rattle.cx_turns.proofs.Working.{counted_same, still_bringing}
+use Rattle.cx_turns.proofs.Working.{still_bringing}
 use Rattle.replica.specs.Laws.{image_same}
 use Rattle.cx_turns.proofs.replay.bring_up.Goals as goal
 
@@ -24,21 +25,17 @@ settle-requires g c =
         image = image_same (g.O.Object.line_count t.object) (g.O.Object.lawful t.object) t.base (g.O.Object.step t.object) mid.known last.known has accesses was.image;
         place = refl;
       };
-      given = λ own. shows_same g.O.Object t mid last c.args.held.now has accesses number c.replay_to.new.reply (done.replied own);
+      given = λ own. shows_same g.O.Object t mid last c.args.held.now has accesses number c.replay_to.new.reply (done.replayed.replied own);
     }
 
 pub returns-clause-counted : goal.returns-clause-counted
-returns-clause-counted g c was =
-    let sets = ap (λ (s : Seated). s.known.sets) c.settle.ensures.keeps.rest ∙ ap (λ (s : Seated). s.known.sets) c.unguard.ensures.leaves.rest in
-    counted_same c.replay_to.new.scratch.taken c.replay_to.new.scratch.taken c.replay_to.new.seat c.settle.new.seat refl sets (c.in_ok-replied.ensures.counted was)
-
-pub returns-clause-by_sets : goal.returns-clause-by_sets
-returns-clause-by_sets g c =
-    brings_around c.args.seat.now c.args.seat.now c.replay_to.new.seat c.settle.new.seat refl c.in_ok-replied.ensures.by_sets
+returns-clause-counted g c =
+    counts_around c.args.scratch.now.taken c.replay_to.new.scratch.taken c.args.seat.now c.args.seat.now c.replay_to.new.seat c.settle.new.seat refl c.in_ok-replied.ensures.counted
     (ap (λ (s : Seated). s.known.sets) c.settle.ensures.keeps.rest ∙ ap (λ (s : Seated). s.known.sets) c.unguard.ensures.leaves.rest)
 
 pub returns-clause-keeps : goal.returns-clause-keeps
 returns-clause-keeps g c = record {
   seat = c.settle.ensures.keeps.seat;
+  since = on_then c.args.seat.now c.unguard.new.seat c.settle.new.seat (on_then c.args.seat.now c.replay_to.new.seat c.unguard.new.seat c.replay_to.ensures.keeps.since c.unguard.ensures.since) c.settle.ensures.keeps.since;
   rest = still_bringing c.args.seat.now c.replay_to.new.seat c.unguard.new.seat c.settle.new.seat c.settle.ensures.keeps.rest c.unguard.ensures.leaves.rest c.replay_to.ensures.keeps.rest;
 }

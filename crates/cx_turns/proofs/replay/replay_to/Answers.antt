@@ -2,8 +2,8 @@ use Rattle.std.proofs.Common.{◌<◌, ◌≤◌, ◌∙◌, ap, arith, refl, su
 use Rattle.std.proofs.lemmas.Bool.{false≢true}
 use Rattle.cx_core.specs.RingEvents.{Protects}
 use Rattle.cx_rule.specs.Seats.{Seated}
-use Rattle.cx_turns.proofs.Bringing.{brings_none, brings_then}
-use Rattle.cx_turns.proofs.Stepping.{on_then}
+use Rattle.cx_rule.proofs.Stepping.{on_still, on_then}
+use Rattle.cx_turns.proofs.Bringing.{counts_none, counts_then}
 use Rattle.replica.proofs.Replaying.{image_from}
 use Rattle.cx_turns.proofs.replay.replay_to.Goals as goal
 
@@ -17,20 +17,25 @@ loop-at-init g c =
       linked = c.requires.linked;
       protected = λ t from to. c.requires.protected t (subst (λ p. p ≤ t) at from) to;
       replied = λ own. absurd (false≢true own);
-      counted = λ was. was;
-      brought = brings_none c.args.seat.now c.args.seat.now refl;
-      since = omega arith;
+      counted = counts_none c.args.scratch.now.taken c.args.scratch.now.taken c.args.seat.now c.args.seat.now refl refl;
+      since = on_still c.args.seat.now c.args.seat.now refl;
       work = refl;
     }
 
-pub returns-then-ticket-place-clause-by_sets : goal.returns-then-ticket-place-clause-by_sets
-returns-then-ticket-place-clause-by_sets g c = brings_none c.args.seat.now c.args.seat.now refl
+pub returns-then-ticket-place-clause-replayed : goal.returns-then-ticket-place-clause-replayed
+returns-then-ticket-place-clause-replayed g c =
+    let at = c.noted_place-place.ensures in
+    record { ready = c.requires.ready; place = omega (arith, at); replied = λ own. absurd (false≢true own) }
+
+pub returns-then-ticket-place-clause-counted : goal.returns-then-ticket-place-clause-counted
+returns-then-ticket-place-clause-counted g c = counts_none c.args.scratch.now.taken c.args.scratch.now.taken c.args.seat.now c.args.seat.now refl refl
 
 pub loop-at-preserved : goal.loop-at-preserved
 loop-at-preserved g c =
     let i = c.loop-at.invariant in
     let e = c.in_ok-own.ensures in
-    let rest = c.replay_next.ensures.keeps.rest in
+    let k = c.replay_next.ensures.keeps in
+    let rest = k.rest in
     let later = i.later in
     record {
       ready = e.applied.ready;
@@ -38,8 +43,7 @@ loop-at-preserved g c =
       linked = subst (λ n. c.args.ticket < n) (sym (ap (λ (s : Seated). s.known.local.front) rest)) i.linked;
       protected = λ t from to. subst (Protects t) (sym (ap (λ (s : Seated). s.known.local.protection) rest)) (i.protected t (omega (arith, from)) to);
       replied = e.applied.replied;
-      counted = λ was. e.counted (i.counted was);
-      brought = brings_then c.args.seat.now c.loop-at.seat c.replay_next.new.seat i.brought e.by_sets;
-      since = on_then c.args.seat.now c.loop-at.seat c.replay_next.new.seat i.since c.replay_next.ensures.since;
+      counted = counts_then c.args.scratch.now.taken c.loop-at.scratch.taken c.replay_next.new.scratch.taken c.args.seat.now c.loop-at.seat c.replay_next.new.seat i.counted e.counted;
+      since = on_then c.args.seat.now c.loop-at.seat c.replay_next.new.seat i.since k.since;
       work = rest ∙ i.work;
     }

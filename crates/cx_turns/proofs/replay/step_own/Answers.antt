@@ -15,7 +15,7 @@ step_and_offer-requires-clause-next g c =
 pub returns-in_err-step_and_offer-clause-keeps : goal.returns-in_err-step_and_offer-clause-keeps
 returns-in_err-step_and_offer-clause-keeps g c =
     let e = c.step_and_offer.ensures.leaves in
-    record { seat = e.seat; rest = replay_own c.args.held.now.replica c.args.seat.now c.step_and_offer.new.seat e.rest }
+    record { seat = e.seat; since = e.since; rest = replay_own c.args.held.now.replica c.args.seat.now c.step_and_offer.new.seat e.rest }
 
 pub returns : goal.returns
 returns g c =
@@ -27,6 +27,5 @@ returns g c =
     record {
       applied = record { ready = a.ready; replied = λ _ first now f. ap (λ n. slot_reply n now) (number ∙ sym c.requires.found.caller_is) ∙ a.replied first now f };
       count = (refl, ap (λ (s : Seated). s.known.sets) e.rest);
-      keeps = record { seat = e.seat; rest = replay_own c.args.held.now.replica old now e.rest };
-      since = c.step_and_offer.ensures.since;
+      keeps = record { seat = e.seat; since = e.since; rest = replay_own c.args.held.now.replica old now e.rest };
     }

@@ -2,7 +2,7 @@ use Rattle.std.proofs.Common.{arith, subst}
 use Rattle.std.proofs.lemmas.Result.{on_err_weaker, on_ok_weaker}
 use Rattle.publish.specs.Publishing.{PassedBy, Publishes, WinsCur}
 use Rattle.cx_turns.proofs.Answered.{answered_later, passed_answers, passed_halted, passed_published, passed_turns, settled_turns, won_halted, won_published}
-use Rattle.cx_turns.proofs.Stepping.{on_answer, on_then}
+use Rattle.cx_turns.proofs.Stepping.{on_answer}
 use Rattle.cx_turns.proofs.updates.hand_over.Goals as goal
 
 pub publish-requires : goal.publish-requires
@@ -44,7 +44,7 @@ returns-in-Won-clause-halted g c ticket reply ready =
 
 pub returns-in-Won-clause-turns : goal.returns-in-Won-clause-turns
 returns-in-Won-clause-turns g c =
-    settled_turns c.args.shared.now 2 c.args.seat.now c.publish.new.seat c.settle_won.new.seat (omega arith) c.publish.ensures.leaves c.settle_won.ensures.leaves
+    settled_turns c.args.shared.now 2 c.args.seat.now c.publish.new.seat c.settle_won.new.seat (omega arith) c.publish.ensures.leaves c.settle_won.ensures.leaves c.settle_won.ensures.since
 
 pub returns-in-Passed-clause-answered : goal.returns-in-Passed-clause-answered
 returns-in-Passed-clause-answered g c ticket reply ready =
@@ -72,17 +72,6 @@ returns-in-Passed-clause-turns g c =
     let e = c.publish.ensures.leaves in
     let p : PassedBy r.callers c.in-Passed.found c.args.seat.now mid = subst (Publishes r.callers c.args.seat.now mid) c.in-Passed.is c.in_ok-won.ensures.published in
     let published = passed_published g.O.Object r ticket reply c.in-Passed.found c.args.seat.now mid e.rest ready p in
-    passed_turns ticket c.args.seat.now mid c.answer.new.seat e.rest e.counted e.most g.O.Object r c.in-Passed.found reply c.answer.result e (c.answer.ensures.answered ticket reply published) c.answer.ensures.halted
-
-pub returns-in-Won-clause-since : goal.returns-in-Won-clause-since
-returns-in-Won-clause-since g c = on_then c.args.seat.now c.publish.new.seat c.settle_won.new.seat c.publish.ensures.leaves.since c.settle_won.ensures.since
-
-pub returns-in-Passed-clause-since : goal.returns-in-Passed-clause-since
-returns-in-Passed-clause-since g c =
-    let (ticket, reply, ready) = c.requires.ready in
-    let r = c.args.shared.now in
-    let mid = c.publish.new.seat in
-    let e = c.publish.ensures.leaves in
-    let p : PassedBy r.callers c.in-Passed.found c.args.seat.now mid = subst (Publishes r.callers c.args.seat.now mid) c.in-Passed.is c.in_ok-won.ensures.published in
-    let published = passed_published g.O.Object r ticket reply c.in-Passed.found c.args.seat.now mid e.rest ready p in
-    on_then c.args.seat.now mid c.answer.new.seat e.since (on_answer g.O.Object r c.in-Passed.found ticket reply c.answer.result mid c.answer.new.seat (c.answer.ensures.answered ticket reply published) c.answer.ensures.halted)
+    let answered = c.answer.ensures.answered ticket reply published in
+    passed_turns ticket c.args.seat.now mid c.answer.new.seat e.rest e.counted e.most g.O.Object r c.in-Passed.found reply c.answer.result e answered c.answer.ensures.halted
+    (on_answer g.O.Object r c.in-Passed.found ticket reply c.answer.result mid c.answer.new.seat answered c.answer.ensures.halted)

@@ -3,7 +3,7 @@ use Rattle.cx_core.specs.declared.kinds.Kind.TheVariants.{Retire}
 use Rattle.cx_rule.specs.Seats.{Seated}
 use Rattle.cx_turns.specs.Answering.{IsPublishedFor}
 use Rattle.cx_turns.proofs.Answered.{halted_leaves, if_any_err, raised_most, retired_answers, retired_halted, retired_leaves, still_won}
-use Rattle.cx_turns.proofs.Stepping.{on_one, on_same, on_step, on_then}
+use Rattle.cx_rule.proofs.Stepping.{on_one, on_same, on_step, on_then}
 use Rattle.cx_turns.proofs.updates.settle_won.Goals as goal
 
 pub retire-requires : goal.retire-requires

@@ -1,11 +1,10 @@
-use Rattle.std.proofs.Common.{ap, refl, subst}
+use Rattle.std.proofs.Common.{Some, ap, refl, subst}
 use Rattle.cx_rule.specs.Seats.{Seated}
 use Rattle.cx_table.specs.Right.{Right}
-use Rattle.cx_turns.specs.Bringing.{BringsIn}
-use Rattle.cx_turns.proofs.Bringing.{brings_around}
+use Rattle.cx_turns.specs.Bringing.{CountsIn}
+use Rattle.cx_turns.proofs.Bringing.{counts_around}
 use Rattle.cx_turns.specs.Preparing.{Prepares, TriesPrepare}
-use Rattle.cx_turns.proofs.Answered.{answered_turn, halted_turn, if_any_err, prepared_ready}
-use Rattle.cx_turns.proofs.Stepping.{on_then}
+use Rattle.cx_turns.proofs.Answered.{answered_turn, halted_turn, handed_turns, if_any_err, prepared_ready}
 use Rattle.cx_turns.proofs.updates.update_turn.Goals as goal
 
 pub hand_over-requires-clause-ready : goal.hand_over-requires-clause-ready
@@ -31,16 +30,23 @@ returns-clause-turned g c =
     let e = c.in_ok-held.ensures in
     let p : Prepares g.O.Object r c.args.ticket c.prepare.new.reply c.args.seat.now mid c.in-Some.held = subst (TriesPrepare g.O.Object r c.args.ticket c.prepare.new.reply c.args.seat.now mid) c.in-Some.is e.prepared in
     let ready = prepared_ready g.O.Object r c.args.ticket c.prepare.new.reply c.args.seat.now mid c.in-Some.held e.turns.rest c.requires.ready.rest c.requires.last p in
-    answered_turn c.args.ticket c.args.seat.now mid c.hand_over.new.seat e.turns.rest p.met c.prepare.new.reply (c.in_ok-hand_over.ensures.answered c.args.ticket c.prepare.new.reply ready)
+    record {
+      allowed = e.allowed;
+      turned = answered_turn c.args.ticket c.args.seat.now mid c.hand_over.new.seat e.turns.rest p.met c.prepare.new.reply (c.in_ok-hand_over.ensures.answered c.args.ticket c.prepare.new.reply ready);
+    }
 
-pub returns-clause-by_sets : goal.returns-clause-by_sets
-returns-clause-by_sets g c =
+pub returns-clause-counted : goal.returns-clause-counted
+returns-clause-counted g c =
     let s = c.args.seat.now in
     let mid = c.prepare.new.seat in
-    brings_around s s mid c.hand_over.new.seat refl (subst (BringsIn {X = Right} s mid) c.in-Some.is c.in_ok-held.ensures.by_sets) (ap (λ (x : Seated). x.known.sets) c.hand_over.ensures.turns.rest)
+    let last = c.hand_over.new.seat in
+    let now = c.prepare.new.scratch.taken in
+    let e : CountsIn {X = Right} c.args.scratch.now.taken s now mid (Some c.in-Some.held) = subst (CountsIn {X = Right} c.args.scratch.now.taken s now mid) c.in-Some.is c.in_ok-held.ensures.counted in
+    let was = counts_around c.args.scratch.now.taken now s s mid last refl (record { counted = e.counted; by_sets = e.by_sets }) (ap (λ (x : Seated). x.known.sets) c.hand_over.ensures.turns.rest) in
+    record { counted = was.counted; by_sets = was.by_sets }
 
-pub returns-in_err-hand_over-clause-since : goal.returns-in_err-hand_over-clause-since
-returns-in_err-hand_over-clause-since g c = on_then c.args.seat.now c.prepare.new.seat c.hand_over.new.seat c.prepare.ensures.since c.hand_over.ensures.since
+pub returns-in_err-hand_over-clause-turns : goal.returns-in_err-hand_over-clause-turns
+returns-in_err-hand_over-clause-turns g c = handed_turns c.args.shared.now _ c.args.seat.now c.prepare.new.seat c.hand_over.new.seat c.prepare.ensures.turns c.hand_over.ensures.turns
 
-pub returns-clause-since : goal.returns-clause-since
-returns-clause-since g c = on_then c.args.seat.now c.prepare.new.seat c.hand_over.new.seat c.prepare.ensures.since c.hand_over.ensures.since
+pub returns-clause-turns : goal.returns-clause-turns
+returns-clause-turns g c = handed_turns c.args.shared.now _ c.args.seat.now c.prepare.new.seat c.hand_over.new.seat c.prepare.ensures.turns c.hand_over.ensures.turns

@@ -18,10 +18,10 @@ returns-in-Ok-Some-clause-taken g c =
     let words = c.checkpoint_turn.new.into in
     let o = g.O.Object in
     let e = c.in-Ok-Some.ensures in
-    let turned = subst (λ t. TakesTurn o t words s v c.in-Ok-Some.field-0) c.self.view_is e.turned in
+    let turned = subst (λ t. TakesTurn o t words s v c.in-Ok-Some.field-0) c.self.view_is e.turned.turned in
     subst (λ (x : Seated). CheckpointTaken o c.args.self.now words c.in-Ok-Some.place x v × MeetsFewer 1 x v) is
-    (image_taken o c.args.self.now s v (subst (IsCallerOf c.args.self.now) (sym is) c.requires.caller) e.turns.rest e.turns.front (subst (λ (t : Running _). IsSeatOf t v) c.self.view_is e.turns.seat) e.rises e.since
-    words c.in-Ok-Some.place e.allowed (subst (TakesTurn o c.args.self.now words s v) c.in-Ok-Some.field-0-is turned))
+    (image_taken o c.args.self.now s v (subst (IsCallerOf c.args.self.now) (sym is) c.requires.caller) e.turns.turns.rest e.turns.turns.front (subst (λ (t : Running _). IsSeatOf t v) c.self.view_is e.turns.turns.seat) e.turns.rises e.turns.turns.since
+    words c.in-Ok-Some.place e.turned.allowed (subst (TakesTurn o c.args.self.now words s v) c.in-Ok-Some.field-0-is turned))
 
 pub returns-in-Ok-None-clause-taken : goal.returns-in-Ok-None-clause-taken
 returns-in-Ok-None-clause-taken g c =
@@ -32,5 +32,5 @@ returns-in-Ok-None-clause-taken g c =
     let o = g.O.Object in
     let e = c.in-Ok-None.ensures in
     subst (λ (x : Seated). ReadPending c.args.self.now 1 x v) is
-    (image_refused o c.args.self.now s v (subst (IsCallerOf c.args.self.now) (sym is) c.requires.caller) e.turns.rest e.turns.front (subst (λ (t : Running _). IsSeatOf t v) c.self.view_is e.turns.seat) e.rises e.since
-    e.allowed (omega (arith, c.met-met.ensures)) (subst (TakesTurn o c.self.inside.shared words s v) c.in-Ok-None.field-0-is e.turned))
+    (image_refused o c.args.self.now s v (subst (IsCallerOf c.args.self.now) (sym is) c.requires.caller) e.turns.turns.rest e.turns.turns.front (subst (λ (t : Running _). IsSeatOf t v) c.self.view_is e.turns.turns.seat) e.turns.rises e.turns.turns.since
+    e.turned.allowed (omega (arith, c.met-met.ensures)) (subst (TakesTurn o c.self.inside.shared words s v) c.in-Ok-None.field-0-is e.turned.turned))

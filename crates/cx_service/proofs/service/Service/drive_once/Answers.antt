@@ -17,11 +17,11 @@ returns-in-Ok-Some g c =
     let v = c.update_turn.new.seat in
     let ticket = c.ticket-ticket.result in
     let answer : Answer = record { ticket = ticket; reply = c.in-Ok-Some.reply } in
-    let answers = subst (TurnsFor ticket s v) c.in-Ok-Some.field-0-is c.in-Ok-Some.ensures.turned in
+    let answers = subst (TurnsFor ticket s v) c.in-Ok-Some.field-0-is c.in-Ok-Some.ensures.turned.turned in
     subst (λ (x : Seated). DriveDone c.args.self.now x v answer × MeetsAtMost 1 x v) is (
-      turn_done c.args.self.now s v (subst (IsLinkedOf c.args.self.now) (sym is) c.requires) c.update_turn.ensures.turns.rest c.update_turn.ensures.turns.front (subst (λ (t : Running _). IsSeatOf t v) c.self.view_is c.update_turn.ensures.turns.seat) c.update_turn.ensures.since
+      turn_done c.args.self.now s v (subst (IsLinkedOf c.args.self.now) (sym is) c.requires) c.update_turn.ensures.turns.rest c.update_turn.ensures.turns.front (subst (λ (t : Running _). IsSeatOf t v) c.self.view_is c.update_turn.ensures.turns.seat) c.update_turn.ensures.turns.since
           ticket c.in-Ok-Some.reply (subst (λ (x : Seated). unanswered_ticket x.known.local ≡ Some ticket) (sym is) c.ticket-ticket.ensures)
-          c.in-Ok-Some.ensures.allowed (subst (BringsIn {X = List ℕ} s v) c.in-Ok-Some.field-0-is c.in-Ok-Some.ensures.by_sets) answers,
+          c.in-Ok-Some.ensures.turned.allowed (subst (BringsIn {X = List ℕ} s v) c.in-Ok-Some.field-0-is c.in-Ok-Some.ensures.counted.by_sets) answers,
       answers.most,
     )
 
@@ -31,8 +31,8 @@ returns-in-Ok-None g c =
     let is = ap (λ (d : Desk). d.seat) c.deref_mut.ensures.value ∙ c.linked.view_is in
     let v = c.update_turn.new.seat in
     subst (λ (x : Seated). DrivePending c.args.self.now 1 x v) is
-    (turn_refused c.args.self.now s v (subst (IsLinkedOf c.args.self.now) (sym is) c.requires) c.update_turn.ensures.turns.rest c.update_turn.ensures.turns.front (subst (λ (t : Running _). IsSeatOf t v) c.self.view_is c.update_turn.ensures.turns.seat) c.update_turn.ensures.since
-    c.in-Ok-None.ensures.allowed (omega (arith, c.met-met.ensures)) (subst (BringsIn {X = List ℕ} s v) c.in-Ok-None.field-0-is c.in-Ok-None.ensures.by_sets) (subst (TurnsFor c.ticket-ticket.result s v) c.in-Ok-None.field-0-is c.in-Ok-None.ensures.turned))
+    (turn_refused c.args.self.now s v (subst (IsLinkedOf c.args.self.now) (sym is) c.requires) c.update_turn.ensures.turns.rest c.update_turn.ensures.turns.front (subst (λ (t : Running _). IsSeatOf t v) c.self.view_is c.update_turn.ensures.turns.seat) c.update_turn.ensures.turns.since
+    c.in-Ok-None.ensures.turned.allowed (omega (arith, c.met-met.ensures)) (subst (BringsIn {X = List ℕ} s v) c.in-Ok-None.field-0-is c.in-Ok-None.ensures.counted.by_sets) (subst (TurnsFor c.ticket-ticket.result s v) c.in-Ok-None.field-0-is c.in-Ok-None.ensures.turned.turned))
 
 pub returns-in-Err : goal.returns-in-Err
 returns-in-Err g c =
@@ -42,5 +42,5 @@ returns-in-Err g c =
     let ticket = c.ticket-ticket.result in
     let h : StoppedSeat = record { seat = v; linked = Some ticket } in
     subst (λ (x : Seated). DriveHalted c.args.self.now x h × DriveDue c.args.self.now 1 x h) is
-    (turn_halted c.args.self.now s v (subst (IsLinkedOf c.args.self.now) (sym is) c.requires) c.update_turn.ensures.turns.rest c.update_turn.ensures.turns.front (subst (λ (t : Running _). IsSeatOf t v) c.self.view_is c.update_turn.ensures.turns.seat) c.update_turn.ensures.since
+    (turn_halted c.args.self.now s v (subst (IsLinkedOf c.args.self.now) (sym is) c.requires) c.update_turn.ensures.turns.rest c.update_turn.ensures.turns.front (subst (λ (t : Running _). IsSeatOf t v) c.self.view_is c.update_turn.ensures.turns.seat) c.update_turn.ensures.turns.since
     ticket (subst (λ (x : Seated). unanswered_ticket x.known.local ≡ Some ticket) (sym is) c.ticket-ticket.ensures) (subst (λ (t : Running _). HaltsFor t.callers ticket s v) c.self.view_is c.in-Err.ensures.halted))

@@ -18,14 +18,14 @@ returns-in-Ok-Some g c =
     let v = c.read_turn.new.seat in
     let reply = c.read_turn.new.reply in
     let seen : Seen = record { place = c.in-Ok-Some.place; reply = reply } in
-    let answers = subst (λ o. LooksUp c.args.op.now s v (seen_at reply o)) c.in-Ok-Some.field-0-is c.in-Ok-Some.ensures.turned in
+    let answers = subst (λ o. LooksUp c.args.op.now s v (seen_at reply o)) c.in-Ok-Some.field-0-is c.in-Ok-Some.ensures.turned.turned in
     let here : c.in-Ok-Some.place ≡ root_place_of c.self.inside.shared.callers v.known.local.seen_cur =
-    subst (λ o. IfSome o (λ (p : ℕ). p ≡ root_place_of c.self.inside.shared.callers v.known.local.seen_cur)) c.in-Ok-Some.field-0-is c.in-Ok-Some.ensures.place in
-    let reached : c.in-Ok-Some.place ≤ v.known.local.front = subst (λ o. IfSome o (λ (p : ℕ). p ≤ v.known.local.front)) c.in-Ok-Some.field-0-is c.in-Ok-Some.ensures.reached in
+    subst (λ o. IfSome o (λ (p : ℕ). p ≡ root_place_of c.self.inside.shared.callers v.known.local.seen_cur)) c.in-Ok-Some.field-0-is c.in-Ok-Some.ensures.turned.place in
+    let reached : c.in-Ok-Some.place ≤ v.known.local.front = subst (λ o. IfSome o (λ (p : ℕ). p ≤ v.known.local.front)) c.in-Ok-Some.field-0-is c.in-Ok-Some.ensures.turned.reached in
     let placed = here ∙ ap (λ (t : Running _). root_place_of t.callers v.known.local.seen_cur) c.self.view_is in
     subst (λ (x : Seated). ReadAnswered c.args.self.now c.args.op.now x v seen × MeetsFewer 1 x v) is (
-      read_done c.args.self.now c.args.op.now s v (subst (IsCallerOf c.args.self.now) (sym is) c.requires.caller) c.read_turn.ensures.turns.rest c.read_turn.ensures.turns.front (subst (λ (t : Running _). IsSeatOf t v) c.self.view_is c.read_turn.ensures.turns.seat) c.read_turn.ensures.rises c.read_turn.ensures.since
-          seen c.in-Ok-Some.ensures.allowed answers placed reached,
+      read_done c.args.self.now c.args.op.now s v (subst (IsCallerOf c.args.self.now) (sym is) c.requires.caller) c.read_turn.ensures.turns.turns.rest c.read_turn.ensures.turns.turns.front (subst (λ (t : Running _). IsSeatOf t v) c.self.view_is c.read_turn.ensures.turns.turns.seat) c.read_turn.ensures.turns.rises c.read_turn.ensures.turns.turns.since
+          seen c.in-Ok-Some.ensures.turned.allowed answers placed reached,
       (let same = answers.met in omega (arith, same)),
     )
 
@@ -35,8 +35,8 @@ returns-in-Ok-None g c =
     let is = ap (λ (d : Desk). d.seat) c.deref_mut.ensures.value ∙ c.caller.view_is in
     let v = c.read_turn.new.seat in
     subst (λ (x : Seated). ReadPending c.args.self.now 1 x v) is
-    (read_refused c.args.self.now c.args.op.now s v (subst (IsCallerOf c.args.self.now) (sym is) c.requires.caller) c.read_turn.ensures.turns.rest c.read_turn.ensures.turns.front (subst (λ (t : Running _). IsSeatOf t v) c.self.view_is c.read_turn.ensures.turns.seat) c.read_turn.ensures.rises c.read_turn.ensures.since
-    c.in-Ok-None.ensures.allowed (omega (arith, c.met-met.ensures)) (subst (λ o. LooksUp c.args.op.now s v (seen_at c.read_turn.new.reply o)) c.in-Ok-None.field-0-is c.in-Ok-None.ensures.turned))
+    (read_refused c.args.self.now c.args.op.now s v (subst (IsCallerOf c.args.self.now) (sym is) c.requires.caller) c.read_turn.ensures.turns.turns.rest c.read_turn.ensures.turns.turns.front (subst (λ (t : Running _). IsSeatOf t v) c.self.view_is c.read_turn.ensures.turns.turns.seat) c.read_turn.ensures.turns.rises c.read_turn.ensures.turns.turns.since
+    c.in-Ok-None.ensures.turned.allowed (omega (arith, c.met-met.ensures)) (subst (λ o. LooksUp c.args.op.now s v (seen_at c.read_turn.new.reply o)) c.in-Ok-None.field-0-is c.in-Ok-None.ensures.turned.turned))
 
 pub returns-in-Err : goal.returns-in-Err
 returns-in-Err g c =
@@ -44,7 +44,7 @@ returns-in-Err g c =
     let is = ap (λ (d : Desk). d.seat) c.deref_mut.ensures.value ∙ c.caller.view_is in
     let v = c.read_turn.new.seat in
     subst (λ (x : Seated). ReadHalted c.args.self.now c.args.op.now x (record { seat = v; linked = None }) × ReadDue 1 x v) is
-    (read_ended c.args.self.now c.args.op.now s v (subst (IsCallerOf c.args.self.now) (sym is) c.requires.caller) c.read_turn.ensures.turns.rest c.read_turn.ensures.turns.front (subst (λ (t : Running _). IsSeatOf t v) c.self.view_is c.read_turn.ensures.turns.seat) c.read_turn.ensures.rises c.read_turn.ensures.since c.in-Err.ensures.halted)
+    (read_ended c.args.self.now c.args.op.now s v (subst (IsCallerOf c.args.self.now) (sym is) c.requires.caller) c.read_turn.ensures.turns.turns.rest c.read_turn.ensures.turns.turns.front (subst (λ (t : Running _). IsSeatOf t v) c.self.view_is c.read_turn.ensures.turns.turns.seat) c.read_turn.ensures.turns.rises c.read_turn.ensures.turns.turns.since c.in-Err.ensures.halted)
 
 pub read_turn-requires-clause-ready : goal.read_turn-requires-clause-ready
 read_turn-requires-clause-ready g c =

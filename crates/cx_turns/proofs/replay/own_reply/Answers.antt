@@ -2,7 +2,7 @@ use Rattle.replica.proofs.Replaying.{loaded_image}
 use Rattle.std.proofs.Common.{ap}
 use Rattle.cx_rule.specs.Fitting.{has_of}
 use Rattle.cx_rule.specs.Seats.{Seated}
-use Rattle.cx_turns.proofs.replay.own_outcome.Goals as goal
+use Rattle.cx_turns.proofs.replay.own_reply.Goals as goal
 
 pub returns-clause-ready : goal.returns-clause-ready
 returns-clause-ready g c =
