@@ -21,7 +21,9 @@ taken_out g c =
     (whole, subst (λ (ws : List (Result (Served g.row.O-Reply.Denot) AllocError)). AreNumbered (g.O.TypedObject.meaning c.args.service.now.object) c.args.life.now c.args.service.now (length c.loop-alloc.all.handed.items) ws) whole c.loop-alloc.invariant.rest)
 
 pub at_end-requires-clause-served : goal.at_end-requires-clause-served
-at_end-requires-clause-served g c = λ κs lives. (length c.loop-alloc.all.handed.items, (taken_out g (goal.at.at_end-requires-clause-served g c κs lives).In_ok-served).1.0)
+at_end-requires-clause-served g c = λ κs lives.
+    let (whole, rest) = taken_out g (goal.at.at_end-requires-clause-served g c κs lives).In_ok-served in
+    (length c.loop-alloc.all.handed.items, rest.0)
 
 pub loop-alloc-preserved : goal.loop-alloc-preserved
 loop-alloc-preserved g c =

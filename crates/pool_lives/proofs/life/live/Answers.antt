@@ -48,7 +48,7 @@ unreachable-requires g c =
     let object_is = c.requires.ready.same in
     let gathered = c.in_ok-clients.ensures.gathered in
     let f = c.in_ok-clients.field-0 in
-    let t = typed_steps _ _ (g.O.Object.opening o) _ (g.O.Object.only_reads o) (g.O.TypedObject.meaning o) c.object_is_meant.ensures.object c.object_is_meant.ensures.means in
+    let t = typed_steps _ _ (g.O.Object.opening o) _ (g.O.Object.only_reads o) (g.O.TypedObject.meaning o) c.steps_are_meant.ensures.object c.steps_are_meant.ensures.means in
     let running = c.lines-lines.ensures.running in
     let base : LawfulBase (g.O.Object.line_count o) (g.O.Object.lawful o) r.base =
     subst (λ (b : Base). LawfulBase (g.O.Object.line_count o) (g.O.Object.lawful o) b) (sym (ap (λ (x : Running g.row.O.Denot). x.base) same))
