@@ -1,4 +1,5 @@
-use Rattle.std.proofs.Common.{arith, length-map}
+use Rattle.std.proofs.Common.{arith}
+use Rattle.std.proofs.lemmas.List.{length-map}
 use Rattle.service_parts.proofs.HandedBack.{seats_after, tells_each}
 use Rattle.service_parts.proofs.workers.all_work.Goals as goal
 
