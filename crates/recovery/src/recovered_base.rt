@@ -37,7 +37,7 @@ pub enum ImageFault {
 /// order of `ImageFault`. The base is one from which a service may start where no number of its results is above its place, as it is in
 /// what services leave.
 ///
-/// No image of a closed service is refused. From `crates/service_parts/src/kept.rt`:
+/// No image of a closed service is refused. From `crates/service_parts/src/kept_base.rt`:
 /// ```rattle
 /// let image = crash_image(alloc, remains, choice)?;
 /// match recover(alloc, object, &image) {
