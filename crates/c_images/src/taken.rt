@@ -28,8 +28,7 @@ pub fn image_words_of(callers: u32, lines: u64) -> u64
 
 /// Makes an image of the region that stands after the head: each replica is that region, and the root names the first one at this place.
 pub fn write_base(kind: u64, callers: u32, lines: u64, place: u64, words: &mut [u64])
-    requires some { 1 ≤ callers }
-    requires few { callers ≤ 8 }
+    requires callers { (1 ≤ callers) × (callers ≤ 8) }
     requires lines { lines ≤ 16384 }
     requires place { place ≤ 2 ^ 40 }
     requires long { length words.old ≡ image_size callers lines + 8 }

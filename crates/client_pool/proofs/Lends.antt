@@ -119,7 +119,7 @@ module _ {O : Type 0} (r : Running O) where
     scans = (let same = a.keeps.scans in omega (arith, same, from.scans));
     met = (let kept = a.keeps.met in omega (arith, from.met, kept));
     front = (let kept = a.keeps.front in omega (arith, from.front, kept));
-    steps = λ none. (let first = from.steps (none_both from.idle.more [] none).0 in omega (arith, first, a.since));
+    steps = λ none. (let first = from.steps (none_both from.idle.more [] none).0 in omega (arith, first, a.keeps.since));
   }
 
   asked : (x y : Seated) → IsCallerOf r y → KeepsLists x y → StaysIdle r x y

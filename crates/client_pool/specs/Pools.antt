@@ -1,5 +1,5 @@
 -- The results of opening a pool and of closing it.
-use Rattle.std.specs.Prelude.{◌≡◌, ◌+◌, ◌≤◌, ℕ, true, List, [], ◌∷◌, ◌++◌, All, Some, None, length, map, slice_get, vec_capacity}
+use Rattle.std.specs.Prelude.{◌≡◌, ◌+◌, ◌≤◌, ℕ, true, List, [], ◌∷◌, ◌++◌, All, Some, None, length, map, slice_get}
 use Rattle.std.specs.List.{AllZip, range_with_len}
 use Rattle.atomic_table.specs.Seated.{TableId}
 use Rattle.crossbeam_queue.specs.Passes.{view}
@@ -12,7 +12,7 @@ use Rattle.cx_service.specs.declared.close.Handed.{Handed}
 use Rattle.cx_service.specs.declared.close.Handed.TheVariants.{Idle}
 use Rattle.cx_table.specs.Remains.{AreSeats, Leaves}
 use Rattle.cx_table.specs.declared.remains.Remains.{Remains}
-use Rattle.seat_pool.specs.Gathering.{AreCallsTold, IsRestOf}
+use Rattle.seat_pool.specs.Gathering.{AreCallsTold, IsRestOf, IsRoomFor}
 use Rattle.seat_pool.specs.Pooling.{IsHomeOf, all_parts}
 use Rattle.seat_pool.specs.declared.hand.Hand.{Hand}
 use Rattle.seat_pool.specs.declared.lent.Lent.{Lent}
@@ -48,11 +48,11 @@ pub record AreCallersPlaced {O : Type 0} (r : Running O) (clients : ℕ) (v : Ha
 
 -- there is room for this many callers and clients
 pub record HaveRoom (callers clients : ℕ) (rooms : Rooms) : Type 0 where
-  pub made : (rooms.clients.items ≡ []) × (clients ≤ vec_capacity rooms.clients)
-  pub lents : (rooms.lents.items ≡ []) × (clients ≤ vec_capacity rooms.lents)
-  pub former : (rooms.former.items ≡ []) × (clients ≤ vec_capacity rooms.former)
-  pub gathered : (rooms.gathered.items ≡ []) × (callers ≤ vec_capacity rooms.gathered)
-  pub out : (rooms.out.items ≡ []) × (callers ≤ vec_capacity rooms.out)
+  pub made : IsRoomFor clients rooms.clients
+  pub lents : IsRoomFor clients rooms.lents
+  pub former : IsRoomFor clients rooms.former
+  pub gathered : IsRoomFor callers rooms.gathered
+  pub out : IsRoomFor callers rooms.out
 
 -- a client that has made no call, of a service whose callers have these limits
 pub record IsNewClient {O : Type 0} (r : Running O) (table : TableId) (limits : List ℕ) (number : ℕ) (client : Client) : Type 0 where
@@ -66,10 +66,10 @@ pub record IsNewClient {O : Type 0} (r : Running O) (table : TableId) (limits : 
 pub record IsClosing {O : Type 0} (r : Running O) (table : TableId) (clients : ℕ) (closing : Closing) : Type 0 where
   pub pass : (closing.rest.table_id ≡ table) × (closing.rest.me.1 ≡ [])
   pub rest : IsRestOf r (view closing.rest) clients
-  pub lents : (closing.lents.items ≡ []) × (clients ≤ vec_capacity closing.lents)
-  pub former : (closing.former.items ≡ []) × (clients ≤ vec_capacity closing.former)
-  pub gathered : (closing.gathered.items ≡ []) × (r.callers ≤ vec_capacity closing.gathered)
-  pub out : (closing.out.items ≡ []) × (r.callers ≤ vec_capacity closing.out)
+  pub lents : IsRoomFor clients closing.lents
+  pub former : IsRoomFor clients closing.former
+  pub gathered : IsRoomFor r.callers closing.gathered
+  pub out : IsRoomFor r.callers closing.out
 
 -- the last of clients has it
 pub record HasLast {O : Type 0} (r : Running O) (table : TableId) (clients : List Client) : Type 0 where

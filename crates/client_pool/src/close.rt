@@ -1,7 +1,8 @@
 //! A pool is closed.
 
-ghost use Rattle.std.specs.Prelude.{◌≡◌, ◌≤◌, [], IfErr, IfOk, map, vec_capacity, vec_len};
+ghost use Rattle.std.specs.Prelude.{◌≡◌, IfErr, IfOk, map, vec_capacity, vec_len};
 ghost use Rattle.cx_rule.specs.Running.{instance_at};
+ghost use Rattle.seat_pool.specs.Gathering.{IsRoomFor};
 ghost use Rattle.client_pool.specs.Pools.{AreClients, IsClosed, IsLeftOpen, former_of};
 
 use crate::client::{Client, Closing};
@@ -20,8 +21,8 @@ fn part_clients(
     mut lents: Vec<Lent>,
     mut former: Vec<FormerClient>,
 ) -> (Vec<Lent>, Vec<FormerClient>)
-    requires lents { (lents.items ≡ []) × (vec_len clients ≤ vec_capacity lents) }
-    requires former { (former.items ≡ []) × (vec_len clients ≤ vec_capacity former) }
+    requires lents { IsRoomFor (vec_len clients) lents }
+    requires former { IsRoomFor (vec_len clients) former }
     ensures lents { (result.0.items ≡ map (λ c. c.lent) clients.items) × (vec_capacity result.0 ≡ vec_capacity lents) }
     ensures former { (result.1.items ≡ map former_of clients.items) × (vec_capacity result.1 ≡ vec_capacity former) }
 {

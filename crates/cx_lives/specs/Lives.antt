@@ -2,6 +2,7 @@
 use Rattle.std.specs.Prelude.{◌≡◌, ◌+◌, ◌-◌, ◌%◌, ◌^◌, ◌<◌, ◌≤◌, ℕ, Bool, List, [], ◌∷◌, ◌++◌, length, slice_index, All, Option, None, Some}
 use Rattle.cx_base.specs.Codes.{root_place_of}
 use Rattle.cx_base.specs.OldFormat.{no_old_format}
+use Rattle.cx_base.specs.declared.object.Object.{Ghosts}
 use Rattle.cx_core.specs.Base.{LawfulBase}
 use Rattle.cx_core.specs.declared.entry.Base.{Base}
 use Rattle.cx_core.specs.declared.entry.Image.{Image}
@@ -58,6 +59,10 @@ pub record CanBegin {Op Reply Store : Type 0} (m : Meaning Op Reply Store) (line
   pub lawful : LawfulBase lines is_lawful base
   pub tickets : base.place + length life.commands ≤ 2 ^ 40
 
+-- the same over an object, whose lines and lawful words they are
+abbrev pub CanBeginOver : {O Op Reply Store : Type 0} → Ghosts O → O → Meaning Op Reply Store → Life Op → Base → Type 0
+CanBeginOver o object m = CanBegin m (o.line_count object) (o.lawful object)
+
 -- the service of a life, which opened from this base
 pub record IsServiceOf {O Op : Type 0} (object : O) (lines : ℕ) (base : Base) (life : Life Op) (service : Running O) : Type 0 where
   pub callers : service.callers ≡ life.clients
@@ -87,6 +92,10 @@ pub record HasLost {Op Reply Store : Type 0} (m : Meaning Op Reply Store) (lines
   pub flags : HasFlags told (next.place - told.from) items flagged
   pub items_are : (store : Store) → m.stands (object_part next.words) store → items ≡ m.items store
   pub values : HasReplyValues m flagged
+
+-- the same over an object, whose lines, version and lawful words they are
+abbrev pub HasLostOver : {O Op Reply Store : Type 0} → Ghosts O → O → Meaning Op Reply Store → Life Op → LifeRecord Reply → Remains → Image → Base → LifeRecord Reply → Type 0
+HasLostOver o object m = HasLost m (o.line_count object) (o.version_number object) (o.lawful object)
 
 -- the table of a trail, whatever its object is
 abbrev pub table_of : ℕ → ℕ → Ending → Running (Unit {0})
@@ -118,6 +127,10 @@ pub record HasLived {Op Reply Store : Type 0} (m : Meaning Op Reply Store) (line
   pub recovered : IsRecovered version is_lawful no_old_format ran.image ran.next
   pub next : BeginsLife m lines is_lawful (begun_after m begun life ran.told.journal ran.told.kept) ran.next
   pub few : ran.next.place ≤ base.place + length life.commands
+
+-- the same over an object, whose lines, version and lawful words they are
+abbrev pub HasLivedOver : {O Op Reply Store : Type 0} → Ghosts O → O → Meaning Op Reply Store → Life Op → Begun Store → Base → Ran Reply → Type 0
+HasLivedOver o object m = HasLived m (o.line_count object) (o.version_number object) (o.lawful object)
 
 -- what the lives behind these records begin with
 abbrev pub begun_by : {Op Reply Store : Type 0} → Meaning Op Reply Store → Begun Store → List (Life Op) → List (LifeRecord Reply) → Begun Store
@@ -173,3 +186,7 @@ pub record HaveLived {Op Reply Store : Type 0} (m : Meaning Op Reply Store) (lin
   pub told : AreTold m lives lived.records lived.trails
   pub ends : HaveEnded m lines version is_lawful (begun_by m (nothing_begun m) lives lived.records) lives lived.image lived.base
   pub left : HaveLeft m lines is_lawful lives lived.trails lived.image
+
+-- the same over an object, whose lines, version and lawful words they are
+abbrev pub HaveLivedOver : {O Op Reply Store : Type 0} → Ghosts O → O → Meaning Op Reply Store → List (Life Op) → Lived Reply → Type 0
+HaveLivedOver o object m = HaveLived m (o.line_count object) (o.version_number object) (o.lawful object)

@@ -2,8 +2,7 @@
 
 ghost use Rattle.std.specs.Prelude.{IfOk};
 ghost use Rattle.cx_lives.specs.Life.{CanRun, HasRun};
-ghost use Rattle.life_records.specs.Meanings.{AreLaws};
-ghost use Rattle.typed_object.specs.Meaning.{HasMeaning};
+ghost use Rattle.life_records.specs.Meanings.{IsMeant};
 
 use crate::gather::{Ends, Gathered, gather};
 use crate::progress::Lines;
@@ -86,8 +85,7 @@ pub fn run_life<O: TypedObject + Sync, R: Threads + Wait + Sync, G: Gate + Sync>
 
 // The laws of a service's object.
 fn object_is_meant<O: TypedObject>(service: &Service<O>)
-    ensures object { AreLaws (O.line_count service.now.object) (O.lawful service.now.object) (O.step service.now.object) }
-    ensures means { HasMeaning (O.lawful service.now.object) (O.opening service.now.object) (O.step service.now.object) (O.only_reads service.now.object) (O.meaning service.now.object) }
+    ensures { IsMeant O.Object service.now.object (O.meaning service.now.object) }
 {
     steps_are_meant(service.object());
 }

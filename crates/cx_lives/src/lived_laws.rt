@@ -8,7 +8,7 @@ ghost use Rattle.cx_table.specs.declared.remains.Remains as table_remains;
 ghost use Rattle.life_records.specs.Begins.{Begun, IsBaseOf};
 ghost use Rattle.life_records.specs.Records.{Life, LifeRecord};
 ghost use Rattle.cx_lives.specs.Life.{HasRun};
-ghost use Rattle.cx_lives.specs.Lives.{HasLived, HasLost, IsServiceOf};
+ghost use Rattle.cx_lives.specs.Lives.{HasLivedOver, HasLostOver, IsServiceOf};
 
 use core_runs::crash::crash_images_recover;
 use cx_core::Base;
@@ -27,8 +27,8 @@ pub(crate) fn lives_that_ran_have_lived<O: TypedObject>(object: &O, base: &Base)
         (image : entry_image.Image) (next : entry_base.Base) → IsBaseOf (O.meaning object.now) base.now begun →
         IsServiceOf object.now (O.line_count object.now) base.now life service →
         HasRun (O.meaning object.now) O.step O.only_reads life service told remains →
-        HasLost (O.meaning object.now) (O.line_count object.now) (O.version_number object.now) (O.lawful object.now) life told remains image next flagged →
-        HasLived (O.meaning object.now) (O.line_count object.now) (O.version_number object.now) (O.lawful object.now) life begun base.now
+        HasLostOver O.Object object.now (O.meaning object.now) life told remains image next flagged →
+        HasLivedOver O.Object object.now (O.meaning object.now) life begun base.now
         (record { told = flagged; trail = remains.trail; image = image; next = next }) }
 {
     crash_images_recover();

@@ -5,13 +5,14 @@ ghost use Rattle.std.specs.Prelude.{◌≡◌, ◌+◌, ◌<◌, ◌≤◌, List
 ghost use Rattle.cx_core.specs.Base.{LawfulBase};
 ghost use Rattle.cx_core.specs.Region.{object_part};
 ghost use Rattle.cx_rule.specs.Running.{Running};
+ghost use Rattle.cx_service.specs.Starts.{AreFewLines};
 ghost use Rattle.life_records.specs.Begins.{Begun, IsBaseOf, nothing_begun};
 ghost use Rattle.life_records.specs.Limits.{IsLifeInLimits, KeepsLimits};
 ghost use Rattle.life_records.specs.Scripts.{command_count};
 ghost use Rattle.life_records.specs.declared.script.Life.{Life};
 ghost use Rattle.recovery.specs.declared.recovered_base.ImageFault.TheVariants.{Memory};
 ghost use Rattle.cx_lives.specs.Life.{HasRun};
-ghost use Rattle.cx_lives.specs.Lives.{BeginsLife, CanBegin, HasFlags, HasLived, HaveLived, IsNextBase, IsServiceOf};
+ghost use Rattle.cx_lives.specs.Lives.{BeginsLife, CanBeginOver, HasFlags, HasLivedOver, HaveLivedOver, IsNextBase, IsServiceOf};
 
 use crate::life::run_life;
 use crate::lived_laws::lives_that_ran_have_lived;
@@ -69,10 +70,9 @@ pub fn run_lives<O: TypedObject + Sync, R: Threads + Wait + Sync, G: Gate + Sync
     script: &Script<O::Op>,
     gate: &G,
 ) -> Result<Lived<O::Reply>, AllocError>
-    requires enough { 0 < length script.now.lives → 64 ≤ O.line_count object.now }
-    requires few { 0 < length script.now.lives → O.line_count object.now ≤ 16384 }
+    requires lines { 0 < length script.now.lives → AreFewLines (O.line_count object.now) }
     requires limits { KeepsLimits (O.meaning object.now).is_op 8 script.now }
-    ensures { IfOk result (HaveLived (O.meaning object.now) (O.line_count object.now) (O.version_number object.now) (O.lawful object.now) script.now.lives) }
+    ensures { IfOk result (HaveLivedOver O.Object object.now (O.meaning object.now) script.now.lives) }
 {
     let mut lived = Lived::new(alloc);
     for life in script.lives.as_slice() {
@@ -106,11 +106,10 @@ pub fn run_next_life<O: TypedObject + Sync, R: Threads + Wait + Sync, G: Gate + 
     life: &BorrowedLife<'_, O::Op>,
     gate: &G,
 ) -> Result<Lived<O::Reply>, AllocError>
-    requires lived { (lives : List (Life O.Op)) × HaveLived (O.meaning object.now) (O.line_count object.now) (O.version_number object.now) (O.lawful object.now) lives lived × (command_count lives + length life.now.commands ≤ 100000) }
-    requires enough { 64 ≤ O.line_count object.now }
-    requires few { O.line_count object.now ≤ 16384 }
+    requires lived { (lives : List (Life O.Op)) × HaveLivedOver O.Object object.now (O.meaning object.now) lives lived × (command_count lives + length life.now.commands ≤ 100000) }
+    requires lines { AreFewLines (O.line_count object.now) }
     requires life { IsLifeInLimits (O.meaning object.now).is_op 8 life.now }
-    ensures { (lives : List (Life O.Op)) → HaveLived (O.meaning object.now) (O.line_count object.now) (O.version_number object.now) (O.lawful object.now) lives lived → IfOk result (HaveLived (O.meaning object.now) (O.line_count object.now) (O.version_number object.now) (O.lawful object.now) (lives ++ life.now ∷ [])) }
+    ensures { (lives : List (Life O.Op)) → HaveLivedOver O.Object object.now (O.meaning object.now) lives lived → IfOk result (HaveLivedOver O.Object object.now (O.meaning object.now) (lives ++ life.now ∷ [])) }
 {
     let Lived {
         mut records,
@@ -141,8 +140,7 @@ fn next_base<O: TypedObject>(
     object: &O,
     base: Option<Base>,
 ) -> Result<Base, AllocError>
-    requires enough { 64 ≤ O.line_count object.now }
-    requires few { O.line_count object.now ≤ 16384 }
+    requires lines { AreFewLines (O.line_count object.now) }
     ensures { IfOk result (IsNextBase (O.meaning object.now) (O.line_count object.now) (O.lawful object.now) base) }
 {
     match base {
@@ -153,8 +151,7 @@ fn next_base<O: TypedObject>(
 
 // The base of a first life.
 fn first_base<O: TypedObject>(alloc: Global, object: &O) -> Result<Base, AllocError>
-    requires enough { 64 ≤ O.line_count object.now }
-    requires few { O.line_count object.now ≤ 16384 }
+    requires lines { AreFewLines (O.line_count object.now) }
     ensures begins { IfOk result (λ base. BeginsLife (O.meaning object.now) (O.line_count object.now) (O.lawful object.now) (nothing_begun (O.meaning object.now)) base) }
     ensures place { IfOk result (λ base. base.place ≡ 0) }
 {
@@ -172,8 +169,8 @@ fn run_one<O: TypedObject + Sync, R: Threads + Wait + Sync, G: Gate + Sync>(
     life: &BorrowedLife<'_, O::Op>,
     gate: &G,
 ) -> Result<Ran<O::Reply>, AllocError>
-    requires { CanBegin (O.meaning object.now) (O.line_count object.now) (O.lawful object.now) life.now base.now }
-    ensures { (begun : Begun O.Store) → IsBaseOf (O.meaning object.now) base.now begun → IfOk result (HasLived (O.meaning object.now) (O.line_count object.now) (O.version_number object.now) (O.lawful object.now) life.now begun base.now) }
+    requires { CanBeginOver O.Object object.now (O.meaning object.now) life.now base.now }
+    ensures { (begun : Begun O.Store) → IsBaseOf (O.meaning object.now) base.now begun → IfOk result (HasLivedOver O.Object object.now (O.meaning object.now) life.now begun base.now) }
 {
     let (service, callers) = start_life(alloc, object, life, base)?;
     let (told, remains) = run_life(rt, alloc, service, callers, life, gate)?;
@@ -189,9 +186,9 @@ fn lose_power<O: TypedObject>(
     told: LifeRecord<O::Reply>,
     remains: Remains,
 ) -> Result<Ran<O::Reply>, AllocError>
-    requires can { CanBegin (O.meaning object.now) (O.line_count object.now) (O.lawful object.now) life.now base.now }
+    requires can { CanBeginOver O.Object object.now (O.meaning object.now) life.now base.now }
     requires ran { (service : Running O) × IsServiceOf object.now (O.line_count object.now) base.now life.now service × HasRun (O.meaning object.now) O.step O.only_reads life.now service told remains }
-    ensures { (begun : Begun O.Store) → IsBaseOf (O.meaning object.now) base.now begun → IfOk result (HasLived (O.meaning object.now) (O.line_count object.now) (O.version_number object.now) (O.lawful object.now) life.now begun base.now) }
+    ensures { (begun : Begun O.Store) → IsBaseOf (O.meaning object.now) base.now begun → IfOk result (HasLivedOver O.Object object.now (O.meaning object.now) life.now begun base.now) }
 {
     closed_tables_are_whole::<O>();
     closed_tables_recover::<O>();

@@ -48,7 +48,7 @@ module _ {O : Type 0} (o : Ghosts O) (r : Running O) (s v : Seated) (caller : Is
       )
 
   pub image_refused : ¬ IsAtLimit s.known.local → s.known.local.met ≤ max_word → TurnRefused s v × StepsBy 4 s v × StepsOn s v × TakesNone s v → ReadPending r 1 s v
-  image_refused allowed small (refused, steps, since, none) = record {
+  image_refused allowed small (refused, steps, _, none) = record {
     caller = still refused.rest;
     keeps = (keeps (rises_one s v small refused.refusal.met)).lists;
     allowed = allowed;
@@ -56,7 +56,6 @@ module _ {O : Type 0} (o : Ghosts O) (r : Running O) (s v : Seated) (caller : Is
     met = meets_one s v refused.refusal.met;
     most = most_one s v refused.refusal.met;
     steps = steps;
-    since = since;
     times = refused.refusal.times.reads;
     images = none;
   }

@@ -290,7 +290,7 @@ module _ {O : Type 0} (r : Running O) (op : List ℕ) (s v : Seated) (caller : I
   }
 
   pub read_refused : ¬ IsAtLimit s.known.local → s.known.local.met ≤ max_word → TurnRefused s v × StepsBy 4 s v × StepsOn s v → ReadPending r 1 s v
-  read_refused allowed small (refused, steps, since) = record {
+  read_refused allowed small (refused, steps, _) = record {
     caller = still refused.rest;
     keeps = read_keeps (rises_one s v small refused.refusal.met);
     allowed = allowed;
@@ -298,7 +298,6 @@ module _ {O : Type 0} (r : Running O) (op : List ℕ) (s v : Seated) (caller : I
     met = meets_one s v refused.refusal.met;
     most = most_one s v refused.refusal.met;
     steps = steps;
-    since = since;
     times = refused.refusal.times.reads;
     images = ap (λ (x : Seated). x.known.images) rest;
   }
@@ -339,7 +338,6 @@ module _ {O : Type 0} (r : Running O) (op : List ℕ) (n : ℕ) (s u : Seated) (
     met = meets_then n 1 s u v before.met p.met;
     most = omega (arith, before.most, p.most);
     steps = omega (arith, before.steps, p.steps);
-    since = omega (arith, before.since, p.since);
     times = p.times ∙ before.times;
     images = p.images ∙ before.images;
   }
@@ -354,7 +352,7 @@ module _ {O : Type 0} (r : Running O) (op : List ℕ) (n : ℕ) (s u : Seated) (
     reached = d.reached;
     above = λ i x at. d.above i x (ap (λ (xs : List Answer). slice_get xs i) before.keeps.answered ∙ at);
     from = λ i x at. d.from i x (ap (λ (xs : List SeenRead). slice_get xs i) before.reads ∙ at);
-    times = record { begun = d.times.begun; ended = d.times.ended; from = omega (arith, before.since, d.times.from); to = d.times.to; is = d.times.is ∙ ap (λ ts. ts ++ (d.times.begun, d.times.ended) ∷ []) before.times };
+    times = record { begun = d.times.begun; ended = d.times.ended; from = omega (arith, before.keeps.since, d.times.from); to = d.times.to; is = d.times.is ∙ ap (λ ts. ts ++ (d.times.begun, d.times.ended) ∷ []) before.times };
     images = d.images ∙ before.images;
   }
 
@@ -369,7 +367,7 @@ module _ {O : Type 0} (r : Running O) (op : List ℕ) (n : ℕ) (s u : Seated) (
     ];
     times = elim h.times [
       | inl none ↦ inl (none ∙ before.times)
-      | inr one ↦ inr (record { begun = one.begun; ended = one.ended; from = omega (arith, before.since, one.from); to = one.to; is = one.is ∙ ap (λ ts. ts ++ (one.begun, one.ended) ∷ []) before.times })
+      | inr one ↦ inr (record { begun = one.begun; ended = one.ended; from = omega (arith, before.keeps.since, one.from); to = one.to; is = one.is ∙ ap (λ ts. ts ++ (one.begun, one.ended) ∷ []) before.times })
     ];
     images = h.images ∙ before.images;
   }

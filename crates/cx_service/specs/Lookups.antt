@@ -56,7 +56,6 @@ pub record ReadPending {O : Type 0} (r : Running O) (tries : ℕ) (before after 
   pub met : MeetsMore tries before after
   pub most : MeetsAtMost tries before after
   pub steps : StepsBy (4 * tries) before after
-  pub since : StepsOn before after
   pub times : after.known.times.reads ≡ before.known.times.reads
   pub images : after.known.images ≡ before.known.images
 

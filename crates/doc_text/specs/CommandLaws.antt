@@ -5,9 +5,9 @@ use Rattle.std.proofs.Common.{◌≡◌, ℕ, ◌≤◌, ◌<◌, ◌^◌, true,
 use Rattle.std.proofs.lemmas.Bool.{leb-true, le-leb, lt-ltb, leb-false}
 use Rattle.cx_base.specs.Store.{IsKey}
 use Rattle.plain_text.specs.Number.{integer_of, is_i64, number_of}
-use Rattle.plain_text.specs.Words.{first_word, rest_of, is_word}
+use Rattle.plain_text.specs.Words.{first_word, rest_of}
 use Rattle.plain_text.proofs.Numerals.{signed_decimal-integer_of, integer_of-signed_decimal, decimal-number_of, number_of-decimal}
-use Rattle.plain_text.proofs.WordCuts.{word_is, spaced, unspaced, word_cut, word_alone, visible_unspaced, decimal_unspaced, signed_unspaced, whole_word}
+use Rattle.plain_text.proofs.WordCuts.{spaced, unspaced, word_cut, word_alone, visible_unspaced, decimal_unspaced, signed_unspaced, whole_word}
 use Rattle.serde_json.specs.Data.{Data}
 use Rattle.serde_json.specs.Read.{read as read_json}
 use Rattle.serde_json.specs.Written.{has_float, compact_text}
@@ -19,7 +19,7 @@ use Rattle.script_text.specs.Reading.{then_ok}
 use Rattle.script_text.specs.Grammar.{ReadsCommands, Row, first_that_fits}
 use Rattle.script_text.specs.declared.lines.ScriptLimits.{ScriptLimits}
 use Rattle.script_text.specs.declared.lines.ScriptReason.{ScriptReason}
-use Rattle.script_text.specs.Choices.{chosen, then_some, ok_first, ok_second, err_second, err_first, then_err}
+use Rattle.script_text.specs.Choices.{named_or, then_some, ok_first, ok_second, err_second, err_first, then_err}
 use Rattle.doc_text.specs.Document.{IsJsonOf, kept_as, document_of}
 use Rattle.doc_text.specs.Grammar.{Asks, commands_in, document_commands, pool_commands}
 use Rattle.doc_text.specs.Reasons.{pool_reason, script_reason}
@@ -40,26 +40,17 @@ verb_name verbs.Count = codes "count"
 verb_name verbs.PutIf = codes "putif"
 verb_name verbs.Rev = codes "rev"
 
--- one of the names, or a later one
-verb_or : (name word : List ℕ) (v verb : Verb) (others : Option Verb) → verb_name v ≡ name → (others ≡ Some verb → word ≡ verb_name verb)
-    → cond (is_word name word) (Some v) others ≡ Some verb → word ≡ verb_name verb
-verb_or name word v verb others has later e =
-    elim (chosen (is_word name word) (Some v) others (Some verb) e) [
-      | inl (hit, same) ↦ let v_is : v ≡ verb = cc in word_is name word hit ∙ sym has ∙ ap verb_name v_is
-      | inr (_, more) ↦ later more
-    ]
-
 pub verb_is : (word : List ℕ) (verb : Verb) → verb_of word ≡ Some verb → word ≡ verb_name verb
 unfolding verb_of
 verb_is word verb e =
-    verb_or (codes "put") word verbs.Put verb _ refl
-    (verb_or (codes "del") word verbs.Del verb _ refl
-    (verb_or (codes "add") word verbs.Add verb _ refl
-    (verb_or (codes "get") word verbs.Get verb _ refl
-    (verb_or (codes "next") word verbs.Next verb _ refl
-    (verb_or (codes "count") word verbs.Count verb _ refl
-    (verb_or (codes "putif") word verbs.PutIf verb _ refl
-    (verb_or (codes "rev") word verbs.Rev verb None refl (λ none. absurd cc)))))))) e
+    named_or verb_name (codes "put") word verbs.Put verb _ refl
+    (named_or verb_name (codes "del") word verbs.Del verb _ refl
+    (named_or verb_name (codes "add") word verbs.Add verb _ refl
+    (named_or verb_name (codes "get") word verbs.Get verb _ refl
+    (named_or verb_name (codes "next") word verbs.Next verb _ refl
+    (named_or verb_name (codes "count") word verbs.Count verb _ refl
+    (named_or verb_name (codes "putif") word verbs.PutIf verb _ refl
+    (named_or verb_name (codes "rev") word verbs.Rev verb None refl (λ none. absurd cc)))))))) e
 
 only_key_is : (text key : List ℕ) → only_key text ≡ Ok key → (text ≡ key) × IsKey key
 only_key_is text key e =

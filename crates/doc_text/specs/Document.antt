@@ -1,5 +1,5 @@
 -- What a document may be: JSON, kept as its compact text.
-use Rattle.std.specs.Prelude.{◌≡◌, ◌≤◌, IfOk, ℕ, false, nat_le, List, length, Option, None, Some, Result, Ok, Err, if◌then◌else◌}
+use Rattle.std.specs.Prelude.{◌≡◌, ◌≤◌, ℕ, false, nat_le, List, length, Option, None, Some, Result, Ok, Err, if◌then◌else◌}
 use Rattle.serde_json.specs.Data.{Data}
 use Rattle.serde_json.specs.Read.{read as read_json}
 use Rattle.serde_json.specs.Written.{has_float, compact_text}
@@ -25,8 +25,3 @@ kept_as (Some value) =
 -- the document of a text
 abbrev pub document_of : List ℕ → Result (List ℕ) Reason
 document_of text = kept_as (read_json text)
-
--- what is asked for is read, or why it is refused; and what is read keeps to its limits
-pub record IsTextRead {A : Type 0} (limits : A → Type 0) (wanted read : Result A Reason) : Type 0 where
-  pub is : read ≡ wanted
-  pub within : IfOk read limits

@@ -6,10 +6,9 @@ ghost use Rattle.plain_text.specs.Words.{first_word, rest_of};
 ghost use Rattle.cx_base.specs.Store.{IsKey};
 ghost use Rattle.doc_model.specs.Meaning.{IsOp};
 ghost use Rattle.doc_text.specs.CommandLaws.{reads_commands, reads_pool_commands};
-ghost use Rattle.doc_text.specs.Document.{IsTextRead};
 ghost use Rattle.doc_text.specs.Grammar.{document_commands, pool_commands};
 ghost use Rattle.doc_text.specs.Reading.{verb_of, only_key, put_with, put_if_with, add_with, op_by_verb, asked_op};
-ghost use Rattle.script_text.specs.Reading.{then_ok};
+ghost use Rattle.script_text.specs.Reading.{IsTextRead, then_ok};
 
 use crate::document::read_document;
 use crate::script_parts::Reason;

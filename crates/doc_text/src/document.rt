@@ -4,7 +4,8 @@ ghost use Rattle.std.specs.Prelude.{◌≡◌, Err, IfOk, IfSome, IsUtf8};
 ghost use Rattle.serde_json.specs.Written.{has_float, items_have_float, members_have_float};
 ghost use Rattle.serde_json.specs.View.{view, items_view, members_view};
 ghost use Rattle.cx_base.specs.Store.{IsDocument};
-ghost use Rattle.doc_text.specs.Document.{IsTextRead, document_of};
+ghost use Rattle.doc_text.specs.Document.{document_of};
+ghost use Rattle.script_text.specs.Reading.{IsTextRead};
 
 use crate::measure::{MAX_DOCUMENT, refusal_unbuilt};
 use crate::script_parts::Reason;

@@ -2,13 +2,13 @@
 use Rattle.std.specs.Prelude.{codes, is_some}
 use Rattle.std.proofs.Common.{◌≡◌, ℕ, cond, List, ◌∷◌, ◌++◌, Option, None, Some, Ok, Err, refl, sym, ap, subst, ◌∙◌, arith, inl, inr}
 use Rattle.plain_text.specs.Words.{first_word, rest_of, is_word}
-use Rattle.plain_text.proofs.WordCuts.{word_is, spaced, unspaced, word_alone, visible_unspaced}
+use Rattle.plain_text.proofs.WordCuts.{spaced, unspaced, word_alone, visible_unspaced}
 use Rattle.fifo_object.specs.Queue.{IsText}
 use Rattle.fifo_object.specs.WordLaws.{text_from_test, text_passes}
 use Rattle.fifo_object.specs.Words.{is_text}
 use Rattle.fifo_object.specs.declared.operations.FifoOp.{FifoOp}
 use Rattle.fifo_object.specs.declared.operations.FifoOp.TheVariants.{Push, Pop, Peek, Len}
-use Rattle.script_text.specs.Choices.{chosen, ok_first, ok_second, err_second, err_first}
+use Rattle.script_text.specs.Choices.{named_or, ok_first, ok_second, err_second, err_first}
 use Rattle.script_text.specs.Grammar.{ReadsCommands, Row, first_that_fits}
 use Rattle.fifo_commands.specs.CommandReasons.{queue_command_rows, queue_word_rows}
 use Rattle.fifo_commands.specs.Grammar.{AsksQueue, queue_commands}
@@ -24,22 +24,13 @@ verb_name verbs.Pop = codes "pop"
 verb_name verbs.Peek = codes "peek"
 verb_name verbs.Len = codes "len"
 
--- one of the names, or a later one
-verb_or : (name word : List ℕ) (v verb : Verb) (others : Option Verb) → verb_name v ≡ name → (others ≡ Some verb → word ≡ verb_name verb)
-    → cond (is_word name word) (Some v) others ≡ Some verb → word ≡ verb_name verb
-verb_or name word v verb others has later e =
-    elim (chosen (is_word name word) (Some v) others (Some verb) e) [
-      | inl (hit, same) ↦ let v_is : v ≡ verb = cc in word_is name word hit ∙ sym has ∙ ap verb_name v_is
-      | inr (_, more) ↦ later more
-    ]
-
 verb_is : (word : List ℕ) (verb : Verb) → queue_verb_of word ≡ Some verb → word ≡ verb_name verb
 unfolding queue_verb_of
 verb_is word verb e =
-    verb_or (codes "push") word verbs.Push verb _ refl
-    (verb_or (codes "pop") word verbs.Pop verb _ refl
-    (verb_or (codes "peek") word verbs.Peek verb _ refl
-    (verb_or (codes "len") word verbs.Len verb None refl (λ none. absurd cc)))) e
+    named_or verb_name (codes "push") word verbs.Push verb _ refl
+    (named_or verb_name (codes "pop") word verbs.Pop verb _ refl
+    (named_or verb_name (codes "peek") word verbs.Peek verb _ refl
+    (named_or verb_name (codes "len") word verbs.Len verb None refl (λ none. absurd cc)))) e
 
 push_is : (words : List ℕ) (op : FifoOp) → push_of words ≡ Ok op → AsksQueue op (codes "push " ++ words)
 push_is words op e =

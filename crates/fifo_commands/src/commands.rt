@@ -6,6 +6,7 @@ ghost use Rattle.fifo_object.specs.Queue.{IsOp};
 ghost use Rattle.fifo_commands.specs.CommandLaws.{reads_queue_commands};
 ghost use Rattle.fifo_commands.specs.Grammar.{queue_commands};
 ghost use Rattle.fifo_commands.specs.Reading.{asked_queue_op, queue_op_by_verb, push_of, queue_verb_of};
+ghost use Rattle.script_text.specs.Reading.{IsTextRead};
 
 use crate::reasons::FifoReason;
 use cx_base::Bytes;
@@ -79,8 +80,7 @@ fn read_words(
     verb: Option<Verb>,
     words: Option<&[u8]>,
 ) -> Result<Result<FifoOp, FifoReason>, AllocError>
-    ensures value { IfOk result (λ read. read ≡ queue_op_by_verb verb (option_copied words.entry)) }
-    ensures limits { IfOk result (λ read. IfOk read IsOp) }
+    ensures { IfOk result (IsTextRead IsOp (queue_op_by_verb verb (option_copied words.entry))) }
 {
     match (verb, words) {
         (Some(Verb::Push), Some(words)) => read_push(alloc, words),
@@ -92,8 +92,7 @@ fn read_words(
 }
 
 fn read_push(alloc: Global, words: &[u8]) -> Result<Result<FifoOp, FifoReason>, AllocError>
-    ensures value { IfOk result (λ read. read ≡ push_of words.now) }
-    ensures limits { IfOk result (λ read. IfOk read IsOp) }
+    ensures { IfOk result (IsTextRead IsOp (push_of words.now)) }
 {
     if !is_one_word(words) {
         return Ok(Err(FifoReason::Command));

@@ -1,6 +1,7 @@
 -- What the entries of a history mean where the base stands for a store.
 use Rattle.std.specs.Prelude.{◌≡◌, ◌+◌, ◌-◌, ◌*◌, ◌≤◌, ℕ, Bool, List, Some, length, take, slice_get}
 use Rattle.cx_base.specs.Memory.{Words}
+use Rattle.cx_base.specs.declared.object.Object.{Ghosts}
 use Rattle.cx_core.specs.declared.entry.Base.{Base}
 use Rattle.cx_core.specs.declared.entry.Entry.{Entry}
 use Rattle.cx_core.specs.History.{image_after, reply_at}
@@ -10,7 +11,7 @@ use Rattle.cx_core.specs.State.{Instance}
 use Rattle.life_records.specs.Works.{HasCommandWords}
 use Rattle.life_records.specs.Lives.{store_at}
 use Rattle.life_records.specs.Scripts.{named_op}
-use Rattle.life_records.specs.Records.{Encoding, JournalLine, Life, Meaning}
+use Rattle.life_records.specs.Records.{Encoding, HasMeaning, JournalLine, Life, Meaning}
 
 -- the instance of the construction that runs an object with these steps
 abbrev pub object_instance : (List ℕ → List ℕ → List ℕ × List ℕ) → (List ℕ → Bool) → ℕ → Base → Instance
@@ -42,3 +43,8 @@ pub record AreLaws (lines : ℕ) (lawful : List ℕ → Type 0) (step : List ℕ
   pub keeps : (image op : List ℕ) → lawful image → Words 144 op → lawful (step image op).0
   pub shape : (image : List ℕ) → lawful image → Words (8 * lines) image
   pub replies : (image op : List ℕ) → lawful image → Words 144 op → Words 144 (step image op).1
+
+-- the laws of an object: of its steps, and that they are what its operations mean
+pub record IsMeant {O Op Reply Store : Type 0} (o : Ghosts O) (it : O) (m : Meaning Op Reply Store) : Type 0 where
+  pub object : AreLaws (o.line_count it) (o.lawful it) (o.step it)
+  pub means : HasMeaning (o.lawful it) (o.opening it) (o.step it) (o.only_reads it) m

@@ -4,10 +4,10 @@ ghost use Rattle.std.specs.Prelude.{List, ℕ};
 ghost use Rattle.cx_core.specs.Base.{LawfulBase};
 ghost use Rattle.cx_core.specs.Region.{object_part};
 ghost use Rattle.cx_core.specs.declared.entry.Entry.{Entry};
-ghost use Rattle.life_records.specs.Meanings.{AreLaws, HaveWordsOfLines, MeanStores};
+ghost use Rattle.life_records.specs.Meanings.{HaveWordsOfLines, IsMeant, MeanStores};
 ghost use Rattle.life_records.specs.Replies.{HasOpValues};
 ghost use Rattle.life_records.specs.Limits.{IsLifeInLimits};
-ghost use Rattle.life_records.specs.Records.{HasMeaning, JournalLine, Life};
+ghost use Rattle.life_records.specs.Records.{JournalLine, Life};
 
 use cx_core::Base;
 use typed_object::TypedObject;
@@ -25,6 +25,5 @@ pub fn histories_mean_stores<O: TypedObject>(object: &O, base: &Base)
 
 /// The laws of an object: of its steps, and that they are what its operations mean.
 pub fn steps_are_meant<O: TypedObject>(object: &O)
-    ensures object { AreLaws (O.line_count object.now) (O.lawful object.now) (O.step object.now) }
-    ensures means { HasMeaning (O.lawful object.now) (O.opening object.now) (O.step object.now) (O.only_reads object.now) (O.meaning object.now) }
+    ensures { IsMeant O.Object object.now (O.meaning object.now) }
 {}

@@ -5,17 +5,26 @@ use Rattle.atomic_table.specs.Seated.{TableId}
 use Rattle.cx_rule.specs.Running.{Running}
 use Rattle.cx_lives.specs.Serving.{HasServed}
 use Rattle.client_pool.specs.Clients.{HasCalls, entries_called}
+use Rattle.client_pool.specs.Lending.{IsPool}
 use Rattle.client_pool.specs.Pools.{IsClosing}
 use Rattle.client_pool.specs.declared.call.Call.{Call}
 use Rattle.client_pool.specs.declared.call.Call.TheVariants.{Entry, Look}
 use Rattle.client_pool.specs.declared.client.Client.{Client}
 use Rattle.client_pool.specs.declared.client.Closing.{Closing}
+use Rattle.client_pool.specs.declared.pool.Pool.{Pool}
 use Rattle.life_records.specs.Records.{AreOfNoReply, OpHasWords, JournalLine, Life, Meaning, ReadLine}
 use Rattle.life_records.specs.Scripts.{own_ops}
 use Rattle.pool_lives.specs.Asking.{KeepsLast, MayAsk}
 use Rattle.pool_lives.specs.Ghosts.{IsCallAt, local_of}
+use Rattle.pool_lives.specs.PoolRuns.{IsLifeOfPool}
 use Rattle.pool_lives.specs.declared.progress.Lines.{Lines}
 use Rattle.pool_lives.specs.declared.work.Served.{Served}
+
+-- the pool serves the clients of this life: its service is of this object
+pub record ServesLife {O Op Reply Store : Type 0} (reads : O → List ℕ → Bool) (m : Meaning Op Reply Store) (object : O) (life : Life Op) (pool : Pool O) : Type 0 where
+  pub ready : IsPool reads pool
+  pub same : pool.service.object ≡ object
+  pub life : IsLifeOfPool m life
 
 -- the lines of a client's calls: they are those of the lists that a caller of its own would have, and each has the place of its command's call
 pub record HasMadeCalls {Op Reply Store : Type 0} (m : Meaning Op Reply Store) (life : Life Op) (client number : ℕ) (calls : List Call) (entries : List (JournalLine Reply)) (reads : List (ReadLine Reply)) : Type 0 where

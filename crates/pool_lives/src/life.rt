@@ -1,10 +1,8 @@
 //! A life of clients of a pool on threads, up to the closing of the pool.
 
 ghost use Rattle.std.specs.Prelude.{◌≡◌, ◌+◌, ◌^◌, ◌≤◌, IfOk, IsTrue, length};
-ghost use Rattle.life_records.specs.Meanings.{AreLaws};
 ghost use Rattle.pool_lives.specs.PoolRuns.{IsLifeOfPool, IsProbe};
 ghost use Rattle.pool_lives.specs.Running.{HasMet, IsServiceReady};
-ghost use Rattle.typed_object.specs.Meaning.{HasMeaning};
 
 use crate::gather::{Gathered, gather};
 use crate::progress::Lines;
@@ -50,7 +48,7 @@ pub(crate) fn live<O: TypedObject + Sync, R: Threads + Wait + Sync, G: Gate + Sy
     } = gather(alloc, object, &pool, life, works)?;
     let Lines { mut entries, reads } = lines;
     entries.sort_unstable_by_key(|line| line.ticket);
-    object_is_meant(object);
+    steps_are_meant(object);
     let Ok(remains) = pool.close(rt, alloc, clients) else {
         return Err(AllocError);
     };
@@ -83,12 +81,4 @@ fn probe_words<O: TypedObject>(object: &O, probe: &O::Op) -> OpWords
 {
     object.op_is_a_value(probe);
     object.words_of(probe)
-}
-
-// The laws of an object.
-fn object_is_meant<O: TypedObject>(object: &O)
-    ensures object { AreLaws (O.line_count object.now) (O.lawful object.now) (O.step object.now) }
-    ensures means { HasMeaning (O.lawful object.now) (O.opening object.now) (O.step object.now) (O.only_reads object.now) (O.meaning object.now) }
-{
-    steps_are_meant(object);
 }

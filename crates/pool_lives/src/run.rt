@@ -1,9 +1,10 @@
 //! A life of a pool is run, and ends in a crash.
 
-ghost use Rattle.std.specs.Prelude.{◌≡◌, ◌≤◌, IfOk, true};
+ghost use Rattle.std.specs.Prelude.{◌≡◌, IfOk, true};
 ghost use Rattle.cx_core.specs.Base.{LawfulBase};
 ghost use Rattle.cx_core.specs.Region.{object_part};
 ghost use Rattle.cx_rule.specs.Running.{Running};
+ghost use Rattle.cx_service.specs.Starts.{AreFewCallers, AreFewLines};
 ghost use Rattle.life_records.specs.Begins.{IsBaseOf, nothing_begun};
 ghost use Rattle.pool_lives.specs.PoolRuns.{HasPooled, IsLifeOfPool, IsProbe};
 ghost use Rattle.pool_lives.specs.Running.{HasMet, IsPoolServiceOf};
@@ -43,10 +44,10 @@ pub fn run_pool<O: TypedObject + Sync, R: Threads + Wait + Sync, G: Gate + Sync>
     seats: u32,
     gate: &G,
 ) -> Result<(LifeRecord<O::Reply>, Remains), AllocError>
-    requires lines { (64 ≤ O.line_count object.now) × (O.line_count object.now ≤ 16384) }
+    requires lines { AreFewLines (O.line_count object.now) }
     requires life { IsLifeOfPool (O.meaning object.now) life.now }
     requires probe { IsProbe (O.meaning object.now) probe.now }
-    requires seats { (1 ≤ seats) × (seats ≤ 8) }
+    requires seats { AreFewCallers seats }
     ensures { IfOk result (λ r. HasPooled (O.meaning object.now) life.now seats r.0 r.1) }
 {
     let base = first_base(alloc, object)?;
@@ -66,7 +67,7 @@ fn lose_power<O: TypedObject>(
     told: LifeRecord<O::Reply>,
     remains: &Remains,
 ) -> Result<LifeRecord<O::Reply>, AllocError>
-    requires lines { (64 ≤ O.line_count object.now) × (O.line_count object.now ≤ 16384) }
+    requires lines { AreFewLines (O.line_count object.now) }
     requires life { IsLifeOfPool (O.meaning object.now) life.now }
     requires base { LawfulBase (O.line_count object.now) (O.lawful object.now) base.now × IsBaseOf (O.meaning object.now) base.now (nothing_begun (O.meaning object.now)) }
     requires met { (service : Running O) × IsPoolServiceOf object.now (O.line_count object.now) seats base.now service × HasMet (O.meaning object.now) O.step O.only_reads life.now service told remains.now }

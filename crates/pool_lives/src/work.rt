@@ -1,9 +1,7 @@
 //! What one client's worker does.
 
 ghost use Rattle.std.specs.Prelude.{◌≡◌, ◌<◌, IfOk, Some, length, slice_get};
-ghost use Rattle.client_pool.specs.Lending.{IsPool};
-ghost use Rattle.pool_lives.specs.PoolRuns.{IsLifeOfPool};
-ghost use Rattle.pool_lives.specs.Working.{IsUncalledIn, ClientServedOf};
+ghost use Rattle.pool_lives.specs.Working.{ClientServedOf, IsUncalledIn, ServesLife};
 
 use crate::progress::{Lines, make};
 use client_pool::{Client, Pool};
@@ -31,9 +29,8 @@ pub(crate) fn serve<O: TypedObject, R: Wait, G: Gate>(
     gate: &G,
     client: Client,
 ) -> Result<Served<O::Reply>, AllocError>
-    requires pool { IsPool O.only_reads pool.now × (pool.now.service.object ≡ object.now) }
+    requires pool { ServesLife O.only_reads (O.meaning object.now) object.now life.now pool.now }
     requires client { IsUncalledIn pool.now.service pool.now.line.table.shared.table_id life.now.clients client }
-    requires life { IsLifeOfPool (O.meaning object.now) life.now }
     ensures { IfOk result (ClientServedOf (O.meaning object.now) life.now pool.now.service pool.now.line.table.shared.table_id life.now.clients client.number) }
 {
     let mut client = client;

@@ -1,9 +1,7 @@
 //! A worker for each client, each on a thread of its own.
 
 ghost use Rattle.std.specs.Prelude.{◌≡◌, All, IfOk, vec_len};
-ghost use Rattle.client_pool.specs.Lending.{IsPool};
-ghost use Rattle.pool_lives.specs.PoolRuns.{IsLifeOfPool};
-ghost use Rattle.pool_lives.specs.Working.{AreClientWorksOf, IsUncalledIn, ClientServedOf};
+ghost use Rattle.pool_lives.specs.Working.{AreClientWorksOf, ClientServedOf, IsUncalledIn, ServesLife};
 
 use crate::work::{Served, serve};
 use client_pool::{Client, Pool};
@@ -24,9 +22,8 @@ pub(crate) fn run_workers<O: TypedObject + Sync, R: Threads + Wait + Sync, G: Ga
     life: &BorrowedLife<'_, O::Op>,
     gate: &G,
 ) -> Result<Vec<Result<Served<O::Reply>, AllocError>>, AllocError>
-    requires pool { IsPool O.only_reads pool.now × (pool.now.service.object ≡ object.now) }
+    requires pool { ServesLife O.only_reads (O.meaning object.now) object.now life.now pool.now }
     requires clients { All (IsUncalledIn pool.now.service pool.now.line.table.shared.table_id life.now.clients) clients.items }
-    requires life { IsLifeOfPool (O.meaning object.now) life.now }
     ensures len { IfOk result (λ works. vec_len works ≡ vec_len clients) }
     ensures each { IfOk result (λ works. AreClientWorksOf (O.meaning object.now) life.now pool.now.service pool.now.line.table.shared.table_id clients.items works.items) }
 {
@@ -36,7 +33,7 @@ pub(crate) fn run_workers<O: TypedObject + Sync, R: Threads + Wait + Sync, G: Ga
         rt,
         clients,
         &|client: Client| -> Result<Served<O::Reply>, AllocError>
-            requires { IsPool O.only_reads pool.now × (pool.now.service.object ≡ object.now) × IsUncalledIn pool.now.service pool.now.line.table.shared.table_id life.now.clients client × IsLifeOfPool (O.meaning object.now) life.now }
+            requires { ServesLife O.only_reads (O.meaning object.now) object.now life.now pool.now × IsUncalledIn pool.now.service pool.now.line.table.shared.table_id life.now.clients client }
             ensures { IfOk result (ClientServedOf (O.meaning object.entry.now) life.entry.now pool.entry.now.service pool.entry.now.line.table.shared.table_id life.entry.now.clients client.number) }
         { serve(rt, alloc, object, pool, life, gate, client) },
     )

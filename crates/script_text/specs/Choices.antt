@@ -1,13 +1,24 @@
 -- What is known of a test, an option or a result by what came of it.
-use Rattle.std.proofs.Common.{◌≡◌, Bool, true, false, cond, Option, None, Some, Result, Ok, Err, refl, inl, inr}
+use Rattle.std.proofs.Common.{◌≡◌, ◌∙◌, ℕ, Bool, true, false, cond, List, Option, None, Some, Result, Ok, Err, refl, sym, ap, inl, inr}
 use Rattle.std.specs.Prelude.{◌⊎◌, option_and_then}
 use Rattle.std.specs.Option.{option_map, ok_or}
+use Rattle.plain_text.specs.Words.{is_word}
+use Rattle.plain_text.proofs.WordCuts.{word_is}
 use Rattle.script_text.specs.Reading.{then_ok}
 
 -- an `if` that gave this took the one branch or the other
 pub chosen : {A : Type 0} (b : Bool) (x y z : A) → cond b x y ≡ z → ((b ≡ true) × (x ≡ z)) ⊎ ((b ≡ false) × (y ≡ z))
 chosen true x y z e = inl (refl, e)
 chosen false x y z e = inr (refl, e)
+
+-- the word is one of the names of a table, or a later one
+pub named_or : {V : Type 0} (name_of : V → List ℕ) (name word : List ℕ) (v verb : V) (others : Option V) → name_of v ≡ name → (others ≡ Some verb → word ≡ name_of verb)
+    → cond (is_word name word) (Some v) others ≡ Some verb → word ≡ name_of verb
+named_or name_of name word v verb others has later e =
+    elim (chosen (is_word name word) (Some v) others (Some verb) e) [
+      | inl (hit, same) ↦ let v_is : v ≡ verb = cc in word_is name word hit ∙ sym has ∙ ap name_of v_is
+      | inr (_, more) ↦ later more
+    ]
 
 -- the value that a mapped option holds
 pub mapped_some : {A B : Type 0} (f : A → B) (o : Option A) (y : B) → option_map f o ≡ Some y → (x : A) × (o ≡ Some x) × (f x ≡ y)

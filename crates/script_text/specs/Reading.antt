@@ -1,5 +1,5 @@
 -- How a script is read: what a line says or why it is refused.
-use Rattle.std.specs.Prelude.{ℕ, Bool, ◌==◌, nat_lt, List, length, codes, Option, None, Some, option_and_then, Result, Ok, Err, if◌then◌else◌}
+use Rattle.std.specs.Prelude.{◌≡◌, IfOk, ℕ, Bool, ◌==◌, nat_lt, List, length, codes, Option, None, Some, option_and_then, Result, Ok, Err, if◌then◌else◌}
 use Rattle.std.specs.Option.{option_map, ok_or}
 use Rattle.std.specs.Str.{is_utf8}
 use Rattle.plain_text.specs.Words.{first_word, rest_of, is_word}
@@ -10,6 +10,11 @@ use Rattle.script_text.specs.Heads.{header_of, life_of, client_of, cut_of}
 use Rattle.script_text.specs.declared.lines.ScriptLine.{ScriptLine}
 use Rattle.script_text.specs.declared.lines.ScriptLine.TheVariants as forms
 use Rattle.script_text.specs.declared.lines.ScriptReason.TheVariants as reasons
+
+-- what is asked for is read, or why it is refused; and what is read keeps to its limits
+pub record IsTextRead {A Reason : Type 0} (limits : A → Type 0) (wanted read : Result A Reason) : Type 0 where
+  pub is : read ≡ wanted
+  pub within : IfOk read limits
 
 -- what was read, under f
 abbrev pub then_ok : {A B E : Type 0} → (A → B) → Result A E → Result B E

@@ -3,6 +3,7 @@
 ghost use Rattle.std.specs.Prelude.{◌≡◌, List, ℕ, Option, Result, IfOk, IfSome, IsUtf8};
 ghost use Rattle.std.specs.Option.{option_copied};
 ghost use Rattle.script_text.specs.Grammar.{Commands, ReadsCommands};
+ghost use Rattle.script_text.specs.Reading.{IsTextRead};
 
 use crate::lines::{ScriptLimits, ScriptReason};
 use std::alloc::{AllocError, Global};
@@ -38,8 +39,7 @@ pub trait CommandReader: Drop {
         text: Option<&[u8]>,
     ) -> Result<Result<Self::Op, Self::Reason>, AllocError>
         requires { IfSome text (λ t. IsUtf8 t.now) }
-        ensures value { IfOk result (λ read. read ≡ asked (option_copied text.entry)) }
-        ensures limits { IfOk result (λ read. IfOk read is_op) };
+        ensures { IfOk result (IsTextRead is_op (asked (option_copied text.entry))) };
 
     /// Operations are read by the rules of the commands.
     ghost reads: { ReadsCommands commands asked };

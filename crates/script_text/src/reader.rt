@@ -6,7 +6,7 @@ ghost use Rattle.std.specs.Str.{is_utf8};
 ghost use Rattle.plain_text.specs.LineGrammar.{IsFault, IsOkOr, IsTextOf};
 ghost use Rattle.life_records.specs.Limits.{KeepsLimits};
 ghost use Rattle.script_text.specs.Grammar.{AsksWithinLimits, MayStand, Script, last_life, no_script, with_said};
-ghost use Rattle.script_text.specs.Reading.{begun, judged, line_of, said_below, said_by};
+ghost use Rattle.script_text.specs.Reading.{IsTextRead, begun, judged, line_of, said_below, said_by};
 ghost use Rattle.script_text.specs.ScriptGrammar.{script_grammar};
 ghost use Rattle.script_text.specs.Within.{IsScriptWithin};
 
@@ -111,8 +111,7 @@ impl<C: CommandReader> Draft<C> {
         alloc: Global,
         line: &[u8],
     ) -> Result<Result<ScriptLine<C::Op>, C::Reason>, AllocError>
-        ensures value { IfOk result (λ read. read ≡ line_of C.commands C.asked self.now line.now) }
-        ensures limits { IfOk result (λ read. IfOk read (AsksWithinLimits C.is_op)) }
+        ensures { IfOk result (IsTextRead (AsksWithinLimits C.is_op) (line_of C.commands C.asked self.now line.now)) }
     {
         if !is_text(line) {
             return Ok(Err(C::reason(ScriptReason::Utf8)));
@@ -133,8 +132,7 @@ impl<C: CommandReader> Draft<C> {
         line: &[u8],
     ) -> Result<Result<ScriptLine<C::Op>, C::Reason>, AllocError>
         requires { IsUtf8 line.now }
-        ensures value { IfOk result (λ read. read ≡ said_below C.commands C.asked self.now.lives line.now) }
-        ensures limits { IfOk result (λ read. IfOk read (AsksWithinLimits C.is_op)) }
+        ensures { IfOk result (IsTextRead (AsksWithinLimits C.is_op) (said_below C.commands C.asked self.now.lives line.now)) }
     {
         let (word, rest) = split_word(line);
         if is_word(b"life", word) {
@@ -228,8 +226,7 @@ fn begun<C: CommandReader>(
     count: usize,
     life: Option<(u32, u64)>,
 ) -> Result<ScriptLine<C::Op>, C::Reason>
-    ensures value { result ≡ begun C.commands count life }
-    ensures limits { IfOk result (AsksWithinLimits C.is_op) }
+    ensures { IsTextRead (AsksWithinLimits C.is_op) (begun C.commands count life) result }
 {
     match life {
         None => Err(C::reason(ScriptReason::Life)),
@@ -249,8 +246,7 @@ fn read_in<C: CommandReader>(
     rest: Option<&[u8]>,
 ) -> Result<Result<ScriptLine<C::Op>, C::Reason>, AllocError>
     requires { IfSome rest (λ text. IsUtf8 text.now) }
-    ensures limits { IfOk result (λ read. IfOk read (AsksWithinLimits C.is_op)) }
-    ensures value { IfOk result (λ read. read ≡ said_by C.commands C.asked count clients cuts.now word.now (option_copied rest.entry)) }
+    ensures { IfOk result (IsTextRead (AsksWithinLimits C.is_op) (said_by C.commands C.asked count clients cuts.now word.now (option_copied rest.entry))) }
 {
     if is_word(b"cut", word) {
         return Ok(

@@ -1,5 +1,6 @@
 -- The callers of a service are gathered from the passes that hold them.
-use Rattle.std.specs.Prelude.{◌≡◌, ◌+◌, ◌<◌, ◌≤◌, ℕ, zero, suc, List, [], ◌∷◌, ◌++◌, All, Option, Some, None, length, map, slice_index_or}
+use Rattle.std.specs.Prelude.{◌≡◌, ◌+◌, ◌<◌, ◌≤◌, ℕ, zero, suc, List, [], ◌∷◌, ◌++◌, All, Option, Some, None, length, map, slice_index_or, vec_capacity}
+use Rattle.std.specs.Global.{Vec}
 use Rattle.std.specs.List.{range_with_len}
 use Rattle.atomic_table.specs.Seated.{TableId}
 use Rattle.crossbeam_queue.specs.Passes.{view}
@@ -111,6 +112,10 @@ pub record IsOrdering {O : Type 0} (r : Running O) (all gathered out : List Hand
   pub done : All (IsHandedOf r) out
   pub numbers : map (λ (g : Handed). handed_number g) out ≡ range_with_len 0 (length out)
   pub same : (f : Handed → ℕ) → total_weight f out + total_weight f gathered ≡ total_weight f all
+
+-- nothing stands in it, and it has room for this many
+abbrev pub IsRoomFor : {X : Type 0} → ℕ → Vec X → Type 0
+IsRoomFor count room = (room.items ≡ []) × (count ≤ vec_capacity room)
 
 -- the pool's own pass, beside this many that were lent of it: it placed all callers, and holds none
 pub record IsRestOf {O : Type 0} (r : Running O) (v : Hand) (lent : ℕ) : Type 0 where

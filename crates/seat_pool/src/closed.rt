@@ -1,12 +1,12 @@
 //! Closing a service whose callers are lent.
 
-ghost use Rattle.std.specs.Prelude.{◌≡◌, ◌≤◌, [], All, IfErr, IfOk, List, length, vec_capacity};
+ghost use Rattle.std.specs.Prelude.{◌≡◌, All, IfErr, IfOk, List, length};
 ghost use Rattle.crossbeam_queue.specs.Passes.{view, IsPassOf};
 ghost use Rattle.cx_rule.specs.Running.{instance_at};
 ghost use Rattle.cx_service.specs.Closes.{seats_of};
 ghost use Rattle.cx_service.specs.declared.close.Handed as close_handed;
 ghost use Rattle.cx_table.specs.Remains.{AreSeats, Leaves};
-ghost use Rattle.seat_pool.specs.Gathering.{AreCallsTold, IsLentOf, IsRestOf};
+ghost use Rattle.seat_pool.specs.Gathering.{AreCallsTold, IsLentOf, IsRestOf, IsRoomFor};
 
 use crate::gather::gather;
 use crate::hand::Hand;
@@ -34,8 +34,7 @@ pub fn close<O: Object, R: Wait>(
 ) -> Result<Remains, Kept<O>>
     requires pass { IsPassOf line pass × IsRestOf service (view pass) (length lents.items) }
     requires lents { All (IsLentOf service line.table.shared.table_id) lents.items }
-    requires gathered { (gathered.items ≡ []) × (service.callers ≤ vec_capacity gathered) }
-    requires out { (out.items ≡ []) × (service.callers ≤ vec_capacity out) }
+    requires rooms { IsRoomFor service.callers gathered × IsRoomFor service.callers out }
     ensures remains { IfOk result (λ r. (handed : List close_handed.Handed) × Leaves service (instance_at service O.step O.only_reads) (seats_of handed) r × AreCallsTold service lents.items handed) }
     ensures kept { IfErr result (λ k. (k.service ≡ service) × AreSeats service (seats_of k.callers.items) × AreCallsTold service lents.items k.callers.items) }
 {

@@ -8,7 +8,7 @@ ghost use Rattle.cx_service.specs.Closes.{seats_of};
 ghost use Rattle.cx_service.specs.declared.close.Handed as handed_type;
 ghost use Rattle.cx_service.specs.declared.close.Handed.TheVariants as handed_cases;
 ghost use Rattle.cx_table.specs.Remains.{AreSeats};
-ghost use Rattle.seat_pool.specs.Gathering.{AreSame, AreCallsTold, Gathers, IsNumberAt, IsHandedOf, IsLentOf, IsRestOf, kept_list, handed_number, one_at};
+ghost use Rattle.seat_pool.specs.Gathering.{AreSame, AreCallsTold, Gathers, IsNumberAt, IsHandedOf, IsLentOf, IsRestOf, IsRoomFor, kept_list, handed_number, one_at};
 ghost use Rattle.seat_pool.specs.Pooling.{IsHomeOf, IsPassWhole, all_parts, both, total_weight};
 
 use crate::hand::Hand;
@@ -102,7 +102,7 @@ pub fn in_order<O: Object>(
 ) -> Vec<Handed>
     requires all { All (IsHandedOf service.now) gathered.items }
     requires numbers { (h : ℕ → ℕ) → total_weight (λ g. h (handed_number g)) gathered.items ≡ total_weight h (range_with_len 0 service.now.callers) }
-    requires out { (out.items ≡ []) × (service.now.callers ≤ vec_capacity out) }
+    requires out { IsRoomFor service.now.callers out }
     ensures all { AreSeats service.now (seats_of result.items) × All (IsHandedOf service.now) result.items }
     ensures same { AreSame result.items gathered.items }
 {
@@ -129,8 +129,7 @@ pub(crate) fn gather<O: Object, R: Wait>(
 ) -> Vec<Handed>
     requires pass { IsPassOf line.now pass × IsRestOf service.now (view pass) (length lents.items) }
     requires lents { All (IsLentOf service.now line.now.table.shared.table_id) lents.items }
-    requires gathered { (gathered.items ≡ []) × (service.now.callers ≤ vec_capacity gathered) }
-    requires out { (out.items ≡ []) × (service.now.callers ≤ vec_capacity out) }
+    requires rooms { IsRoomFor service.now.callers gathered × IsRoomFor service.now.callers out }
     ensures seats { AreSeats service.now (seats_of result.items) }
     ensures told { AreCallsTold service.now lents.items result.items }
 {

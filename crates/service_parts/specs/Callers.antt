@@ -1,5 +1,5 @@
 -- Callers that are lent to workers and handed back.
-use Rattle.std.specs.Prelude.{◌≡◌, ℕ, List, [], ◌∷◌, All, map}
+use Rattle.std.specs.Prelude.{◌≡◌, ℕ, List, [], ◌∷◌, All, length, map}
 use Rattle.std.specs.List.{range_with_len}
 use Rattle.cx_rule.specs.Running.{IsSeatOf, Running}
 use Rattle.cx_rule.specs.Seats.{Seated}
@@ -45,6 +45,12 @@ abbrev pub TellsEach : {T : Type 0} → (Seated → Seated → T → Type 0) →
 TellsEach tells [] [] [] = Unit {0}
 TellsEach tells (before ∷ befores) (after ∷ afters) (told ∷ tolds) = tells before after told × TellsEach tells befores afters tolds
 TellsEach tells befores afters tolds = ⊥
+
+-- each caller that was lent is handed back, of caller 0 first, and what is told is so of it
+pub record HaveWorked {O T : Type 0} (r : Running O) (tells_of : Seated → Seated → T → Type 0) (lent handed_back : List Seated) (told : List T) : Type 0 where
+  pub handed : AreSeats r handed_back
+  pub count : length told ≡ length lent
+  pub tells : TellsEach tells_of lent handed_back told
 
 -- all the callers of a service, of caller 0 first, none of which has made a step
 abbrev pub AreNew : {O : Type 0} → Running O → ℕ → List Seated → Type 0

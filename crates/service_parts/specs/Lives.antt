@@ -1,5 +1,5 @@
 -- A service that opened from a lawful base, and what it left when it was closed.
-use Rattle.std.specs.Prelude.{◌≡◌, ◌≤◌, ℕ, List}
+use Rattle.std.specs.Prelude.{◌≡◌, ◌≤◌, ℕ, List, length}
 use Rattle.cx_core.specs.declared.entry.Base.{Base}
 use Rattle.cx_core.specs.Base.{LawfulBase}
 use Rattle.cx_rule.specs.Running.{Running, instance_at}
@@ -7,7 +7,7 @@ use Rattle.cx_rule.specs.Seats.{Seated}
 use Rattle.cx_table.specs.declared.remains.Remains.{Remains}
 use Rattle.cx_table.specs.Remains.{Leaves}
 use Rattle.recovery.specs.Kept.{IsKeptBy, IsOpened}
-use Rattle.service_parts.specs.Callers.{AreNew, TellsEach}
+use Rattle.service_parts.specs.Callers.{AreAllCallers, AreNew, TellsEach}
 use Rattle.cx_base.specs.declared.object.Object.{Ghosts}
 
 -- what a service may start with: an object of 64 to 16,384 lines, and a base that is lawful for it
@@ -22,6 +22,13 @@ pub record IsOpen {O : Type 0} (o : Ghosts O) (object : O) (callers : ℕ) (base
   pub callers_are : table.callers ≡ callers
   pub base_is : table.base ≡ base
   pub opened : IsOpened o.line_count o.lawful table
+
+-- it is so, and these are its callers: as many as were asked for, of caller 0 first, none of which has made a step
+pub record IsOpenWith {O : Type 0} (o : Ghosts O) (object : O) (count_asked : ℕ) (base : Base) (table : Running O) (seats : List Seated) : Type 0 where
+  pub service : IsOpen o object count_asked base table
+  pub callers : AreAllCallers table seats
+  pub count : length seats ≡ count_asked
+  pub new : AreNew table count_asked seats
 
 -- what a service of this object left when it was closed, which opened from a lawful base
 pub record IsLeftBy {O : Type 0} (o : Ghosts O) (object : O) (r : Remains) : Type 0 where

@@ -12,11 +12,11 @@
 #![tactic(auto)]
 
 mod call;
-mod kept;
+mod kept_base;
 mod life;
 mod workers;
 
 pub use call::{Asked, ask, follow};
-pub use kept::recovered;
+pub use kept_base::recovered;
 pub use life::{closed, serve, started};
 pub use workers::{Worked, Worker, work_together};

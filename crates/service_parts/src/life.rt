@@ -1,14 +1,12 @@
 //! One life of a service: from a base to what it leaves.
 
 ghost use Rattle.std.specs.Prelude.{◌≡◌, IfOk, length};
-ghost use Rattle.cx_core.specs.Merge.{IsHistory};
 ghost use Rattle.cx_service.specs.Closes.{seats_of};
 ghost use Rattle.cx_service.specs.Starts.{AreFewCallers};
-ghost use Rattle.cx_table.specs.Remains.{AreSeats, Leaves, locals_of};
+ghost use Rattle.cx_table.specs.Remains.{AreSeats, Leaves};
 ghost use Rattle.recovery.specs.Kept.{IsOpened};
 ghost use Rattle.cx_rule.specs.Running.{instance_at};
-ghost use Rattle.service_parts.specs.Callers.{AreAllCallers, AreNew};
-ghost use Rattle.service_parts.specs.Lives.{IsOpen, IsServiceFrom, IsServedBy, MayServe};
+ghost use Rattle.service_parts.specs.Lives.{IsOpenWith, IsServiceFrom, IsServedBy, MayServe};
 
 use crate::workers::{Worker, work_together};
 use cx_base::Object;
@@ -31,10 +29,7 @@ pub fn started<O: Object>(
 ) -> Result<(Service<O>, Vec<Caller>), AllocError>
     requires callers { AreFewCallers callers }
     requires may { MayServe O.Object object base.now }
-    ensures service { IfOk result (λ r. IsOpen O.Object object callers base.now r.0) }
-    ensures callers { IfOk result (λ r. AreAllCallers r.0 r.1.items) }
-    ensures count { IfOk result (λ r. length r.1.items ≡ callers) }
-    ensures new { IfOk result (λ r. AreNew r.0 callers r.1.items) }
+    ensures { IfOk result (λ r. IsOpenWith O.Object object callers base.now r.0 r.1.items) }
 {
     let limits = &NO_LIMITS[..callers as usize];
     match Service::start(alloc, object, callers, limits, base) {
@@ -53,9 +48,7 @@ pub fn closed<O: Object>(
 ) -> Result<Remains, AllocError>
     requires service { IsOpened O.line_count O.lawful service }
     requires callers { AreSeats service (seats_of callers.items) }
-    ensures history { IfOk result (λ r. IsHistory service.base.place r.trail.history (locals_of (seats_of callers.items))) }
     ensures left { IfOk result (IsServiceFrom O.Object service.object service.callers service.base) }
-    ensures locals { IfOk result (λ r. r.trail.locals ≡ locals_of (seats_of callers.items)) }
     ensures leaves { IfOk result (Leaves service (instance_at service O.step O.only_reads) (seats_of callers.items)) }
 {
     match service.close(alloc, callers) {

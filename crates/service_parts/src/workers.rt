@@ -5,8 +5,7 @@ ghost use Rattle.cx_rule.specs.Running.{Running};
 ghost use Rattle.cx_rule.specs.Seats.{Seated};
 ghost use Rattle.cx_service.specs.Callers.{IsCallerOf};
 ghost use Rattle.cx_service.specs.Closes.{seats_of};
-ghost use Rattle.cx_table.specs.Remains.{AreSeats};
-ghost use Rattle.service_parts.specs.Callers.{AreAllCallers, IsWorked, TellsEach};
+ghost use Rattle.service_parts.specs.Callers.{AreAllCallers, HaveWorked, IsWorked};
 
 use cx_base::Object;
 use cx_service::{Caller, Handed, Service};
@@ -45,9 +44,7 @@ pub fn work_together<O: Object + Send + Sync, R: Threads + Wait + Sync, W: Worke
     worker: &W,
 ) -> Result<(Vec<Handed>, Vec<W::Told>), AllocError>
     requires { AreAllCallers service.now callers.items }
-    ensures handed { IfOk result (λ r. AreSeats service.now (seats_of r.0.items)) }
-    ensures count { IfOk result (λ r. length r.1.items ≡ length callers.items) }
-    ensures tells { IfOk result (λ r. TellsEach (W.tells worker.now service.now) callers.items (seats_of r.0.items) r.1.items) }
+    ensures { IfOk result (λ r. HaveWorked service.now (W.tells worker.now service.now) callers.items (seats_of r.0.items) r.1.items) }
 {
     let all = all_work(rt, service, callers, worker)?;
     let (handed, told) = parted(alloc, all)?;
@@ -62,9 +59,7 @@ fn all_work<O: Object + Send + Sync, R: Threads + Wait + Sync, W: Worker<O> + Sy
     worker: &W,
 ) -> Result<Vec<Worked<W::Told>>, AllocError>
     requires { AreAllCallers service.now callers.items }
-    ensures handed { IfOk result (λ v. AreSeats service.now (seats_of (map (λ w. w.caller) v.items))) }
-    ensures count { IfOk result (λ v. length v.items ≡ length callers.items) }
-    ensures tells { IfOk result (λ v. TellsEach (W.tells worker.now service.now) callers.items (seats_of (map (λ w. w.caller) v.items)) (map (λ w. w.told) v.items)) }
+    ensures { IfOk result (λ v. HaveWorked service.now (W.tells worker.now service.now) callers.items (seats_of (map (λ w. w.caller) v.items)) (map (λ w. w.told) v.items)) }
 {
     let all = each_works(rt, service, callers, worker)?;
     Ok(all)

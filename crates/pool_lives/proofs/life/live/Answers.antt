@@ -16,6 +16,11 @@ use Rattle.pool_lives.specs.Running.{HasMet}
 use Rattle.pool_lives.specs.Working.{IsUncalledIn}
 use Rattle.pool_lives.proofs.life.live.Goals as goal
 
+pub run_workers-requires-clause-pool : goal.run_workers-requires-clause-pool
+run_workers-requires-clause-pool g c κs within =
+    let opened = c.in-Ok.ensures.opened in
+    record { ready = opened.1; same = ap (λ (x : Running g.row.O.Denot). x.object) opened.0 ∙ c.requires.ready.same; life = c.requires.life.0 }
+
 pub run_workers-requires-clause-clients : goal.run_workers-requires-clause-clients
 run_workers-requires-clause-clients g c κs within =
     let opened = c.in-Ok.ensures.opened in
@@ -48,7 +53,7 @@ unreachable-requires g c =
     let object_is = c.requires.ready.same in
     let gathered = c.in_ok-clients.ensures.gathered in
     let f = c.in_ok-clients.field-0 in
-    let t = typed_steps _ _ (g.O.Object.opening o) _ (g.O.Object.only_reads o) (g.O.TypedObject.meaning o) c.object_is_meant.ensures.object c.object_is_meant.ensures.means in
+    let t = typed_steps _ _ (g.O.Object.opening o) _ (g.O.Object.only_reads o) (g.O.TypedObject.meaning o) c.steps_are_meant.ensures.object c.steps_are_meant.ensures.means in
     let running = c.lines-lines.ensures.running in
     let base : LawfulBase (g.O.Object.line_count o) (g.O.Object.lawful o) r.base =
     subst (λ (b : Base). LawfulBase (g.O.Object.line_count o) (g.O.Object.lawful o) b) (sym (ap (λ (x : Running g.row.O.Denot). x.base) same))

@@ -1,7 +1,7 @@
 use Rattle.std.proofs.Common.{rules, ◌≡◌, Ok, Err}
 use Rattle.recovery.specs.declared.recovered_base.ImageFault.TheVariants.{Memory}
 use Rattle.service_parts.proofs.KeptLemmas.{may_of, readable_of, recovered_of}
-use Rattle.service_parts.proofs.kept.recovered.Goals as goal
+use Rattle.service_parts.proofs.kept_base.recovered.Goals as goal
 
 pub crash_image-requires : goal.crash_image-requires
 crash_image-requires g c =

@@ -1,4 +1,4 @@
-//! What a crash keeps.
+//! The base that a crash keeps.
 
 ghost use Rattle.std.specs.Prelude.{IfOk};
 ghost use Rattle.service_parts.specs.Lives.{IsKeptOf, IsLeftBy, MayServe};
