@@ -13,7 +13,7 @@ use Rattle.cx_core.specs.Region.{slot_number}
 use Rattle.cx_rule.specs.Running.{Running}
 use Rattle.cx_rule.specs.Seats.{Seated}
 use Rattle.cx_service.specs.Callers.{IsCallerOf}
-use Rattle.seat_pool.specs.Pooling.{FitsHand, FitsHome, GoesOnCalling, HasLimit, IsCallerAt, IsFirstOf, IsHomeOf, IsLentBy, IsSameTable, IsCallerTaken, KeepsCallers, Pools, Shown, TellsRoom, all_parts, both, callers_at, calls_of, calls_weigh, cut_left, cut_right, fresh, given_from, limits_at, nothing, numbers_weigh, opened_pass, reads_weigh, shown_by, total_weight, with_given, with_placed, with_taken}
+use Rattle.seat_pool.specs.Pooling.{FitsHand, FitsHome, HasLimit, IsCallerAt, IsFirstOf, IsHomeOf, IsLentBy, IsSameTable, IsCallerTaken, KeepsCallers, Pools, Shown, TellsRoom, all_parts, both, callers_at, calls_of, calls_weigh, cut_left, cut_right, fresh, given_from, limits_at, nothing, numbers_weigh, opened_pass, reads_weigh, shown_by, total_weight, with_given, with_placed, with_taken}
 use Rattle.seat_pool.specs.declared.hand.Hand.{Hand}
 use Rattle.seat_pool.specs.declared.hand.Home.{Home}
 use Rattle.seat_pool.specs.declared.hand.Told.{Told}
