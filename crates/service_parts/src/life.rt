@@ -1,9 +1,10 @@
 //! One life of a service: from a base to what it leaves.
 
 ghost use Rattle.std.specs.Prelude.{◌≡◌, IfOk, length};
+ghost use Rattle.cx_core.specs.Merge.{IsHistory};
 ghost use Rattle.cx_service.specs.Closes.{seats_of};
 ghost use Rattle.cx_service.specs.Starts.{AreFewCallers};
-ghost use Rattle.cx_table.specs.Remains.{AreSeats, Leaves};
+ghost use Rattle.cx_table.specs.Remains.{AreSeats, Leaves, locals_of};
 ghost use Rattle.recovery.specs.Kept.{IsOpened};
 ghost use Rattle.cx_rule.specs.Running.{instance_at};
 ghost use Rattle.service_parts.specs.Lives.{IsOpenWith, IsServiceFrom, IsServedBy, MayServe};
@@ -48,6 +49,7 @@ pub fn closed<O: Object>(
 ) -> Result<Remains, AllocError>
     requires service { IsOpened O.line_count O.lawful service }
     requires callers { AreSeats service (seats_of callers.items) }
+    ensures history { IfOk result (λ r. IsHistory service.base.place r.trail.history (locals_of (seats_of callers.items))) }
     ensures left { IfOk result (IsServiceFrom O.Object service.object service.callers service.base) }
     ensures leaves { IfOk result (Leaves service (instance_at service O.step O.only_reads) (seats_of callers.items)) }
 {
