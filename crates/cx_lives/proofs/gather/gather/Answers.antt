@@ -12,29 +12,35 @@ use Rattle.cx_lives.proofs.Gathering.{gathered_more}
 use Rattle.cx_lives.proofs.Leaving.{HoldersStopped, holders_more}
 use Rattle.cx_lives.proofs.gather.gather.Goals as goal
 
--- the work taken out stands before those that are left, and they are numbered
-taken_out : (g : _) (c : goal.In_ok-served g) →
-    (c.loop-alloc.works.items ≡ Ok c.in_ok-served.served ∷ c.first_of.new.works.items)
-    × AreNumbered (g.O.TypedObject.meaning c.args.service.now.object) c.args.life.now c.args.service.now (length c.loop-alloc.all.handed.items) (Ok c.in_ok-served.served ∷ c.first_of.new.works.items)
-taken_out g c =
-    let whole = c.first_of.ensures ∙ ap (λ (w : Result (Served g.row.O-Reply.Denot) AllocError). w ∷ c.first_of.new.works.items) c.in_ok-served.was in
-    (whole, subst (λ (ws : List (Result (Served g.row.O-Reply.Denot) AllocError)). AreNumbered (g.O.TypedObject.meaning c.args.service.now.object) c.args.life.now c.args.service.now (length c.loop-alloc.all.handed.items) ws) whole c.loop-alloc.invariant.rest)
-
 pub at_end-requires-clause-served : goal.at_end-requires-clause-served
 at_end-requires-clause-served g c = λ κs lives.
-    let (whole, rest) = taken_out g (goal.at.at_end-requires-clause-served g c κs lives).In_ok-served in
-    (length c.loop-alloc.all.handed.items, rest.0)
+    let m = g.O.TypedObject.meaning c.args.service.now.object in
+    let life = c.args.life.now in
+    let r = c.args.service.now in
+    let works : List (Result (Served g.row.O-Reply.Denot) AllocError) = c.loop-alloc.works.items in
+    let left : List (Result (Served g.row.O-Reply.Denot) AllocError) = c.first_of.new.works.items in
+    let n = length c.loop-alloc.all.handed.items in
+    let served = c.in_ok-served.served in
+    let was : c.first_of.result ≡ Ok served = c.in_ok-served.was in
+    let first : works ≡ c.first_of.result ∷ left = c.first_of.ensures in
+    let whole : works ≡ Ok served ∷ left = first ∙ ap (λ (w : Result (Served g.row.O-Reply.Denot) AllocError). w ∷ left) was in
+    let rest = subst (λ (ws : List (Result (Served g.row.O-Reply.Denot) AllocError)). AreNumbered m life r n ws) whole c.loop-alloc.invariant.rest in
+    (n, rest.0)
 
 pub loop-alloc-preserved : goal.loop-alloc-preserved
 loop-alloc-preserved g c =
     let life = c.args.life.now in
     let r = c.args.service.now in
     let all = c.loop-alloc.all in
+    let works : List (Result (Served g.row.O-Reply.Denot) AllocError) = c.loop-alloc.works.items in
     let left : List (Result (Served g.row.O-Reply.Denot) AllocError) = c.first_of.new.works.items in
     let n = length all.handed.items in
     let served = c.in_ok-served.served in
     let work = c.in_ok-work.work in
-    let (whole, rest) = taken_out g (goal.at.loop-alloc-preserved g c).In_ok-served in
+    let was : c.first_of.result ≡ Ok served = c.in_ok-served.was in
+    let first : works ≡ c.first_of.result ∷ left = c.first_of.ensures in
+    let whole : works ≡ Ok served ∷ left = first ∙ ap (λ (w : Result (Served g.row.O-Reply.Denot) AllocError). w ∷ left) was in
+    let rest = subst (λ (ws : List (Result (Served g.row.O-Reply.Denot) AllocError)). AreNumbered (g.O.TypedObject.meaning c.args.service.now.object) life r n ws) whole c.loop-alloc.invariant.rest in
     let work_is : IsWorkOf (g.O.TypedObject.meaning c.args.service.now.object) life r n work = subst (λ (w : Result (Work g.row.O-Reply.Denot) AllocError). IfOk w (IsWorkOf (g.O.TypedObject.meaning c.args.service.now.object) life r n)) c.in_ok-work.was (c.at_end.ensures.work n rest.0) in
     let more = c.in_ok-all.ensures in
     let longer : length c.in_ok-all.all.handed.items ≡ n + 1 = ap length more.handed ∙ length-append all.handed.items (work.handed ∷ []) in

@@ -38,23 +38,29 @@ reopen_image-requires-clause-readable g c =
 pub reopen_image-requires-clause-size : goal.reopen_image-requires-clause-size
 reopen_image-requires-clause-size g c = c.in-Ok.ensures.recovers.accepted.size
 
--- what is recovered is what the loss kept of the service
-kept_by : (g : _) (c : goal.In-Ok g) → IsKeptBy g.O.Object.line_count g.O.Object.lawful g.O.Object.step c.requires.ran.0 c.requires.ran.2.seats c.args.remains c.args.life.now.choice c.in-Ok.next
-kept_by g c =
+pub overflow_sub-kept : goal.overflow_sub-kept
+overflow_sub-kept g c =
     let service = c.requires.ran.0 in
     let is = c.requires.ran.1 in
     let ran = c.requires.ran.2 in
     let image = c.in_ok-image.image in
     let opened = opened_of g.O.Object.line_count g.O.Object.lawful c.args.object.now c.args.base.now c.args.life.now service c.requires.can.enough c.requires.can.few c.requires.can.lawful is in
     let answers = subst (λ x. IsRecovered (g.O.Object.version_number x) (g.O.Object.lawful x) (g.O.Object.old_format x) image c.in-Ok.next) (sym is.same) c.in-Ok.ensures.recovers in
-    c.closed_tables_recover.ensures service ran.seats c.args.remains c.args.life.now.choice image (Ok c.in-Ok.next) opened ran.leaves (subst (λ n. IsLeftOf c.args.remains n image) c.choice.ensures c.in_ok-image.ensures) answers
-
-pub overflow_sub-kept : goal.overflow_sub-kept
-overflow_sub-kept g c = subst (λ (b : Base). b.place ≤ c.in-Ok.next.place) c.requires.ran.1.from (kept_by g (goal.at.overflow_sub-kept g c).In-Ok).from
+    let by : IsKeptBy g.O.Object.line_count g.O.Object.lawful g.O.Object.step service ran.seats c.args.remains c.args.life.now.choice c.in-Ok.next =
+    c.closed_tables_recover.ensures service ran.seats c.args.remains c.args.life.now.choice image (Ok c.in-Ok.next) opened ran.leaves (subst (λ n. IsLeftOf c.args.remains n image) c.choice.ensures c.in_ok-image.ensures) answers in
+    subst (λ (b : Base). b.place ≤ c.in-Ok.next.place) is.from by.from
 
 pub count_items-requires-clause-lawful : goal.count_items-requires-clause-lawful
 count_items-requires-clause-lawful g c = λ κs lives.
-    subst (λ x. LawfulBase (g.O.Object.line_count x) (g.O.Object.lawful x) c.in-Ok.next) c.requires.ran.1.same (kept_by g (goal.at.count_items-requires-clause-lawful g c κs lives).In-Ok).again
+    let service = c.requires.ran.0 in
+    let is = c.requires.ran.1 in
+    let ran = c.requires.ran.2 in
+    let image = c.in_ok-image.image in
+    let opened = opened_of g.O.Object.line_count g.O.Object.lawful c.args.object.now c.args.base.now c.args.life.now service c.requires.can.enough c.requires.can.few c.requires.can.lawful is in
+    let answers = subst (λ x. IsRecovered (g.O.Object.version_number x) (g.O.Object.lawful x) (g.O.Object.old_format x) image c.in-Ok.next) (sym is.same) c.in-Ok.ensures.recovers in
+    let by : IsKeptBy g.O.Object.line_count g.O.Object.lawful g.O.Object.step service ran.seats c.args.remains c.args.life.now.choice c.in-Ok.next =
+    c.closed_tables_recover.ensures service ran.seats c.args.remains c.args.life.now.choice image (Ok c.in-Ok.next) opened ran.leaves (subst (λ n. IsLeftOf c.args.remains n image) c.choice.ensures c.in_ok-image.ensures) answers in
+    subst (λ x. LawfulBase (g.O.Object.line_count x) (g.O.Object.lawful x) c.in-Ok.next) is.same by.again
 
 pub returns : goal.returns
 returns g c = λ begun based. (

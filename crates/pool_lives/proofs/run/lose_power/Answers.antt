@@ -46,9 +46,8 @@ unreachable-requires g c =
     let yes = c.is_memory-wanting.ensures memory in
     true≢false (sym yes ∙ c.if-wanting.false)
 
--- what is recovered is what the loss kept of the service
-kept_by : (g : _) (c : goal.In-Ok g) → IsKeptBy g.O.Object.line_count g.O.Object.lawful g.O.Object.step c.requires.met.0 c.requires.met.2.seats c.args.remains.now c.args.life.now.choice c.in-Ok.next
-kept_by g c =
+pub overflow_sub-kept : goal.overflow_sub-kept
+overflow_sub-kept g c =
     let o = c.args.object.now in
     let service = c.requires.met.0 in
     let is = c.requires.met.1 in
@@ -57,14 +56,23 @@ kept_by g c =
     let opened = opened_pool g.O.Object.line_count g.O.Object.lawful o c.args.seats c.args.base.now service c.requires.lines.0 c.requires.lines.1 c.requires.base.0 is in
     let left = subst (λ n. IsLeftOf c.args.remains.now n image) c.choice.ensures c.in_ok-image.ensures in
     let answers = subst (λ x. IsRecovered (g.O.Object.version_number x) (g.O.Object.lawful x) (g.O.Object.old_format x) image c.in-Ok.next) (sym is.same) c.in-Ok.ensures.recovers in
-    c.closed_tables_recover.ensures service met.seats c.args.remains.now c.args.life.now.choice image (Ok c.in-Ok.next) opened met.leaves left answers
-
-pub overflow_sub-kept : goal.overflow_sub-kept
-overflow_sub-kept g c = subst (λ (b : Base). b.place ≤ c.in-Ok.next.place) c.requires.met.1.from (kept_by g (goal.at.overflow_sub-kept g c).In-Ok).from
+    let by : IsKeptBy g.O.Object.line_count g.O.Object.lawful g.O.Object.step service met.seats c.args.remains.now c.args.life.now.choice c.in-Ok.next =
+    c.closed_tables_recover.ensures service met.seats c.args.remains.now c.args.life.now.choice image (Ok c.in-Ok.next) opened met.leaves left answers in
+    subst (λ (b : Base). b.place ≤ c.in-Ok.next.place) is.from by.from
 
 pub count_items-requires-clause-lawful : goal.count_items-requires-clause-lawful
 count_items-requires-clause-lawful g c = λ κs lives.
-    subst (λ x. LawfulBase (g.O.Object.line_count x) (g.O.Object.lawful x) c.in-Ok.next) c.requires.met.1.same (kept_by g (goal.at.count_items-requires-clause-lawful g c κs lives).In-Ok).again
+    let o = c.args.object.now in
+    let service = c.requires.met.0 in
+    let is = c.requires.met.1 in
+    let met = c.requires.met.2 in
+    let image = c.in_ok-image.image in
+    let opened = opened_pool g.O.Object.line_count g.O.Object.lawful o c.args.seats c.args.base.now service c.requires.lines.0 c.requires.lines.1 c.requires.base.0 is in
+    let left = subst (λ n. IsLeftOf c.args.remains.now n image) c.choice.ensures c.in_ok-image.ensures in
+    let answers = subst (λ x. IsRecovered (g.O.Object.version_number x) (g.O.Object.lawful x) (g.O.Object.old_format x) image c.in-Ok.next) (sym is.same) c.in-Ok.ensures.recovers in
+    let by : IsKeptBy g.O.Object.line_count g.O.Object.lawful g.O.Object.step service met.seats c.args.remains.now c.args.life.now.choice c.in-Ok.next =
+    c.closed_tables_recover.ensures service met.seats c.args.remains.now c.args.life.now.choice image (Ok c.in-Ok.next) opened met.leaves left answers in
+    subst (λ x. LawfulBase (g.O.Object.line_count x) (g.O.Object.lawful x) c.in-Ok.next) is.same by.again
 
 pub returns : goal.returns
 returns g c =
@@ -85,7 +93,10 @@ returns g c =
     let items = c.in_ok-items.items in
     let opened : IsOpened lines_in images service = opened_pool lines_in images o c.args.seats base service c.requires.lines.0 c.requires.lines.1 c.requires.base.0 is in
     let left : IsLeftOf remains life.choice image = subst (λ n. IsLeftOf remains n image) c.choice.ensures c.in_ok-image.ensures in
-    let by = kept_by g (goal.at.returns g c).In-Ok in
+    let answers : IsRecovered (g.O.Object.version_number service.object) (images service.object) (g.O.Object.old_format service.object) image next =
+    subst (λ x. IsRecovered (g.O.Object.version_number x) (images x) (g.O.Object.old_format x) image next) (sym is.same) c.in-Ok.ensures.recovers in
+    let by : IsKeptBy lines_in images steps service met.seats remains life.choice next =
+    c.closed_tables_recover.ensures service met.seats remains life.choice image (Ok next) opened met.leaves left answers in
     let crash = c.crash_images_are_left.ensures service met.seats remains life.choice image opened met.leaves left in
     let rec = c.crash_images_recover.ensures (instance_at service steps readings) (record { words = met.leaves.words; locals = met.leaves.whole }) (crash_of image) met.leaves.state crash in
     let closed : Closed (object_instance (steps o) (readings o) service.callers base) remains next =
