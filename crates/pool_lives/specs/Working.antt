@@ -24,7 +24,7 @@ use Rattle.pool_lives.specs.declared.work.Served.{Served}
 pub record ServesLife {O Op Reply Store : Type 0} (reads : O → List ℕ → Bool) (m : Meaning Op Reply Store) (object : O) (life : Life Op) (pool : Pool O) : Type 0 where
   pub ready : IsPool reads pool
   pub same : pool.service.object ≡ object
-  pub life : IsLifeOfPool m life
+  pub is_life : IsLifeOfPool m life
 
 -- the lines of a client's calls: they are those of the lists that a caller of its own would have, and each has the place of its command's call
 pub record HasMadeCalls {Op Reply Store : Type 0} (m : Meaning Op Reply Store) (life : Life Op) (client number : ℕ) (calls : List Call) (entries : List (JournalLine Reply)) (reads : List (ReadLine Reply)) : Type 0 where

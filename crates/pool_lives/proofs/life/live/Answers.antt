@@ -19,7 +19,7 @@ use Rattle.pool_lives.proofs.life.live.Goals as goal
 pub run_workers-requires-clause-pool : goal.run_workers-requires-clause-pool
 run_workers-requires-clause-pool g c κs within =
     let opened = c.in-Ok.ensures.opened in
-    record { ready = opened.1; same = ap (λ (x : Running g.row.O.Denot). x.object) opened.0 ∙ c.requires.ready.same; life = c.requires.life.0 }
+    record { ready = opened.1; same = ap (λ (x : Running g.row.O.Denot). x.object) opened.0 ∙ c.requires.ready.same; is_life = c.requires.life.0 }
 
 pub run_workers-requires-clause-clients : goal.run_workers-requires-clause-clients
 run_workers-requires-clause-clients g c κs within =

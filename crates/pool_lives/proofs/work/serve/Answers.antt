@@ -15,7 +15,7 @@ loop-at-init g c =
     record {
       work = record {
         who = record { may = new.may; by = sym c.number-me.ensures; closing = new.closing; calls = []; has = new.none };
-        made = makes_none (g.O.TypedObject.meaning c.args.object.now) c.args.life.now c.number-me.result c.new-lines.result.entries.items c.new-lines.result.reads.items c.requires.pool.life.uncut c.new-lines.ensures.entries c.new-lines.ensures.reads;
+        made = makes_none (g.O.TypedObject.meaning c.args.object.now) c.args.life.now c.number-me.result c.new-lines.result.entries.items c.new-lines.result.reads.items c.requires.pool.is_life.uncut c.new-lines.ensures.entries c.new-lines.ensures.reads;
       };
       count = refl;
       few = omega arith;
@@ -46,7 +46,7 @@ pub make-requires-clause-op : goal.make-requires-clause-op
 make-requires-clause-op g c κs within =
     let life = c.args.life.now in
     let command = c.command_at-command.result.now in
-    (all_at (IsCommandOf (g.O.TypedObject.meaning c.args.object.now).is_op life) life.commands c.loop-at.at command c.requires.pool.life.limits.commands (subst (λ items. slice_get items c.loop-at.at ≡ Some command) c.commands-commands.ensures c.command_at-command.ensures)).op
+    (all_at (IsCommandOf (g.O.TypedObject.meaning c.args.object.now).is_op life) life.commands c.loop-at.at command c.requires.pool.is_life.limits.commands (subst (λ items. slice_get items c.loop-at.at ≡ Some command) c.commands-commands.ensures c.command_at-command.ensures)).op
 
 pub loop-at-preserved : goal.loop-at-preserved
 loop-at-preserved g c =
