@@ -1,7 +1,7 @@
 -- Commands on a queue are read by their rules: what is read is asked for, what is asked for is read, and the reason told is the first that fits.
 use Rattle.std.specs.Prelude.{codes, is_some}
 use Rattle.std.proofs.Common.{◌≡◌, ℕ, cond, List, ◌∷◌, ◌++◌, Option, None, Some, Ok, Err, refl, sym, ap, subst, ◌∙◌, arith, inl, inr}
-use Rattle.plain_text.specs.Words.{first_word, rest_of, is_word}
+use Rattle.plain_text.specs.Words.{first_word, rest_of}
 use Rattle.plain_text.proofs.WordCuts.{spaced, unspaced, word_alone, visible_unspaced}
 use Rattle.fifo_object.specs.Queue.{IsText}
 use Rattle.fifo_object.specs.WordLaws.{text_from_test, text_passes}

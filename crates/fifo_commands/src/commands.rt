@@ -1,6 +1,6 @@
 //! The commands of a queue, read from the text behind a client.
 
-ghost use Rattle.std.specs.Prelude.{◌≡◌, IfOk, IfSome, IsUtf8};
+ghost use Rattle.std.specs.Prelude.{◌≡◌, IfOk};
 ghost use Rattle.std.specs.Option.{option_copied};
 ghost use Rattle.fifo_object.specs.Queue.{IsOp};
 ghost use Rattle.fifo_commands.specs.CommandLaws.{reads_queue_commands};

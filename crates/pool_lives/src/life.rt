@@ -1,6 +1,6 @@
 //! A life of clients of a pool on threads, up to the closing of the pool.
 
-ghost use Rattle.std.specs.Prelude.{◌≡◌, ◌+◌, ◌^◌, ◌≤◌, IfOk, IsTrue, length};
+ghost use Rattle.std.specs.Prelude.{◌+◌, ◌^◌, ◌≤◌, IfOk, IsTrue, length};
 ghost use Rattle.pool_lives.specs.PoolRuns.{IsLifeOfPool, IsProbe};
 ghost use Rattle.pool_lives.specs.Running.{HasMet, IsServiceReady};
 
