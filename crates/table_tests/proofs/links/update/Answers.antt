@@ -5,5 +5,5 @@ use Rattle.table_tests.proofs.links.update.Goals as goal
 pub returns-clause-tried : goal.returns-clause-tried
 returns-clause-tried c =
     IfOk-weaker c.link-tried.result _ _
-    (has_tried c.args.shared.now c.args.op.now c.args.seat c.announce.new.seat c.link-tried.new.seat c.requires.seat c.requires.new.own c.told-op c.in_default.ensures.announced c.args.shared.now.callers c.args.tries)
+    (has_tried c.args.shared.now c.args.op.now c.args.seat c.announce.new.seat c.link-tried.new.seat c.requires.seat c.requires.new.own c.told-op c.in_default.ensures.announced.announces c.args.shared.now.callers c.args.tries)
     c.link-tried.ensures.tried
