@@ -1,6 +1,6 @@
 //! The head of an image in words.
 
-ghost use Rattle.std.specs.Prelude.{◌≡◌, ◌↔◌, IsTrue, MatchResult, length};
+ghost use Rattle.std.specs.Prelude.{◌↔◌, IsTrue, MatchResult};
 ghost use Rattle.c_images.specs.Words.{IsHeadFault, IsHeaded, IsHeadOf};
 
 use crate::reader::WordsFault;

@@ -1,6 +1,6 @@
 //! Whether the results that a base holds are replies.
 
-ghost use Rattle.std.specs.Prelude.{◌≡◌, ◌<◌, ◌≤◌, ◌↔◌, IfOk, IsTrue, length};
+ghost use Rattle.std.specs.Prelude.{◌<◌, ◌≤◌, ◌↔◌, IfOk, IsTrue, length};
 ghost use Rattle.c_images.specs.Replies.{HoldsReplies, IsDocumentReply, IsKeptReply, IsQueueReply, IsReplyOfKind, IsSlot};
 
 use cx_base::{OP_WORDS, OpWords};

@@ -1,6 +1,6 @@
 //! What a crash leaves is written into words.
 
-ghost use Rattle.std.specs.Prelude.{◌≡◌, ◌+◌, ◌<◌, ◌≤◌, ◌^◌, ℕ, length, slice_index};
+ghost use Rattle.std.specs.Prelude.{◌≡◌, ◌+◌, ◌<◌, ◌≤◌, ◌^◌, length};
 ghost use Rattle.pmem_model.specs.Medium.{any_value};
 ghost use Rattle.pmem_model.specs.declared.medium.Mark.TheVariants.{Dirty};
 ghost use Rattle.recovery.specs.Crashes.{AreRemainsWhole, left_root, left_word};

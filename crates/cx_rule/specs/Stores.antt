@@ -1,4 +1,5 @@
--- What a caller of a running store knows, by the store: its lines, what is lawful of its words, its base and its step are the store's.
+-- What a caller of a running store knows, by the store: what is lawful of its words, its base and its step are the store's. The lines are the
+-- object's in `FitsIn` and `TellsSetIn`, and the table's in the others; a table has as many as its object.
 use Rattle.std.specs.Prelude.{ℕ, List, Option}
 use Rattle.cx_base.specs.declared.object.Object.{Ghosts}
 use Rattle.cx_core.specs.declared.local.Answer.{Answer}

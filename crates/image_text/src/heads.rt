@@ -1,11 +1,9 @@
 //! The three kinds of line.
 
 ghost use Rattle.std.specs.Prelude.{◌≡◌};
-ghost use Rattle.image_text.specs.Reading.{fitting, image_head_behind, image_head_of, image_head_within, is_above, last_pair, two_numbers_of, pair_of, root_of};
-ghost use Rattle.std.specs.Option.{option_copied};
+ghost use Rattle.image_text.specs.Reading.{fitting, image_head_behind, image_head_of, image_head_within, is_above, two_numbers_of, pair_of, root_of};
 
 use crate::lines::ImageHead;
-use cx_core::Image;
 use plain_text::{is_word, number_of, split_word};
 
 const MOST_CALLERS: u64 = 8;

@@ -1,6 +1,6 @@
 //! What a crash leaves of a closed table.
 
-ghost use Rattle.std.specs.Prelude.{◌≡◌, ◌*◌, ◌^◌, ◌<◌, ◌≤◌, IfOk, length};
+ghost use Rattle.std.specs.Prelude.{◌≡◌, ◌^◌, ◌<◌, ◌≤◌, IfOk, length};
 ghost use Rattle.pmem_model.specs.Medium.{any_value};
 ghost use Rattle.pmem_model.specs.declared.medium.Mark.TheVariants.{Dirty};
 ghost use Rattle.recovery.specs.Crashes.{IsLeftOf, AreRemainsWhole, left_root, left_word};

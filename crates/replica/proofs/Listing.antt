@@ -22,7 +22,7 @@ use Rattle.cx_table.specs.Gaps.{IsListedFrom}
 use Rattle.cx_table.specs.Right.{Right}
 use Rattle.cx_table.specs.GapMarks.{IsMarked, LeavesLoads, MarksChanged, with_gaps}
 use Rattle.cx_table.proofs.GapWalks.{walk_by}
-use Rattle.replica.specs.Copies.{HaltsKeeping, HoldsBoth, HoldsBothIn, IsCopiedTo, IsListed, MayList, Renews, RenewsListed, beside_copy, beside_listed, piece_at, skips_by, skips_piece, without_shared}
+use Rattle.replica.specs.Copies.{HaltsUnchanged, HoldsBoth, HoldsBothIn, IsCopiedTo, IsListed, MayList, Renews, RenewsListed, beside_copy, beside_listed, piece_at, skips_by, skips_piece, without_shared}
 use Rattle.replica.specs.Laws.{shared_held}
 use Rattle.replica.specs.Regions.{HasPlace}
 use Rattle.replica.specs.Replays.{StoresNone, noted_place}
@@ -157,7 +157,7 @@ module _ {O : Type 0} (o : Ghosts O) (r : Running O) (held source : Right) (befo
     rest = ap unnoted renews.rest ∙ ap (λ s. without_shared (beside_listed s)) leaves.seat;
   }
 
-  pub listed_halts : (last : Seated) → HaltsKeeping beside_copy after last → HaltsKeeping beside_listed before last
+  pub listed_halts : (last : Seated) → HaltsUnchanged beside_copy after last → HaltsUnchanged beside_listed before last
   listed_halts last halts = record { rest = ap unnoted halts.rest ∙ ap beside_listed leaves.seat; limit = halts.limit }
 
   pub listed_within : (m n l : ℕ) (last : Seated) → m + n ≡ l → StepsBy m before after → StepsWithin r n after last → StepsWithin r l before last

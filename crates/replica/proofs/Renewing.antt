@@ -23,7 +23,7 @@ use Rattle.seat_memory.specs.Copies.{IsCopiedWord}
 use Rattle.cx_table.specs.Calls.{MakesFittingStep}
 use Rattle.cx_table.specs.Right.{Right}
 use Rattle.cx_table.specs.Tokens.{IsExclusiveOf}
-use Rattle.replica.specs.Copies.{HaltsKeeping, HoldsBoth, KeepsLoaded, LeavesCopied, Renews, beside_copy, without_shared}
+use Rattle.replica.specs.Copies.{HaltsUnchanged, HoldsBoth, KeepsLoaded, LeavesCopied, Renews, beside_copy, without_shared}
 use Rattle.replica.specs.Held.{IsHeld}
 use Rattle.replica.specs.Replays.{IsHeldImage, StoresNone}
 use Rattle.replica.proofs.Access.{at_itself}
@@ -129,5 +129,5 @@ module _ {O : Type 0} (o : Ghosts O) (r : Running O) (held source : Right) (firs
         record { seat = step.halted.seat; since = on_then first mid last leaves.since (on_still mid last same); most = omega (arith, bound, same) }
 
   -- and where the limit ends it before the right was given back, nothing else is changed
-  pub release_halts : Halts r mid last → HaltsKeeping beside_copy first last
+  pub release_halts : Halts r mid last → HaltsUnchanged beside_copy first last
   release_halts halted = record { rest = ap beside_copy halted.same ∙ leaves.rest; limit = subst (λ (s : Seated). IsAtLimit s.known.local) (sym halted.same) halted.limit }

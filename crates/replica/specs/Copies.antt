@@ -24,7 +24,7 @@ pub record HoldsBoth {O : Type 0} (lines : ℕ) (r : Running O) (lawful : List �
   pub exclusive : IsHeld lines r lawful step seat held
   pub shared : IsHeldShared lines r lawful seat source
 
--- the same by the store
+-- `HoldsBoth` with the lines, the lawful words and the step of a store
 abbrev pub HoldsBothIn : {O : Type 0} → Ghosts O → Running O → Seated → Right → Right → Type 0
 HoldsBothIn o r = HoldsBoth (o.line_count r.object) r (o.lawful r.object) (o.step r.object)
 
@@ -48,8 +48,8 @@ pub record LeavesCopied {O : Type 0} (o : Ghosts O) (r : Running O) (held source
   pub since : StepsOn before after
   pub rest : beside_copy after ≡ beside_copy before
 
--- the limit ended a call, and what this shows of the seat is as it was
-pub record HaltsKeeping (beside : Seated → Seated) (before after : Seated) : Type 0 where
+-- the limit ended a call, and what `beside` shows of the seat is unchanged
+pub record HaltsUnchanged (beside : Seated → Seated) (before after : Seated) : Type 0 where
   pub rest : beside after ≡ beside before
   pub limit : IsAtLimit after.known.local
 

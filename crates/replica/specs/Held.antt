@@ -38,7 +38,7 @@ pub record IsHeld {O : Type 0} (lines : ℕ) (r : Running O) (lawful : List ℕ 
   pub some : SomeFits lines lawful r.base step seat.known
   pub dirty : All (λ i. i < region_words lines) (held_dirty seat.known.local.exclusive)
 
--- the same by the store: its lines, what is lawful of its words, and its step
+-- `IsHeld` with the lines, the lawful words and the step of a store
 abbrev pub IsHeldIn : {O : Type 0} → Ghosts O → Running O → Seated → Right → Type 0
 IsHeldIn o r = IsHeld (o.line_count r.object) r (o.lawful r.object) (o.step r.object)
 
@@ -49,7 +49,7 @@ pub record IsHeldShared {O : Type 0} (lines : ℕ) (r : Running O) (lawful : Lis
   pub right : IsSharedOf r.callers seat held
   pub some : SomeReadFits lines lawful r.base (loaded_of seat.known.local.shared)
 
--- the same by the store
+-- `IsHeldShared` with the lines and the lawful words of a store
 abbrev pub IsHeldSharedIn : {O : Type 0} → Ghosts O → Running O → Seated → Right → Type 0
 IsHeldSharedIn o r = IsHeldShared (o.line_count r.object) r (o.lawful r.object)
 

@@ -30,7 +30,7 @@ pub record IsTaken {O : Type 0} (lines : ℕ) (r : Running O) (lawful : List ℕ
   pub none : seat.known.accesses ≡ []
   pub clean : held_dirty seat.known.local.exclusive ≡ []
 
--- the same by the store
+-- `IsTaken` with the lines, the lawful words and the step of a store
 abbrev pub IsTakenIn : {O : Type 0} → Ghosts O → Running O → Seated → Right → Type 0
 IsTakenIn o r = IsTaken (o.line_count r.object) r (o.lawful r.object) (o.step r.object)
 

@@ -31,7 +31,7 @@ pub record IsHeldImage (lines : ℕ) (lawful : List ℕ → Type 0) (base : Base
   pub begun : HasPlace known.accesses
   pub replayed : IsReplayedToPlace lines lawful base step known
 
--- the same by the store
+-- `IsHeldImage` with the lines, the lawful words, the base and the step of a store
 abbrev pub IsHeldImageIn : {O : Type 0} → Ghosts O → Running O → Known → Type 0
 IsHeldImageIn o r = IsHeldImage (o.line_count r.object) (o.lawful r.object) r.base (o.step r.object)
 
@@ -45,7 +45,7 @@ pub record IsReady {O : Type 0} (o : Ghosts O) (r : Running O) (held : Right) (a
 abbrev pub ShowsReply : ℕ → (List ℕ → Type 0) → Base → (List ℕ → List ℕ → List ℕ × List ℕ) → Known → ℕ → List ℕ → Type 0
 ShowsReply lines lawful base step known number reply = (first now : List ℕ) → FitsKnown lines lawful base step known first now → slot_reply number now ≡ reply
 
--- the same by the store
+-- `ShowsReply` with the lines, the lawful words, the base and the step of a store
 abbrev pub ShowsReplyIn : {O : Type 0} → Ghosts O → Running O → Known → ℕ → List ℕ → Type 0
 ShowsReplyIn o r = ShowsReply (o.line_count r.object) (o.lawful r.object) r.base (o.step r.object)
 

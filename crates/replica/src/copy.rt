@@ -6,7 +6,7 @@ ghost use Rattle.cx_core.specs.Region.{region_words};
 ghost use Rattle.cx_rule.specs.Running.{StepsWithin, instance_at};
 ghost use Rattle.cx_rule.specs.Seats.{IsAtLimit, StepsBy, known_after};
 ghost use Rattle.cx_rule.specs.Steps.{Halts};
-ghost use Rattle.replica.specs.Copies.{AreLines, AreOfPiece, ArePiece, CopiesReplica, CopiesMarked, CopiesOn, CopiesOver, CopiesPiece, EndsCopy, EndsLoads, EndsPart, HaltsKeeping, HoldsBothIn, LeavesCopied, Renews, SeesLine, beside_copy, skips_by, skips_piece};
+ghost use Rattle.replica.specs.Copies.{AreLines, AreOfPiece, ArePiece, CopiesReplica, CopiesMarked, CopiesOn, CopiesOver, CopiesPiece, EndsCopy, EndsLoads, EndsPart, HaltsUnchanged, HoldsBothIn, LeavesCopied, Renews, SeesLine, beside_copy, skips_by, skips_piece};
 
 use crate::words::{HeldWords, load_run};
 use cx_base::{Halt, Object};
@@ -59,7 +59,7 @@ pub fn renew_from<O: Object>(
 ) -> Result<u64, Halt>
     requires { HoldsBothIn O.Object shared.now seat.old held.now source }
     ensures renewed { IfOk result (λ place. Renews O.Object shared.now held.now place seat.old seat.new) }
-    ensures halted { OnErr result (HaltsKeeping beside_copy seat.old seat.new) }
+    ensures halted { OnErr result (HaltsUnchanged beside_copy seat.old seat.new) }
     ensures within { StepsWithin shared.now (3 * region_words (O.line_count shared.now.object) + 1) seat.old seat.new }
 {
     let place = copy_from(shared, seat, held, &source)?;

@@ -23,7 +23,7 @@ pub record IsOpen {O : Type 0} (o : Ghosts O) (object : O) (callers : ℕ) (base
   pub base_is : table.base ≡ base
   pub opened : IsOpened o.line_count o.lawful table
 
--- it is so, and these are its callers: as many as were asked for, of caller 0 first, none of which has made a step
+-- a service is open in this way, and these are its callers: as many as were asked for, from caller 0 on, none of which has made a step
 pub record IsOpenWith {O : Type 0} (o : Ghosts O) (object : O) (count_asked : ℕ) (base : Base) (table : Running O) (seats : List Seated) : Type 0 where
   pub service : IsOpen o object count_asked base table
   pub callers : AreAllCallers table seats
