@@ -1,7 +1,7 @@
 #!/usr/bin/env python3
 """Runs the gate, or another command, and tells what each crate cost of processor time: python3 tools/gate_minutes.py [COMMAND ..]
 
-With no command it runs `rt ci --anew`, which takes nothing from earlier runs. What the command prints goes on as it comes; the table comes
+With no command it runs the gate from nothing: `rt ci --anew`, or `rt ci` with a toolchain that keeps nothing of earlier runs. What the command prints goes on as it comes; the table comes
 last, on standard error: for each crate the seconds of its own proof, of the proof of its tests, and of its edits (the check that they begin
 with included), then what is left (programs and tests that are built and run, and the command itself), and all in minutes; and each edit that took over
 15 seconds.
@@ -119,10 +119,18 @@ def table(seen, total):
     return lines
 
 
+def whole_gate(help_text):
+    """The command that proves everything anew, by what `rt help` says: a toolchain without `--anew` keeps nothing of earlier runs."""
+    return ["rt", "ci", *(["--anew"] if "--anew" in help_text else [])]
+
+
 def main(words):
     if helped(__doc__, words):
         return 0
-    child = subprocess.Popen(words or ["rt", "ci", "--anew"])
+    if not words:
+        said = subprocess.run(["rt", "help"], stdout=subprocess.PIPE, stderr=subprocess.STDOUT, text=True)
+        words = whole_gate(said.stdout)
+    child = subprocess.Popen(words)
     seen, over = {}, threading.Event()
 
     def watch():

@@ -712,6 +712,10 @@ class GateMinutesTest(unittest.TestCase):
         self.assertEqual(lines[4], "publish/edit 90 took 18 seconds".split())
         self.assertEqual(lines[5], "left 20 seconds; all 1.5 processor minutes".split())
 
+    def test_the_whole_gate_is_asked_for_in_the_toolchain_s_words(self):
+        self.assertEqual(gate_minutes.whole_gate("rt ci [--anew] [NAME..]  the merge gate"), ["rt", "ci", "--anew"])
+        self.assertEqual(gate_minutes.whole_gate("rt ci  the merge gate"), ["rt", "ci"])
+
     def test_a_command_s_status_is_handed_on(self):
         with contextlib.redirect_stderr(io.StringIO()) as told:
             self.assertEqual(gate_minutes.main([sys.executable, "-c", "raise SystemExit(3)"]), 3)
