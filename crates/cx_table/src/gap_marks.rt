@@ -1,6 +1,6 @@
 //! The lines that entries changed are marked, by what the ring of gaps tells.
 
-ghost use Rattle.std.specs.Prelude.{◌≡◌, ◌+◌, ◌-◌, ◌*◌, ◌/◌, ◌%◌, ◌^◌, ◌<◌, ◌↔◌, ℕ, IsTrue, List, length, slice_index};
+ghost use Rattle.std.specs.Prelude.{◌≡◌, ◌+◌, ◌-◌, ◌*◌, ◌/◌, ◌%◌, ◌^◌, ◌<◌, ◌↔◌, ℕ, IsTrue, length, slice_index};
 ghost use Rattle.cx_rule.specs.Running.{IsSeatOf, instance_at};
 ghost use Rattle.cx_rule.specs.Seats.{StepsBy};
 ghost use Rattle.cx_table.specs.GapMarks.{AreKept, IsMarked, LeavesLoads, MarksChanged, MarksTicket};

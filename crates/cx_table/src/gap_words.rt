@@ -1,6 +1,6 @@
 //! The words of the ring of gaps.
 
-ghost use Rattle.std.specs.Prelude.{◌≡◌, ◌/◌, ◌%◌, ◌^◌, ◌<◌, ◌≤◌, IfSome, length};
+ghost use Rattle.std.specs.Prelude.{◌≡◌, ◌/◌, ◌%◌, ◌^◌, ◌<◌, ◌≤◌, IfSome};
 ghost use Rattle.cx_core.specs.Gaps.{gap_of};
 ghost use Rattle.cx_core.specs.Layout.{gap_slots};
 ghost use Rattle.cx_table.specs.GapWords.{TellsLines};

@@ -99,8 +99,7 @@ impl<O: Object> Shared<O> {
         requires start { StartsAt self.now r start }
         requires within { at + count ≤ length into.old }
         requires loaded { (begun : Me ℕ (List Known)) × AreLoaded (instance_at self.now O.step O.only_reads) r from begun at into.old seat.old.me }
-        ensures table { seat.new.table_id ≡ self.now.table }
-        ensures loaded { (begun : Me ℕ (List Known)) → AreLoaded (instance_at self.now O.step O.only_reads) r from begun at into.old seat.old.me → AreLoaded (instance_at self.now O.step O.only_reads) r from begun (at + count) into.new seat.new.me }
+        ensures taught { IsTaught seat.old.table_id seat.new.table_id ((begun : Me ℕ (List Known)) → AreLoaded (instance_at self.now O.step O.only_reads) r from begun at into.old seat.old.me → AreLoaded (instance_at self.now O.step O.only_reads) r from begun (at + count) into.new seat.new.me) }
         ensures length { length into.new ≡ length into.old }
     {
         let _ = &self.table;

@@ -1,8 +1,9 @@
 -- What publishing, raising and retiring leave of a turn's seat.
-use Rattle.std.proofs.Common.{◌≡◌, ◌+◌, ◌*◌, ◌<◌, ◌≤◌, inl, inr, ℕ, List, [], ◌∷◌, ◌++◌, append-nil, length, refl, ap, sym, subst, ◌∙◌, arith, Option, Some, None, Result, Ok, Err, OnErr, OnOk}
+use Rattle.std.proofs.Common.{◌≡◌, ◌+◌, ◌*◌, ◌<◌, ◌≤◌, inl, inr, ℕ, List, [], ◌∷◌, ◌++◌, append-nil, length, refl, ap, sym, subst, ◌∙◌, arith, Option, Some, None, Result, Ok, Err, MatchResult, OnErr, OnOk}
 use Rattle.std.proofs.Math.Nat.{le-max_right}
 use Rattle.std.proofs.lemmas.Option.{none-some, same_Some}
 use Rattle.std.specs.Option.{option_map}
+use Rattle.std.specs.Result.{IsErrAnd}
 use Rattle.cx_base.specs.Codes.{root_place_of}
 use Rattle.cx_base.specs.declared.object.Object.{Ghosts}
 use Rattle.cx_core.specs.declared.kinds.Kind.TheVariants.{Retire}
@@ -16,18 +17,17 @@ use Rattle.cx_core.specs.State.{one_more}
 use Rattle.cx_core.proofs.RootCodes.{code_place}
 use Rattle.cx_rule.specs.Raises.{TellsAnswers, TellsReply}
 use Rattle.cx_rule.specs.Running.{Running}
-use Rattle.cx_rule.specs.Seats.{IsAtLimit, Seated, StepsOn, unanswered_ticket}
+use Rattle.cx_rule.specs.Seats.{IsAtLimit, Seated, unanswered_ticket}
 use Rattle.cx_rule.specs.Steps.{Halts, Steps}
 use Rattle.cx_rule.specs.Timing.{EndsIn}
 use Rattle.cx_rule.specs.Fitting.{has_of}
 use Rattle.cx_rule.proofs.Raising.{reply_still, tells_one}
-use Rattle.cx_rule.proofs.Stepping.{on_then}
+use Rattle.cx_rule.proofs.Stepping.{on_one, on_same, on_step, on_then}
 use Rattle.cx_table.specs.Right.{Right, WonRight}
 use Rattle.cx_table.specs.Tokens.{IsWonOf}
 use Rattle.cx_turns.specs.Answering.{AnswersBy, AnswersEntry, AnswersNone, AnswersOne, AnswersReadBy, HaltsFor, HaltsLookup, HaltsWon, IsPublishedFor, IsReadyFor, beside_hand_over, beside_settling, beside_update, with_answer, reads_with}
 use Rattle.cx_turns.specs.Preparing.{Prepares}
-use Rattle.cx_turns.specs.Turns.{IsAtRest, Turns, TurnsIn, beside_prepare, but_sets, cur_rises}
-use Rattle.mutation_queue.specs.Leaves.{LeavesSeatPart}
+use Rattle.cx_turns.specs.Turns.{IsAtRest, KeepsIn, Turns, TurnsIn, beside_prepare, but_sets, cur_rises}
 use Rattle.publish.proofs.Options.{none_of, some_of}
 use Rattle.publish.specs.Publishing.{LeavesRest, PassedBy, beside_publish, place_in}
 use Rattle.strong_trylock.specs.Held.{AllRights}
@@ -154,8 +154,8 @@ module _ {O : Type 0} (o : Ghosts O) (r : Running O) (code ticket : ℕ) (reply 
       ∙ ap (λ rs. (let s : Seated = record b { known = record b.known { times = record b.known.times { reads = rs } } } in s)) (append-nil before.known.times.reads)
 
   -- what it leaves of the seat
-  pub raised_leaves : LeavesSeatPart r beside_settling 1 before after
-  raised_leaves = record { of = by.seat; rest = raised_rest; steps = (let one = ap (λ (s : Seated). s.known.local.steps) by.made in omega (arith, one)) }
+  pub raised_leaves : KeepsIn r beside_settling 1 before after
+  raised_leaves = (let one = ap (λ (s : Seated). s.known.local.steps) by.made in record { seat = by.seat; since = on_one before after one; rest = raised_rest; steps = omega (arith, one) })
 
   -- with no win to retire the caller is at rest
   pub raised_rests : IsAtRest (beside_publish before).known.local → before.known.local.downgraded ≡ None → before.known.local.won ≡ None → IsAtRest after.known.local
@@ -180,9 +180,10 @@ module _ {O : Type 0} (o : Ghosts O) (r : Running O) (code ticket : ℕ) (reply 
   still_won won was = record { few = was.few; caller = was.caller ∙ sym (ap (λ (s : Seated). s.known.local.number) by.made); holds = ap (λ (s : Seated). s.known.local.won) by.made ∙ was.holds }
 
   -- the limit was come to before the win was retired
-  pub halted_leaves : (last : Seated) → Halts r after last → LeavesSeatPart r beside_settling 2 before last
+  pub halted_leaves : (last : Seated) → Halts r after last → KeepsIn r beside_settling 2 before last
   halted_leaves last h = record {
-    of = h.seat;
+    seat = h.seat;
+    since = on_then before after last raised_leaves.since (on_same after last h.same);
     rest = ap beside_settling h.same ∙ raised_rest;
     steps = (let same = ap (λ (s : Seated). s.known.local.steps) h.same in let one = raised_leaves.steps in omega (arith, same, one));
   }
@@ -201,9 +202,10 @@ module _ {O : Type 0} (o : Ghosts O) (r : Running O) (code ticket : ℕ) (reply 
 
   -- the win is retired then
   module _ (found : ℕ) (last : Seated) (s : Steps r o.step o.only_reads Retire found after last) where
-    pub retired_leaves : LeavesSeatPart r beside_settling 2 before last
+    pub retired_leaves : KeepsIn r beside_settling 2 before last
     retired_leaves = record {
-      of = s.seat;
+      seat = s.seat;
+      since = on_then before after last raised_leaves.since (on_step r o.step o.only_reads Retire found after last s);
       rest = ap beside_settling s.made
           ∙ ap (λ ns. (let b : Seated = record (beside_settling after) { known = record (beside_settling after).known { noted = ns } } in b)) (append-nil after.known.noted)
           ∙ raised_rest;
@@ -240,13 +242,13 @@ abbrev but_answers : Seated → Seated
 but_answers s = record s { known = record s.known { local = record s.known.local { raised = 0; floor = 0; answered = [] }; times = record s.known.times { answered = [] } } }
 
 -- what a publication and the few steps behind it leave of the seat
-pub settled_turns : {O : Type 0} (r : Running O) (n : ℕ) (before mid after : Seated) → n ≤ 2 → LeavesRest r 1 before mid → LeavesSeatPart r beside_settling n mid after → StepsOn mid after → TurnsIn r beside_hand_over (3 + cur_rises before after) before after
-settled_turns r n before mid after few leaves last since =
+pub settled_turns : {O : Type 0} (r : Running O) (n : ℕ) (before mid after : Seated) → n ≤ 2 → LeavesRest r 1 before mid → KeepsIn r beside_settling n mid after → TurnsIn r beside_hand_over (3 + cur_rises before after) before after
+settled_turns r n before mid after few leaves last =
     let cur : after.known.local.seen_cur ≡ mid.known.local.seen_cur = ap (λ (s : Seated). s.known.local.seen_cur) last.rest in
     let front : after.known.local.front ≡ mid.known.local.front = ap (λ (s : Seated). s.known.local.front) last.rest in
     record {
-      seat = last.of;
-      since = on_then before mid after leaves.since since;
+      seat = last.seat;
+      since = on_then before mid after leaves.since last.since;
       rest = ap beside_hand_over last.rest ∙ ap beside_hand_over leaves.rest;
       front = (let rose = leaves.front in omega (arith, rose, front));
       steps = (let most = leaves.steps in let more = last.steps in omega (arith, most, more, cur, few));
@@ -298,10 +300,10 @@ module _ (ticket : ℕ) (before mid after : Seated) (rest : beside_publish mid �
   }
 
   -- what the raise leaves of the seat, whether it was made or not
-  pub passed_turns : {O X E : Type 0} (o : Ghosts O) (r : Running O) (code : ℕ) (reply : List ℕ) (result : Result X E) → LeavesRest r 1 before mid → OnOk result (AnswersBy o r code ticket reply mid after) → OnErr result (Halts r mid after) → StepsOn mid after → TurnsIn r beside_hand_over (3 + cur_rises before after) before after
-  passed_turns o r code reply (Ok x) leaves by none since = settled_turns r 1 before mid after (omega arith) leaves (raised_leaves o r code ticket reply mid after by) since
-  passed_turns o r code reply (Err e) leaves none h since =
-      settled_turns r 0 before mid after (omega arith) leaves (record { of = h.seat; rest = ap beside_settling h.same; steps = (let same = ap (λ (s : Seated). s.known.local.steps) h.same in omega (arith, same)) }) since
+  pub passed_turns : {O X E : Type 0} (o : Ghosts O) (r : Running O) (code : ℕ) (reply : List ℕ) (result : Result X E) → LeavesRest r 1 before mid → OnOk result (AnswersBy o r code ticket reply mid after) → OnErr result (Halts r mid after) → TurnsIn r beside_hand_over (3 + cur_rises before after) before after
+  passed_turns o r code reply (Ok x) leaves by none = settled_turns r 1 before mid after (omega arith) leaves (raised_leaves o r code ticket reply mid after by)
+  passed_turns o r code reply (Err e) leaves none h =
+      settled_turns r 0 before mid after (omega arith) leaves (record { seat = h.seat; since = on_same mid after h.same; rest = ap beside_settling h.same; steps = (let same = ap (λ (s : Seated). s.known.local.steps) h.same in omega (arith, same)) })
 
   -- the raise by it answers the entry
   pub passed_answers : {O : Type 0} (o : Ghosts O) (r : Running O) (code : ℕ) (reply : List ℕ) → IsPublishedFor o r code ticket reply mid → mid.known.local.won ≡ None → AnswersBy o r code ticket reply mid after → AnswersEntry 1 ticket reply before after
@@ -327,6 +329,16 @@ read_halted o r code q op reply before after last holds by h =
   where
     none_more : (n : ℕ) → n + 0 ≡ n
     none_more n = omega arith
+
+-- what follows of a value, and of an error
+pub both_weaker : {A E P Q P' Q' : Type 0} (r : Result A E) → (P → P') → (Q → Q') → OnOk r P → OnErr r Q → MatchResult r (λ _. P') (λ _. Q')
+both_weaker (Ok a) f g p q = f p
+both_weaker (Err e) f g p q = g q
+
+-- of an error alone
+pub only_err : {A E : Type 0} (P Q : Type 0) (R : E → Type 0) (result : Result A E) → IsErrAnd result R → Q → MatchResult result (λ _. P) (λ _. Q)
+only_err P Q R (Ok x) err q = absurd err
+only_err P Q R (Err e) err q = q
 
 -- what holds in any case holds of an error
 pub if_any_err : {A E P : Type 0} (r : Result A E) → P → OnErr r P

@@ -1,10 +1,9 @@
 -- What a turn by which an image is taken does to the seat.
-use Rattle.std.proofs.Common.{◌≡◌, ◌+◌, ◌-◌, ◌==◌, ◌<◌, inl, inr, ℕ, Bool, false, cond, List, [], ◌∷◌, ◌++◌, append-nil, length, length-append, slice_index, refl, ap, sym, subst, ◌∙◌, arith, Some, None, Result, Ok, Err, MatchResult, drop, set, suc, take}
+use Rattle.std.proofs.Common.{◌≡◌, ◌+◌, ◌-◌, ◌==◌, ◌<◌, inl, inr, ℕ, Bool, false, cond, List, [], ◌∷◌, ◌++◌, append-nil, length, length-append, slice_index, refl, ap, sym, subst, ◌∙◌, arith, Some, None, drop, set, suc, take}
 use Rattle.std.proofs.lemmas.Bool.{cases_eq}
 use Rattle.std.proofs.lemmas.List.{drop_all, get_or_append_left, get_or_push, length-drop, length-set, length-take}
 use Rattle.std.proofs.lemmas.List.Elements.{Contains-append_left}
 use Rattle.std.specs.List.{Contains, slice_get}
-use Rattle.std.specs.Result.{IsErrAnd}
 use Rattle.cx_base.specs.Codes.{root_place_of}
 use Rattle.cx_base.specs.declared.object.Object.{Ghosts}
 use Rattle.cx_base.specs.Noted.{Note}
@@ -134,10 +133,6 @@ put_words (x ∷ xs) v words some = ap (λ ys. v ∷ (words ++ ys)) (drop_all (l
 -- so many others there are
 pub rest_length : (xs : List ℕ) (v : ℕ) (words : List ℕ) → 0 < length xs → length words ≡ length (take (length (set xs 0 v) - 1) (drop 1 (set xs 0 v))) → length xs ≡ 1 + length words
 rest_length xs v words some is = omega (arith, is, length-set xs 0 v, length-drop 1 (set xs 0 v), length-take (length (set xs 0 v) - 1) (drop 1 (set xs 0 v)), some)
-
-pub only_err : {A E : Type 0} (P Q : Type 0) (R : E → Type 0) (result : Result A E) → IsErrAnd result R → Q → MatchResult result (λ _. P) (λ _. Q)
-only_err P Q R (Ok x) err q = absurd err
-only_err P Q R (Err e) err q = q
 
 pub none_loaded : {O : Type 0} (o : Ghosts O) (r : Running O) (hold : Right) (first last : Seated) → IsHeldShared (o.line_count r.object) r (o.lawful r.object) first hold → last ≡ first → LoadsSome o r hold first last
 none_loaded o r hold first last held same = record {

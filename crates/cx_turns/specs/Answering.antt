@@ -173,6 +173,12 @@ pub record IsLookedUp {O : Type 0} (o : Ghosts O) (r : Running O) (op reply : Li
   pub rest : IsAtRest (record seat.known.local { shared = None; fresh = false })
   pub answered : unanswered_ticket seat.known.local ≡ None
 
+-- A caller of this table whose entries are all answered may raise DUR by this code, the one last found in CUR.
+pub record MayRaiseCurrent {O : Type 0} (r : Running O) (code : ℕ) (seat : Seated) : Type 0 where
+  pub of : IsSeatOf r seat
+  pub current : code ≡ seat.known.local.seen_cur
+  pub answered : unanswered_ticket seat.known.local ≡ None
+
 -- a caller in no call whose entries are all answered
 pub record MayLook {O : Type 0} (r : Running O) (seat : Seated) : Type 0 where
   pub of : IsSeatOf r seat

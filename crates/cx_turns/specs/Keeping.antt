@@ -8,17 +8,19 @@ use Rattle.cx_core.specs.declared.local.Local.{Local}
 use Rattle.cx_core.specs.declared.local.Protection.TheVariants.{Confirmed, Unprotected}
 use Rattle.cx_core.specs.declared.local.Scan.{Scan}
 use Rattle.cx_core.specs.declared.local.WonCode.{WonCode}
-use Rattle.cx_core.specs.Rights.{downgraded_on, shared_on}
+use Rattle.cx_core.specs.LockEvents.{CanTryShared}
+use Rattle.cx_core.specs.Rights.{downgraded_on, exclusive_on, is_at, shared_on}
 use Rattle.cx_core.specs.State.{one_more}
 use Rattle.cx_rule.specs.Fitting.{loaded_of}
-use Rattle.cx_rule.specs.Running.{Running}
+use Rattle.cx_rule.specs.Running.{IsSeatOf, Running}
 use Rattle.cx_rule.specs.Seats.{Seated}
 use Rattle.cx_table.specs.Right.{Right}
 use Rattle.cx_turns.specs.Turns.{StepsOn, TurnRefused}
 use Rattle.mutation_queue.specs.Protections.{MeetsNone, ShowsRootOutdated}
 use Rattle.replica.specs.Copies.{HoldsBothIn}
 use Rattle.replica.specs.Held.{IsHeldIn, IsHeldSharedIn}
-use Rattle.replica.specs.Replays.{IsHeldImageIn, noted_place}
+use Rattle.replica.specs.Laws.{IsTakenIn}
+use Rattle.replica.specs.Replays.{IsHeldImageIn, StoresNone, noted_place}
 use Rattle.strong_trylock.specs.Held.{AllRights, all_rights}
 
 -- the rights of a caller beside the exclusive one, its scan, and the replicas that were refused
@@ -61,6 +63,12 @@ abbrev pub TriesKeep : {O : Type 0} → Ghosts O → Running O → ℕ → Seate
 TriesKeep o r ticket before after (Some held) = IsUnrefused o r ticket before after held
 TriesKeep o r ticket before after None = TurnRefused before after
 
+-- A replica was kept: it is held exclusively and the image after its place, and the entries from there up to a ticket, which is linked, may be read.
+pub record IsKeptFor {O : Type 0} (o : Ghosts O) (r : Running O) (ticket : ℕ) (seat : Seated) (held : Right) : Type 0 where
+  pub at_image : IsAtImage o r seat held
+  pub guarded : IsGuarded ticket seat
+  pub linked : ticket < seat.known.local.front
+
 -- The place is behind the ring: a LOW above it was found. Where that shows the code last loaded from CUR to be outdated, a refusal is met.
 pub record IsBehindRing (callers : ℕ) (before after : Seated) : Type 0 where
   pub above : noted_place before < after.known.local.seen_low
@@ -81,6 +89,19 @@ pub record SeesCurrentReplica {O : Type 0} (o : Ghosts O) (r : Running O) (befor
   pub protection : after.known.local.protection ≡ before.known.local.protection
   pub accesses : after.known.accesses ≡ before.known.accesses
   pub met : after.known.local.met ≡ before.known.local.met
+
+-- a caller of this table that may take the replica shared that the code last loaded from CUR names, where nothing ended that code's use
+pub record MayTakeCurrent {O : Type 0} (r : Running O) (seat : Seated) : Type 0 where
+  pub of : IsSeatOf r seat
+  pub free : CanTryShared r.callers (root_replica_of r.callers seat.known.local.seen_cur) seat.known.local
+  pub fresh : seat.known.local.fresh ≡ true
+
+-- That replica was taken shared, and is not held exclusively, and nothing ended the code's use. Its place is not loaded yet.
+pub record HoldsNamed {O : Type 0} (o : Ghosts O) (r : Running O) (seat : Seated) (hold : Right) : Type 0 where
+  pub held : IsHeldSharedIn o r seat hold
+  pub here : hold.replica ≡ root_replica_of r.callers seat.known.local.seen_cur
+  pub apart : is_at hold.replica (exclusive_on seat.known.local) ≡ false
+  pub fresh : seat.known.local.fresh ≡ true
 
 -- The replica that the code last loaded from CUR names is held shared beside these rights, at that code's place, and nothing ended that
 -- code's use.
@@ -109,6 +130,33 @@ pub record MayKeep (ticket : ℕ) (seat : Seated) : Type 0 where
   pub none : seat.known.local.protection ≡ Unprotected
   pub stale : seat.known.local.fresh ≡ false
   pub linked : ticket < seat.known.local.front
+
+-- a replica was just taken, and beside it the caller has no right and no scan, and nothing is refused
+pub record IsTakenFor {O : Type 0} (o : Ghosts O) (r : Running O) (ticket : ℕ) (seat : Seated) (held : Right) : Type 0 where
+  pub taken : IsTakenIn o r seat held
+  pub alone : others seat.known.local ≡ no_others
+  pub ready : MayKeep ticket seat
+
+-- a caller of this table without a protection may protect the place of its replica, for the entries up to a ticket, which is linked
+pub record MayGuard {O : Type 0} (r : Running O) (ticket : ℕ) (seat : Seated) : Type 0 where
+  pub of : IsSeatOf r seat
+  pub none : seat.known.local.protection ≡ Unprotected
+  pub linked : ticket < seat.known.local.front
+
+-- A replica held exclusively was found behind the ring, and no word of it was stored: the current one may be copied over it, for the entries
+-- up to a ticket, which is linked.
+pub record MayCopyCurrent {O : Type 0} (o : Ghosts O) (r : Running O) (ticket : ℕ) (seat : Seated) (held : Right) : Type 0 where
+  pub at_image : IsAtImage o r seat held
+  pub none : seat.known.local.protection ≡ Unprotected
+  pub behind : noted_place seat < seat.known.local.seen_low
+  pub unstored : StoresNone seat.known.accesses
+  pub linked : ticket < seat.known.local.front
+
+-- a replica held exclusively may be released by which the turn ends: no protection stands, and what was seen of CUR is not used again
+pub record MayGiveUp {O : Type 0} (o : Ghosts O) (r : Running O) (seat : Seated) (held : Right) : Type 0 where
+  pub at_image : IsAtImage o r seat held
+  pub none : seat.known.local.protection ≡ Unprotected
+  pub stale : seat.known.local.fresh ≡ false
 
 -- A replica held exclusively was found behind the ring, and the current one is held shared beside it, at the place of the code last
 -- loaded from CUR. Beside these the caller has no right, no protection and no scan, and nothing is refused.

@@ -7,7 +7,7 @@ use Rattle.cx_core.specs.declared.entry.Entry.{Entry}
 use Rattle.cx_core.specs.declared.local.HeldShared.{HeldShared}
 use Rattle.cx_core.specs.declared.local.Protection.TheVariants.{Unprotected}
 use Rattle.cx_rule.specs.Running.{Running}
-use Rattle.cx_rule.specs.Seats.{IsWithinLimit, Seated}
+use Rattle.cx_rule.specs.Seats.{IsWithinLimit, Seated, StepsOn}
 use Rattle.cx_rule.specs.Stores.{FitsIn, FittingIn}
 use Rattle.cx_table.specs.Right.{Right}
 use Rattle.cx_turns.specs.Bringing.{BringsAtMost}
@@ -90,18 +90,25 @@ pub record IsApplied {O : Type 0} (o : Ghosts O) (r : Running O) (held : Right) 
   pub ready : IsReady o r held (ticket + 1) seat
   pub replied : IsTrue own → ShowsReplyIn o r seat.known seat.known.local.number reply
 
+-- A replica held exclusively is the image after its place. Where the caller has the reply to its last entry there, since it made that entry's
+-- step, it is this one.
+pub record IsReplayedWith {O : Type 0} (o : Ghosts O) (r : Running O) (held : Right) (reply : List ℕ) (seat : Seated) (own : Bool) : Type 0 where
+  pub ready : IsReady o r held (noted_place seat) seat
+  pub replied : IsTrue own → ShowsReplyIn o r seat.known seat.known.local.number reply
+
 -- It is the image after the place that it had, no word of it is dirty, and the caller's last entry there has this reply.
 pub record IsReplicaSettled {O : Type 0} (o : Ghosts O) (r : Running O) (held : Right) (before after : Seated) (reply : List ℕ) : Type 0 where
   pub ready : IsReady o r held (noted_place before) after
   pub clean : IsFlushed after
   pub reply_is : ShowsReplyIn o r after.known after.known.local.number reply
 
--- Words of the replica held were loaded, and nothing else is changed.
+-- Words of the replica held were loaded, no step was taken back, and nothing else is changed.
 pub record LoadsOnly {O : Type 0} (o : Ghosts O) (r : Running O) (held : Right) (before after : Seated) : Type 0 where
   pub still : IsHeldIn o r after held
   pub unchanged : Becomes (FitsIn o r before.known) (FitsIn o r after.known) ◌≡◌
   pub begun : HasPlace after.known.accesses
   pub within : IsWithinLimit after.known.local
+  pub since : StepsOn before after
   pub rest : beside_held held.replica after ≡ beside_held held.replica before
 
 -- the seat beside replay on the replica and the caller's protection

@@ -1,5 +1,5 @@
 -- The result of taking a replica, whichever is free.
-use Rattle.std.specs.Prelude.{◌≡◌, if◌then◌else◌, ℕ, [], Option, Some, None}
+use Rattle.std.specs.Prelude.{◌≡◌, ◌*◌, ◌<◌, if◌then◌else◌, ℕ, [], Option, Some, None}
 use Rattle.cx_base.specs.declared.object.Object.{Ghosts}
 use Rattle.cx_core.specs.LockEvents.{has_all, with_number}
 use Rattle.cx_core.specs.State.{one_more}
@@ -25,6 +25,12 @@ pub record MayTake {O : Type 0} (r : Running O) (seat : Seated) : Type 0 where
   pub of : IsSeatOf r seat
   pub free : all_rights seat ≡ no_rights
   pub refused : seat.known.local.refused ≡ []
+
+-- a caller of this table without rights, which may try one of the replicas exclusively
+pub record MayTry {O : Type 0} (r : Running O) (replica : ℕ) (seat : Seated) : Type 0 where
+  pub of : IsSeatOf r seat
+  pub free : all_rights seat ≡ no_rights
+  pub few : replica < 2 * r.callers
 
 -- a replica was just taken, which is the caller's only right
 pub record TakesOne {O : Type 0} (o : Ghosts O) (r : Running O) (before after : Seated) (held : Right) : Type 0 where

@@ -91,6 +91,13 @@ pub record KeepsSeat {O : Type 0} (r : Running O) (beside : Seated → Seated) (
   pub since : StepsOn before after
   pub rest : beside after ≡ beside before
 
+-- the same of a call that makes at most this many steps
+pub record KeepsIn {O : Type 0} (r : Running O) (beside : Seated → Seated) (n : ℕ) (before after : Seated) : Type 0 where
+  pub seat : IsSeatOf r after
+  pub since : StepsOn before after
+  pub rest : beside after ≡ beside before
+  pub steps : StepsBy n before after
+
 -- the same of a call that may raise the front
 pub record Turns {O : Type 0} (r : Running O) (beside : Seated → Seated) (before after : Seated) : Type 0 where
   pub seat : IsSeatOf r after
@@ -110,6 +117,11 @@ pub record TurnsIn {O : Type 0} (r : Running O) (beside : Seated → Seated) (n 
 pub record RisesIn {O : Type 0} (r : Running O) (beside : Seated → Seated) (before after : Seated) : Type 0 where
   pub turns : Turns r beside before after
   pub rises : before.known.local.seen_cur ≤ after.known.local.seen_cur
+
+-- the same of a call that may raise the front and loads CUR nowhere: the code that was seen of it stays
+pub record StaysIn {O : Type 0} (r : Running O) (beside : Seated → Seated) (before after : Seated) : Type 0 where
+  pub turns : Turns r beside before after
+  pub same : after.known.local.seen_cur ≡ before.known.local.seen_cur
 
 -- by how much what was seen of CUR rose: at least by one for each exchange that was lost
 abbrev pub cur_rises : Seated → Seated → ℕ

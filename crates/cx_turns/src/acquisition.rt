@@ -1,12 +1,9 @@
 //! A caller takes a replica exclusively, whichever nobody holds.
 
 ghost use Rattle.std.specs.Prelude.{◌*◌, ◌+◌, ◌<◌, ◌≡◌, ◌≤◌, MatchResult, OnOk};
-ghost use Rattle.cx_rule.specs.Running.{IsSeatOf};
 ghost use Rattle.cx_rule.specs.Seats.{IsAtLimit};
-ghost use Rattle.cx_turns.specs.Taking.{HaltsTaking, MayTake, TakesAny, TriesOne, beside_tries};
-ghost use Rattle.cx_turns.specs.Turns.{StepsOn};
-ghost use Rattle.mutation_queue.specs.Leaves.{LeavesSeatPart};
-ghost use Rattle.strong_trylock.specs.Held.{all_rights, no_rights};
+ghost use Rattle.cx_turns.specs.Taking.{HaltsTaking, MayTake, MayTry, TakesAny, TriesOne, beside_tries};
+ghost use Rattle.cx_turns.specs.Turns.{KeepsIn};
 ghost use Rattle.cx_rule.specs.Steps.{Halts};
 
 use cx_base::{Halt, Object};
@@ -23,8 +20,7 @@ pub fn take_any<O: Object>(
     requires ready { MayTake shared.now seat.old }
     ensures allowed { OnOk result (¬ IsAtLimit seat.old.known.local) }
     ensures taken { MatchResult result (TakesAny O.Object shared.now seat.old seat.new) (λ _. HaltsTaking seat.old seat.new) }
-    ensures leaves { LeavesSeatPart shared.now beside_tries (2 * shared.now.callers) seat.old seat.new }
-    ensures since { StepsOn seat.old seat.new }
+    ensures keeps { KeepsIn shared.now beside_tries (2 * shared.now.callers) seat.old seat.new }
 {
     let count = 2 * shared.callers();
     let first = 2 * seat.number();
@@ -52,13 +48,10 @@ fn try_one<O: Object>(
     seat: &mut CallerSeat,
     r: u32,
 ) -> Result<Option<Exclusive>, Halt>
-    requires seat { IsSeatOf shared.now seat.old }
-    requires free { all_rights seat.old ≡ no_rights }
-    requires few { r < 2 * shared.now.callers }
+    requires may { MayTry shared.now r seat.old }
     ensures allowed { OnOk result (¬ IsAtLimit seat.old.known.local) }
     ensures tried { MatchResult result (TriesOne O.Object shared.now r seat.old seat.new) (λ _. Halts shared.now seat.old seat.new) }
-    ensures leaves { LeavesSeatPart shared.now beside_tries 1 seat.old seat.new }
-    ensures since { StepsOn seat.old seat.new }
+    ensures keeps { KeepsIn shared.now beside_tries 1 seat.old seat.new }
 {
     // a running table is within its limits
     let _lines = shared.lines();

@@ -1,12 +1,11 @@
 //! A turn by which a caller takes the image of the current replica, while others go on. `Halt` comes only where no access is left.
 
-ghost use Rattle.std.specs.Prelude.{◌≡◌, IfOk, MatchResult, None, OnErr, length};
-ghost use Rattle.cx_rule.specs.Running.{IsSeatOf};
-ghost use Rattle.cx_rule.specs.Seats.{IsAtLimit, unanswered_ticket};
+ghost use Rattle.std.specs.Prelude.{◌≡◌, IfOk, MatchResult, OnErr, length};
+ghost use Rattle.cx_rule.specs.Seats.{IsAtLimit};
 ghost use Rattle.cx_rule.specs.Steps.{Halts};
 ghost use Rattle.cx_turns.specs.Checkpointing.{HaltsImage, IsAtCurrent, LoadsImage, LoadsSome, RaisesCurrent, TakesImage, TurnsTaking, beside_checkpoint};
-ghost use Rattle.cx_turns.specs.Answering.{MayLook};
-ghost use Rattle.cx_turns.specs.Turns.{RisesIn, Turns};
+ghost use Rattle.cx_turns.specs.Answering.{MayLook, MayRaiseCurrent};
+ghost use Rattle.cx_turns.specs.Turns.{RisesIn, StaysIn};
 ghost use Rattle.replica.specs.Held.{IsHeldSharedIn};
 
 use crate::current::take_current;
@@ -46,10 +45,8 @@ fn take_image<O: Object>(
 ) -> Result<u64, Halt>
     requires current { IsAtCurrent O.Object shared.now seat.old hold }
     requires words { length into.old ≡ length shared.now.base.words }
-    ensures taken { IfOk result (λ place. TakesImage O.Object shared.now into.new place seat.old seat.new) }
-    ensures halted { OnErr result (HaltsImage seat.old seat.new) }
-    ensures turns { Turns shared.now beside_checkpoint seat.old seat.new }
-    ensures same { seat.new.known.local.seen_cur ≡ seat.old.known.local.seen_cur }
+    ensures taken { MatchResult result (λ place. TakesImage O.Object shared.now into.new place seat.old seat.new) (λ _. HaltsImage seat.old seat.new) }
+    ensures turns { StaysIn shared.now beside_checkpoint seat.old seat.new }
     ensures length { length into.new ≡ length into.old }
 {
     load_image(shared, seat, &hold, into)?;
@@ -65,9 +62,7 @@ fn raise_current<O: Object>(
     seat: &mut CallerSeat,
     code: u64,
 ) -> Result<(), Halt>
-    requires seat { IsSeatOf shared.now seat.old }
-    requires code { code ≡ seat.old.known.local.seen_cur }
-    requires answered { unanswered_ticket seat.old.known.local ≡ None }
+    requires may { MayRaiseCurrent shared.now code seat.old }
     ensures raised { MatchResult result (λ _. RaisesCurrent O.Object shared.now code seat.old seat.new) (λ _. Halts shared.now seat.old seat.new) }
 {
     make_durable(shared, seat, code, None)

@@ -1,20 +1,15 @@
 //! The current replica is read beside the queue. `Halt` comes only where no access is left.
 
-ghost use Rattle.std.specs.Prelude.{◌*◌, ◌<◌, ◌^◌, ◌≡◌, IsTrue, MatchResult, None, Some, false, true};
-ghost use Rattle.cx_base.specs.Codes.{root_replica_of};
+ghost use Rattle.std.specs.Prelude.{◌*◌, ◌<◌, ◌^◌, ◌≡◌, IsTrue, MatchResult, None, Some};
 ghost use Rattle.cx_base.specs.Calls.{Finds};
 ghost use Rattle.cx_base.specs.Memory.{Always};
-ghost use Rattle.cx_core.specs.LockEvents.{CanTryShared};
 ghost use Rattle.cx_core.specs.Region.{object_part, region_words};
-ghost use Rattle.cx_core.specs.Rights.{exclusive_on, is_at};
-ghost use Rattle.cx_rule.specs.Running.{IsSeatOf};
 ghost use Rattle.cx_rule.specs.Seats.{IsAtLimit};
 ghost use Rattle.cx_rule.specs.Raises.{TellsRead};
-ghost use Rattle.cx_turns.specs.Keeping.{HoldsCurrent, TakesCurrent};
+ghost use Rattle.cx_turns.specs.Keeping.{HoldsCurrent, HoldsNamed, MayTakeCurrent, TakesCurrent};
 ghost use Rattle.cx_turns.specs.Reads.{HoldsPlace, IsReplyRead, MayReadReply, ReadsCurrent, beside_read};
-ghost use Rattle.cx_turns.specs.Turns.{HaltsTurn, KeepsSeat, StepsOn};
-ghost use Rattle.mutation_queue.specs.Leaves.{LeavesSeatPart};
-ghost use Rattle.replica.specs.Held.{IsHeldSharedIn, beside_shared};
+ghost use Rattle.cx_turns.specs.Turns.{HaltsTurn, KeepsIn, KeepsSeat};
+ghost use Rattle.replica.specs.Held.{beside_shared};
 ghost use Rattle.strong_trylock.specs.Held.{all_rights, no_rights};
 
 use cx_base::{Halt, Memory, Object, OpWords, root_place, root_replica};
@@ -63,8 +58,7 @@ pub fn query_held<O: Object>(
     requires reads { IsTrue (O.only_reads shared.now.object op.now) }
     ensures placed { HoldsPlace O.Object shared.now place seat.new held.now }
     ensures reply { MatchResult result (λ _. TellsRead (O.line_count shared.now.object) (O.lawful shared.now.object) shared.now.base (O.step shared.now.object) seat.new.known op.now reply.new) (λ _. IsAtLimit seat.new.known.local) }
-    ensures rest { beside_shared held.now.replica seat.new ≡ beside_shared held.now.replica seat.old }
-    ensures since { StepsOn seat.old seat.new }
+    ensures keeps { KeepsSeat shared.now (beside_shared held.now.replica) seat.old seat.new }
 {
     let object = shared.object();
     query_part(
@@ -123,12 +117,9 @@ pub(crate) fn take_current<O: Object>(
     shared: &Shared<O>,
     seat: &mut CallerSeat,
 ) -> Result<Option<SharedHold>, Halt>
-    requires seat { IsSeatOf shared.now seat.old }
-    requires free { CanTryShared shared.now.callers (root_replica_of shared.now.callers seat.old.known.local.seen_cur) seat.old.known.local }
-    requires fresh { seat.old.known.local.fresh ≡ true }
+    requires may { MayTakeCurrent shared.now seat.old }
     ensures taken { MatchResult result (TakesCurrent O.Object shared.now (all_rights seat.old) seat.old seat.new) (λ _. HaltsTurn seat.old seat.new) }
-    ensures leaves { LeavesSeatPart shared.now beside_read 3 seat.old seat.new }
-    ensures since { StepsOn seat.old seat.new }
+    ensures keeps { KeepsIn shared.now beside_read 3 seat.old seat.new }
 {
     // refusals are counted in a word
     let _met = seat.met();
@@ -147,13 +138,9 @@ fn test_place<O: Object>(
     seat: &mut CallerSeat,
     hold: SharedHold,
 ) -> Result<Option<SharedHold>, Halt>
-    requires held { IsHeldSharedIn O.Object shared.now seat.old hold }
-    requires here { hold.replica ≡ root_replica_of shared.now.callers seat.old.known.local.seen_cur }
-    requires apart { is_at hold.replica (exclusive_on seat.old.known.local) ≡ false }
-    requires fresh { seat.old.known.local.fresh ≡ true }
+    requires named { HoldsNamed O.Object shared.now seat.old hold }
     ensures taken { MatchResult result (TakesCurrent O.Object shared.now (record (all_rights seat.old) { shared = None }) seat.old seat.new) (λ _. HaltsTurn seat.old seat.new) }
-    ensures leaves { LeavesSeatPart shared.now beside_read 2 seat.old seat.new }
-    ensures since { StepsOn seat.old seat.new }
+    ensures keeps { KeepsIn shared.now beside_read 2 seat.old seat.new }
 {
     // refusals are counted in a word
     let _met = seat.met();

@@ -32,9 +32,9 @@
 //!   image more that the caller took, a lawful base at that code's place: `checkpoint_turn` (`turned`: `TurnsTaking`; `halted`, `turns`). It is
 //!   refused as a read's is, and where it halts no image is taken.
 //! - A turn for a read that is refused makes at most 4 steps: `read_turn` (`turned`: `TurnsLooking`). Of a turn for an entry each part outside
-//!   replay, copy and flush has a bound: `take_any` makes at most two tries for each caller (`leaves`), and what publishes, answers and retires makes
+//!   replay, copy and flush has a bound: `take_any` makes at most two tries for each caller (`keeps`), and what publishes, answers and retires makes
 //!   3 steps and one for each later code that was found (`hand_over`). What an object loads and stores is not counted.
-//! - No step is taken back, where the count is not at its end, whether a call halts or not: `since` of each, or of its `turns` or `keeps`
+//! - No step is taken back, where the count is not at its end, whether a call halts or not: `since` of its `turns` or `keeps`
 //!   (`StepsOn`). Where an object runs on a replica that is since the region keeps the count that it began with.
 //! - No refusal is taken back, whether a turn halts or not: `counted` of `HaltsTurn` and `HaltsFor`, and `met` of the others.
 #![tactic(auto)]

@@ -1,13 +1,12 @@
 //! A turn for a read beside the queue: the current replica is read, and DUR is raised by its code, by which the read is answered.
 
-ghost use Rattle.std.specs.Prelude.{◌≡◌, IfOk, IsTrue, MatchResult, None, OnErr, OnOk, Some};
+ghost use Rattle.std.specs.Prelude.{◌≡◌, IfOk, IsTrue, MatchResult, OnErr, Some};
 ghost use Rattle.cx_core.specs.RootEvents.{CanAnswer};
 ghost use Rattle.cx_rule.specs.Raises.{TellsRead};
 ghost use Rattle.cx_base.specs.Codes.{root_place_of};
-ghost use Rattle.cx_rule.specs.Running.{IsSeatOf, instance_at};
-ghost use Rattle.cx_rule.specs.Seats.{unanswered_ticket};
+ghost use Rattle.cx_rule.specs.Running.{instance_at};
 ghost use Rattle.cx_rule.specs.Steps.{Halts};
-ghost use Rattle.cx_turns.specs.Answering.{AnswersRead, AnswersReadBy, HaltsLookup, IsLookedUp, MayLook, TurnsLooking, beside_lookup};
+ghost use Rattle.cx_turns.specs.Answering.{AnswersRead, AnswersReadBy, HaltsLookup, IsLookedUp, MayLook, MayRaiseCurrent, TurnsLooking, beside_lookup};
 ghost use Rattle.cx_turns.specs.Turns.{RisesIn, TurnsIn};
 
 use crate::current::read_current;
@@ -58,8 +57,7 @@ fn settle_read<O: Object>(
 ) -> Result<(), Halt>
     requires read { IsLookedUp O.Object shared.now op.now reply.now seat.old hold }
     requires reads { IsTrue (O.only_reads shared.now.object op.now) }
-    ensures answered { OnOk result (AnswersRead seat.old.known.times.loaded op.now (root_place_of shared.now.callers seat.old.known.local.seen_cur) reply.now seat.old seat.new) }
-    ensures halted { OnErr result (HaltsLookup seat.old.known.times.loaded op.now seat.old seat.new) }
+    ensures answered { MatchResult result (λ _. AnswersRead seat.old.known.times.loaded op.now (root_place_of shared.now.callers seat.old.known.local.seen_cur) reply.now seat.old seat.new) (λ _. HaltsLookup seat.old.known.times.loaded op.now seat.old seat.new) }
     ensures turns { TurnsIn shared.now beside_lookup 2 seat.old seat.new }
     ensures same { seat.new.known.local.seen_cur ≡ seat.old.known.local.seen_cur }
 {
@@ -77,9 +75,7 @@ fn answer_read<O: Object>(
     op: &OpWords,
     reply: &OpWords,
 ) -> Result<(), Halt>
-    requires seat { IsSeatOf shared.now seat.old }
-    requires code { code ≡ seat.old.known.local.seen_cur }
-    requires answered { unanswered_ticket seat.old.known.local ≡ None }
+    requires may { MayRaiseCurrent shared.now code seat.old }
     requires guard { CanAnswer (instance_at shared.now O.step O.only_reads) code seat.old.known.local (Some op.now) }
     requires reply { TellsRead shared.now.lines (O.lawful shared.now.object) shared.now.base (O.step shared.now.object) seat.old.known op.now reply.now }
     ensures answered { MatchResult result (λ _. AnswersReadBy O.Object shared.now code op.now reply.now seat.old seat.new) (λ _. Halts shared.now seat.old seat.new) }

@@ -1,12 +1,11 @@
 //! A replica is made ready to be published.
 
-ghost use Rattle.std.specs.Prelude.{◌<◌, ◌≡◌, IfOk, MatchResult, OnOk};
+ghost use Rattle.std.specs.Prelude.{IfOk, MatchResult, OnOk};
 ghost use Rattle.cx_rule.specs.Seats.{IsAtLimit};
 ghost use Rattle.cx_turns.specs.Bringing.{CountsEntries, CountsIn};
-ghost use Rattle.cx_turns.specs.Keeping.{IsUnrefused, MayKeep, no_others, others};
+ghost use Rattle.cx_turns.specs.Keeping.{IsKeptFor, IsTakenFor};
 ghost use Rattle.cx_turns.specs.Preparing.{Prepares, TriesPrepare};
 ghost use Rattle.cx_turns.specs.Turns.{HaltsTurn, MayTurn, Turns, beside_prepare};
-ghost use Rattle.replica.specs.Laws.{IsTakenIn};
 
 use crate::acquisition::take_any;
 use crate::renewal::keep;
@@ -49,9 +48,7 @@ fn renew<O: Object>(
     scratch: &mut Scratch,
     reply: &mut OpWords,
 ) -> Result<Option<Downgraded>, Halt>
-    requires taken { IsTakenIn O.Object shared.now seat.old held }
-    requires alone { others seat.old.known.local ≡ no_others }
-    requires ready { MayKeep ticket seat.old }
+    requires taken { IsTakenFor O.Object shared.now ticket seat.old held }
     ensures prepared { MatchResult result (TriesPrepare O.Object shared.now ticket reply.new seat.old seat.new) (λ _. HaltsTurn seat.old seat.new) }
     ensures counted { IfOk result (CountsIn scratch.old.taken seat.old scratch.new.taken seat.new) }
     ensures turns { Turns shared.now beside_prepare seat.old seat.new }
@@ -72,8 +69,7 @@ fn finish<O: Object>(
     scratch: &mut Scratch,
     reply: &mut OpWords,
 ) -> Result<Downgraded, Halt>
-    requires kept { IsUnrefused O.Object shared.now ticket seat.old seat.old held }
-    requires linked { ticket < seat.old.known.local.front }
+    requires kept { IsKeptFor O.Object shared.now ticket seat.old held }
     ensures prepared { MatchResult result (Prepares O.Object shared.now ticket reply.new seat.old seat.new) (λ _. HaltsTurn seat.old seat.new) }
     ensures counted { OnOk result (CountsEntries scratch.old.taken seat.old scratch.new.taken seat.new) }
     ensures turns { Turns shared.now beside_prepare seat.old seat.new }

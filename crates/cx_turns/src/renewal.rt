@@ -2,17 +2,16 @@
 //! lines alone that changed where the ring of gaps tells them.
 //! `Halt` comes only where no access is left.
 
-ghost use Rattle.std.specs.Prelude.{◌<◌, ◌≡◌, MatchResult, false};
+ghost use Rattle.std.specs.Prelude.{◌<◌, ◌≡◌, MatchResult};
 ghost use Rattle.cx_core.specs.declared.local.Protection.TheVariants.{Unprotected};
 ghost use Rattle.cx_rule.specs.Running.{IsSeatOf};
 ghost use Rattle.cx_rule.specs.Seats.{IsAtLimit};
-ghost use Rattle.cx_turns.specs.Keeping.{Guards, HoldsSource, IsAtImage, MayKeep, SeesCurrentReplica, TriesKeep};
-ghost use Rattle.cx_turns.specs.Turns.{HaltsHolding, HaltsMeeting, IsAtRest, StepsOn, Turns, TurnsIn, beside_turn, unguarded};
-ghost use Rattle.mutation_queue.specs.Leaves.{LeavesSeatPart};
+ghost use Rattle.cx_turns.specs.Keeping.{Guards, HoldsSource, IsAtImage, MayCopyCurrent, MayGiveUp, MayGuard, MayKeep, SeesCurrentReplica, TriesKeep};
+ghost use Rattle.cx_turns.specs.Turns.{HaltsHolding, HaltsMeeting, IsAtRest, KeepsIn, Turns, TurnsIn, beside_turn, unguarded};
 ghost use Rattle.mutation_queue.specs.Protections.{but_protected};
 ghost use Rattle.cx_base.specs.Codes.{root_place_of};
 ghost use Rattle.replica.specs.Copies.{MayList};
-ghost use Rattle.replica.specs.Replays.{StoresNone, noted_place};
+ghost use Rattle.replica.specs.Replays.{StoresNone};
 ghost use Rattle.cx_rule.specs.Steps.{Halts};
 
 use crate::current::take_current;
@@ -47,12 +46,9 @@ pub fn keep<O: Object>(
 
 /// Protects the place of the replica held exclusively, where it is at most a ticket. It is false where that place is behind the ring.
 fn guard<O: Object>(shared: &Shared<O>, seat: &mut CallerSeat, ticket: u64) -> Result<bool, Halt>
-    requires seat { IsSeatOf shared.now seat.old }
-    requires none { seat.old.known.local.protection ≡ Unprotected }
-    requires linked { ticket < seat.old.known.local.front }
+    requires may { MayGuard shared.now ticket seat.old }
     ensures guarded { MatchResult result (Guards shared.now.callers ticket seat.old seat.new) (λ _. HaltsMeeting seat.old seat.new) }
-    ensures leaves { LeavesSeatPart shared.now but_protected 3 seat.old seat.new }
-    ensures since { StepsOn seat.old seat.new }
+    ensures keeps { KeepsIn shared.now but_protected 3 seat.old seat.new }
 {
     // tickets are few, and refusals are counted in a word
     let _front = seat.front();
@@ -74,11 +70,7 @@ fn copy_current<O: Object>(
     held: Exclusive,
     ticket: u64,
 ) -> Result<Option<Exclusive>, Halt>
-    requires held { IsAtImage O.Object shared.now seat.old held }
-    requires none { seat.old.known.local.protection ≡ Unprotected }
-    requires behind { noted_place seat.old < seat.old.known.local.seen_low }
-    requires unstored { StoresNone seat.old.known.accesses }
-    requires linked { ticket < seat.old.known.local.front }
+    requires may { MayCopyCurrent O.Object shared.now ticket seat.old held }
     ensures kept { MatchResult result (TriesKeep O.Object shared.now ticket seat.old seat.new) (λ _. HaltsHolding held.replica seat.old seat.new) }
     ensures turns { Turns shared.now beside_turn seat.old seat.new }
 {
@@ -141,9 +133,7 @@ fn give_up<O: Object>(
     seat: &mut CallerSeat,
     held: Exclusive,
 ) -> Result<(), Halt>
-    requires held { IsAtImage O.Object shared.now seat.old held }
-    requires none { seat.old.known.local.protection ≡ Unprotected }
-    requires stale { seat.old.known.local.fresh ≡ false }
+    requires may { MayGiveUp O.Object shared.now seat.old held }
     ensures ended { MatchResult result (λ _. IsAtRest seat.new.known.local) (λ _. HaltsHolding held.replica seat.old seat.new) }
     ensures met { seat.new.known.local.met ≡ seat.old.known.local.met }
     ensures turns { Turns shared.now beside_turn seat.old seat.new }
@@ -157,8 +147,7 @@ fn give_up<O: Object>(
 pub fn unguard<O: Object>(shared: &Shared<O>, seat: &mut CallerSeat) -> Result<(), Halt>
     requires seat { IsSeatOf shared.now seat.old }
     ensures removed { MatchResult result (λ _. seat.new.known.local.protection ≡ Unprotected) (λ _. IsAtLimit seat.new.known.local) }
-    ensures leaves { LeavesSeatPart shared.now unguarded 1 seat.old seat.new }
-    ensures since { StepsOn seat.old seat.new }
+    ensures keeps { KeepsIn shared.now unguarded 1 seat.old seat.new }
 {
     match seat.protection() {
         Protection::Unprotected => Ok(()),

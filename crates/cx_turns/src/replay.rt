@@ -1,15 +1,15 @@
 //! A replica held exclusively is brought up to a ticket by the entries of the queue.
 
-ghost use Rattle.std.specs.Prelude.{◌+◌, ◌<◌, ◌∷◌, ◌≡◌, ◌≤◌, IsTrue, MatchResult, OnOk, Some, true, ℕ};
+ghost use Rattle.std.specs.Prelude.{◌+◌, ◌<◌, ◌∷◌, ◌≡◌, ◌≤◌, MatchResult, OnOk, Some, true, ℕ};
 ghost use Rattle.cx_base.specs.Memory.{Reads};
 ghost use Rattle.cx_core.specs.Region.{slot_reply};
 ghost use Rattle.cx_core.specs.RingEvents.{Protects};
 ghost use Rattle.cx_rule.specs.Seats.{IsAtLimit};
 ghost use Rattle.cx_rule.specs.Stores.{FitsIn};
 ghost use Rattle.cx_turns.specs.Bringing.{CountsEntries};
-ghost use Rattle.cx_turns.specs.Keeping.{IsUnrefused};
-ghost use Rattle.cx_turns.specs.Replaying.{AppliesAnother, IsApplied, IsBroughtUp, IsReplayedPast, IsReplicaSettled, LoadsOnly, MayApply, ReadsNext, ReplaysAnother, beside_bringing, beside_replay, beside_work};
-ghost use Rattle.cx_turns.specs.Turns.{KeepsSeat, StepsOn};
+ghost use Rattle.cx_turns.specs.Keeping.{IsKeptFor};
+ghost use Rattle.cx_turns.specs.Replaying.{AppliesAnother, IsApplied, IsBroughtUp, IsReplayedPast, IsReplayedWith, IsReplicaSettled, LoadsOnly, MayApply, ReadsNext, ReplaysAnother, beside_bringing, beside_replay, beside_work};
+ghost use Rattle.cx_turns.specs.Turns.{KeepsSeat};
 ghost use Rattle.mutation_queue.specs.Entries.{MayReplay};
 ghost use Rattle.replica.specs.Held.{IsHeldIn, beside_held, left_of};
 ghost use Rattle.replica.specs.Regions.{HasPlace};
@@ -37,8 +37,7 @@ pub(crate) fn bring_up<O: Object>(
     scratch: &mut Scratch,
     reply: &mut OpWords,
 ) -> Result<(), Halt>
-    requires kept { IsUnrefused O.Object shared.now ticket seat.old seat.old held.now }
-    requires linked { ticket < seat.old.known.local.front }
+    requires kept { IsKeptFor O.Object shared.now ticket seat.old held.now }
     ensures brought { MatchResult result (λ _. IsBroughtUp O.Object shared.now held.now ticket seat.new reply.new) (λ _. IsAtLimit seat.new.known.local) }
     ensures counted { OnOk result (CountsEntries scratch.old.taken seat.old scratch.new.taken seat.new) }
     ensures keeps { KeepsSeat shared.now beside_bringing seat.old seat.new }
@@ -57,8 +56,7 @@ fn settle<O: Object>(
     replied: bool,
     reply: &mut OpWords,
 ) -> Result<(), Halt>
-    requires ready { IsReady O.Object shared.now held.now (noted_place seat.old) seat.old }
-    requires given { IsTrue replied → ShowsReplyIn O.Object shared.now seat.old.known seat.old.known.local.number reply.old }
+    requires may { IsReplayedWith O.Object shared.now held.now reply.old seat.old replied }
     ensures settled { MatchResult result (λ _. IsReplicaSettled O.Object shared.now held.now seat.old seat.new reply.new) (λ _. IsAtLimit seat.new.known.local) }
     ensures keeps { KeepsSeat shared.now beside_work seat.old seat.new }
 {
@@ -75,12 +73,10 @@ fn own_reply<O: Object>(
     replied: bool,
     reply: &mut OpWords,
 ) -> Result<(), Halt>
-    requires ready { IsReady O.Object shared.now held.now (noted_place seat.old) seat.old }
-    requires given { IsTrue replied → ShowsReplyIn O.Object shared.now seat.old.known seat.old.known.local.number reply.old }
+    requires may { IsReplayedWith O.Object shared.now held.now reply.old seat.old replied }
     ensures reply { MatchResult result (λ _. ShowsReplyIn O.Object shared.now seat.new.known seat.new.known.local.number reply.new) (λ _. IsAtLimit seat.new.known.local) }
     ensures ready { IsReady O.Object shared.now held.now (noted_place seat.old) seat.new }
-    ensures rest { beside_held held.now.replica seat.new ≡ beside_held held.now.replica seat.old }
-    ensures since { StepsOn seat.old seat.new }
+    ensures keeps { KeepsSeat shared.now (beside_held held.now.replica) seat.old seat.new }
 {
     if replied {
         return Ok(());
@@ -284,7 +280,6 @@ fn load_own<O: Object>(
     requires begun { HasPlace seat.old.known.accesses }
     ensures read { MatchResult result (λ _. Reads (FitsIn O.Object shared.now seat.old.known) (FitsIn O.Object shared.now seat.new.known) (λ region. slot_reply seat.old.known.local.number region ≡ reply.new)) (λ _. left_of seat.new.known.local ≡ Some 0) }
     ensures loads { LoadsOnly O.Object shared.now held.now seat.old seat.new }
-    ensures since { StepsOn seat.old seat.new }
 {
     // callers are few
     let _callers = shared.callers();

@@ -1,14 +1,13 @@
 //! A turn for the caller's linked entry: a replica is prepared, published and made durable, by which the entry is answered.
 
-ghost use Rattle.std.specs.Prelude.{◌+◌, ◌≡◌, IfOk, List, OnErr, OnOk, Some, ℕ};
+ghost use Rattle.std.specs.Prelude.{◌+◌, ◌≡◌, IfOk, List, MatchResult, OnErr, OnOk, Some, ℕ};
 ghost use Rattle.cx_rule.specs.Running.{IsSeatOf};
 ghost use Rattle.cx_rule.specs.Seats.{unanswered_ticket};
 ghost use Rattle.cx_rule.specs.Steps.{Halts};
 ghost use Rattle.cx_table.specs.Tokens.{IsDowngradedOf, IsWonOf};
 ghost use Rattle.cx_turns.specs.Answering.{AnswersBy, AnswersEntry, HaltsFor, HaltsWon, IsPublishedFor, IsReadyFor, TurnsUpdating, beside_hand_over, beside_settling, beside_update};
 ghost use Rattle.cx_turns.specs.Bringing.{CountsIn};
-ghost use Rattle.cx_turns.specs.Turns.{MayTurn, StepsOn, Turns, TurnsIn, cur_rises};
-ghost use Rattle.mutation_queue.specs.Leaves.{LeavesSeatPart};
+ghost use Rattle.cx_turns.specs.Turns.{KeepsIn, MayTurn, Turns, TurnsIn, cur_rises};
 ghost use Rattle.strong_trylock.specs.Held.{HasRight};
 
 use crate::preparation::prepare;
@@ -52,8 +51,7 @@ fn hand_over<O: Object>(
 ) -> Result<(), Halt>
     requires held { HasRight IsDowngradedOf shared.now seat.old held }
     requires ready { (ticket : ℕ) × (reply : List ℕ) × IsReadyFor O.Object shared.now ticket reply seat.old }
-    ensures answered { (ticket : ℕ) (reply : List ℕ) → IsReadyFor O.Object shared.now ticket reply seat.old → OnOk result (AnswersEntry 1 ticket reply seat.old seat.new) }
-    ensures halted { (ticket : ℕ) (reply : List ℕ) → IsReadyFor O.Object shared.now ticket reply seat.old → OnErr result (HaltsFor shared.now.callers ticket seat.old seat.new) }
+    ensures answered { (ticket : ℕ) (reply : List ℕ) → IsReadyFor O.Object shared.now ticket reply seat.old → MatchResult result (λ _. AnswersEntry 1 ticket reply seat.old seat.new) (λ _. HaltsFor shared.now.callers ticket seat.old seat.new) }
     ensures turns { TurnsIn shared.now beside_hand_over (3 + cur_rises seat.old seat.new) seat.old seat.new }
 {
     match publish(shared, seat, held)? {
@@ -67,10 +65,8 @@ fn settle_won<O: Object>(shared: &Shared<O>, seat: &mut CallerSeat, won: Won) ->
     requires seat { IsSeatOf shared.now seat.old }
     requires won { IsWonOf shared.now.callers seat.old won }
     requires published { (ticket : ℕ) × (reply : List ℕ) × IsPublishedFor O.Object shared.now won.code ticket reply seat.old }
-    ensures answered { (ticket : ℕ) (reply : List ℕ) → IsPublishedFor O.Object shared.now won.code ticket reply seat.old → OnOk result (AnswersEntry 0 ticket reply seat.old seat.new) }
-    ensures halted { (ticket : ℕ) (reply : List ℕ) → IsPublishedFor O.Object shared.now won.code ticket reply seat.old → OnErr result (HaltsWon ticket seat.old seat.new) }
-    ensures leaves { LeavesSeatPart shared.now beside_settling 2 seat.old seat.new }
-    ensures since { StepsOn seat.old seat.new }
+    ensures answered { (ticket : ℕ) (reply : List ℕ) → IsPublishedFor O.Object shared.now won.code ticket reply seat.old → MatchResult result (λ _. AnswersEntry 0 ticket reply seat.old seat.new) (λ _. HaltsWon ticket seat.old seat.new) }
+    ensures keeps { KeepsIn shared.now beside_settling 2 seat.old seat.new }
 {
     answer(shared, seat, won.code())?;
     retire(shared, seat, won)?;

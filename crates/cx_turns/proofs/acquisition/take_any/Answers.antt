@@ -13,10 +13,10 @@ loop-tried-preserved g c =
     let first = 2 * c.number-first.result in
     let w = c.wrapped-r.ensures in
     record {
-      of = e.leaves.of;
-      rest = e.leaves.rest ∙ i.rest;
-      steps = (let one = e.leaves.steps in omega (arith, one, i.steps));
-      since = on_then c.args.seat.now c.loop-tried.seat c.try_one.new.seat i.since e.since;
+      of = e.keeps.seat;
+      rest = e.keeps.rest ∙ i.rest;
+      steps = (let one = e.keeps.steps in omega (arith, one, i.steps));
+      since = on_then c.args.seat.now c.loop-tried.seat c.try_one.new.seat i.since e.keeps.since;
       refusing = refusing_more shared.callers first c.loop-tried.tried c.wrapped-r.result c.args.seat.now c.loop-tried.seat c.try_one.new.seat (omega arith) (omega arith) (record { below = λ low. w.below (omega arith); above = λ high. (let up = w.above (omega arith) in omega arith) }) i.refusing
           (subst (TriesOne g.O.Object shared c.wrapped-r.result c.loop-tried.seat c.try_one.new.seat) c.in_default.is e.tried);
       stood = λ at. absurd (e.allowed (subst (λ (s : Seated). IsAtLimit s.known.local) (sym (i.stood at).1) at));

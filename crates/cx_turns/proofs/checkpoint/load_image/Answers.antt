@@ -2,7 +2,8 @@ use Rattle.std.proofs.Common.{◌<◌, length, subst, sym, take, arith}
 use Rattle.std.proofs.lemmas.Result.{MatchResult-weaker}
 use Rattle.cx_rule.specs.Seats.{IsAtLimit}
 use Rattle.cx_turns.specs.Checkpointing.{LoadsImage}
-use Rattle.cx_turns.proofs.Images.{all_loaded, image_loaded, none_loaded, only_err, put_words, rest_length}
+use Rattle.cx_turns.proofs.Answered.{only_err}
+use Rattle.cx_turns.proofs.Images.{all_loaded, image_loaded, none_loaded, put_words, rest_length}
 use Rattle.cx_turns.proofs.checkpoint.load_image.Goals as goal
 
 pub returns-in_err-into-clause-loaded : goal.returns-in_err-into-clause-loaded

@@ -24,3 +24,6 @@ returns-clause-placed g c =
       loaded = subst (λ s. Contains (loaded_of s.known.local.shared) (0, c.args.place)) (sym same)
           (contains_loaded c.args.place (loaded_of m.seat.now.known.local.shared) (subst (λ o. IsTrue (has_loaded o (loaded_of m.seat.now.known.local.shared))) placed m.place));
     }
+
+pub returns-clause-keeps : goal.returns-clause-keeps
+returns-clause-keeps g c = record { seat = (returns-clause-placed g c).held.of; since = search rules; rest = search rules }

@@ -15,4 +15,4 @@ returns-clause-read g c =
     let t = c.args.shared.now in
     let at : c.root_place-place.result ≡ root_place_of t.callers c.args.seat.now.known.local.seen_cur = cc (c.root_place-place.ensures, c.callers.ensures.value, c.seen_cur.ensures) in
     let q = c.in_ok-query_held.ensures in
-    is_read g.O.Object t c.args.op.now c.args.hold c.query_held.new.reply c.args.seat.now c.query_held.new.seat c.root_place-place.result q.rest c.requires.current at q.placed q.reply
+    is_read g.O.Object t c.args.op.now c.args.hold c.query_held.new.reply c.args.seat.now c.query_held.new.seat c.root_place-place.result q.keeps.rest c.requires.current at q.placed q.reply

@@ -10,6 +10,6 @@ returns-clause-taken g c =
     let is = c.if-found-place.false ∙ at in
     let lines = g.O.Object.line_count t.object in
     let lawful = g.O.Object.lawful t.object in
-    let made = current_loads lines t g.O.Object.step g.O.Object.only_reads lawful c.args.hold c.in_ok-found.found c.args.seat.now c.load_word.new.seat c.replica.result c.replica.ensures is c.requires.held c.in_ok-found.ensures.made c.in_ok-found.ensures.fits in
-    is_current g.O.Object t c.args.hold c.in_ok-found.found c.args.seat.now c.load_word.new.seat made c.requires.here is c.requires.fresh
+    let made = current_loads lines t g.O.Object.step g.O.Object.only_reads lawful c.args.hold c.in_ok-found.found c.args.seat.now c.load_word.new.seat c.replica.result c.replica.ensures is c.requires.named.held c.in_ok-found.ensures.made c.in_ok-found.ensures.fits in
+    is_current g.O.Object t c.args.hold c.in_ok-found.found c.args.seat.now c.load_word.new.seat made c.requires.named.here is c.requires.named.fresh
     (current_loaded lines t g.O.Object.step g.O.Object.only_reads lawful c.args.hold c.in_ok-found.found c.args.seat.now c.load_word.new.seat made)

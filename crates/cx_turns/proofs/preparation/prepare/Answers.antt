@@ -7,17 +7,17 @@ use Rattle.cx_turns.proofs.preparation.prepare.Goals as goal
 
 pub returns-in-Some-clause-counted : goal.returns-in-Some-clause-counted
 returns-in-Some-clause-counted g c =
-    counts_before c.args.scratch.now.taken c.renew.new.scratch.taken c.args.seat.now c.take_any.new.seat c.renew.new.seat (ap (λ (s : Seated). s.known.sets) c.take_any.ensures.leaves.rest) c.renew.result c.renew.ensures.counted
+    counts_before c.args.scratch.now.taken c.renew.new.scratch.taken c.args.seat.now c.take_any.new.seat c.renew.new.seat (ap (λ (s : Seated). s.known.sets) c.take_any.ensures.keeps.rest) c.renew.result c.renew.ensures.counted
 
 pub returns-in-Some-clause-turns : goal.returns-in-Some-clause-turns
 returns-in-Some-clause-turns g c =
     let e = c.take_any.ensures in
     let f = c.renew.ensures.turns in
-    let front = ap (λ (s : Seated). s.known.local.front) e.leaves.rest in
+    let front = ap (λ (s : Seated). s.known.local.front) e.keeps.rest in
     let rose = f.front in
     record {
       seat = f.seat;
-      since = on_then c.args.seat.now c.take_any.new.seat c.renew.new.seat e.since f.since;
-      rest = f.rest ∙ ap beside_prepare e.leaves.rest;
+      since = on_then c.args.seat.now c.take_any.new.seat c.renew.new.seat e.keeps.since f.since;
+      rest = f.rest ∙ ap beside_prepare e.keeps.rest;
       front = omega (arith, front, rose);
     }

@@ -1,8 +1,7 @@
 use Rattle.std.proofs.Common.{arith, subst}
-use Rattle.std.proofs.lemmas.Result.{on_err_weaker, on_ok_weaker}
+use Rattle.std.proofs.lemmas.Result.{MatchResult-weaker}
 use Rattle.publish.specs.Publishing.{PassedBy, Publishes, WinsCur}
-use Rattle.cx_turns.proofs.Answered.{answered_later, passed_answers, passed_halted, passed_published, passed_turns, settled_turns, won_halted, won_published}
-use Rattle.cx_turns.proofs.Stepping.{on_answer}
+use Rattle.cx_turns.proofs.Answered.{answered_later, both_weaker, passed_answers, passed_halted, passed_published, passed_turns, settled_turns, won_halted, won_published}
 use Rattle.cx_turns.proofs.updates.hand_over.Goals as goal
 
 pub publish-requires : goal.publish-requires
@@ -31,20 +30,14 @@ returns-in-Won-clause-answered g c ticket reply ready =
     let e = c.publish.ensures.leaves in
     let p : WinsCur r.callers c.args.seat.now mid c.in-Won.won = subst (Publishes r.callers c.args.seat.now mid) c.in-Won.is c.in_ok-won.ensures.published in
     let published = won_published g.O.Object r ticket reply c.in-Won.won.code c.args.held.replica c.args.seat.now mid e.rest ready p.code c.requires.held.token.holds c.requires.held.token.few p.ended p.seen in
-    on_ok_weaker c.settle_won.result (answered_later ticket c.args.seat.now mid c.settle_won.new.seat e.rest e.counted e.most reply) (c.settle_won.ensures.answered ticket reply published)
-
-pub returns-in-Won-clause-halted : goal.returns-in-Won-clause-halted
-returns-in-Won-clause-halted g c ticket reply ready =
-    let r = c.args.shared.now in
-    let mid = c.publish.new.seat in
-    let e = c.publish.ensures.leaves in
-    let p : WinsCur r.callers c.args.seat.now mid c.in-Won.won = subst (Publishes r.callers c.args.seat.now mid) c.in-Won.is c.in_ok-won.ensures.published in
-    let published = won_published g.O.Object r ticket reply c.in-Won.won.code c.args.held.replica c.args.seat.now mid e.rest ready p.code c.requires.held.token.holds c.requires.held.token.few p.ended p.seen in
-    on_err_weaker c.settle_won.result (won_halted ticket c.args.seat.now mid c.settle_won.new.seat e.rest e.counted e.most r.callers _ p.token.holds) (c.settle_won.ensures.halted ticket reply published)
+    let last = c.settle_won.new.seat in
+    MatchResult-weaker c.settle_won.result (c.settle_won.ensures.answered ticket reply published)
+    (λ _. answered_later ticket c.args.seat.now mid last e.rest e.counted e.most reply)
+    (λ _. won_halted ticket c.args.seat.now mid last e.rest e.counted e.most r.callers _ p.token.holds)
 
 pub returns-in-Won-clause-turns : goal.returns-in-Won-clause-turns
 returns-in-Won-clause-turns g c =
-    settled_turns c.args.shared.now 2 c.args.seat.now c.publish.new.seat c.settle_won.new.seat (omega arith) c.publish.ensures.leaves c.settle_won.ensures.leaves c.settle_won.ensures.since
+    settled_turns c.args.shared.now 2 c.args.seat.now c.publish.new.seat c.settle_won.new.seat (omega arith) c.publish.ensures.leaves c.settle_won.ensures.keeps
 
 pub returns-in-Passed-clause-answered : goal.returns-in-Passed-clause-answered
 returns-in-Passed-clause-answered g c ticket reply ready =
@@ -53,16 +46,9 @@ returns-in-Passed-clause-answered g c ticket reply ready =
     let e = c.publish.ensures.leaves in
     let p : PassedBy r.callers c.in-Passed.found c.args.seat.now mid = subst (Publishes r.callers c.args.seat.now mid) c.in-Passed.is c.in_ok-won.ensures.published in
     let published = passed_published g.O.Object r ticket reply c.in-Passed.found c.args.seat.now mid e.rest ready p in
-    on_ok_weaker c.answer.result (passed_answers ticket c.args.seat.now mid c.answer.new.seat e.rest e.counted e.most g.O.Object r c.in-Passed.found reply published p.none) (c.answer.ensures.answered ticket reply published)
-
-pub returns-in-Passed-clause-halted : goal.returns-in-Passed-clause-halted
-returns-in-Passed-clause-halted g c ticket reply ready =
-    let r = c.args.shared.now in
-    let mid = c.publish.new.seat in
-    let e = c.publish.ensures.leaves in
-    let p : PassedBy r.callers c.in-Passed.found c.args.seat.now mid = subst (Publishes r.callers c.args.seat.now mid) c.in-Passed.is c.in_ok-won.ensures.published in
-    let published = passed_published g.O.Object r ticket reply c.in-Passed.found c.args.seat.now mid e.rest ready p in
-    on_err_weaker c.answer.result (passed_halted ticket c.args.seat.now mid c.answer.new.seat e.rest e.counted e.most g.O.Object r c.in-Passed.found reply published) c.answer.ensures.halted
+    let last = c.answer.new.seat in
+    both_weaker c.answer.result (passed_answers ticket c.args.seat.now mid last e.rest e.counted e.most g.O.Object r c.in-Passed.found reply published p.none)
+    (passed_halted ticket c.args.seat.now mid last e.rest e.counted e.most g.O.Object r c.in-Passed.found reply published) (c.answer.ensures.answered ticket reply published) c.answer.ensures.halted
 
 pub returns-in-Passed-clause-turns : goal.returns-in-Passed-clause-turns
 returns-in-Passed-clause-turns g c =
@@ -74,4 +60,3 @@ returns-in-Passed-clause-turns g c =
     let published = passed_published g.O.Object r ticket reply c.in-Passed.found c.args.seat.now mid e.rest ready p in
     let answered = c.answer.ensures.answered ticket reply published in
     passed_turns ticket c.args.seat.now mid c.answer.new.seat e.rest e.counted e.most g.O.Object r c.in-Passed.found reply c.answer.result e answered c.answer.ensures.halted
-    (on_answer g.O.Object r c.in-Passed.found ticket reply c.answer.result mid c.answer.new.seat answered c.answer.ensures.halted)

@@ -21,7 +21,7 @@ returns-in_err-hand_over-clause-halted g c =
     let e = c.in_ok-held.ensures in
     let p : Prepares g.O.Object r c.args.ticket c.prepare.new.reply c.args.seat.now mid c.in-Some.held = subst (TriesPrepare g.O.Object r c.args.ticket c.prepare.new.reply c.args.seat.now mid) c.in-Some.is e.prepared in
     let ready = prepared_ready g.O.Object r c.args.ticket c.prepare.new.reply c.args.seat.now mid c.in-Some.held e.turns.rest c.requires.ready.rest c.requires.last p in
-    if_any_err c.from_residual-in_err-hand_over.result (halted_turn c.args.ticket c.args.seat.now mid c.hand_over.new.seat e.turns.rest p.met r.callers (c.in_err-hand_over.ensures.halted c.args.ticket c.prepare.new.reply ready))
+    if_any_err c.from_residual-in_err-hand_over.result (halted_turn c.args.ticket c.args.seat.now mid c.hand_over.new.seat e.turns.rest p.met r.callers (c.in_err-hand_over.ensures.answered c.args.ticket c.prepare.new.reply ready))
 
 pub returns-clause-turned : goal.returns-clause-turned
 returns-clause-turned g c =

@@ -1,4 +1,4 @@
-use Rattle.std.proofs.Common.{false, ◌≡◌, ◌+◌, length, refl, ◌∙◌, subst, arith}
+use Rattle.std.proofs.Common.{false, ◌≡◌, ◌+◌, length, refl, sym, ◌∙◌, subst, arith}
 use Rattle.std.proofs.lemmas.List.{length-set}
 use Rattle.cx_core.proofs.LayoutLemmas.{vol_within}
 use Rattle.cx_rule.specs.Running.{IsRunning, instance_at}
@@ -44,7 +44,10 @@ loop-j-preserved g c =
       length = length-set c.loop-j.into i c.learned.result ∙ c.loop-j.invariant.length;
     }
 
-pub returns-clause-loaded : goal.returns-clause-loaded
-returns-clause-loaded g c = λ begun first.
+pub returns-clause-taught : goal.returns-clause-taught
+returns-clause-taught g c =
     let end : c.loop-j.j ≡ c.args.count = omega (arith, c.loop-j-test.false, c.loop-j.auto.j-end) in
-    subst (λ n. AreLoaded (instance_at c.args.self.now g.O.Object.step g.O.Object.only_reads) c.args.r c.args.from begun (c.args.at + n) c.loop-j.into c.loop-j.seat.me) end (c.loop-j.invariant.loaded begun first)
+    record {
+      table = c.loop-j.invariant.table ∙ sym c.requires.table;
+      taught = λ begun first. subst (λ n. AreLoaded (instance_at c.args.self.now g.O.Object.step g.O.Object.only_reads) c.args.r c.args.from begun (c.args.at + n) c.loop-j.into c.loop-j.seat.me) end (c.loop-j.invariant.loaded begun first);
+    }
