@@ -131,7 +131,8 @@ pub record MayKeep (ticket : ℕ) (seat : Seated) : Type 0 where
   pub stale : seat.known.local.fresh ≡ false
   pub linked : ticket < seat.known.local.front
 
--- a replica was just taken, and beside it the caller has no right and no scan, and nothing is refused
+-- A replica was just taken, before the entries up to a ticket are protected, which is linked. Beside it the caller has no right and no scan,
+-- and nothing is refused.
 pub record IsTakenFor {O : Type 0} (o : Ghosts O) (r : Running O) (ticket : ℕ) (seat : Seated) (held : Right) : Type 0 where
   pub taken : IsTakenIn o r seat held
   pub alone : others seat.known.local ≡ no_others
@@ -152,7 +153,7 @@ pub record MayCopyCurrent {O : Type 0} (o : Ghosts O) (r : Running O) (ticket : 
   pub unstored : StoresNone seat.known.accesses
   pub linked : ticket < seat.known.local.front
 
--- a replica held exclusively may be released by which the turn ends: no protection stands, and what was seen of CUR is not used again
+-- a replica held exclusively may be made durable and released, and the turn ends: no protection stands, and what was seen of CUR is not used again
 pub record MayGiveUp {O : Type 0} (o : Ghosts O) (r : Running O) (seat : Seated) (held : Right) : Type 0 where
   pub at_image : IsAtImage o r seat held
   pub none : seat.known.local.protection ≡ Unprotected

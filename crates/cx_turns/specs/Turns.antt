@@ -118,7 +118,7 @@ pub record RisesIn {O : Type 0} (r : Running O) (beside : Seated → Seated) (be
   pub turns : Turns r beside before after
   pub rises : before.known.local.seen_cur ≤ after.known.local.seen_cur
 
--- the same of a call that may raise the front and loads CUR nowhere: the code that was seen of it stays
+-- the same of a call that may raise the front and does not load CUR: the code that was seen of it stays
 pub record StaysIn {O : Type 0} (r : Running O) (beside : Seated → Seated) (before after : Seated) : Type 0 where
   pub turns : Turns r beside before after
   pub same : after.known.local.seen_cur ≡ before.known.local.seen_cur
