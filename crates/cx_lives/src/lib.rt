@@ -11,6 +11,7 @@
 #![tactic(auto)]
 
 mod calls;
+mod crash;
 mod gather;
 mod life;
 mod lived_laws;
@@ -20,5 +21,6 @@ mod start;
 mod work;
 mod workers;
 
+pub use crash::{Crashed, end_in_crash};
 pub use life::run_life;
-pub use lives::{Lived, run_lives, run_next_life};
+pub use lives::{Lived, first_base, run_lives, run_next_life};
