@@ -8,17 +8,25 @@
 //! A life of clients over a service of an object: each client's commands are made by a worker on a thread of its own, and
 //! what the workers note is put together as the record of the life. Lives of a script, one after another, each from what the crash
 //! before it left.
+//!
+//! Where clients share the callers of a service (`pool_lives`), a worker takes its client's commands from the script and notes their lines in the same
+//! way, so these parts are public: `command_at`, `words_of`, `Lines`, `note_entry`, `note_read`, `first_of`.
 #![tactic(auto)]
 
 mod calls;
 mod gather;
 mod life;
+mod lines;
 mod lived_laws;
 mod lives;
+mod operations;
 mod progress;
 mod start;
 mod work;
 mod workers;
 
+pub use operations::{command_at, words_of};
+pub use gather::first_of;
 pub use life::run_life;
+pub use lines::{Lines, note_entry, note_read};
 pub use lives::{Lived, run_lives, run_next_life};
