@@ -10,7 +10,7 @@ use Rattle.std.proofs.lemmas.Option.{get_or_from_slice_get, none-some, same_Some
 use Rattle.atomic_table.specs.Seated.{TableId}
 use Rattle.cx_core.proofs.Locals.{slice_get-last}
 use Rattle.cx_core.specs.declared.entry.Base.{Base}
-use Rattle.cx_lives.proofs.Lines.{all_at}
+use Rattle.cx_lives.proofs.Lists.{all_at}
 use Rattle.cx_rule.specs.Running.{Running}
 use Rattle.cx_rule.specs.Seats.{Seated}
 use Rattle.cx_service.specs.Callers.{IsCallerOf}
