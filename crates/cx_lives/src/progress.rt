@@ -7,8 +7,8 @@ ghost use Rattle.cx_lives.specs.Serving.{IsServed};
 ghost use Rattle.cx_lives.specs.Turns.{StopsIn, ended, turn_after};
 
 use crate::calls::ask;
-use crate::operations::words_of;
 use crate::lines::{Lines, note_entry, note_read};
+use crate::operations::words_of;
 use cx_base::OpWords;
 use cx_core::FullNote;
 use cx_service::{Caller, Handed, ReadDone, Service, Stopped};

@@ -8,8 +8,8 @@ ghost use Rattle.cx_lives.specs.Ends.{IsNewIn, IsWorkOf, full_in};
 ghost use Rattle.cx_lives.specs.Turns.{ended};
 ghost use Rattle.cx_lives.specs.Works.{IsFullLeft, IsClientLeft, ServedOf, stop_told, stops_left};
 
-use crate::operations::command_at;
 use crate::lines::Lines;
+use crate::operations::command_at;
 use crate::progress::{End, Progress, Turn, Work, make, over};
 use cx_base::Gate;
 use cx_service::{Caller, Service};
