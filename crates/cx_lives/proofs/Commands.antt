@@ -1,8 +1,9 @@
 -- A client's commands among the first ones of a life.
-use Rattle.std.proofs.Common.{◌≡◌, ◌≢◌, ℕ, ◌+◌, ◌<◌, ◌≤◌, ◌==◌, cond, List, [], ◌∷◌, ◌++◌, length, get_or, take, drop, map, filter, slice_get, Some, sym, ap, ◌∙◌, refl, arith, length-append, add-one}
+use Rattle.std.proofs.Common.{◌≡◌, ◌≢◌, ℕ, ◌+◌, ◌<◌, ◌≤◌, ◌==◌, cond, List, [], ◌∷◌, ◌++◌, length, get_or, take, drop, map, filter, slice_get, Some, sym, ap, subst, ◌∙◌, refl, arith, length-append, add-one}
 use Rattle.std.proofs.lemmas.Bool.{eq-eqb, ne_eqb}
 use Rattle.std.proofs.lemmas.List.{map-append, take_all, take_more, take-append-drop}
 use Rattle.std.proofs.lemmas.List.Elements.{filter-append}
+use Rattle.std.proofs.lemmas.Option.{get_or_from_slice_get, slice_get_within}
 use Rattle.life_records.specs.Records.{Command, Life}
 use Rattle.life_records.specs.Scripts.{named_op, own_ops}
 
@@ -51,13 +52,16 @@ module _ {Op : Type 0} where
       rw add-one (ap (λ (ops : List Op). slice_get ops number) parts ∙ ap (λ n. slice_get ((front ++ command.op ∷ []) ++ rest) n) e ∙ get_middle front command.op rest)
 
 -- what a loop over a life's commands knows of the one that it is at
-module _ {Op : Type 0} (life : Life Op) (items : List (Command Op)) (same : items ≡ life.commands) (i : ℕ) (command : Command Op) (within : i < length items) (at : command ≡ get_or items i command)
+module _ {Op : Type 0} (life : Life Op) (items : List (Command Op)) (same : items ≡ life.commands) (i : ℕ) (command : Command Op) (is_at : slice_get items i ≡ Some command)
     (me number : ℕ) (count : number ≡ length (own_ops me (take i life.commands))) where
+  at : slice_get life.commands i ≡ Some command
+  at = subst (λ (all : List (Command Op)). slice_get all i ≡ Some command) same is_at
+
   here : i < length life.commands
-  here = omega (arith, within, ap length same)
+  here = slice_get_within life.commands i command at
 
   there : command ≡ get_or life.commands i command
-  there = at ∙ ap (λ (all : List (Command Op)). get_or all i command) same
+  there = sym (get_or_from_slice_get life.commands i command command at)
 
   pub named_here : command.client ≡ me → named_op life command.client (number + 1) ≡ Some command.op
   named_here own = named_next life i number command here there (count ∙ ap (λ (client : ℕ). length (own_ops client (take i life.commands))) (sym own))

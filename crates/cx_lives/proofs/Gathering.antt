@@ -1,6 +1,6 @@
 -- One client's work more among all.
 use Rattle.std.proofs.Common.{◌≡◌, ℕ, zero, suc, ◌+◌, Bool, true, false, ◌||◌, List, [], ◌∷◌, ◌++◌, length, get_or, drop, map, slice_get, Option, None, Some, sym, ap, subst, ◌∙◌, refl, inl, inr, arith}
-use Rattle.std.specs.Prelude.{MatchBool, Result, IfOk}
+use Rattle.std.specs.Prelude.{MatchBool, Result, IfOk, Ok}
 use Rattle.std.specs.List.{range_with_len}
 use Rattle.std.specs.Option.{option_to_list}
 use Rattle.std.specs.declared.alloc.AllocError.{AllocError}
@@ -22,8 +22,7 @@ use Rattle.cx_lives.specs.declared.progress.End.TheVariants.{Whole, Stopped, Ful
 use Rattle.cx_lives.specs.declared.progress.Work.{Work}
 use Rattle.cx_lives.specs.declared.gather.Gathered.{Gathered}
 use Rattle.cx_lives.specs.Ends.{CannotBe, IsEndOf, IsWorkOf, full_in, stop_in}
-use Rattle.cx_lives.specs.Works.{AreNumbered, AreWorksOf, ServedOf}
-use Rattle.cx_lives.specs.declared.work.Served.{Served}
+use Rattle.cx_lives.specs.Works.{AreResultsFrom, AreResultsOf}
 use Rattle.cx_lives.specs.Gathering.{AddsWork, AreGathered, HasNever, IsLocalIn, is_never}
 
 abbrev number : Seated → ℕ
@@ -34,6 +33,12 @@ range_more a zero = (let same : a ≡ a + 0 = omega arith in ap (λ k. k ∷ [])
 range_more a (suc n) =
     let same : a + 1 + n ≡ a + suc n = omega arith in
     ap (λ ks. a ∷ ks) (range_more (a + 1) n ∙ ap (λ k. range_with_len (a + 1) n ++ k ∷ []) same)
+
+-- the numbers of the first ones in order, and of one more
+pub numbers_more : {X : Type 0} (number_of : X → ℕ) (xs : List X) (x : X) (ys : List X) (n : ℕ) → ys ≡ xs ++ x ∷ [] → map number_of xs ≡ range_with_len 0 n → number_of x ≡ n → map number_of ys ≡ range_with_len 0 (suc n)
+numbers_more number_of xs x ys n are numbers last =
+    let here : number_of x ≡ 0 + n = omega arith in
+    ap (map number_of) are ∙ map-append number_of xs (x ∷ []) ∙ ap (λ ks. ks ++ number_of x ∷ []) numbers ∙ ap (λ k. range_with_len 0 n ++ k ∷ []) here ∙ sym (range_more 0 n)
 
 -- the local states of callers as they were handed in
 abbrev pub locals_in : List Handed → List Local
@@ -85,14 +90,13 @@ gathered_more m life r before after work go_on g adds w =
     let locals : locals_in after.handed.items ≡ ls ++ l ∷ [] = ap locals_in adds.handed ∙ locals_more hs work.handed in
     let long : length ls ≡ n = locals_long hs in
     let longer : length after.handed.items ≡ suc n = omega (arith, ap length adds.handed, length-append hs (work.handed ∷ [])) in
-    let last : number s ≡ 0 + n = w.caller.by ∙ omega arith in
     let own : IsLocalIn life n l = record { limit = w.caller.limit; few = w.caller.few } in
     let at_long = subst (λ k. IsEndOf m life k l work.lines.entries.items work.lines.reads.items work.end) (sym long) w.ends in
     let more = works_more m life ls l before.lines.entries.items work.lines.entries.items before.lines.reads.items work.lines.reads.items before.ends.stops.items before.ends.fulls.items
     (λ stop full. go_on ls l before.lines.entries.items work.lines.entries.items before.lines.reads.items work.lines.reads.items before.ends.stops.items stop before.ends.fulls.items full) before.ends.never work.end g.works at_long in
     record {
       of = rw seats (All-push (IsSeatOf r) (seats_of hs) s g.of w.caller.of);
-      numbers = ap (map number) seats ∙ map-append number (seats_of hs) (s ∷ []) ∙ ap (λ ks. ks ++ number s ∷ []) g.numbers ∙ ap (λ k. range_with_len 0 n ++ k ∷ []) last ∙ sym (range_more 0 n) ∙ ap (range_with_len 0) (sym longer);
+      numbers = numbers_more number (seats_of hs) s (seats_of after.handed.items) n seats g.numbers w.caller.by ∙ ap (range_with_len 0) (sym longer);
       each = λ i x at. elim (slice_get-push ls l i x (ap (λ xs. slice_get xs i) (sym locals) ∙ at)) [
         | inl there ↦ g.each i x there
         | inr new ↦ subst (IsLocalIn life i) new.1 (subst (λ k. IsLocalIn life k l) (sym (new.0 ∙ long)) own)
@@ -100,16 +104,20 @@ gathered_more m life r before after work go_on g adds w =
       works = rw (locals, adds.entries, adds.reads, adds.stops, adds.fulls, adds.never) more;
     }
 
--- the works of callers from one on, by the callers' numbers
-pub numbered : {O Op Reply Store : Type 0} (m : Meaning Op Reply Store) (life : Life Op) (r : Running O) (k : ℕ) (callers : List Seated) (works : List (Result (Served Reply) AllocError)) → length works ≡ length callers → map number callers ≡ range_with_len k (length callers)
-    → AreWorksOf m life r callers works → AreNumbered m life r k works
-numbered m life r k [] [] long numbers each = tt
-numbered m life r k (s ∷ cs) (w ∷ ws) long numbers each =
-    let first : number s ≡ k = ap (λ (xs : List ℕ). get_or xs 0 0) numbers in (
-      subst (λ i. IfOk w (ServedOf m life r i)) first (each 0 w s (omega arith)),
-      numbered m life r (k + 1) cs ws (omega (arith, long)) (ap (λ (xs : List ℕ). drop 1 xs) numbers) (λ i d e within. each (suc i) d e (omega (arith, within))),
+-- the results of workers from one on, by their numbers
+pub numbered : {Worker Done : Type 0} (IsOf : ℕ → Done → Type 0) (number_of : Worker → ℕ) (k : ℕ) (workers : List Worker) (works : List (Result Done AllocError)) → length works ≡ length workers → map number_of workers ≡ range_with_len k (length workers)
+    → AreResultsOf (λ (w : Worker). IsOf (number_of w)) workers works → AreResultsFrom IsOf k works
+numbered IsOf number_of k [] [] long numbers each = tt
+numbered IsOf number_of k (w ∷ ws) (d ∷ ds) long numbers each =
+    let first : number_of w ≡ k = ap (λ (xs : List ℕ). get_or xs 0 0) numbers in (
+      subst (λ i. IfOk d (IsOf i)) first (each 0 d w (omega arith)),
+      numbered IsOf number_of (k + 1) ws ds (omega (arith, long)) (ap (λ (xs : List ℕ). drop 1 xs) numbers) (λ i d e within. each (suc i) d e (omega (arith, within))),
     )
-numbered m life r k _ _ long numbers each = absurd (omega (arith, long))
+numbered IsOf number_of k _ _ long numbers each = absurd (omega (arith, long))
+
+-- the first of them, which found memory, and the others
+pub first_result : {Done : Type 0} (IsOf : ℕ → Done → Type 0) (k : ℕ) (works left : List (Result Done AllocError)) (first : Result Done AllocError) (done : Done) → works ≡ first ∷ left → first ≡ Ok done → AreResultsFrom IsOf k works → IsOf k done × AreResultsFrom IsOf (k + 1) left
+first_result {Done} IsOf k works left first done is was all = subst (AreResultsFrom IsOf k) (is ∙ ap (λ (w : Result Done AllocError). w ∷ left) was) all
 
 -- as many seats as callers
 pub seats_long : {O : Type 0} (r : Running O) (seats : List Seated) → AreSeats r seats → length seats ≡ r.callers

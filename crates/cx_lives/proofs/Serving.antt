@@ -21,7 +21,7 @@ use Rattle.life_records.specs.Scripts.{limit_in, named_op, own_ops}
 use Rattle.life_records.specs.Records.{FullLine, JournalLine, Life, Meaning, ReadLine, StopLine}
 use Rattle.cx_lives.specs.Calls.{LinksEntryAt, one_read}
 use Rattle.cx_lives.specs.Serving.{HasServed, IsAnsweredEntry, IsAnsweredLine}
-use Rattle.cx_lives.proofs.Lines.{all_at, count_no, count_none, count_yes, zip_also, zip_with}
+use Rattle.cx_lives.proofs.Lists.{all_at, count_no, count_none, count_yes, zip_also, zip_with}
 
 -- a reply stays where it is while more is answered
 reply_stays : {Op Reply Store : Type 0} → (m : Meaning Op Reply Store) → (answered more : List Answer) (ticket : ℕ) (reply : Option Reply) → IsSome reply → IsReplyAt m.encoding answered ticket reply → IsReplyAt m.encoding (answered ++ more) ticket reply

@@ -1,6 +1,6 @@
 -- What a command comes to, from what its operation came to.
-use Rattle.std.proofs.Common.{◌≡◌, ℕ, ◌+◌, ◌-◌, ◌≤◌, List, [], ◌∷◌, length, Option, None, Some, sym, ap, subst, ◌∙◌, refl, inl, inr, arith}
-use Rattle.std.specs.Prelude.{Contains, IfOk, Result, Ok, Err}
+use Rattle.std.proofs.Common.{◌≡◌, ℕ, ◌+◌, ◌-◌, ◌≤◌, Bool, true, false, List, [], ◌∷◌, length, Option, None, Some, sym, ap, subst, ◌∙◌, refl, inl, inr, arith}
+use Rattle.std.specs.Prelude.{Contains}
 use Rattle.std.proofs.lemmas.List.Elements.{Contains-push}
 use Rattle.std.proofs.lemmas.List.{length-append}
 use Rattle.cx_core.specs.declared.local.Answer.{Answer}
@@ -15,21 +15,16 @@ use Rattle.life_records.specs.Scripts.{named_op, own_ops}
 use Rattle.life_records.specs.Records.{FullLine, OpHasWords, JournalLine, Life, Meaning, ReadLine}
 use Rattle.life_records.specs.Works.{IsFullOf, IsWork}
 use Rattle.cx_lives.specs.declared.progress.Progress.{Progress}
-use Rattle.cx_lives.specs.declared.progress.End.TheVariants.{Whole, Full, Never}
-use Rattle.cx_lives.specs.declared.progress.Lines.{Lines}
-use Rattle.cx_lives.specs.declared.progress.Turn.{Turn}
-use Rattle.cx_lives.specs.declared.progress.Turn.TheVariants.{Next, Over, Full as FullTurn}
+use Rattle.cx_lives.specs.declared.progress.End.TheVariants.{Whole, Full}
+use Rattle.cx_lives.specs.declared.lines.Lines.{Lines}
+use Rattle.cx_lives.specs.declared.progress.Turn.TheVariants.{Over, Full as FullTurn}
 use Rattle.cx_lives.specs.declared.progress.Work.{Work}
 use Rattle.cx_lives.specs.Calls.{AsksDone, AsksFull, AsksRead, AsksWorn, HaltsCall, LinksEntryAt}
 use Rattle.cx_lives.specs.Ends.{CannotBe, IsCallerIn, IsKeptOut, IsNewIn, IsWorkOf, Turned, full_in}
 use Rattle.cx_lives.specs.Serving.{HasServed, IsServed}
-use Rattle.cx_lives.specs.Turns.{EntryTurn, ReadTurn, StopsIn, ended, stop_line, with_linked}
+use Rattle.cx_lives.specs.Lines.{AddsClientEntry, AddsClientRead}
+use Rattle.cx_lives.specs.Turns.{StopsIn, ended, stop_line, turn_after, with_linked}
 use Rattle.cx_lives.proofs.Serving.{few_own, is_given_up, is_whole, named_within, serves_entry, serves_none, serves_read, serves_still, stops_beside, stops_linked}
-
--- what holds of what came out
-pub if_ok : {T E : Type 0} (P Q : T → Type 0) → ((t : T) → P t → Q t) → (result : Result T E) → IfOk result P → IfOk result Q
-if_ok P Q f (Ok t) p = f t p
-if_ok P Q f (Err e) p = tt
 
 module _ {O Op Reply Store : Type 0} (m : Meaning Op Reply Store) (life : Life Op) (r : Running O) (client n number : ℕ) (before : Seated) (lines : Lines Reply) (s : HasServed m life client n before.known.local lines.entries.items lines.reads.items) (next : number ≡ n + 1)
     (op : Op) (ws : List ℕ) (are : ws ≡ m.encoding.op_words op) (named : named_op life client number ≡ Some op) (limits : m.is_op op) (value : m.is_op_value op) where
@@ -64,38 +59,36 @@ module _ {O Op Reply Store : Type 0} (m : Meaning Op Reply Store) (life : Life O
   }
 
   -- the caller has what none can have
-  never_turned : (after : Seated) (work : Work Reply) → IsCallerIn life r client after → CannotBe m life client after.known.local → work ≡ ended (record { caller = after; lines = lines }) Never → Turned m life r client number (Over work)
-  never_turned after work caller cannot is = subst (λ (w : Work Reply). Turned m life r client number (Over w)) (sym is) (record { caller = caller; ends = cannot }, refl)
+  never_turned : (after : Seated) (new : Lines Reply) → IsCallerIn life r client after → CannotBe m life client after.known.local → Turned m life r client number (turn_after (record { caller = after; lines = new }) false)
+  never_turned after new caller cannot = (record { caller = caller; ends = cannot }, refl)
 
   -- the entry was answered
-  pub entry_turned : (after : Seated) (answer : Answer) (turn : Turn Reply) → AsksDone r ws before after answer → EntryTurn m client number answer (record { caller = after; lines = lines }) turn → Turned m life r client number turn
-  entry_turned after answer (Next progress) a turned = record {
-    caller = rw turned.caller a.caller;
-    lists = rw turned.caller (serves_entry m life client n l es rs s number next op ws are named after.known.local progress.lines.entries.items progress.lines.reads.items answer turned.reply a.links a.answered turned.words turned.entries turned.reads);
+  pub entry_turned : (after : Seated) (new : Lines Reply) (answer : Answer) (is_reply : Bool) → AsksDone r ws before after answer → AddsClientEntry m client number answer lines new is_reply → Turned m life r client number (turn_after (record { caller = after; lines = new }) is_reply)
+  entry_turned after new answer true a notes = record {
+    caller = a.caller;
+    lists = serves_entry m life client n l es rs s number next op ws are named after.known.local new.entries.items new.reads.items answer notes.reply a.links a.answered notes.words notes.entries_are notes.reads_are;
   }
-  entry_turned after answer (FullTurn progress note) a turned = absurd turned
-  entry_turned after answer (Over work) a turned =
+  entry_turned after new answer false a bad =
       let told : Contains after.known.local.answered answer = rw a.answered (Contains-push l.answered answer) in
       let own : Contains after.known.local.own a.links.entry = rw a.links.own (Contains-push l.own a.links.entry) in
-      never_turned after work (linked_in after answer.ticket a.caller.of a.links)
-      (inr (inl (record { answer = answer; there = told; entry = a.links.entry; linked = own; at = a.links.at; op = op; is = is_op a.links.entry.entry.op a.links.op_is; bad = turned.1 }))) turned.0
+      never_turned after new (linked_in after answer.ticket a.caller.of a.links)
+      (inr (inl (record { answer = answer; there = told; entry = a.links.entry; linked = own; at = a.links.at; op = op; is = is_op a.links.entry.entry.op a.links.op_is; bad = bad.1 })))
 
   -- the read was answered
-  pub read_turned : length l.own ≡ length l.answered → (after : Seated) (seen : Seen) (turn : Turn Reply) → AsksRead r ws before after seen → ReadTurn m client number seen (record { caller = after; lines = lines }) turn → Turned m life r client number turn
-  read_turned even after seen (Next progress) a turned = record {
-    caller = rw turned.caller a.caller;
-    lists = rw turned.caller (serves_read m life client n l es rs s number next op ws are named even seen turned.reply turned.words after.known.local progress.lines.entries.items progress.lines.reads.items a.number a.limit a.own a.answered a.reads turned.entries turned.reads);
+  pub read_turned : length l.own ≡ length l.answered → (after : Seated) (new : Lines Reply) (seen : Seen) (is_reply : Bool) → AsksRead r ws before after seen → AddsClientRead m client number seen lines new is_reply → Turned m life r client number (turn_after (record { caller = after; lines = new }) is_reply)
+  read_turned even after new seen true a notes = record {
+    caller = a.caller;
+    lists = serves_read m life client n l es rs s number next op ws are named even seen notes.reply notes.words after.known.local new.entries.items new.reads.items a.number a.limit a.own a.answered a.reads notes.entries_are notes.reads_are;
   }
-  read_turned even after seen (FullTurn progress note) a turned = absurd turned
-  read_turned even after seen (Over work) a turned =
+  read_turned even after new seen false a bad =
       let x : SeenRead = record { place = seen.place; op = ws; reply = seen.reply; before = length l.answered } in
       let told : Contains after.known.local.seen_reads x = rw a.reads (Contains-push l.seen_reads x) in
-      never_turned after work (still_in after a.caller.of a.number a.limit a.own) (inr (inr (record { read = x; there = told; op = op; is = is_op ws refl; bad = turned.1 }))) turned.0
+      never_turned after new (still_in after a.caller.of a.number a.limit a.own) (inr (inr (record { read = x; there = told; op = op; is = is_op ws refl; bad = bad.1 })))
 
   -- there was no further ticket
-  pub worn_turned : (after : Seated) (work : Work Reply) → AsksWorn r before after → work ≡ ended (record { caller = after; lines = lines }) Never → Turned m life r client number (Over work)
-  worn_turned after work a is =
-      never_turned after work (still_in after a.caller.of a.keeps.number a.keeps.limit a.keeps.own) (inl (record { front = a.front; fewer = omega (arith, ap length a.keeps.own, few_before, within) })) is
+  pub worn_turned : (after : Seated) → AsksWorn r before after → Turned m life r client number (turn_after (record { caller = after; lines = lines }) false)
+  worn_turned after a =
+      never_turned after lines (still_in after a.caller.of a.keeps.number a.keeps.limit a.keeps.own) (inl (record { front = a.front; fewer = omega (arith, ap length a.keeps.own, few_before, within) }))
 
   -- another caller keeps the cells, and nothing was answered
   pub full_turned : (most : Option ℕ) (after : Seated) (note : FullNote) → AsksFull r most before after note → Turned m life r client number (FullTurn (record { caller = after; lines = lines }) note)

@@ -1,5 +1,6 @@
 -- The result of a life that is run.
 use Rattle.std.specs.Prelude.{◌≡◌, ◌+◌, ◌^◌, ◌≤◌, ℕ, Bool, List, length, All}
+use Rattle.cx_core.specs.declared.entry.Base.{Base}
 use Rattle.cx_rule.specs.Running.{Running, instance_at}
 use Rattle.cx_rule.specs.Seats.{Seated}
 use Rattle.cx_table.specs.Remains.{AreSeats, Leaves}
@@ -10,6 +11,13 @@ use Rattle.life_records.specs.Limits.{IsLifeInLimits}
 use Rattle.life_records.specs.Records.{Life, LifeRecord, Meaning}
 use Rattle.cx_service.specs.ClosedOrder.{IsClosedLinearizable}
 use Rattle.cx_lives.specs.Ends.{IsNewIn}
+
+-- a service of this object with this many callers, which opened from this base
+pub record IsServiceOf {O : Type 0} (object : O) (lines callers : ℕ) (base : Base) (service : Running O) : Type 0 where
+  pub callers_are : service.callers ≡ callers
+  pub lines_are : service.lines ≡ lines
+  pub from : service.base ≡ base
+  pub same : service.object ≡ object
 
 -- A life that may be run on a service by these callers: item i is caller i, with client i's limit and no call made, and there are
 -- all; the life is within its limits, and as many tickets are left as it has commands.

@@ -6,7 +6,6 @@ use Rattle.cx_base.specs.declared.object.Object.{Ghosts}
 use Rattle.cx_core.specs.Base.{LawfulBase}
 use Rattle.cx_core.specs.declared.entry.Base.{Base}
 use Rattle.cx_core.specs.declared.entry.Image.{Image}
-use Rattle.cx_core.specs.Region.{object_part}
 use Rattle.cx_rule.specs.Ending.{Ending}
 use Rattle.cx_rule.specs.Running.{Running}
 use Rattle.cx_rule.specs.Seats.{Seated}
@@ -26,6 +25,8 @@ use Rattle.recovery.specs.Images.{IsReadable}
 use Rattle.recovery.specs.Recovery.{IsRecovered}
 use Rattle.typed_object.specs.Meaning.{HasMeaning}
 use Rattle.cx_service.specs.ClosedOrder.{IsClosedLinearizable}
+use Rattle.cx_lives.specs.Crash.{EndsInCrash}
+use Rattle.cx_lives.specs.declared.crash.Crashed.{Crashed}
 use Rattle.cx_lives.specs.declared.lives.Lived.{Lived}
 use Rattle.cx_lives.specs.declared.lives.Ran.{Ran}
 
@@ -63,13 +64,6 @@ pub record CanBegin {Op Reply Store : Type 0} (m : Meaning Op Reply Store) (line
 abbrev pub CanBeginOver : {O Op Reply Store : Type 0} → Ghosts O → O → Meaning Op Reply Store → Life Op → Base → Type 0
 CanBeginOver o object m = CanBegin m (o.line_count object) (o.lawful object)
 
--- the service of a life, which opened from this base
-pub record IsServiceOf {O Op : Type 0} (object : O) (lines : ℕ) (base : Base) (life : Life Op) (service : Running O) : Type 0 where
-  pub callers : service.callers ≡ life.clients
-  pub has_lines : service.lines ≡ lines
-  pub from : service.base ≡ base
-  pub same : service.object ≡ object
-
 -- the record with these numbers of entries kept and of items, in which a stop line says kept exactly where its command has an
 -- entry that is kept
 pub record HasFlags {Reply : Type 0} (told : LifeRecord Reply) (kept items : ℕ) (flagged : LifeRecord Reply) : Type 0 where
@@ -79,23 +73,14 @@ pub record HasFlags {Reply : Type 0} (told : LifeRecord Reply) (kept items : ℕ
   pub kept_is : flagged.kept ≡ kept
   pub items_are : flagged.items ≡ items
 
--- What is left of a life by its choice where it crashes, what is recovered, and the record with what was kept.
-pub record HasLost {Op Reply Store : Type 0} (m : Meaning Op Reply Store) (lines version : ℕ) (is_lawful : List ℕ → Type 0) (life : Life Op) (told : LifeRecord Reply)
-    (remains : Remains) (image : Image) (next : Base) (flagged : LifeRecord Reply) : Type 0 where
-  pub enough : 64 ≤ lines
-  pub few : lines ≤ 16384
+-- A life that ran from a base ended in a crash by its choice, and the record says what was kept.
+pub record HasLost {O Op Reply Store : Type 0} (o : Ghosts O) (m : Meaning Op Reply Store) (object : O) (base : Base) (life : Life Op) (told : LifeRecord Reply)
+    (remains : Remains) (crashed : Crashed) (flagged : LifeRecord Reply) : Type 0 where
   pub limits : IsLifeInLimits m.is_op 8 life
   pub op_values : HasOpValues m life
-  pub left : IsLeftOf remains life.choice image
-  pub recovered : IsRecovered version is_lawful no_old_format image next
-  pub items : ℕ
-  pub flags : HasFlags told (next.place - told.from) items flagged
-  pub items_are : (store : Store) → m.stands (object_part next.words) store → items ≡ m.items store
+  pub ends : EndsInCrash o m object base life.choice remains crashed
+  pub flags : HasFlags told crashed.kept crashed.items flagged
   pub values : HasReplyValues m flagged
-
--- the same over an object, whose lines, version and lawful words they are
-abbrev pub HasLostOver : {O Op Reply Store : Type 0} → Ghosts O → O → Meaning Op Reply Store → Life Op → LifeRecord Reply → Remains → Image → Base → LifeRecord Reply → Type 0
-HasLostOver o object m = HasLost m (o.line_count object) (o.version_number object) (o.lawful object)
 
 -- the table of a trail, whatever its object is
 abbrev pub table_of : ℕ → ℕ → Ending → Running (Unit {0})

@@ -1,49 +1,24 @@
--- What a command's answer adds to a client's lines, and what a client is at its end.
-use Rattle.std.specs.Prelude.{◌≡◌, ℕ, false, List, [], ◌∷◌, ◌++◌, Option, None, Some}
-use Rattle.cx_core.specs.declared.local.Answer.{Answer}
+-- What a client is after a command, and at its end.
+use Rattle.std.specs.Prelude.{◌≡◌, ℕ, Bool, true, false, List, [], ◌∷◌, ◌++◌, Option, None, Some}
 use Rattle.cx_service.specs.Callers.{StoppedSeat}
 use Rattle.cx_service.specs.declared.close.Handed.TheVariants.{Idle, Stopped as StoppedCaller}
-use Rattle.cx_turns.specs.declared.lookup.Seen.{Seen}
-use Rattle.life_records.specs.Records.{AreOfNoReply, JournalLine, Meaning, StopLine}
+use Rattle.life_records.specs.Records.{JournalLine, StopLine}
 use Rattle.cx_lives.specs.declared.progress.Progress.{Progress}
 use Rattle.cx_lives.specs.declared.progress.End.{End}
 use Rattle.cx_lives.specs.declared.progress.End.TheVariants.{Stopped, Never}
-use Rattle.cx_lives.specs.declared.progress.Lines.{Lines}
+use Rattle.cx_lives.specs.declared.lines.Lines.{Lines}
 use Rattle.cx_lives.specs.declared.progress.Turn.{Turn}
-use Rattle.cx_lives.specs.declared.progress.Turn.TheVariants.{Next, Over, Full}
+use Rattle.cx_lives.specs.declared.progress.Turn.TheVariants.{Next, Over}
 use Rattle.cx_lives.specs.declared.progress.Work.{Work}
-
--- one entry's line more
-pub record AddsEntry {Op Reply Store : Type 0} (m : Meaning Op Reply Store) (client number : ℕ) (answer : Answer) (progress next : Progress Reply) : Type 0 where
-  pub caller : next.caller ≡ progress.caller
-  pub reply : Reply
-  pub words : m.encoding.reply_words reply ≡ answer.reply
-  pub entries : next.lines.entries.items ≡
-      progress.lines.entries.items ++ record { ticket = answer.ticket; client = client; command = number; reply = Some reply } ∷ []
-  pub reads : next.lines.reads.items ≡ progress.lines.reads.items
-
--- one read's line more
-pub record AddsRead {Op Reply Store : Type 0} (m : Meaning Op Reply Store) (client number : ℕ) (seen : Seen) (progress next : Progress Reply) : Type 0 where
-  pub caller : next.caller ≡ progress.caller
-  pub reply : Reply
-  pub words : m.encoding.reply_words reply ≡ seen.reply
-  pub entries : next.lines.entries.items ≡ progress.lines.entries.items
-  pub reads : next.lines.reads.items ≡ progress.lines.reads.items ++ record { client = client; command = number; place = seen.place; reply = reply } ∷ []
 
 -- the end of a client whose caller is in no call
 abbrev pub ended : {Reply : Type 0} → Progress Reply → End → Work Reply
 ended progress end_ = record { handed = Idle progress.caller; lines = progress.lines; end = end_ }
 
--- the result of an answer, by whether its words are a reply's
-abbrev pub EntryTurn : {Op Reply Store : Type 0} → (m : Meaning Op Reply Store) → ℕ → ℕ → Answer → Progress Reply → Turn Reply → Type 0
-EntryTurn m client number answer progress (Next next) = AddsEntry m client number answer progress next
-EntryTurn m client number answer progress (Over work) = (work ≡ ended progress Never) × AreOfNoReply m answer.reply
-EntryTurn m client number answer progress (Full next note) = ⊥
-
-abbrev pub ReadTurn : {Op Reply Store : Type 0} → (m : Meaning Op Reply Store) → ℕ → ℕ → Seen → Progress Reply → Turn Reply → Type 0
-ReadTurn m client number seen progress (Next next) = AddsRead m client number seen progress next
-ReadTurn m client number seen progress (Over work) = (work ≡ ended progress Never) × AreOfNoReply m seen.reply
-ReadTurn m client number seen progress (Full next note) = ⊥
+-- a client after its answer, by whether the words of that are a reply's
+abbrev pub turn_after : {Reply : Type 0} → Progress Reply → Bool → Turn Reply
+turn_after progress true = Next progress
+turn_after progress false = Over (ended progress Never)
 
 -- the stop line of a client that is stopped in its command of this number
 abbrev pub stop_line : ℕ → ℕ → StoppedSeat → StopLine

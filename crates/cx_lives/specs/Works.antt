@@ -2,7 +2,6 @@
 use Rattle.std.specs.Prelude.{◌≡◌, ◌+◌, ◌<◌, ◌≤◌, ℕ, List, [], ◌∷◌, ◌++◌, length, take, IfOk, Result, Ok, slice_index_or}
 use Rattle.std.specs.declared.alloc.AllocError.{AllocError}
 use Rattle.cx_rule.specs.Running.{Running}
-use Rattle.cx_rule.specs.Seats.{Seated}
 use Rattle.life_records.specs.Works.{IsFullOf}
 use Rattle.life_records.specs.Scripts.{own_ops}
 use Rattle.life_records.specs.Records.{FullLine, Life, Meaning, StopLine}
@@ -28,17 +27,15 @@ abbrev pub ServedOf : {O Op Reply Store : Type 0} → (m : Meaning Op Reply Stor
 ServedOf m life r client (Done work) = IsWorkOf m life r client work × (full_in work.end ≡ [])
 ServedOf m life r client (Full left line) = IsFullLeft m life r client left line
 
--- item i is the result of the worker of caller i, or the worker ran out of memory
-module _ {O Op Reply Store : Type 0} where
-  abbrev pub AreWorksOf : (m : Meaning Op Reply Store) → Life Op → Running O → List Seated → List (Result (Served Reply) AllocError) → Type 0
-  AreWorksOf m life r callers works =
-      (i : ℕ) (d : Result (Served Reply) AllocError) (e : Seated) → i < length callers →
-      IfOk (slice_index_or works i d) (ServedOf m life r (slice_index_or callers i e).known.local.number)
+module _ {Worker Done : Type 0} where
+  -- item i is the result of worker i, or that ran out of memory
+  abbrev pub AreResultsOf : (Worker → Done → Type 0) → List Worker → List (Result Done AllocError) → Type 0
+  AreResultsOf IsOf workers works = (i : ℕ) (d : Result Done AllocError) (e : Worker) → i < length workers → IfOk (slice_index_or works i d) (IsOf (slice_index_or workers i e))
 
--- the results of the workers of the callers from one on, each where it found memory
-abbrev pub AreNumbered : {O Op Reply Store : Type 0} → (m : Meaning Op Reply Store) → Life Op → Running O → ℕ → List (Result (Served Reply) AllocError) → Type 0
-AreNumbered m life r client [] = Unit {0}
-AreNumbered m life r client (work ∷ works) = IfOk work (ServedOf m life r client) × AreNumbered m life r (client + 1) works
+-- the results of the workers of the clients from one on, each where it found memory
+abbrev pub AreResultsFrom : {Done : Type 0} → (ℕ → Done → Type 0) → ℕ → List (Result Done AllocError) → Type 0
+AreResultsFrom IsOf client [] = Unit {0}
+AreResultsFrom IsOf client (work ∷ works) = IfOk work (IsOf client) × AreResultsFrom IsOf (client + 1) works
 
 -- the stop line that a worker tells, and those of all
 abbrev pub stop_told : {Reply : Type 0} → Result (Served Reply) AllocError → List StopLine

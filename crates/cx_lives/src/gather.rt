@@ -5,9 +5,10 @@ ghost use Rattle.life_records.specs.Limits.{IsLifeInLimits};
 ghost use Rattle.life_records.specs.Lives.{is_stopped};
 ghost use Rattle.cx_lives.specs.Ends.{IsWorkOf, full_in, stop_in};
 ghost use Rattle.cx_lives.specs.Gathering.{AddsWork, AreGathered, is_never};
-ghost use Rattle.cx_lives.specs.Works.{AreNumbered, ServedOf, stop_told, stops_left};
+ghost use Rattle.cx_lives.specs.Works.{AreResultsFrom, ServedOf, stop_told, stops_left};
 
-use crate::progress::{End, Lines, Work};
+use crate::lines::Lines;
+use crate::progress::{End, Work};
 use crate::work::{Served, go_on};
 use cx_base::Gate;
 use cx_service::{Handed, Service};
@@ -46,22 +47,10 @@ impl<Reply: Drop> Gathered<Reply> {
         handed.push(work.handed)?;
         Ok(Gathered {
             handed,
-            lines: joined(lines, work.lines)?,
+            lines: lines.joined(work.lines)?,
             ends: with_end(ends, work.end)?,
         })
     }
-}
-
-// One client's lines behind those of the clients before it.
-fn joined<Reply: Drop>(before: Lines<Reply>, own: Lines<Reply>) -> Result<Lines<Reply>, AllocError>
-    ensures entries { IfOk result (λ lines. lines.entries.items ≡ before.entries.items ++ own.entries.items) }
-    ensures reads { IfOk result (λ lines. lines.reads.items ≡ before.reads.items ++ own.reads.items) }
-{
-    let mut lines = before;
-    let mut own = own;
-    lines.entries.append(&mut own.entries)?;
-    lines.reads.append(&mut own.reads)?;
-    Ok(lines)
 }
 
 // With one client's end more.
@@ -90,7 +79,7 @@ pub(crate) fn gather<O: TypedObject, R: Wait, G: Gate>(
     gate: &G,
     works: Vec<Result<Served<O::Reply>, AllocError>>,
 ) -> Result<Gathered<O::Reply>, AllocError>
-    requires works { AreNumbered (O.meaning service.now.object) life.now service.now 0 works.items }
+    requires works { AreResultsFrom (ServedOf (O.meaning service.now.object) life.now service.now) 0 works.items }
     requires life { IsLifeInLimits (O.meaning service.now.object).is_op 8 life.now }
     ensures gathered { IfOk result (AreGathered (O.meaning service.now.object) life.now service.now) }
     ensures stopped { IfOk result (λ g. All (λ line. is_stopped line.note.holder g.ends.stops.items ≡ true) g.ends.fulls.items) }
@@ -126,14 +115,12 @@ pub(crate) fn gather<O: TypedObject, R: Wait, G: Gate>(
     Ok(all)
 }
 
-// The result of the first of the workers, which is taken out.
-fn first_of<Reply: Drop>(
-    works: &mut Vec<Result<Served<Reply>, AllocError>>,
-) -> Result<Served<Reply>, AllocError>
-    requires { 0 < length works.old.items }
-    ensures { works.old.items ≡ result ∷ works.new.items }
+/// The first of some items, which is taken out.
+pub fn first_of<T: Drop>(items: &mut Vec<T>) -> T
+    requires { 0 < length items.old.items }
+    ensures { items.old.items ≡ result ∷ items.new.items }
 {
-    works.remove(0)
+    items.remove(0)
 }
 
 // The work of a client, which goes on where it was left. The clients with a stop line are those of these lines, and of the rest of the

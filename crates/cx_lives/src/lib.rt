@@ -8,17 +8,28 @@
 //! A life of clients over a service of an object: each client's commands are made by a worker on a thread of its own, and
 //! what the workers note is put together as the record of the life. Lives of a script, one after another, each from what the crash
 //! before it left.
+//!
+//! Where clients share the callers of a service (`pool_lives`), a worker takes its client's commands from the script and notes their lines in the same
+//! way, and a life begins with the same base and ends in the same crash. So these parts are public: `command_at`, `words_of`, `Lines`, `note_entry`,
+//! `note_read`, `first_of`, `first_base`, `end_in_crash`.
 #![tactic(auto)]
 
 mod calls;
+mod crash;
 mod gather;
 mod life;
+mod lines;
 mod lived_laws;
 mod lives;
+mod operations;
 mod progress;
 mod start;
 mod work;
 mod workers;
 
+pub use crash::{Crashed, end_in_crash};
+pub use gather::first_of;
 pub use life::run_life;
-pub use lives::{Lived, run_lives, run_next_life};
+pub use lines::{Lines, note_entry, note_read};
+pub use lives::{Lived, first_base, run_lives, run_next_life};
+pub use operations::{command_at, words_of};

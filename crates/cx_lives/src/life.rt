@@ -5,7 +5,7 @@ ghost use Rattle.cx_lives.specs.Life.{CanRun, HasRun};
 ghost use Rattle.life_records.specs.Meanings.{IsMeant};
 
 use crate::gather::{Ends, Gathered, gather};
-use crate::progress::Lines;
+use crate::lines::Lines;
 use crate::workers::run_workers;
 use cx_base::{Gate, Items};
 use cx_service::{Caller, Service};

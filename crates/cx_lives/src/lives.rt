@@ -1,33 +1,26 @@
 //! The lives of a script, one after another: each is run, ends in a crash and is recovered, and the next begins with what was
 //! recovered.
 
-ghost use Rattle.std.specs.Prelude.{◌≡◌, ◌+◌, ◌<◌, ◌≤◌, List, [], ◌∷◌, ◌++◌, IfOk, None, length, true};
-ghost use Rattle.cx_core.specs.Base.{LawfulBase};
-ghost use Rattle.cx_core.specs.Region.{object_part};
-ghost use Rattle.cx_rule.specs.Running.{Running};
+ghost use Rattle.std.specs.Prelude.{◌≡◌, ◌+◌, ◌<◌, ◌≤◌, List, [], ◌∷◌, ◌++◌, IfOk, None, length};
 ghost use Rattle.cx_service.specs.Starts.{AreFewLines};
 ghost use Rattle.life_records.specs.Begins.{Begun, IsBaseOf, nothing_begun};
 ghost use Rattle.life_records.specs.Limits.{IsLifeInLimits, KeepsLimits};
 ghost use Rattle.life_records.specs.Scripts.{command_count};
 ghost use Rattle.life_records.specs.declared.script.Life.{Life};
-ghost use Rattle.recovery.specs.declared.recovered_base.ImageFault.TheVariants.{Memory};
-ghost use Rattle.cx_lives.specs.Life.{HasRun};
-ghost use Rattle.cx_lives.specs.Lives.{BeginsLife, CanBeginOver, HasFlags, HasLivedOver, HaveLivedOver, IsNextBase, IsServiceOf};
+ghost use Rattle.cx_lives.specs.Lives.{BeginsLife, CanBeginOver, HasFlags, HasLivedOver, HaveLivedOver, IsNextBase};
 
+use crate::crash::end_in_crash;
 use crate::life::run_life;
 use crate::lived_laws::lives_that_ran_have_lived;
 use crate::start::start_life;
 use cx_base::{Gate, Items};
-use cx_core::{Base, OBJECT_START};
-use cx_table::{Remains, Trail};
+use cx_core::Base;
+use cx_table::Trail;
 use life_records::{
     BorrowedLife, LifeRecord, Script, flag_stops, fresh_bases_begin_with_nothing,
     operations_are_values, replies_are_values,
 };
-use recovery::{
-    Image, ImageFault, closed_tables_are_whole, closed_tables_recover, closed_tables_stay,
-    crash_image, recover, reopen_image,
-};
+use recovery::{Image, reopen_image};
 use std::alloc::{AllocError, Global};
 use std::sync::Wait;
 use std::thread::Threads;
@@ -149,8 +142,8 @@ fn next_base<O: TypedObject>(
     }
 }
 
-// The base of a first life.
-fn first_base<O: TypedObject>(alloc: Global, object: &O) -> Result<Base, AllocError>
+/// The base of a first life, which begins with nothing. `Err` means out of memory.
+pub fn first_base<O: TypedObject>(alloc: Global, object: &O) -> Result<Base, AllocError>
     requires lines { AreFewLines (O.line_count object.now) }
     ensures begins { IfOk result (λ base. BeginsLife (O.meaning object.now) (O.line_count object.now) (O.lawful object.now) (nothing_begun (O.meaning object.now)) base) }
     ensures place { IfOk result (λ base. base.place ≡ 0) }
@@ -160,7 +153,7 @@ fn first_base<O: TypedObject>(alloc: Global, object: &O) -> Result<Base, AllocEr
     Ok(base)
 }
 
-// Runs one life from a base to its crash, and recovers.
+// Runs one life from a base to its crash by the life's choice, and recovers, with the memory reopened.
 fn run_one<O: TypedObject + Sync, R: Threads + Wait + Sync, G: Gate + Sync>(
     rt: &R,
     alloc: Global,
@@ -174,65 +167,18 @@ fn run_one<O: TypedObject + Sync, R: Threads + Wait + Sync, G: Gate + Sync>(
 {
     let (service, callers) = start_life(alloc, object, life, base)?;
     let (told, remains) = run_life(rt, alloc, service, callers, life, gate)?;
-    lose_power(alloc, object, base, life, told, remains)
-}
-
-// What a life leaves where it crashes by the life's choice, and what is recovered, with its memory reopened.
-fn lose_power<O: TypedObject>(
-    alloc: Global,
-    object: &O,
-    base: &Base,
-    life: &BorrowedLife<'_, O::Op>,
-    told: LifeRecord<O::Reply>,
-    remains: Remains,
-) -> Result<Ran<O::Reply>, AllocError>
-    requires can { CanBeginOver O.Object object.now (O.meaning object.now) life.now base.now }
-    requires ran { (service : Running O) × IsServiceOf object.now (O.line_count object.now) base.now life.now service × HasRun (O.meaning object.now) O.step O.only_reads life.now service told remains }
-    ensures { (begun : Begun O.Store) → IsBaseOf (O.meaning object.now) base.now begun → IfOk result (HasLivedOver O.Object object.now (O.meaning object.now) life.now begun base.now) }
-{
-    closed_tables_are_whole::<O>();
-    closed_tables_recover::<O>();
-    closed_tables_stay::<O>();
-    let image = crash_image(alloc, &remains, life.choice())?;
-    let next = match recover(alloc, object, &image) {
-        Ok(next) => next,
-        Err(fault) => {
-            let wanting = is_memory(&fault);
-            if wanting {
-                return Err(AllocError);
-            }
-            unreachable!()
-        }
-    };
-    let _memory = reopen_image(alloc, &image)?;
-    let kept = next.place - base.place;
-    let items = count_items(alloc, object, &next)?;
-    let told = with_kept(told, kept, items);
+    let crashed = end_in_crash(alloc, object, base, life.choice(), &remains)?;
+    let _memory = reopen_image(alloc, &crashed.image)?;
+    let flagged = with_kept(told, crashed.kept, crashed.items);
     operations_are_values(object, life);
-    replies_are_values(object, &told);
+    replies_are_values(object, &flagged);
     lives_that_ran_have_lived(object, base);
     Ok(Ran {
-        told,
+        told: flagged,
         trail: remains.trail,
-        image,
-        next,
+        image: crashed.image,
+        next: crashed.next,
     })
-}
-
-// Whether the fault is that memory ran out.
-fn is_memory(fault: &ImageFault) -> bool
-    ensures { fault.now ≡ Memory → result ≡ true }
-{
-    matches!(fault, ImageFault::Memory)
-}
-
-// The number of items of the store that a base stands for.
-fn count_items<O: TypedObject>(alloc: Global, object: &O, base: &Base) -> Result<u64, AllocError>
-    requires lawful { LawfulBase (O.line_count object.now) (O.lawful object.now) base.now }
-    ensures { IfOk result (λ count. (store : O.Store) → (O.meaning object.now).stands (object_part base.now.words) store → count ≡ (O.meaning object.now).items store) }
-{
-    let (_, part) = base.words.as_slice().split_at(OBJECT_START as usize);
-    object.items_in(alloc, part)
 }
 
 // The record with the numbers of entries kept and of items, and with the flags of its stop lines.

@@ -1,17 +1,18 @@
 //! A client between two of its commands, and the result of a command.
 
-ghost use Rattle.std.specs.Prelude.{◌≡◌, ◌-◌, ◌≤◌, IfOk, IsTrue, Some, []};
+ghost use Rattle.std.specs.Prelude.{◌≡◌, ◌-◌, ◌≤◌, IfOk, IsTrue, Some};
 ghost use Rattle.life_records.specs.Scripts.{named_op};
 ghost use Rattle.cx_lives.specs.Ends.{Turned};
 ghost use Rattle.cx_lives.specs.Serving.{IsServed};
-ghost use Rattle.cx_lives.specs.Turns.{EntryTurn, ReadTurn, StopsIn, ended};
-ghost use Rattle.typed_object.specs.Meaning.{IsReadAs};
+ghost use Rattle.cx_lives.specs.Turns.{StopsIn, ended, turn_after};
 
 use crate::calls::ask;
+use crate::lines::{Lines, note_entry, note_read};
+use crate::operations::words_of;
 use cx_base::OpWords;
 use cx_core::FullNote;
-use cx_service::{Answer, Caller, Handed, ReadDone, Seen, Service, Stopped};
-use life_records::{BorrowedLife, Command, FullLine, JournalLine, ReadLine, StopLine};
+use cx_service::{Caller, Handed, ReadDone, Service, Stopped};
+use life_records::{BorrowedLife, Command, FullLine, JournalLine, StopLine};
 use std::alloc::{AllocError, Global};
 use std::sync::Wait;
 use typed_object::TypedObject;
@@ -27,26 +28,6 @@ pub(crate) enum End {
     Full(FullLine),
     /// What cannot be: there was no further ticket, or a reply whose words are of none.
     Never,
-}
-
-/// The lines of a client so far.
-#[derive(Drop)]
-pub(crate) struct Lines<Reply> {
-    pub(crate) entries: Vec<JournalLine<Reply>>,
-    pub(crate) reads: Vec<ReadLine<Reply>>,
-}
-
-impl<Reply> Lines<Reply> {
-    /// No lines.
-    pub(crate) fn new(alloc: Global) -> Self
-        ensures entries { result.entries.items ≡ [] }
-        ensures reads { result.reads.items ≡ [] }
-    {
-        Lines {
-            entries: Vec::new(alloc),
-            reads: Vec::new(alloc),
-        }
-    }
 }
 
 /// What a worker hands in: its caller, and the lines of its client.
@@ -91,20 +72,19 @@ pub(crate) fn make<O: TypedObject, R: Wait>(
     requires op { (O.meaning service.now.object).is_op command.now.op }
     ensures { IfOk result (Turned (O.meaning service.now.object) life.now service.now command.now.client number) }
 {
-    let Progress { caller, lines } = progress;
+    let Progress { caller, mut lines } = progress;
     let _ = life;
-    op_is_a_value(service, &command.op);
     let client = command.client;
-    let op = words_of(service, &command.op);
-    let reads_only = is_reading(service, &command.op, &op);
+    let object = service.object();
+    let (op, reads_only) = service_words(service, &command.op);
     match ask(rt, service, caller, &op, reads_only, most) {
         ReadDone::Queued(caller, answer) => {
-            let progress = Progress { caller, lines };
-            with_entry(alloc, service, progress, client, number, &answer)
+            let is_reply = note_entry(alloc, object, &mut lines, client, number, &answer)?;
+            Ok(after_answer(Progress { caller, lines }, is_reply))
         }
         ReadDone::Read(caller, seen) => {
-            let progress = Progress { caller, lines };
-            with_read(alloc, service, progress, client, number, &seen)
+            let is_reply = note_read(alloc, object, &mut lines, client, number, &seen)?;
+            Ok(after_answer(Progress { caller, lines }, is_reply))
         }
         ReadDone::Full(caller, note) => Ok(Turn::Full(Progress { caller, lines }, note)),
         ReadDone::Worn(caller) => Ok(Turn::Over(over(Progress { caller, lines }, End::Never))),
@@ -115,87 +95,25 @@ pub(crate) fn make<O: TypedObject, R: Wait>(
     }
 }
 
-// What the type says of an operation.
-fn op_is_a_value<O: TypedObject>(service: &Service<O>, op: &O::Op)
-    ensures { (O.meaning service.now.object).is_op_value op.now }
-{
-    service.object().op_is_a_value(op);
-}
-
-// The words of an operation.
-fn words_of<O: TypedObject>(service: &Service<O>, op: &O::Op) -> OpWords
+// The words of an operation of the service's object, and whether it only reads.
+fn service_words<O: TypedObject>(service: &Service<O>, op: &O::Op) -> (OpWords, bool)
     requires { (O.meaning service.now.object).is_op op.now }
-    ensures { result ≡ (O.meaning service.now.object).encoding.op_words op.now }
+    ensures words { result.0 ≡ (O.meaning service.now.object).encoding.op_words op.now }
+    ensures value { (O.meaning service.now.object).is_op_value op.now }
+    ensures reads { IsTrue result.1 → IsTrue (O.only_reads service.now.object result.0) }
 {
-    service.object().words_of(op)
+    words_of(service.object(), op)
 }
 
-// Whether an operation only reads.
-fn is_reading<O: TypedObject>(service: &Service<O>, op: &O::Op, words: &OpWords) -> bool
-    requires words { words.now ≡ (O.meaning service.now.object).encoding.op_words op.now }
-    requires op { (O.meaning service.now.object).is_op op.now }
-    requires value { (O.meaning service.now.object).is_op_value op.now }
-    ensures { IsTrue result → IsTrue (O.only_reads service.now.object words.now) }
+// A client goes on after its answer, unless that was no reply.
+fn after_answer<Reply: Drop>(progress: Progress<Reply>, is_reply: bool) -> Turn<Reply>
+    ensures { result ≡ turn_after progress is_reply }
 {
-    let _ = words;
-    service.object().is_reading(op)
-}
-
-// The reply that has these words. `Err` means out of memory.
-fn read_as<O: TypedObject>(
-    alloc: Global,
-    service: &Service<O>,
-    words: &OpWords,
-) -> Result<Option<O::Reply>, AllocError>
-    ensures { IfOk result (IsReadAs (O.meaning service.now.object) words.now) }
-{
-    service.object().reply_of(alloc, words)
-}
-
-// With the line of an entry that is answered.
-fn with_entry<O: TypedObject>(
-    alloc: Global,
-    service: &Service<O>,
-    progress: Progress<O::Reply>,
-    client: u32,
-    number: u64,
-    answer: &Answer,
-) -> Result<Turn<O::Reply>, AllocError>
-    ensures { IfOk result (EntryTurn (O.meaning service.now.object) client number answer.now progress) }
-{
-    let Some(reply) = read_as(alloc, service, &answer.reply)? else {
-        return Ok(Turn::Over(over(progress, End::Never)));
-    };
-    let mut progress = progress;
-    progress.lines.entries.push(JournalLine {
-        ticket: answer.ticket,
-        client,
-        command: number,
-        reply: Some(reply),
-    })?;
-    Ok(Turn::Next(progress))
-}
-
-// With the line of a read that is answered.
-fn with_read<O: TypedObject>(
-    alloc: Global,
-    service: &Service<O>,
-    progress: Progress<O::Reply>,
-    client: u32,
-    number: u64,
-    seen: &Seen,
-) -> Result<Turn<O::Reply>, AllocError>
-    ensures { IfOk result (ReadTurn (O.meaning service.now.object) client number seen.now progress) }
-{
-    let Some(reply) = read_as(alloc, service, &seen.reply)? else {
-        return Ok(Turn::Over(over(progress, End::Never)));
-    };
-    let mut progress = progress;
-    progress
-        .lines
-        .reads
-        .push(read_line(client, number, seen, reply))?;
-    Ok(Turn::Next(progress))
+    if is_reply {
+        Turn::Next(progress)
+    } else {
+        Turn::Over(over(progress, End::Never))
+    }
 }
 
 /// The end of a client whose caller is in no call.
@@ -236,16 +154,4 @@ fn stopped_in<Reply: Drop>(
         lines,
         end: End::Stopped(line),
     })
-}
-
-// The line of a read that is answered, at the place that its caller has seen.
-fn read_line<Reply>(client: u32, number: u64, seen: &Seen, reply: Reply) -> ReadLine<Reply>
-    ensures { result ≡ record { client = client; command = number; place = seen.now.place; reply = reply } }
-{
-    ReadLine {
-        client,
-        command: number,
-        place: seen.place,
-        reply,
-    }
 }

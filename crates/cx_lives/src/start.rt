@@ -3,8 +3,8 @@
 ghost use Rattle.std.specs.Prelude.{◌≡◌, IfOk, map};
 ghost use Rattle.std.specs.List.{range_with_len};
 ghost use Rattle.life_records.specs.Scripts.{limit_in};
-ghost use Rattle.cx_lives.specs.Life.{CanRun};
-ghost use Rattle.cx_lives.specs.Lives.{CanBeginOver, IsServiceOf};
+ghost use Rattle.cx_lives.specs.Life.{CanRun, IsServiceOf};
+ghost use Rattle.cx_lives.specs.Lives.{CanBeginOver};
 
 use cx_core::Base;
 use cx_service::{Caller, Service, StartFault};
@@ -21,7 +21,7 @@ pub(crate) fn start_life<O: TypedObject>(
     base: &Base,
 ) -> Result<(Service<O>, Vec<Caller>), AllocError>
     requires { CanBeginOver O.Object object.now (O.meaning object.now) life.now base.now }
-    ensures service { IfOk result (λ r. IsServiceOf object.now (O.line_count object.now) base.now life.now r.0) }
+    ensures service { IfOk result (λ r. IsServiceOf object.now (O.line_count object.now) life.now.clients base.now r.0) }
     ensures can_run { IfOk result (λ r. CanRun (O.meaning object.now) life.now r.0 r.1.items) }
 {
     let clients = life.clients();

@@ -1,6 +1,6 @@
 //! What one client's worker does.
 
-ghost use Rattle.std.specs.Prelude.{◌≡◌, ◌++◌, ◌<◌, ◌==◌, All, IfOk, None, Some, if◌then◌else◌, length, slice_get, true};
+ghost use Rattle.std.specs.Prelude.{◌≡◌, ◌++◌, ◌==◌, All, IfOk, None, Some, if◌then◌else◌, length, true};
 ghost use Rattle.life_records.specs.Limits.{IsLifeInLimits};
 ghost use Rattle.life_records.specs.Lives.{is_stopped};
 ghost use Rattle.cx_lives.specs.declared.progress.End.TheVariants.{Full};
@@ -8,10 +8,12 @@ ghost use Rattle.cx_lives.specs.Ends.{IsNewIn, IsWorkOf, full_in};
 ghost use Rattle.cx_lives.specs.Turns.{ended};
 ghost use Rattle.cx_lives.specs.Works.{IsFullLeft, IsClientLeft, ServedOf, stop_told, stops_left};
 
-use crate::progress::{End, Lines, Progress, Turn, Work, make, over};
+use crate::lines::Lines;
+use crate::operations::command_at;
+use crate::progress::{End, Progress, Turn, Work, make, over};
 use cx_base::Gate;
 use cx_service::{Caller, Service};
-use life_records::{BorrowedLife, Command, FullLine, StopLine};
+use life_records::{BorrowedLife, FullLine, StopLine};
 use std::alloc::{AllocError, Global};
 use std::sync::Wait;
 use typed_object::TypedObject;
@@ -224,12 +226,4 @@ fn tells_stop<Reply>(served: &Result<Served<Reply>, AllocError>, client: u32) ->
         },
         Ok(Served::Full(..)) | Err(AllocError) => false,
     }
-}
-
-// The command at a place of the script. Commands are made in the order of these places.
-fn command_at<Op>(commands: &[Command<Op>], at: usize) -> &Command<Op>
-    requires { at < length commands.now }
-    ensures { slice_get commands.now at ≡ Some result.now }
-{
-    &commands[at]
 }

@@ -3,7 +3,7 @@
 ghost use Rattle.std.specs.Prelude.{◌≡◌, All, IfOk, vec_len};
 ghost use Rattle.life_records.specs.Limits.{IsLifeInLimits};
 ghost use Rattle.cx_lives.specs.Ends.{IsNewIn};
-ghost use Rattle.cx_lives.specs.Works.{AreWorksOf, ServedOf};
+ghost use Rattle.cx_lives.specs.Works.{AreResultsOf, ServedOf};
 
 use crate::work::{Served, serve};
 use cx_base::Gate;
@@ -26,7 +26,7 @@ pub(crate) fn run_workers<O: TypedObject + Sync, R: Threads + Wait + Sync, G: Ga
     requires callers { All (IsNewIn life.now service.now) callers.items }
     requires life { IsLifeInLimits (O.meaning service.now.object).is_op 8 life.now }
     ensures len { IfOk result (λ works. vec_len works ≡ vec_len callers) }
-    ensures each { IfOk result (λ works. AreWorksOf (O.meaning service.now.object) life.now service.now callers.items works.items) }
+    ensures each { IfOk result (λ works. AreResultsOf (λ caller. ServedOf (O.meaning service.now.object) life.now service.now caller.known.local.number) callers.items works.items) }
 {
     // `map_vec` halves the list and runs both halves at once. To part a list takes memory: where one half finds none while the other
     // runs, its workers are not run at all, and a gate that waits for one of them may wait for good.

@@ -4,7 +4,7 @@ use Rattle.std.specs.List.{cons_option, filter, slice_get}
 use Rattle.std.specs.Prelude.{All}
 use Rattle.std.proofs.lemmas.Option.{none-some, same_Some}
 use Rattle.cx_rule.specs.Ending.{Ending}
-use Rattle.cx_lives.proofs.Lines.{all_at}
+use Rattle.cx_lives.proofs.Lists.{all_at}
 use Rattle.cx_lives.specs.Lives.{AreToldFrom}
 use Rattle.life_records.specs.Begins.{Begun, begun_after, nothing_begun, results_after, with_result, words_to}
 use Rattle.life_records.specs.Lives.{ops_of, store_after_all, store_at}

@@ -4,20 +4,20 @@ use Rattle.std.specs.Prelude.{All}
 use Rattle.std.proofs.lemmas.List.Elements.{All-head}
 use Rattle.atomic_table.specs.Seated.{TableId}
 use Rattle.crossbeam_queue.specs.Passes.{view}
-use Rattle.cx_core.specs.declared.local.Answer.{Answer}
 use Rattle.cx_core.specs.declared.local.FullNote.{FullNote}
 use Rattle.cx_rule.specs.Running.{Running}
 use Rattle.cx_rule.specs.Seats.{Seated}
 use Rattle.cx_service.specs.Callers.{StoppedSeat}
 use Rattle.cx_service.specs.declared.close.Handed.{Handed}
 use Rattle.cx_service.specs.declared.close.Handed.TheVariants.{Stopped}
-use Rattle.cx_turns.specs.declared.lookup.Seen.{Seen}
 use Rattle.seat_pool.specs.Gathering.{IsHandedOf}
-use Rattle.client_pool.specs.Clients.{HasMade, HasNoMore, HasRead, HasUpdated, IsSameClient}
+use Rattle.client_pool.specs.Clients.{HasMade, HasNoMore, IsSameClient}
 use Rattle.client_pool.specs.Lending.{HoldsKept, KeepsFull, KeepsStopped, KeepsWorn, is_live, limits_of}
 use Rattle.client_pool.specs.declared.call.Call.{Call}
 use Rattle.client_pool.specs.declared.client.Client.{Client}
-use Rattle.pool_lives.specs.Asking.{AreUnlimited, KeepsLast, MayAsk}
+use Rattle.pool_lives.specs.Asking.{AreUnlimited, ClientRequestEnds, KeepsLast, MayAsk}
+use Rattle.pool_lives.specs.declared.calls.Asked.{Asked}
+use Rattle.pool_lives.specs.declared.calls.Asked.TheVariants.{Done, Read, Worn}
 
 pub same_on : (a b c : Client) → IsSameClient a b → IsSameClient b c → IsSameClient a c
 same_on a b c s t = record { number = t.number ∙ s.number; limits = t.limits ∙ s.limits; closing = t.closing ∙ s.closing }
@@ -47,11 +47,10 @@ module _ {O : Type 0} (r : Running O) (table : TableId) where
       calls = λ calls has. made.calls calls (less.calls calls has);
     }
 
-    pub updated_since : (op : List ℕ) (answer : Answer) → HasUpdated r table op b c answer → HasUpdated r table op a c answer
-    updated_since op answer u = record { told = u.told; is = u.is; made = made_since _ u.made }
-
-    pub read_since : (op : List ℕ) (seen : Seen) → HasRead r table op b c seen → HasRead r table op a c seen
-    read_since op seen u = record { read = u.read; is = u.is; made = made_since _ u.made }
+    pub asked_since : (op : List ℕ) (asked : Asked) → ClientRequestEnds r table op b c asked → ClientRequestEnds r table op a c asked
+    asked_since op (Done answer) u = record { told = u.told; is = u.is; made = made_since _ u.made }
+    asked_since op (Read seen) u = record { read = u.read; is = u.is; made = made_since _ u.made }
+    asked_since op Worn u = (again u.0, u.1)
 
   module _ (a b : Client) (may : MayAsk r table a) where
     pub may_still : (kept : is_live b.lent.kept ≡ true) → HasNoMore r table a b → MayAsk r table b
@@ -60,21 +59,20 @@ module _ {O : Type 0} (r : Running O) (table : TableId) where
     pub may_again : (call : Call) → HasMade r table a b call → MayAsk r table b
     may_again call made = record { is = made.client; live = ap is_live made.back; unlimited = subst AreUnlimited (sym made.same.limits) may.unlimited }
 
-    pub full_live : (way : Seated → Seated → Type 0) (note : FullNote) → KeepsFull r table way a.lent b.lent note → is_live b.lent.kept ≡ true
-    full_live way note full = ap is_live full.keeps
+    -- no cell was idle
+    pub full_again : (way : Seated → Seated → Type 0) (note : FullNote) → HasNoMore r table a b × KeepsFull r table way a.lent b.lent note → HasNoMore r table a b × MayAsk r table b
+    full_again way note u = (u.0, may_still (ap is_live u.1.keeps) u.0)
 
-    pub worn_live : (way : Seated → Seated → Type 0) → KeepsWorn r table way a.lent b.lent → is_live b.lent.kept ≡ true
-    worn_live way worn = ap is_live worn.keeps
-
-    pub worn_last : (way : Seated → Seated → Type 0) → KeepsWorn r table way a.lent b.lent → KeepsLast b
-    worn_last way worn = record { last = worn.now; keeps = worn.keeps; front = worn.worn.front }
+    -- there was no further ticket
+    pub worn_ends : (way : Seated → Seated → Type 0) → HasNoMore r table a b × KeepsWorn r table way a.lent b.lent → HasNoMore r table a b × KeepsLast b
+    worn_ends way u = (u.0, record { last = u.1.now; keeps = u.1.keeps; front = u.1.worn.front })
 
     -- no caller is stopped that has no limit
-    pub not_stopped : (halts : Seated → StoppedSeat → Type 0) (linked : Option ℕ) → HasNoMore r table a b → KeepsStopped r table halts a.lent b.lent linked → ⊥
-    not_stopped halts linked more stopped =
-        let s = stopped.stopped in
-        let holds : HoldsKept r (view b.lent.pass) (Some (Stopped s)) = subst (HoldsKept r (view b.lent.pass)) stopped.keeps stopped.lent.kept in
+    pub not_stopped : (halts : Seated → StoppedSeat → Type 0) (linked : Option ℕ) → HasNoMore r table a b × KeepsStopped r table halts a.lent b.lent linked → ⊥
+    not_stopped halts linked u =
+        let s = u.1.stopped in
+        let holds : HoldsKept r (view b.lent.pass) (Some (Stopped s)) = subst (HoldsKept r (view b.lent.pass)) u.1.keeps u.1.lent.kept in
         let is = All-head (IsHandedOf r) (Stopped s) [] holds.0.of in
-        let limit = subst AreUnlimited (sym more.same.limits) may.unlimited s.seat.known.local.number s.seat.known.local.limit holds.1 in
+        let limit = subst AreUnlimited (sym u.0.same.limits) may.unlimited s.seat.known.local.number s.seat.known.local.limit holds.1 in
         let less = is.limit.1 in
         omega (arith, limit, less)

@@ -1,19 +1,17 @@
 -- One client's work more among all.
-use Rattle.std.proofs.Common.{◌≡◌, ◌∙◌, ◌+◌, ◌≤◌, Bool, true, false, ◌||◌, ℕ, zero, suc, List, [], ◌∷◌, ◌++◌, Option, None, Some, Result, IfOk, ap, arith, drop, get_or, length, length-append, map, refl, slice_get, subst, sym, inl, inr}
+use Rattle.std.proofs.Common.{◌≡◌, ◌∙◌, ◌+◌, ◌≤◌, Bool, true, false, ◌||◌, ℕ, suc, List, [], ◌∷◌, ◌++◌, None, Some, ap, arith, get_or, length, length-append, refl, slice_get, subst, sym, inl, inr}
 use Rattle.std.specs.Prelude.{All, MatchBool}
-use Rattle.std.specs.List.{AllZip, range_with_len}
-use Rattle.std.specs.Option.{option_to_list}
-use Rattle.std.specs.declared.alloc.AllocError.{AllocError}
-use Rattle.std.proofs.lemmas.List.{map-append}
+use Rattle.std.specs.List.{range_with_len}
 use Rattle.std.proofs.lemmas.List.Elements.{All-append, All-nil, All-push, All-weaker}
 use Rattle.std.proofs.lemmas.Option.{none-some}
-use Rattle.std.proofs.lemmas.Slice.Zip.{all_zipped_more}
+use Rattle.std.proofs.lemmas.Slice.Zip.{all_zipped_more, AllZip-long}
 use Rattle.atomic_table.specs.Seated.{TableId}
 use Rattle.cx_core.proofs.ListLemmas.{slice_get-append_left}
 use Rattle.cx_core.proofs.Locals.{slice_get-last, slice_get-push}
 use Rattle.cx_core.specs.declared.local.Linked.{Linked}
 use Rattle.cx_core.specs.declared.local.Local.{Local}
 use Rattle.cx_core.specs.declared.local.SeenRead.{SeenRead}
+use Rattle.cx_lives.proofs.Gathering.{GoesOn, numbers_more}
 use Rattle.cx_lives.proofs.Serving.{is_whole}
 use Rattle.cx_lives.specs.Serving.{IsAnsweredLine}
 use Rattle.cx_rule.specs.Running.{Running}
@@ -21,29 +19,17 @@ use Rattle.client_pool.specs.Clients.{HasCalls, entries_called}
 use Rattle.client_pool.specs.declared.call.Call.{Call}
 use Rattle.client_pool.specs.declared.client.Client.{Client}
 use Rattle.life_records.proofs.Lists.{all_each, zip_all}
-use Rattle.life_records.specs.Records.{FullLine, JournalLine, Life, Meaning, ReadLine, StopLine}
+use Rattle.life_records.specs.Records.{JournalLine, Life, Meaning, ReadLine}
 use Rattle.life_records.specs.Scripts.{own_ops}
 use Rattle.life_records.specs.Works.{AreWorks, IsReadLine, IsWork}
-use Rattle.seat_pool.proofs.Orderings.{range_push}
 use Rattle.pool_lives.proofs.Ghosts.{locals_long, locals_more, own_long}
 use Rattle.pool_lives.proofs.Making.{few_calls}
 use Rattle.pool_lives.specs.Asking.{MayAsk}
 use Rattle.pool_lives.specs.Gathering.{AddsServed, AreClientsGathered, ClientHasNever, HaveLines, IsLineAt}
 use Rattle.pool_lives.specs.Ghosts.{IsCallAt, local_of, locals_from}
-use Rattle.pool_lives.specs.Working.{AreClientsNumbered, AreClientWorksOf, CannotBeLeft, HasClosing, HasMadeCalls, IsAtWork, IsCalling, IsOver, ClientServedOf}
+use Rattle.pool_lives.specs.Working.{CannotBeLeft, HasClosing, HasMadeCalls, IsAtWork, IsCalling, IsOver, ClientServedOf}
 use Rattle.pool_lives.specs.declared.gather.Gathered.{Gathered}
 use Rattle.pool_lives.specs.declared.work.Served.{Served}
-
-abbrev number_of : Client → ℕ
-number_of c = c.number
-
--- what the laws of lines say of one client more
-module _ {Op Reply Store : Type 0} where
-  abbrev pub GoesOn : (m : Meaning Op Reply Store) → Life Op → Type 0
-  GoesOn m life =
-      (locals : List Local) (l : Local) (entries es : List (JournalLine Reply)) (reads rs : List (ReadLine Reply)) (stops : List StopLine) (stop : Option StopLine) (fulls : List FullLine) (full : Option FullLine) →
-      AreWorks m.encoding life locals entries reads stops fulls → IsWork m.encoding life (length locals) l es rs stop full →
-      AreWorks m.encoding life (locals ++ l ∷ []) (entries ++ es) (reads ++ rs) (stops ++ option_to_list stop) (fulls ++ option_to_list full)
 
 module _ {Op Reply Store : Type 0} (m : Meaning Op Reply Store) (life : Life Op) (calls : List (List Call)) (own : List Call) where
   line_stays : (client command at next : ℕ) → IsLineAt calls client command at next → IsLineAt (calls ++ own ∷ []) client command at next
@@ -125,12 +111,11 @@ module _ {O Op Reply Store : Type 0} (m : Meaning Op Reply Store) (life : Life O
       let n = length cs in
       let e = ended n served served.never refl s in
       let own = e.who.calls in
-      let long : length cs ≡ length g.calls = zip_long cs g.calls g.has in
+      let long : length cs ≡ length g.calls = sym (AllZip-long (HasCalls r) cs g.calls g.has) in
       let longer : length after.clients.items ≡ suc n = omega (arith, ap length adds.client, length-append cs (served.client ∷ [])) in
-      let number : number_of served.client ≡ 0 + n = e.who.by ∙ omega arith in
       record {
         each = rw adds.client (All-push (MayAsk r table) cs served.client g.each e.who.may);
-        numbers = ap (map number_of) adds.client ∙ map-append number_of cs (served.client ∷ []) ∙ ap (λ ks. ks ++ number_of served.client ∷ []) g.numbers ∙ ap (λ k. range_with_len 0 n ++ k ∷ []) number ∙ sym (range_push 0 n) ∙ ap (range_with_len 0) (sym longer);
+        numbers = numbers_more (λ (c : Client). c.number) cs served.client after.clients.items n adds.client g.numbers e.who.by ∙ ap (range_with_len 0) (sym longer);
         closing = rw adds.client (All-push (HasClosing r table life.clients) cs served.client g.closing e.who.closing);
         calls = g.calls ++ own ∷ [];
         has = rw adds.client (all_zipped_more (HasCalls r) cs g.calls served.client own g.has e.who.has);
@@ -142,22 +127,6 @@ module _ {O Op Reply Store : Type 0} (m : Meaning Op Reply Store) (life : Life O
             (works_more m life g.calls own cs served.client long before.lines.entries.items served.lines.entries.items before.lines.reads.items served.lines.reads.items go_on before.never served.never g.works
             (subst (λ k. MatchBool served.never (CannotBeLeft m life k served.client own) (HasMadeCalls m life k (length (own_ops k life.commands)) own served.lines.entries.items served.lines.reads.items)) long e.end_is));
       }
-    where
-      zip_long : (xs : List Client) (ys : List (List Call)) → AllZip (HasCalls r) xs ys → length xs ≡ length ys
-      zip_long [] [] z = refl
-      zip_long (x ∷ xs) (y ∷ ys) z = ap suc (zip_long xs ys z.1)
-      zip_long _ _ z = absurd z
-
--- the works of clients from one on, by the clients' numbers
-pub numbered : {O Op Reply Store : Type 0} (m : Meaning Op Reply Store) (life : Life Op) (r : Running O) (table : TableId) (k : ℕ) (clients : List Client) (works : List (Result (Served Reply) AllocError)) → length works ≡ length clients
-    → map number_of clients ≡ range_with_len k (length clients) → AreClientWorksOf m life r table clients works → AreClientsNumbered m life r table k works
-numbered m life r table k [] [] long numbers each = tt
-numbered m life r table k (c ∷ cs) (w ∷ ws) long numbers each =
-    let first : number_of c ≡ k = ap (λ (xs : List ℕ). get_or xs 0 0) numbers in (
-      subst (λ i. IfOk w (ClientServedOf m life r table life.clients i)) first (each 0 w c (omega arith)),
-      numbered m life r table (k + 1) cs ws (omega (arith, long)) (ap (λ (xs : List ℕ). drop 1 xs) numbers) (λ i d e within. each (suc i) d e (omega (arith, within))),
-    )
-numbered m life r table k _ _ long numbers each = absurd (omega (arith, long))
 
 -- with no clients there is nothing
 pub gathered_none : {O Op Reply Store : Type 0} (m : Meaning Op Reply Store) (life : Life Op) (r : Running O) (table : TableId) (g : Gathered Reply) → AreWorks m.encoding life [] [] [] [] [] → g.clients.items ≡ [] → g.lines.entries.items ≡ [] → g.lines.reads.items ≡ [] → g.never ≡ false

@@ -20,7 +20,7 @@ use Rattle.cx_core.specs.declared.local.SeenRead.{SeenRead}
 use Rattle.cx_core.proofs.ListLemmas.{item_below}
 use Rattle.cx_core.proofs.MergeLemmas.{own_at, own_mine, own_other}
 use Rattle.life_records.specs.Meanings.{HaveWordsOfLines, MeanStores, object_instance}
-use Rattle.life_records.proofs.ItemLists.{All-item, Contains-item}
+use Rattle.life_records.proofs.ItemLists.{All-item, Contains-item, map_item}
 use Rattle.life_records.proofs.Steps.{mean_stores}
 use Rattle.life_records.proofs.TypedSteps.{TypedSteps}
 use Rattle.life_records.proofs.Endings.{has_ended, interleaves}
@@ -32,12 +32,6 @@ use Rattle.life_records.specs.Records.{FullLine, JournalLine, Life, LifeRecord, 
 use Rattle.life_records.specs.Works.{AreWorks, HasCommandWords, IsLineOf, IsReadLine, IsReplyAt, by_entry, by_read}
 use Rattle.pool_lives.specs.Recorded.{AreOfCallers, IsCallersAnswer, IsEntryOfSomeCaller, IsReadOfSomeCaller, IsPoolRecorded}
 use Rattle.pool_lives.proofs.InTurn.{tickets_rise}
-
--- the local state behind what a seat shows of it
-pub whole_at : (whole : List Local) (i : ℕ) (l : Local) → slice_get (map shown whole) i ≡ Some l → (w : Local) × (slice_get whole i ≡ Some w) × (shown w ≡ l)
-whole_at [] i l at = cc
-whole_at (x ∷ xs) zero l at = (x, refl, same_Some (shown x) l at)
-whole_at (x ∷ xs) (suc i) l at = whole_at xs i l at
 
 -- an entry among a caller's own is of that caller
 own_by : (caller ticket : ℕ) (history : List Entry) → Each (λ (x : Linked). x.entry.caller ≡ caller) (own_of caller ticket history)
@@ -113,7 +107,7 @@ module _ {Op Reply Store : Type 0} (t : TypedSteps Op Reply Store) (callers : �
 
   -- the caller behind what a seat shows of it
   pub caller_at : (caller : ℕ) (l : Local) → slice_get is.locals caller ≡ Some l → (w : Local) × (slice_get s.locals caller ≡ Some w) × (shown w ≡ l)
-  caller_at caller l at = whole_at s.locals caller l (ap (λ ls. slice_get ls caller) is.seats ∙ at)
+  caller_at caller l at = map_item shown s.locals caller l (ap (λ ls. slice_get ls caller) is.seats ∙ at)
 
   -- a caller's entry has its place in the history
   pub placed : (caller : ℕ) (l : Local) (x : Linked) → slice_get is.locals caller ≡ Some l → Contains l.own x → (base.place ≤ x.ticket) × (slice_get law.history (x.ticket - base.place) ≡ Some x.entry)

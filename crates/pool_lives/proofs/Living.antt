@@ -1,12 +1,12 @@
 -- What is recorded of a life whose pool was closed.
-use Rattle.std.proofs.Common.{◌≡◌, ◌∙◌, ◌+◌, ◌^◌, ◌≤◌, ◌⊎◌, inl, inr, Bool, true, ℕ, suc, List, [], ◌∷◌, ap, arith, length, refl, subst, sym}
+use Rattle.std.proofs.Common.{◌≡◌, ◌∙◌, ◌+◌, ◌^◌, ◌≤◌, ◌⊎◌, inl, inr, Bool, true, ℕ, List, [], arith, length, subst, sym}
 use Rattle.std.specs.Prelude.{All}
-use Rattle.std.specs.List.{AllZip}
 use Rattle.std.proofs.lemmas.List.Elements.{All-weaker}
+use Rattle.std.proofs.lemmas.Slice.Zip.{AllZip-long}
 use Rattle.atomic_table.specs.Seated.{TableId}
 use Rattle.cx_core.specs.Base.{LawfulBase}
 use Rattle.cx_core.specs.State.{Instance}
-use Rattle.cx_lives.proofs.Lines.{all_at}
+use Rattle.cx_lives.proofs.Lists.{all_at}
 use Rattle.cx_rule.specs.Running.{Running, instance_at}
 use Rattle.cx_service.specs.Closes.{seats_of}
 use Rattle.cx_table.specs.declared.remains.Remains.{Remains}
@@ -30,11 +30,6 @@ use Rattle.pool_lives.specs.Gathering.{AreClientsGathered, ClientHasNever, HaveL
 use Rattle.pool_lives.specs.Ghosts.{locals_from}
 use Rattle.pool_lives.specs.Running.{HasMet}
 use Rattle.pool_lives.specs.declared.gather.Gathered.{Gathered}
-
-zip_long : {O : Type 0} (r : Running O) (xs : List Client) (ys : List (List Call)) → AllZip (HasCalls r) xs ys → length xs ≡ length ys
-zip_long r [] [] z = refl
-zip_long r (x ∷ xs) (y ∷ ys) z = ap suc (zip_long r xs ys z.1)
-zip_long r _ _ z = absurd z
 
 module _ {O Op Reply Store : Type 0} (m : Meaning Op Reply Store) (steps : O → List ℕ → List ℕ → List ℕ × List ℕ) (readings : O → List ℕ → Bool) (life : Life Op) (r : Running O) (table : TableId) (g : Gathered Reply) (gathered : AreClientsGathered m life r table g) (remains : Remains)
     (closed : IsClosed r (instance_at r steps readings) g.clients.items remains) where
@@ -60,7 +55,7 @@ module _ {O Op Reply Store : Type 0} (m : Meaning Op Reply Store) (steps : O →
         seats = seats_of closed.handed;
         leaves = closed.leaves;
         clients = locals_from 0 calls;
-        count = locals_long 0 calls ∙ sym (zip_long r g.clients.items calls gathered.has) ∙ all;
+        count = locals_long 0 calls ∙ AllZip-long (HasCalls r) g.clients.items calls gathered.has ∙ all;
         entries = es;
         works = subst (λ (xs : List (ReadLine Reply)). AreWorks m.encoding life (locals_from 0 calls) es xs [] []) (sym reads) lines.works;
         sorted = sorted;

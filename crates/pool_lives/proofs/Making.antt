@@ -7,6 +7,8 @@ use Rattle.cx_core.proofs.ListLemmas.{slice_get-append_left}
 use Rattle.cx_core.proofs.Locals.{slice_get-last}
 use Rattle.cx_core.specs.declared.local.Answer.{Answer}
 use Rattle.cx_core.specs.declared.local.SeenRead.{SeenRead}
+use Rattle.cx_lives.specs.Lines.{AddsClientEntry, AddsClientRead, NotesEntryLine, NotesRead}
+use Rattle.cx_lives.specs.declared.lines.Lines.{Lines}
 use Rattle.cx_lives.proofs.Serving.{few_own, named_within, serves_entry, serves_none, serves_read}
 use Rattle.cx_rule.specs.Running.{Running}
 use Rattle.cx_turns.specs.declared.lookup.Seen.{Seen}
@@ -21,10 +23,9 @@ use Rattle.life_records.specs.Records.{AreOfNoReply, JournalLine, Life, Meaning,
 use Rattle.life_records.specs.Scripts.{named_op, own_ops}
 use Rattle.pool_lives.proofs.Asking.{may_again, may_still}
 use Rattle.pool_lives.proofs.Ghosts.{answers, answers_still, even, links, own_long, own_still, sees}
-use Rattle.pool_lives.specs.Asking.{AddsClientEntry, AddsClientRead, KeepsLast, MayAsk, NotesEntryLine, NotesRead}
+use Rattle.pool_lives.specs.Asking.{KeepsLast, MayAsk}
 use Rattle.pool_lives.specs.Ghosts.{IsCallAt, local_of}
 use Rattle.pool_lives.specs.Working.{HasClosing, HasMadeCalls, IsAtWork, IsBadCall, IsCalling, IsUncalledIn, IsOver, MakesCommand}
-use Rattle.pool_lives.specs.declared.progress.Lines.{Lines}
 
 -- a call stays behind its command
 pub stays_at : (calls more : List Call) (command at next : ℕ) → IsCallAt calls command at next → IsCallAt (calls ++ more) command at next
@@ -157,8 +158,8 @@ module _ {O Op Reply Store : Type 0} (m : Meaning Op Reply Store) (life : Life O
   -- by whether the words are a reply's
   pub entry_makes : (answer : Answer) → HasUpdated r table ws before after answer → (is_reply : Bool) → AddsClientEntry m client number answer old new is_reply → MakesCommand m life r table clients client number after new is_reply
   entry_makes answer u true notes = entry_made answer u notes
-  entry_makes answer u false bad = entry_bad answer u bad
+  entry_makes answer u false bad = entry_bad answer u bad.1
 
   pub read_makes : (seen : Seen) → HasRead r table ws before after seen → (is_reply : Bool) → AddsClientRead m client number seen old new is_reply → MakesCommand m life r table clients client number after new is_reply
   read_makes seen u true notes = read_made seen u notes
-  read_makes seen u false bad = read_bad seen u bad
+  read_makes seen u false bad = read_bad seen u bad.1

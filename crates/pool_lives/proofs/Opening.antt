@@ -10,7 +10,7 @@ use Rattle.std.proofs.lemmas.Option.{get_or_from_slice_get, none-some, same_Some
 use Rattle.atomic_table.specs.Seated.{TableId}
 use Rattle.cx_core.proofs.Locals.{slice_get-last}
 use Rattle.cx_core.specs.declared.entry.Base.{Base}
-use Rattle.cx_lives.proofs.Lines.{all_at}
+use Rattle.cx_lives.proofs.Lists.{all_at}
 use Rattle.cx_rule.specs.Running.{Running}
 use Rattle.cx_rule.specs.Seats.{Seated}
 use Rattle.cx_service.specs.Callers.{IsCallerOf}
@@ -25,7 +25,7 @@ use Rattle.life_records.proofs.Lists.{all_each, each_get}
 use Rattle.life_records.specs.Records.{Life, Meaning}
 use Rattle.pool_lives.specs.Asking.{AreUnlimited, MayAsk}
 use Rattle.pool_lives.specs.Gathering.{AreClientsGathered}
-use Rattle.pool_lives.specs.Running.{IsServiceReady, IsPoolServiceOf, IsStarted}
+use Rattle.pool_lives.specs.Running.{IsServiceReady}
 use Rattle.pool_lives.specs.Working.{HasClosing, IsUncalledIn}
 use Rattle.pool_lives.specs.declared.gather.Gathered.{Gathered}
 
@@ -42,31 +42,24 @@ module _ {O : Type 0} where
       let rest = map (opening_seat r limits) numbers in
       All-cons (IsNewCaller r) seat rest (record { caller = All-head (IsCallerOf r) seat rest all; none = refl }) (each_new r limits numbers (All-tail (IsCallerOf r) seat rest all))
 
-  pub started : (object copy : O) (lines callers : ℕ) (limits : List ℕ) (base : Base) (r : Running O) (seats : List Seated) → copy ≡ object → limits ≡ replicate callers (2 ^ 64 - 1) → Starts copy lines callers limits base r seats → IsStarted object lines callers base r seats
+  pub started : (object copy : O) (lines callers : ℕ) (limits : List ℕ) (base : Base) (r : Running O) (seats : List Seated) → copy ≡ object → limits ≡ replicate callers (2 ^ 64 - 1) → Starts copy lines callers limits base r seats → IsServiceReady object r seats
   started object copy lines callers limits base r seats same all starts =
       let numbers = range_with_len 0 callers in
       let seat : ℕ → Seated = opening_seat r limits in
-      let long : length seats ≡ callers = ap length starts.opened ∙ length-map-range_with_len seat 0 callers in (
-        record {
-          callers_are = ap (λ (x : Running O). x.callers) starts.is;
-          lines_are = ap (λ (x : Running O). x.lines) starts.is;
-          from = ap (λ (x : Running O). x.base) starts.is;
-          same = ap (λ (x : Running O). x.object) starts.is ∙ same;
-        },
-        record {
-          same = ap (λ (x : Running O). x.object) starts.is ∙ same;
-          new = record {
-            each = subst (All (IsNewCaller r)) (sym starts.opened) (each_new r limits numbers (subst (All (IsCallerOf r)) starts.opened starts.each));
-            numbers = starts.all.numbers;
-          };
-          unlimited = λ c limit at. (
-              let s = some_of (slice_get seats c) limit (sym (slice_get-map (λ (x : Seated). x.known.local.limit) seats c) ∙ at) in
-              let below : c < callers = (let within = slice_get_within seats c s.0 s.1 in omega (arith, within, long)) in
-              let here : 0 + c ≡ c = omega arith in
-              let is : s.0 ≡ seat c = sym (get_or_from_slice_get seats c s.0 s.0 s.1) ∙ ap (λ (xs : List Seated). get_or xs c s.0) starts.opened ∙ get_or-map-range_with_len seat 0 callers c c s.0 below here in
-              sym s.2 ∙ ap (λ (x : Seated). x.known.local.limit) is ∙ ap (λ (xs : List ℕ). get_or xs c 0) all ∙ get_or-replicate callers c (2 ^ 64 - 1) 0 below);
-        },
-      )
+      let long : length seats ≡ callers = ap length starts.opened ∙ length-map-range_with_len seat 0 callers in
+      record {
+        same = ap (λ (x : Running O). x.object) starts.is ∙ same;
+        new = record {
+          each = subst (All (IsNewCaller r)) (sym starts.opened) (each_new r limits numbers (subst (All (IsCallerOf r)) starts.opened starts.each));
+          numbers = starts.all.numbers;
+        };
+        unlimited = λ c limit at. (
+            let s = some_of (slice_get seats c) limit (sym (slice_get-map (λ (x : Seated). x.known.local.limit) seats c) ∙ at) in
+            let below : c < callers = (let within = slice_get_within seats c s.0 s.1 in omega (arith, within, long)) in
+            let here : 0 + c ≡ c = omega arith in
+            let is : s.0 ≡ seat c = sym (get_or_from_slice_get seats c s.0 s.0 s.1) ∙ ap (λ (xs : List Seated). get_or xs c s.0) starts.opened ∙ get_or-map-range_with_len seat 0 callers c c s.0 below here in
+            sym s.2 ∙ ap (λ (x : Seated). x.known.local.limit) is ∙ ap (λ (xs : List ℕ). get_or xs c 0) all ∙ get_or-replicate callers c (2 ^ 64 - 1) 0 below);
+      }
 
 -- an item of numbers one after another
 range_at : (a n i k : ℕ) → slice_get (range_with_len a n) i ≡ Some k → k ≡ a + i

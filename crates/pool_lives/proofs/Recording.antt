@@ -10,7 +10,7 @@ use Rattle.cx_core.specs.declared.local.Answer.{Answer as GivenAnswer}
 use Rattle.cx_core.specs.declared.local.Linked.{Linked}
 use Rattle.cx_core.specs.declared.local.Local.{Local}
 use Rattle.cx_core.specs.declared.local.SeenRead.{SeenRead}
-use Rattle.cx_lives.proofs.Lines.{all_at}
+use Rattle.cx_lives.proofs.Lists.{all_at}
 use Rattle.client_pool.proofs.Weights.{found, one_is}
 use Rattle.client_pool.specs.Answers.{AreAnswered, AreWhole, IsCallOf, IsCallersCall, answers_at}
 use Rattle.client_pool.specs.Clients.{AreInTurn as InTurn, entries_called, next_place_of, answer_place_of}

@@ -1,6 +1,5 @@
 -- The result of a life before the crash.
 use Rattle.std.specs.Prelude.{◌≡◌, ℕ, Bool, List, [], Some, length, map, slice_get}
-use Rattle.cx_core.specs.declared.entry.Base.{Base}
 use Rattle.cx_core.specs.declared.local.Local.{Local}
 use Rattle.cx_rule.specs.Running.{Running, instance_at}
 use Rattle.cx_rule.specs.Seats.{Seated}
@@ -19,17 +18,6 @@ pub record IsServiceReady {O : Type 0} (object : O) (r : Running O) (seats : Lis
   pub same : r.object ≡ object
   pub new : AreNewCallers r seats
   pub unlimited : AreUnlimited (map (λ (s : Seated). s.known.local.limit) seats)
-
--- a service of this object with this many callers, which opened from this base
-pub record IsPoolServiceOf {O : Type 0} (object : O) (lines callers : ℕ) (base : Base) (r : Running O) : Type 0 where
-  pub callers_are : r.callers ≡ callers
-  pub lines_are : r.lines ≡ lines
-  pub from : r.base ≡ base
-  pub same : r.object ≡ object
-
--- one that was started
-abbrev pub IsStarted : {O : Type 0} → O → ℕ → ℕ → Base → Running O → List Seated → Type 0
-IsStarted object lines callers base r seats = IsPoolServiceOf object lines callers base r × IsServiceReady object r seats
 
 -- What is recorded of it before the crash, when its service was closed: the lists of each client, whose lines the record has, are of callers of the
 -- service, and all that its history has.

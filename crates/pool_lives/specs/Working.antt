@@ -1,9 +1,9 @@
 -- A client while its commands are made one after another, and the result of its worker.
-use Rattle.std.specs.Prelude.{◌≡◌, ◌+◌, ◌-◌, ◌<◌, ◌≤◌, ◌⊎◌, ℕ, Bool, true, false, List, [], ◌∷◌, All, IfOk, MatchBool, Result, Some, length, slice_get, slice_index_or}
-use Rattle.std.specs.declared.alloc.AllocError.{AllocError}
+use Rattle.std.specs.Prelude.{◌≡◌, ◌+◌, ◌-◌, ◌<◌, ◌≤◌, ◌⊎◌, ℕ, Bool, true, false, List, [], All, MatchBool, Some, length, slice_get}
 use Rattle.atomic_table.specs.Seated.{TableId}
 use Rattle.cx_rule.specs.Running.{Running}
 use Rattle.cx_lives.specs.Serving.{HasServed}
+use Rattle.cx_lives.specs.declared.lines.Lines.{Lines}
 use Rattle.client_pool.specs.Clients.{HasCalls, entries_called}
 use Rattle.client_pool.specs.Lending.{IsPool}
 use Rattle.client_pool.specs.Pools.{IsClosing}
@@ -17,7 +17,6 @@ use Rattle.life_records.specs.Scripts.{own_ops}
 use Rattle.pool_lives.specs.Asking.{KeepsLast, MayAsk}
 use Rattle.pool_lives.specs.Ghosts.{IsCallAt, local_of}
 use Rattle.pool_lives.specs.PoolRuns.{IsLifeOfPool}
-use Rattle.pool_lives.specs.declared.progress.Lines.{Lines}
 use Rattle.pool_lives.specs.declared.work.Served.{Served}
 
 -- the pool serves the clients of this life: its service is of this object
@@ -97,15 +96,3 @@ MakesCommand m life r table clients client number now lines false = IsOver m lif
 abbrev pub ClientServedOf : {O Op Reply Store : Type 0} → Meaning Op Reply Store → Life Op → Running O → TableId → ℕ → ℕ → Served Reply → Type 0
 ClientServedOf m life r table clients client served = MatchBool served.never (IsOver m life r table clients client served.client)
     (IsAtWork m life r table clients client (length (own_ops client life.commands)) served.client served.lines)
-
--- item i is the result of the worker of client i, or the worker ran out of memory
-module _ {O Op Reply Store : Type 0} where
-  abbrev pub AreClientWorksOf : Meaning Op Reply Store → Life Op → Running O → TableId → List Client → List (Result (Served Reply) AllocError) → Type 0
-  AreClientWorksOf m life r table callers works =
-      (i : ℕ) (d : Result (Served Reply) AllocError) (e : Client) → i < length callers →
-      IfOk (slice_index_or works i d) (ClientServedOf m life r table life.clients (slice_index_or callers i e).number)
-
--- the results of the workers of the clients from one on, each where it found memory
-abbrev pub AreClientsNumbered : {O Op Reply Store : Type 0} → Meaning Op Reply Store → Life Op → Running O → TableId → ℕ → List (Result (Served Reply) AllocError) → Type 0
-AreClientsNumbered m life r table client [] = Unit {0}
-AreClientsNumbered m life r table client (work ∷ works) = IfOk work (ClientServedOf m life r table life.clients client) × AreClientsNumbered m life r table (client + 1) works

@@ -2,7 +2,7 @@
 
 ghost use Rattle.std.specs.Prelude.{IfOk, IsTrue};
 ghost use Rattle.client_pool.specs.Lending.{IsPool};
-ghost use Rattle.pool_lives.specs.Asking.{ClientRequestEnds, MayAsk};
+ghost use Rattle.pool_lives.specs.Asking.{ClientAsksOnce, ClientRequestEnds, MayAsk};
 
 use client_pool::{Client, Pool, Pooled, PooledRead};
 use cx_base::{Object, OpWords};
@@ -35,57 +35,44 @@ pub(crate) fn ask<O: Object, R: Wait>(
     requires reads { IsTrue reads → IsTrue (O.only_reads pool.now.service.object op.now) }
     ensures { IfOk result (ClientRequestEnds pool.now.service pool.now.line.table.shared.table_id op.now client.old client.new) }
 {
+    for _ in rt.forever() {
+        match ask_once(rt, pool, client, op, reads)? {
+            Some(asked) => return Ok(asked),
+            None => thread::yield_now(),
+        }
+    }
+    unreachable!()
+}
+
+// Asks for an operation once: beside the queue where it only reads, and else as an entry of the queue. Nothing where no cell is idle.
+fn ask_once<O: Object, R: Wait>(
+    rt: &R,
+    pool: &Pool<O>,
+    client: &mut Client,
+    op: &OpWords,
+    reads: bool,
+) -> Result<Option<Asked>, AllocError>
+    requires pool { IsPool O.only_reads pool.now }
+    requires client { MayAsk pool.now.service pool.now.line.table.shared.table_id client.old }
+    requires reads { IsTrue reads → IsTrue (O.only_reads pool.now.service.object op.now) }
+    ensures { IfOk result (ClientAsksOnce pool.now.service pool.now.line.table.shared.table_id op.now client.old client.new) }
+{
     if reads {
-        look(rt, pool, client, op)
-    } else {
-        enter(rt, pool, client, op)
-    }
-}
-
-// Asks for an operation as an entry of the queue.
-fn enter<O: Object, R: Wait>(
-    rt: &R,
-    pool: &Pool<O>,
-    client: &mut Client,
-    op: &OpWords,
-) -> Result<Asked, AllocError>
-    requires pool { IsPool O.only_reads pool.now }
-    requires client { MayAsk pool.now.service pool.now.line.table.shared.table_id client.old }
-    ensures { IfOk result (ClientRequestEnds pool.now.service pool.now.line.table.shared.table_id op.now client.old client.new) }
-{
-    for _ in rt.forever() {
-        match pool.update(rt, client, op) {
-            Pooled::Done(answer) => return Ok(Asked::Done(answer)),
-            Pooled::Full(_) => thread::yield_now(),
-            Pooled::Worn => return Ok(Asked::Worn),
-            Pooled::Stopped { .. } => unreachable!(),
-            Pooled::Memory => return Err(AllocError),
-        }
-    }
-    unreachable!()
-}
-
-// Asks for one that only reads.
-fn look<O: Object, R: Wait>(
-    rt: &R,
-    pool: &Pool<O>,
-    client: &mut Client,
-    op: &OpWords,
-) -> Result<Asked, AllocError>
-    requires pool { IsPool O.only_reads pool.now }
-    requires client { MayAsk pool.now.service pool.now.line.table.shared.table_id client.old }
-    requires reads { IsTrue (O.only_reads pool.now.service.object op.now) }
-    ensures { IfOk result (ClientRequestEnds pool.now.service pool.now.line.table.shared.table_id op.now client.old client.new) }
-{
-    for _ in rt.forever() {
         match pool.read(rt, client, op) {
-            PooledRead::Read(seen) => return Ok(Asked::Read(seen)),
-            PooledRead::Queued(answer) => return Ok(Asked::Done(answer)),
-            PooledRead::Full(_) => thread::yield_now(),
-            PooledRead::Worn => return Ok(Asked::Worn),
+            PooledRead::Read(seen) => Ok(Some(Asked::Read(seen))),
+            PooledRead::Queued(answer) => Ok(Some(Asked::Done(answer))),
+            PooledRead::Full(_) => Ok(None),
+            PooledRead::Worn => Ok(Some(Asked::Worn)),
             PooledRead::Stopped { .. } => unreachable!(),
-            PooledRead::Memory => return Err(AllocError),
+            PooledRead::Memory => Err(AllocError),
+        }
+    } else {
+        match pool.update(rt, client, op) {
+            Pooled::Done(answer) => Ok(Some(Asked::Done(answer))),
+            Pooled::Full(_) => Ok(None),
+            Pooled::Worn => Ok(Some(Asked::Worn)),
+            Pooled::Stopped { .. } => unreachable!(),
+            Pooled::Memory => Err(AllocError),
         }
     }
-    unreachable!()
 }

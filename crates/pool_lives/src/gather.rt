@@ -1,12 +1,13 @@
 //! The results of the workers, put together client after client.
 
-ghost use Rattle.std.specs.Prelude.{◌≡◌, ◌<◌, ◌∷◌, ◌++◌, IfOk, length, vec_len};
+ghost use Rattle.std.specs.Prelude.{◌≡◌, IfOk, length, vec_len};
+ghost use Rattle.cx_lives.specs.Works.{AreResultsFrom};
 ghost use Rattle.pool_lives.specs.Gathering.{AddsServed, AreClientsGathered};
-ghost use Rattle.pool_lives.specs.Working.{AreClientsNumbered};
+ghost use Rattle.pool_lives.specs.Working.{ClientServedOf};
 
-use crate::progress::Lines;
 use crate::work::Served;
 use client_pool::{Client, Pool};
+use cx_lives::{Lines, first_of};
 use life_records::BorrowedLife;
 use life_records::laws::{works_begin, works_go_on};
 use std::alloc::{AllocError, Global};
@@ -31,25 +32,12 @@ impl<Reply: Drop> Gathered<Reply> {
             never,
         } = self;
         clients.push(served.client)?;
-        let lines = joined(lines, served.lines)?;
         Ok(Gathered {
             clients,
-            lines,
+            lines: lines.joined(served.lines)?,
             never: never || served.never,
         })
     }
-}
-
-// One client's lines behind those of the clients before it.
-fn joined<Reply: Drop>(before: Lines<Reply>, own: Lines<Reply>) -> Result<Lines<Reply>, AllocError>
-    ensures entries { IfOk result (λ lines. lines.entries.items ≡ before.entries.items ++ own.entries.items) }
-    ensures reads { IfOk result (λ lines. lines.reads.items ≡ before.reads.items ++ own.reads.items) }
-{
-    let mut lines = before;
-    let mut own = own;
-    lines.entries.append(&mut own.entries)?;
-    lines.reads.append(&mut own.reads)?;
-    Ok(lines)
 }
 
 /// Puts together the results of the workers of all clients, in the order of the clients. `Err` means out of memory, in a worker or here.
@@ -60,7 +48,7 @@ pub(crate) fn gather<O: TypedObject>(
     life: &BorrowedLife<'_, O::Op>,
     works: Vec<Result<Served<O::Reply>, AllocError>>,
 ) -> Result<Gathered<O::Reply>, AllocError>
-    requires { AreClientsNumbered (O.meaning object.now) life.now pool.now.service pool.now.line.table.shared.table_id 0 works.items }
+    requires { AreResultsFrom (ClientServedOf (O.meaning object.now) life.now pool.now.service pool.now.line.table.shared.table_id life.now.clients) 0 works.items }
     ensures gathered { IfOk result (AreClientsGathered (O.meaning object.now) life.now pool.now.service pool.now.line.table.shared.table_id) }
     ensures all { IfOk result (λ g. length g.clients.items ≡ vec_len works) }
 {
@@ -82,14 +70,4 @@ pub(crate) fn gather<O: TypedObject>(
         all = all.with(served)?;
     }
     Ok(all)
-}
-
-// The result of the first of the workers, which is taken out.
-fn first_of<Reply: Drop>(
-    works: &mut Vec<Result<Served<Reply>, AllocError>>,
-) -> Result<Served<Reply>, AllocError>
-    requires { 0 < length works.old.items }
-    ensures { works.old.items ≡ result ∷ works.new.items }
-{
-    works.remove(0)
 }

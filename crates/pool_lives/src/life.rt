@@ -5,10 +5,10 @@ ghost use Rattle.pool_lives.specs.PoolRuns.{IsLifeOfPool, IsProbe};
 ghost use Rattle.pool_lives.specs.Running.{HasMet, IsServiceReady};
 
 use crate::gather::{Gathered, gather};
-use crate::progress::Lines;
 use crate::workers::run_workers;
 use client_pool::Pool;
 use cx_base::{Gate, Items, OpWords};
+use cx_lives::Lines;
 use cx_service::{Caller, Service};
 use cx_table::Remains;
 use life_records::{BorrowedLife, LifeRecord, steps_are_meant};

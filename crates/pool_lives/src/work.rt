@@ -1,12 +1,13 @@
 //! What one client's worker does.
 
-ghost use Rattle.std.specs.Prelude.{◌≡◌, ◌<◌, IfOk, Some, length, slice_get};
+ghost use Rattle.std.specs.Prelude.{IfOk};
 ghost use Rattle.pool_lives.specs.Working.{ClientServedOf, IsUncalledIn, ServesLife};
 
-use crate::progress::{Lines, make};
+use crate::progress::make;
 use client_pool::{Client, Pool};
 use cx_base::Gate;
-use life_records::{BorrowedLife, Command};
+use cx_lives::{Lines, command_at};
+use life_records::BorrowedLife;
 use std::alloc::{AllocError, Global};
 use std::sync::Wait;
 use typed_object::TypedObject;
@@ -71,12 +72,4 @@ pub(crate) fn serve<O: TypedObject, R: Wait, G: Gate>(
         lines,
         never: false,
     })
-}
-
-// The command at a place of the script. Commands are made in the order of these places.
-fn command_at<Op>(commands: &[Command<Op>], at: usize) -> &Command<Op>
-    requires { at < length commands.now }
-    ensures { slice_get commands.now at ≡ Some result.now }
-{
-    &commands[at]
 }

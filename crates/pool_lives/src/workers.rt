@@ -1,7 +1,8 @@
 //! A worker for each client, each on a thread of its own.
 
 ghost use Rattle.std.specs.Prelude.{◌≡◌, All, IfOk, vec_len};
-ghost use Rattle.pool_lives.specs.Working.{AreClientWorksOf, ClientServedOf, IsUncalledIn, ServesLife};
+ghost use Rattle.cx_lives.specs.Works.{AreResultsOf};
+ghost use Rattle.pool_lives.specs.Working.{ClientServedOf, IsUncalledIn, ServesLife};
 
 use crate::work::{Served, serve};
 use client_pool::{Client, Pool};
@@ -25,7 +26,7 @@ pub(crate) fn run_workers<O: TypedObject + Sync, R: Threads + Wait + Sync, G: Ga
     requires pool { ServesLife O.only_reads (O.meaning object.now) object.now life.now pool.now }
     requires clients { All (IsUncalledIn pool.now.service pool.now.line.table.shared.table_id life.now.clients) clients.items }
     ensures len { IfOk result (λ works. vec_len works ≡ vec_len clients) }
-    ensures each { IfOk result (λ works. AreClientWorksOf (O.meaning object.now) life.now pool.now.service pool.now.line.table.shared.table_id clients.items works.items) }
+    ensures each { IfOk result (λ works. AreResultsOf (λ client. ClientServedOf (O.meaning object.now) life.now pool.now.service pool.now.line.table.shared.table_id life.now.clients client.number) clients.items works.items) }
 {
     // `map_vec` halves the list and runs both halves at once. To part a list takes memory: where one half finds none while the other
     // runs, its workers are not run at all, and a gate that waits for one of them may wait for good.

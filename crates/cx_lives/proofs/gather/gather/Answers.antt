@@ -7,25 +7,17 @@ use Rattle.life_records.specs.declared.record.StopLine.{StopLine}
 use Rattle.cx_lives.specs.declared.progress.Work.{Work}
 use Rattle.cx_lives.specs.declared.work.Served.{Served}
 use Rattle.cx_lives.specs.Ends.{IsWorkOf, full_in, stop_in}
-use Rattle.cx_lives.specs.Works.{AreNumbered, stop_told, stops_left}
-use Rattle.cx_lives.proofs.Gathering.{gathered_more}
+use Rattle.cx_lives.specs.Works.{ServedOf, stop_told, stops_left}
+use Rattle.cx_lives.proofs.Gathering.{first_result, gathered_more}
 use Rattle.cx_lives.proofs.Leaving.{HoldersStopped, holders_more}
 use Rattle.cx_lives.proofs.gather.gather.Goals as goal
 
 pub at_end-requires-clause-served : goal.at_end-requires-clause-served
-at_end-requires-clause-served g c = λ κs lives.
-    let m = g.O.TypedObject.meaning c.args.service.now.object in
-    let life = c.args.life.now in
-    let r = c.args.service.now in
-    let works : List (Result (Served g.row.O-Reply.Denot) AllocError) = c.loop-alloc.works.items in
-    let left : List (Result (Served g.row.O-Reply.Denot) AllocError) = c.first_of.new.works.items in
-    let n = length c.loop-alloc.all.handed.items in
-    let served = c.in_ok-served.served in
-    let was : c.first_of.result ≡ Ok served = c.in_ok-served.was in
-    let first : works ≡ c.first_of.result ∷ left = c.first_of.ensures in
-    let whole : works ≡ Ok served ∷ left = first ∙ ap (λ (w : Result (Served g.row.O-Reply.Denot) AllocError). w ∷ left) was in
-    let rest = subst (λ (ws : List (Result (Served g.row.O-Reply.Denot) AllocError)). AreNumbered m life r n ws) whole c.loop-alloc.invariant.rest in
-    (n, rest.0)
+at_end-requires-clause-served g c = λ κs lives. (
+  length c.loop-alloc.all.handed.items,
+  (first_result (ServedOf (g.O.TypedObject.meaning c.args.service.now.object) c.args.life.now c.args.service.now) (length c.loop-alloc.all.handed.items) c.loop-alloc.works.items c.first_of.new.items.items c.first_of.result c.in_ok-served.served
+      c.first_of.ensures c.in_ok-served.was c.loop-alloc.invariant.rest).0,
+)
 
 pub loop-alloc-preserved : goal.loop-alloc-preserved
 loop-alloc-preserved g c =
@@ -33,14 +25,12 @@ loop-alloc-preserved g c =
     let r = c.args.service.now in
     let all = c.loop-alloc.all in
     let works : List (Result (Served g.row.O-Reply.Denot) AllocError) = c.loop-alloc.works.items in
-    let left : List (Result (Served g.row.O-Reply.Denot) AllocError) = c.first_of.new.works.items in
+    let left : List (Result (Served g.row.O-Reply.Denot) AllocError) = c.first_of.new.items.items in
     let n = length all.handed.items in
     let served = c.in_ok-served.served in
     let work = c.in_ok-work.work in
-    let was : c.first_of.result ≡ Ok served = c.in_ok-served.was in
-    let first : works ≡ c.first_of.result ∷ left = c.first_of.ensures in
-    let whole : works ≡ Ok served ∷ left = first ∙ ap (λ (w : Result (Served g.row.O-Reply.Denot) AllocError). w ∷ left) was in
-    let rest = subst (λ (ws : List (Result (Served g.row.O-Reply.Denot) AllocError)). AreNumbered (g.O.TypedObject.meaning c.args.service.now.object) life r n ws) whole c.loop-alloc.invariant.rest in
+    let whole : works ≡ Ok served ∷ left = c.first_of.ensures ∙ ap (λ (w : Result (Served g.row.O-Reply.Denot) AllocError). w ∷ left) c.in_ok-served.was in
+    let rest = first_result (ServedOf (g.O.TypedObject.meaning c.args.service.now.object) life r) n works left c.first_of.result served c.first_of.ensures c.in_ok-served.was c.loop-alloc.invariant.rest in
     let work_is : IsWorkOf (g.O.TypedObject.meaning c.args.service.now.object) life r n work = subst (λ (w : Result (Work g.row.O-Reply.Denot) AllocError). IfOk w (IsWorkOf (g.O.TypedObject.meaning c.args.service.now.object) life r n)) c.in_ok-work.was (c.at_end.ensures.work n rest.0) in
     let more = c.in_ok-all.ensures in
     let longer : length c.in_ok-all.all.handed.items ≡ n + 1 = ap length more.handed ∙ length-append all.handed.items (work.handed ∷ []) in

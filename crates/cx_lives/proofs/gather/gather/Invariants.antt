@@ -1,7 +1,7 @@
 use Rattle.std.proofs.Common.{◌≡◌, ◌+◌, ◌++◌, length}
 use Rattle.std.specs.Prelude.{vec_len}
 use Rattle.cx_lives.specs.Gathering.{AreGathered}
-use Rattle.cx_lives.specs.Works.{AreNumbered, stops_left}
+use Rattle.cx_lives.specs.Works.{AreResultsFrom, ServedOf, stops_left}
 use Rattle.cx_lives.proofs.Leaving.{HoldersStopped}
 use Rattle.cx_lives.proofs.gather.gather.Given as goal
 
@@ -9,7 +9,7 @@ use Rattle.cx_lives.proofs.gather.gather.Given as goal
 abbrev pub invariant-loop-alloc : goal.invariant-loop-alloc
 invariant-loop-alloc g l = record {
   gathered : AreGathered (g.O.TypedObject.meaning l.service.object) l.life l.service l.all;
-  rest : AreNumbered (g.O.TypedObject.meaning l.service.object) l.life l.service (length l.all.handed.items) l.works.items;
+  rest : AreResultsFrom (ServedOf (g.O.TypedObject.meaning l.service.object) l.life l.service) (length l.all.handed.items) l.works.items;
   count : length l.all.handed.items + length l.works.items ≡ vec_len l.fn.works;
   stopped : HoldersStopped (l.all.ends.stops.items ++ stops_left l.works.items) l.all.ends.fulls.items;
 }

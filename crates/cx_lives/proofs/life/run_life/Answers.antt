@@ -4,6 +4,7 @@ use Rattle.std.specs.List.{range_with_len}
 use Rattle.std.proofs.lemmas.List.Sorted.{IsNonDecreasingBy-from_sort_by_key}
 use Rattle.cx_core.specs.declared.local.Local.{Local}
 use Rattle.cx_rule.specs.Running.{instance_at}
+use Rattle.cx_rule.specs.Seats.{Seated}
 use Rattle.cx_service.specs.Closes.{seats_of}
 use Rattle.life_records.specs.Journal.{IsByTicket, IsRecordOf}
 use Rattle.life_records.specs.Told.{IsTold}
@@ -11,6 +12,7 @@ use Rattle.life_records.specs.Works.{AreWorks}
 use Rattle.life_records.proofs.TypedSteps.{typed_steps}
 use Rattle.life_records.specs.Records.{JournalLine, LifeRecord}
 use Rattle.cx_lives.specs.Gathering.{HasNever}
+use Rattle.cx_lives.specs.Works.{ServedOf}
 use Rattle.cx_lives.proofs.Gathering.{gathered_seats, locals_in, locals_long, numbered, seats_long}
 use Rattle.cx_core.specs.Base.{LawfulBase}
 use Rattle.cx_lives.proofs.Never.{never}
@@ -21,7 +23,7 @@ gather-requires-clause-works g c = λ κs lives.
     let callers = c.args.callers in
     let works = c.in_ok-works.works in
     let few = seats_long c.args.service callers.items c.requires.seats in
-    numbered (g.O.TypedObject.meaning c.args.service.object) c.args.life.now c.args.service 0 callers.items works.items (omega (arith, works.ok.0, callers.ok.0, c.in_ok-works.ensures.len))
+    numbered (ServedOf (g.O.TypedObject.meaning c.args.service.object) c.args.life.now c.args.service) (λ (s : Seated). s.known.local.number) 0 callers.items works.items (omega (arith, works.ok.0, callers.ok.0, c.in_ok-works.ensures.len))
     (c.requires.seats.numbers ∙ ap (range_with_len 0) (sym few)) c.in_ok-works.ensures.each
 
 pub close-requires : goal.close-requires

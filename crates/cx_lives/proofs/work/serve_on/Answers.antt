@@ -1,5 +1,4 @@
 use Rattle.std.proofs.Common.{◌≡◌, ◌+◌, ◌-◌, ◌≤◌, Some, ap, arith, length, refl, subst, sym, true}
-use Rattle.std.proofs.lemmas.Option.{get_or_from_slice_get}
 use Rattle.life_records.specs.Scripts.{named_op}
 use Rattle.life_records.specs.declared.record.FullLine.{FullLine}
 use Rattle.cx_lives.specs.Ends.{IsKeptOut, IsWorkOf, Turned, full_in}
@@ -22,26 +21,24 @@ pub make-requires-clause-named : goal.make-requires-clause-named
 make-requires-clause-named g c = λ κs lives.
     let items = c.commands-commands.result.now in
     let command = c.command_at-command.result.now in
-    let there = sym (get_or_from_slice_get items c.loop-at.at command command c.command_at-command.ensures) in
-    named_here c.args.life.now items c.commands-commands.ensures c.loop-at.at command (omega arith) there c.number-client.result c.loop-at.number c.loop-at.invariant.count c.if-command-client.true
+    named_here c.args.life.now items c.commands-commands.ensures c.loop-at.at command c.command_at-command.ensures c.number-client.result c.loop-at.number c.loop-at.invariant.count c.if-command-client.true
 
 pub loop-at-preserved : goal.loop-at-preserved
 loop-at-preserved g c =
     let me = c.number-client.result in
     let items = c.commands-commands.result.now in
     let command = c.command_at-command.result.now in
-    let there = sym (get_or_from_slice_get items c.loop-at.at command command c.command_at-command.ensures) in
     elim c.if-command-client.branch [
       | then-command-client+in_ok-turn+in-Next w ↦ (record {
         served = rw (w.progress-is, w.number-is) (subst (λ k. IsServed (g.O.TypedObject.meaning c.args.service.now.object) c.args.life.now c.args.service.now k (c.loop-at.number + 1) w.in-Next.back) w.if-command-client.true
             (subst (Turned (g.O.TypedObject.meaning c.args.service.now.object) c.args.life.now c.args.service.now command.client (c.loop-at.number + 1)) w.in-Next.is w.in_ok-turn.ensures));
-        count = count_more c.args.life.now items c.commands-commands.ensures c.loop-at.at command (omega arith) there
+        count = count_more c.args.life.now items c.commands-commands.ensures c.loop-at.at command c.command_at-command.ensures
             me c.loop-at.number c.loop-at.invariant.count _ w.number-is w.if-command-client.true;
         few = omega (arith, w.number-is, c.loop-at.invariant.few);
       })
       | else-command-client w ↦ (record {
         served = rw (w.progress-is, w.number-is) c.loop-at.invariant.served;
-        count = count_none c.args.life.now items c.commands-commands.ensures c.loop-at.at command (omega arith) there
+        count = count_none c.args.life.now items c.commands-commands.ensures c.loop-at.at command c.command_at-command.ensures
             me c.loop-at.number c.loop-at.invariant.count _ w.number-is w.if-command-client.false;
         few = omega (arith, w.number-is, c.loop-at.invariant.few);
       })
@@ -66,8 +63,7 @@ returns-in-Full g c =
     let n = c.loop-at.number in
     let items = c.commands-commands.result.now in
     let command = c.command_at-command.result.now in
-    let there = sym (get_or_from_slice_get items c.loop-at.at command command c.command_at-command.ensures) in
-    let named = named_here life items c.commands-commands.ensures c.loop-at.at command (omega arith) there me n c.loop-at.invariant.count c.if-command-client.true in
+    let named = named_here life items c.commands-commands.ensures c.loop-at.at command c.command_at-command.ensures me n c.loop-at.invariant.count c.if-command-client.true in
     let mine : named_op life me (n + 1) ≡ Some command.op = subst (λ k. named_op life k (n + 1) ≡ Some command.op) c.if-command-client.true named in
     let same : n + 1 - 1 ≡ n = omega arith in
     let back = c.in-Full.back in

@@ -5,15 +5,16 @@ use Rattle.cx_core.specs.Base.{LawfulBase}
 use Rattle.cx_core.specs.declared.entry.Base.{Base}
 use Rattle.cx_rule.specs.Running.{Running}
 use Rattle.cx_rule.specs.Seats.{Seated}
+use Rattle.client_pool.specs.declared.client.Client.{Client}
 use Rattle.life_records.proofs.TypedSteps.{typed_steps}
 use Rattle.life_records.specs.Journal.{IsByTicket}
 use Rattle.life_records.specs.Records.{JournalLine, LifeRecord}
-use Rattle.pool_lives.proofs.Joining.{numbered}
+use Rattle.cx_lives.proofs.Gathering.{numbered}
 use Rattle.pool_lives.proofs.Living.{met, never}
 use Rattle.pool_lives.proofs.Opening.{all_clients, all_new}
 use Rattle.pool_lives.specs.Gathering.{ClientHasNever, HaveLines}
 use Rattle.pool_lives.specs.Running.{HasMet}
-use Rattle.pool_lives.specs.Working.{IsUncalledIn}
+use Rattle.pool_lives.specs.Working.{ClientServedOf, IsUncalledIn}
 use Rattle.pool_lives.proofs.life.live.Goals as goal
 
 pub run_workers-requires-clause-pool : goal.run_workers-requires-clause-pool
@@ -35,7 +36,7 @@ gather-requires-after_bounds g c κs within =
     let clients = c.in-Ok.clients in
     let works = c.in_ok-works.works in
     let e = c.in_ok-works.ensures in
-    numbered (g.O.TypedObject.meaning c.args.object.now) c.args.life.now c.in-Ok.pool.service c.in-Ok.pool.line.table.shared.table_id 0 clients.items works.items (omega (arith, works.ok.0, clients.ok.0, e.len)) c.in-Ok.ensures.opened.2.clients_are.numbers e.each
+    numbered (ClientServedOf (g.O.TypedObject.meaning c.args.object.now) c.args.life.now c.in-Ok.pool.service c.in-Ok.pool.line.table.shared.table_id c.args.life.now.clients) (λ (x : Client). x.number) 0 clients.items works.items (omega (arith, works.ok.0, clients.ok.0, e.len)) c.in-Ok.ensures.opened.2.clients_are.numbers e.each
 
 pub close-requires : goal.close-requires
 close-requires g c =

@@ -1,7 +1,6 @@
 use Rattle.std.proofs.Common.{◌≡◌, ◌+◌, ◌-◌, ◌≤◌, true, Some, [], arith, length, refl, slice_get, subst, sym}
-use Rattle.std.proofs.lemmas.Option.{get_or_from_slice_get}
 use Rattle.cx_lives.proofs.Commands.{count_all, count_more, count_none, named_here}
-use Rattle.cx_lives.proofs.Lines.{all_at}
+use Rattle.cx_lives.proofs.Lists.{all_at}
 use Rattle.life_records.specs.Limits.{IsCommandOf}
 use Rattle.life_records.specs.Scripts.{own_ops}
 use Rattle.pool_lives.proofs.Making.{makes_none}
@@ -39,8 +38,7 @@ pub make-requires-clause-named : goal.make-requires-clause-named
 make-requires-clause-named g c κs within =
     let items = c.commands-commands.result.now in
     let command = c.command_at-command.result.now in
-    let there = sym (get_or_from_slice_get items c.loop-at.at command command c.command_at-command.ensures) in
-    named_here c.args.life.now items c.commands-commands.ensures c.loop-at.at command (omega arith) there c.number-me.result c.loop-at.number c.loop-at.invariant.count c.if-command-me.true
+    named_here c.args.life.now items c.commands-commands.ensures c.loop-at.at command c.command_at-command.ensures c.number-me.result c.loop-at.number c.loop-at.invariant.count c.if-command-me.true
 
 pub make-requires-clause-op : goal.make-requires-clause-op
 make-requires-clause-op g c κs within =
@@ -58,18 +56,17 @@ loop-at-preserved g c =
     let n = c.loop-at.number in
     let items = c.commands-commands.result.now in
     let command = c.command_at-command.result.now in
-    let there = sym (get_or_from_slice_get items c.loop-at.at command command c.command_at-command.ensures) in
     elim c.if-command-me.branch [
       | then-command-me+in_ok-goes_on+else-not-goes_on w ↦ (record {
         work = rw (w.client-is, w.lines-is, w.number-is) (subst (λ k. IsAtWork m life r table k me (n + 1) w.make.new.client w.make.new.lines) c.clients-clients.ensures
             (subst (λ k. IsAtWork m life r table c.clients-clients.result k (n + 1) w.make.new.client w.make.new.lines) w.if-command-me.true
             (subst (MakesCommand m life r table c.clients-clients.result command.client (n + 1) w.make.new.client w.make.new.lines) w.if-not-goes_on.false w.in_ok-goes_on.ensures)));
-        count = count_more life items c.commands-commands.ensures c.loop-at.at command (omega arith) there me n c.loop-at.invariant.count _ w.number-is w.if-command-me.true;
+        count = count_more life items c.commands-commands.ensures c.loop-at.at command c.command_at-command.ensures me n c.loop-at.invariant.count _ w.number-is w.if-command-me.true;
         few = omega (arith, w.number-is, c.loop-at.invariant.few);
       })
       | else-command-me w ↦ (record {
         work = rw (w.client-is, w.lines-is, w.number-is) c.loop-at.invariant.work;
-        count = count_none life items c.commands-commands.ensures c.loop-at.at command (omega arith) there me n c.loop-at.invariant.count _ w.number-is w.if-command-me.false;
+        count = count_none life items c.commands-commands.ensures c.loop-at.at command c.command_at-command.ensures me n c.loop-at.invariant.count _ w.number-is w.if-command-me.false;
         few = omega (arith, w.number-is, c.loop-at.invariant.few);
       })
     ]

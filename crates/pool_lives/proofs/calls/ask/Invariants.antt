@@ -1,6 +1,6 @@
 use Rattle.client_pool.specs.Clients.{HasNoMore}
 use Rattle.pool_lives.specs.Asking.{MayAsk}
-use Rattle.pool_lives.proofs.calls.look.Given as goal
+use Rattle.pool_lives.proofs.calls.ask.Given as goal
 
 -- the client was answered nothing yet, and may ask again
 abbrev pub invariant-loop : goal.invariant-loop

@@ -1,6 +1,6 @@
 use Rattle.std.proofs.Common.{◌≡◌, ◌∙◌, ℕ, List, ap, sym, subst, drop, IfOk}
 use Rattle.cx_core.specs.Region.{object_part}
-use Rattle.pool_lives.proofs.run.count_items.Goals as goal
+use Rattle.cx_lives.proofs.crash.count_items.Goals as goal
 
 pub items_in-requires : goal.items_in-requires
 unfolding object_part

@@ -1,0 +1,29 @@
+-- The line that is noted of a client's answer.
+use Rattle.std.specs.Prelude.{◌≡◌, ℕ, Bool, true, false, [], ◌∷◌, ◌++◌, Some}
+use Rattle.cx_core.specs.declared.local.Answer.{Answer}
+use Rattle.cx_turns.specs.declared.lookup.Seen.{Seen}
+use Rattle.life_records.specs.Records.{AreOfNoReply, Meaning}
+use Rattle.cx_lives.specs.declared.lines.Lines.{Lines}
+
+-- one entry's line more
+pub record NotesEntryLine {Op Reply Store : Type 0} (m : Meaning Op Reply Store) (client number : ℕ) (answer : Answer) (before after : Lines Reply) : Type 0 where
+  pub reply : Reply
+  pub words : m.encoding.reply_words reply ≡ answer.reply
+  pub entries_are : after.entries.items ≡ before.entries.items ++ record { ticket = answer.ticket; client = client; command = number; reply = Some reply } ∷ []
+  pub reads_are : after.reads.items ≡ before.reads.items
+
+-- one read's line more
+pub record NotesRead {Op Reply Store : Type 0} (m : Meaning Op Reply Store) (client number : ℕ) (seen : Seen) (before after : Lines Reply) : Type 0 where
+  pub reply : Reply
+  pub words : m.encoding.reply_words reply ≡ seen.reply
+  pub entries_are : after.entries.items ≡ before.entries.items
+  pub reads_are : after.reads.items ≡ before.reads.items ++ record { client = client; command = number; place = seen.place; reply = reply } ∷ []
+
+-- so it is where the words are a reply's; else the lines are as they were
+abbrev pub AddsClientEntry : {Op Reply Store : Type 0} → Meaning Op Reply Store → ℕ → ℕ → Answer → Lines Reply → Lines Reply → Bool → Type 0
+AddsClientEntry m client number answer before after true = NotesEntryLine m client number answer before after
+AddsClientEntry m client number answer before after false = (after ≡ before) × AreOfNoReply m answer.reply
+
+abbrev pub AddsClientRead : {Op Reply Store : Type 0} → Meaning Op Reply Store → ℕ → ℕ → Seen → Lines Reply → Lines Reply → Bool → Type 0
+AddsClientRead m client number seen before after true = NotesRead m client number seen before after
+AddsClientRead m client number seen before after false = (after ≡ before) × AreOfNoReply m seen.reply

@@ -1,0 +1,91 @@
+//! The lines that a client's worker notes of what it was answered.
+
+ghost use Rattle.std.specs.Prelude.{◌≡◌, ◌++◌, IfOk, []};
+ghost use Rattle.cx_lives.specs.Lines.{AddsClientEntry, AddsClientRead};
+
+use cx_service::{Answer, Seen};
+use life_records::{JournalLine, ReadLine};
+use std::alloc::{AllocError, Global};
+use typed_object::TypedObject;
+
+/// The lines of a client so far, or of several clients one after another: those of their entries, and those of their reads.
+#[derive(Drop)]
+pub struct Lines<Reply> {
+    pub entries: Vec<JournalLine<Reply>>,
+    pub reads: Vec<ReadLine<Reply>>,
+}
+
+impl<Reply> Lines<Reply> {
+    /// No lines.
+    pub fn new(alloc: Global) -> Self
+        ensures entries { result.entries.items ≡ [] }
+        ensures reads { result.reads.items ≡ [] }
+    {
+        Lines {
+            entries: Vec::new(alloc),
+            reads: Vec::new(alloc),
+        }
+    }
+}
+
+impl<Reply: Drop> Lines<Reply> {
+    /// One client's lines behind these of the clients before it. `Err` means out of memory.
+    pub fn joined(self, own: Lines<Reply>) -> Result<Lines<Reply>, AllocError>
+        ensures entries { IfOk result (λ lines. lines.entries.items ≡ self.entries.items ++ own.entries.items) }
+        ensures reads { IfOk result (λ lines. lines.reads.items ≡ self.reads.items ++ own.reads.items) }
+    {
+        let mut lines = self;
+        let mut own = own;
+        lines.entries.append(&mut own.entries)?;
+        lines.reads.append(&mut own.reads)?;
+        Ok(lines)
+    }
+}
+
+/// Notes the line of a client's entry that is answered, as that of its command of this number. `false` where the words of the answer are
+/// of no reply. `Err` means out of memory.
+pub fn note_entry<O: TypedObject>(
+    alloc: Global,
+    object: &O,
+    lines: &mut Lines<O::Reply>,
+    client: u32,
+    number: u64,
+    answer: &Answer,
+) -> Result<bool, AllocError>
+    ensures { IfOk result (AddsClientEntry (O.meaning object.now) client number answer.now lines.old lines.new) }
+{
+    let Some(reply) = object.reply_of(alloc, &answer.reply)? else {
+        return Ok(false);
+    };
+    lines.entries.push(JournalLine {
+        ticket: answer.ticket,
+        client,
+        command: number,
+        reply: Some(reply),
+    })?;
+    Ok(true)
+}
+
+/// Notes the line of a client's read that is answered, at the place that its caller has seen, as that of its command of this number.
+/// `false` where the words of the answer are of no reply. `Err` means out of memory.
+pub fn note_read<O: TypedObject>(
+    alloc: Global,
+    object: &O,
+    lines: &mut Lines<O::Reply>,
+    client: u32,
+    number: u64,
+    seen: &Seen,
+) -> Result<bool, AllocError>
+    ensures { IfOk result (AddsClientRead (O.meaning object.now) client number seen.now lines.old lines.new) }
+{
+    let Some(reply) = object.reply_of(alloc, &seen.reply)? else {
+        return Ok(false);
+    };
+    lines.reads.push(ReadLine {
+        client,
+        command: number,
+        place: seen.place,
+        reply,
+    })?;
+    Ok(true)
+}
