@@ -6,7 +6,7 @@ ghost use Rattle.life_records.specs.Lives.{is_stopped};
 ghost use Rattle.cx_lives.specs.declared.progress.End.TheVariants.{Full};
 ghost use Rattle.cx_lives.specs.Ends.{IsNewIn, IsWorkOf, full_in};
 ghost use Rattle.cx_lives.specs.Turns.{ended};
-ghost use Rattle.cx_lives.specs.Works.{IsFullLeft, IsClientLeft, ServedOf, stop_told, stops_left};
+ghost use Rattle.cx_lives.specs.Works.{IsClientLeft, ServedOf, stop_told, stops_left};
 
 use crate::lines::Lines;
 use crate::operations::command_at;

@@ -1,6 +1,5 @@
 -- A client asks again and again.
-use Rattle.std.proofs.Common.{◌≡◌, ◌∙◌, ℕ, true, List, [], ◌∷◌, Option, Some, ap, refl, subst, sym, arith}
-use Rattle.std.specs.Prelude.{All}
+use Rattle.std.proofs.Common.{◌≡◌, ◌∙◌, ℕ, true, List, [], Option, Some, ap, refl, subst, sym, arith}
 use Rattle.std.proofs.lemmas.List.Elements.{All-head}
 use Rattle.atomic_table.specs.Seated.{TableId}
 use Rattle.crossbeam_queue.specs.Passes.{view}
@@ -8,11 +7,10 @@ use Rattle.cx_core.specs.declared.local.FullNote.{FullNote}
 use Rattle.cx_rule.specs.Running.{Running}
 use Rattle.cx_rule.specs.Seats.{Seated}
 use Rattle.cx_service.specs.Callers.{StoppedSeat}
-use Rattle.cx_service.specs.declared.close.Handed.{Handed}
 use Rattle.cx_service.specs.declared.close.Handed.TheVariants.{Stopped}
 use Rattle.seat_pool.specs.Gathering.{IsHandedOf}
 use Rattle.client_pool.specs.Clients.{HasMade, HasNoMore, IsSameClient}
-use Rattle.client_pool.specs.Lending.{HoldsKept, KeepsFull, KeepsStopped, KeepsWorn, is_live, limits_of}
+use Rattle.client_pool.specs.Lending.{HoldsKept, KeepsFull, KeepsStopped, KeepsWorn, is_live}
 use Rattle.client_pool.specs.declared.call.Call.{Call}
 use Rattle.client_pool.specs.declared.client.Client.{Client}
 use Rattle.pool_lives.specs.Asking.{AreUnlimited, ClientRequestEnds, KeepsLast, MayAsk}

@@ -1,5 +1,5 @@
 -- One client's work more among all.
-use Rattle.std.proofs.Common.{◌≡◌, ◌∙◌, ◌+◌, ◌≤◌, Bool, true, false, ◌||◌, ℕ, suc, List, [], ◌∷◌, ◌++◌, None, Some, ap, arith, get_or, length, length-append, refl, slice_get, subst, sym, inl, inr}
+use Rattle.std.proofs.Common.{◌≡◌, ◌∙◌, ◌+◌, ◌≤◌, Bool, true, false, ◌||◌, ℕ, suc, List, [], ◌∷◌, ◌++◌, None, ap, arith, get_or, length, length-append, refl, slice_get, subst, sym, inl, inr}
 use Rattle.std.specs.Prelude.{All, MatchBool}
 use Rattle.std.specs.List.{range_with_len}
 use Rattle.std.proofs.lemmas.List.Elements.{All-append, All-nil, All-push, All-weaker}
@@ -9,7 +9,6 @@ use Rattle.atomic_table.specs.Seated.{TableId}
 use Rattle.cx_core.proofs.ListLemmas.{slice_get-append_left}
 use Rattle.cx_core.proofs.Locals.{slice_get-last, slice_get-push}
 use Rattle.cx_core.specs.declared.local.Linked.{Linked}
-use Rattle.cx_core.specs.declared.local.Local.{Local}
 use Rattle.cx_core.specs.declared.local.SeenRead.{SeenRead}
 use Rattle.cx_lives.proofs.Gathering.{GoesOn, numbers_more}
 use Rattle.cx_lives.proofs.Serving.{is_whole}
@@ -22,7 +21,7 @@ use Rattle.life_records.proofs.Lists.{all_each, zip_all}
 use Rattle.life_records.specs.Records.{JournalLine, Life, Meaning, ReadLine}
 use Rattle.life_records.specs.Scripts.{own_ops}
 use Rattle.life_records.specs.Works.{AreWorks, IsReadLine, IsWork}
-use Rattle.pool_lives.proofs.Ghosts.{locals_long, locals_more, own_long}
+use Rattle.pool_lives.proofs.Ghosts.{locals_long, locals_more}
 use Rattle.pool_lives.proofs.Making.{few_calls}
 use Rattle.pool_lives.specs.Asking.{MayAsk}
 use Rattle.pool_lives.specs.Gathering.{AddsServed, AreClientsGathered, ClientHasNever, HaveLines, IsLineAt}

@@ -1,5 +1,5 @@
 -- What a record says of the callers of the service behind each line.
-use Rattle.std.proofs.Common.{◌≡◌, ◌+◌, ◌-◌, ◌<◌, ◌≤◌, ℕ, zero, suc, List, [], ◌∷◌, ◌++◌, length, map, filter, slice_get, Option, None, Some, sym, ap, subst, ◌∙◌, refl, inl, inr, arith}
+use Rattle.std.proofs.Common.{◌≡◌, ◌+◌, ◌-◌, ◌<◌, ◌≤◌, ℕ, List, [], ◌∷◌, length, map, filter, slice_get, Option, None, Some, sym, ap, subst, ◌∙◌, refl, inl, inr, arith}
 use Rattle.std.specs.Prelude.{All, Contains}
 use Rattle.std.specs.Option.{option_map}
 use Rattle.std.proofs.lemmas.Bool.{cases_eq, eq-eqb}
@@ -27,10 +27,10 @@ use Rattle.life_records.proofs.Endings.{has_ended, interleaves}
 use Rattle.pool_lives.proofs.InOrder.{works_in_order}
 use Rattle.life_records.proofs.Lists.{Each, Has, climbs_from, contains_has, each_has, has_contains, has_filter, has_get, has_map, has_moved, length_map, ranged, rises_from, zip_back}
 use Rattle.life_records.specs.Ended.{IsEnded}
-use Rattle.life_records.specs.Lives.{IsFullBefore, IsLegalFull, IsLegalStop, IsStopBefore}
-use Rattle.life_records.specs.Records.{FullLine, JournalLine, Life, LifeRecord, ReadLine, StopLine}
+use Rattle.life_records.specs.Lives.{IsLegalFull, IsLegalStop}
+use Rattle.life_records.specs.Records.{FullLine, JournalLine, Life, LifeRecord, ReadLine}
 use Rattle.life_records.specs.Works.{AreWorks, HasCommandWords, IsLineOf, IsReadLine, IsReplyAt, by_entry, by_read}
-use Rattle.pool_lives.specs.Recorded.{AreOfCallers, IsCallersAnswer, IsEntryOfSomeCaller, IsReadOfSomeCaller, IsPoolRecorded}
+use Rattle.pool_lives.specs.Recorded.{IsCallersAnswer, IsEntryOfSomeCaller, IsReadOfSomeCaller, IsPoolRecorded}
 use Rattle.pool_lives.proofs.InTurn.{tickets_rise}
 
 -- an entry among a caller's own is of that caller

@@ -1,5 +1,5 @@
 -- What is recorded of a life whose pool was closed.
-use Rattle.std.proofs.Common.{◌≡◌, ◌∙◌, ◌+◌, ◌^◌, ◌≤◌, ◌⊎◌, inl, inr, Bool, true, ℕ, List, [], arith, length, subst, sym}
+use Rattle.std.proofs.Common.{◌≡◌, ◌∙◌, ◌+◌, ◌^◌, ◌≤◌, inl, inr, Bool, true, ℕ, List, [], arith, length, subst, sym}
 use Rattle.std.specs.Prelude.{All}
 use Rattle.std.proofs.lemmas.List.Elements.{All-weaker}
 use Rattle.std.proofs.lemmas.Slice.Zip.{AllZip-long}
@@ -14,7 +14,6 @@ use Rattle.client_pool.specs.Answers.{AreAnswered, AreWhole, IsCallOf}
 use Rattle.client_pool.specs.Clients.{HasCalls}
 use Rattle.client_pool.specs.Lending.{is_live}
 use Rattle.client_pool.specs.Pools.{IsClosed}
-use Rattle.client_pool.specs.declared.call.Call.{Call}
 use Rattle.client_pool.specs.declared.client.Client.{Client}
 use Rattle.life_records.proofs.TypedSteps.{TypedSteps}
 use Rattle.life_records.specs.Journal.{IsByTicket}

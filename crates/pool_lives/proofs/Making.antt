@@ -25,7 +25,7 @@ use Rattle.pool_lives.proofs.Asking.{may_again, may_still}
 use Rattle.pool_lives.proofs.Ghosts.{answers, answers_still, even, links, own_long, own_still, sees}
 use Rattle.pool_lives.specs.Asking.{KeepsLast, MayAsk}
 use Rattle.pool_lives.specs.Ghosts.{IsCallAt, local_of}
-use Rattle.pool_lives.specs.Working.{HasClosing, HasMadeCalls, IsAtWork, IsBadCall, IsCalling, IsUncalledIn, IsOver, MakesCommand}
+use Rattle.pool_lives.specs.Working.{HasMadeCalls, IsAtWork, IsCalling, IsOver, MakesCommand}
 
 -- a call stays behind its command
 pub stays_at : (calls more : List Call) (command at next : ℕ) → IsCallAt calls command at next → IsCallAt (calls ++ more) command at next

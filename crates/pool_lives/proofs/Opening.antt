@@ -1,5 +1,5 @@
 -- The clients of a pool that is opened, and all clients of one that is to be closed.
-use Rattle.std.proofs.Common.{◌≡◌, ◌∙◌, ◌+◌, ◌-◌, ◌^◌, ◌<◌, ◌≤◌, true, ℕ, zero, suc, List, [], ◌∷◌, ◌++◌, Option, None, Some, ap, arith, get_or, length, length-append, map, refl, replicate, slice_get, subst, sym}
+use Rattle.std.proofs.Common.{◌≡◌, ◌∙◌, ◌+◌, ◌-◌, ◌^◌, ◌<◌, ◌≤◌, ℕ, zero, suc, List, [], ◌∷◌, ◌++◌, Option, None, Some, ap, arith, get_or, length, length-append, map, refl, replicate, slice_get, subst, sym}
 use Rattle.std.specs.Prelude.{All}
 use Rattle.std.specs.List.{range_with_len}
 use Rattle.std.specs.Option.{option_map}
@@ -15,11 +15,10 @@ use Rattle.cx_rule.specs.Running.{Running}
 use Rattle.cx_rule.specs.Seats.{Seated}
 use Rattle.cx_service.specs.Callers.{IsCallerOf}
 use Rattle.cx_service.specs.Starts.{Starts}
-use Rattle.cx_service.specs.declared.close.Handed.{Handed}
 use Rattle.cx_table.specs.Remains.{opening_seat}
 use Rattle.client_pool.specs.Clients.{HasCalls, IsClientOf}
 use Rattle.client_pool.specs.Lending.{is_live, limits_of}
-use Rattle.client_pool.specs.Pools.{AreClients, AreNewCallers, AreNewClients, IsClosing, IsNewCaller}
+use Rattle.client_pool.specs.Pools.{AreClients, AreNewClients, IsClosing, IsNewCaller}
 use Rattle.client_pool.specs.declared.client.Client.{Client}
 use Rattle.life_records.proofs.Lists.{all_each, each_get}
 use Rattle.life_records.specs.Records.{Life, Meaning}

@@ -1,13 +1,11 @@
 -- What the closing of a pool tells of its clients' lines.
-use Rattle.std.proofs.Common.{◌≡◌, ◌∙◌, ◌+◌, ◌-◌, ◌<◌, ◌≤◌, ◌⊎◌, inl, inr, Bool, ℕ, zero, suc, List, [], ◌∷◌, Option, None, Some, ap, arith, filter, length, map, refl, slice_get, subst, sym}
+use Rattle.std.proofs.Common.{◌≡◌, ◌∙◌, ◌+◌, ◌-◌, ◌<◌, ◌≤◌, inl, inr, ℕ, zero, suc, List, [], ◌∷◌, None, Some, ap, arith, filter, length, map, refl, slice_get, subst, sym}
 use Rattle.std.specs.Prelude.{All, Contains}
 use Rattle.std.specs.Option.{option_map}
 use Rattle.std.proofs.lemmas.List.Elements.{All-cons, All-contains, All-head, All-nil, All-tail}
 use Rattle.std.proofs.lemmas.Option.{none-some, same_Some, slice_get-map}
 use Rattle.cx_core.specs.State.{Instance}
 use Rattle.cx_core.specs.declared.entry.Entry.{Entry as HistoryEntry}
-use Rattle.cx_core.specs.declared.local.Answer.{Answer as GivenAnswer}
-use Rattle.cx_core.specs.declared.local.Linked.{Linked}
 use Rattle.cx_core.specs.declared.local.Local.{Local}
 use Rattle.cx_core.specs.declared.local.SeenRead.{SeenRead}
 use Rattle.cx_lives.proofs.Lists.{all_at}
@@ -17,10 +15,10 @@ use Rattle.client_pool.specs.Clients.{AreInTurn as InTurn, entries_called, next_
 use Rattle.client_pool.specs.declared.call.Call.{Call}
 use Rattle.client_pool.specs.declared.call.Call.TheVariants.{Entry, Look}
 use Rattle.life_records.proofs.Lists.{Has, filter_has, has_contains, has_get, zip_has}
-use Rattle.life_records.specs.Lives.{ClientAnswer, answers_of, read_answer}
+use Rattle.life_records.specs.Lives.{ClientAnswer, answers_of}
 use Rattle.life_records.specs.Records.{JournalLine, Life, Meaning, ReadLine}
 use Rattle.life_records.specs.Works.{IsLineOf, by_entry}
-use Rattle.pool_lives.proofs.InTurn.{line_behind, told_by}
+use Rattle.pool_lives.proofs.InTurn.{line_behind}
 use Rattle.pool_lives.specs.Recorded.{AreAnswersInTurn, AreOfCallers, HaveTickets, IsCallersAnswer, IsEntryOfSomeCaller, IsReadOfSomeCaller}
 use Rattle.pool_lives.proofs.Never.{all_long, local_back, local_there}
 use Rattle.pool_lives.specs.Gathering.{HaveLines, IsLineAt}

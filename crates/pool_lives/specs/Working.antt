@@ -1,5 +1,5 @@
 -- A client while its commands are made one after another, and the result of its worker.
-use Rattle.std.specs.Prelude.{◌≡◌, ◌+◌, ◌-◌, ◌<◌, ◌≤◌, ◌⊎◌, ℕ, Bool, true, false, List, [], All, MatchBool, Some, length, slice_get}
+use Rattle.std.specs.Prelude.{◌≡◌, ◌+◌, ◌<◌, ◌≤◌, ◌⊎◌, ℕ, Bool, true, false, List, [], All, MatchBool, Some, length, slice_get}
 use Rattle.atomic_table.specs.Seated.{TableId}
 use Rattle.cx_rule.specs.Running.{Running}
 use Rattle.cx_lives.specs.Serving.{HasServed}

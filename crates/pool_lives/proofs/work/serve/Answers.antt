@@ -1,4 +1,4 @@
-use Rattle.std.proofs.Common.{◌≡◌, ◌+◌, ◌-◌, ◌≤◌, true, Some, [], arith, length, refl, slice_get, subst, sym}
+use Rattle.std.proofs.Common.{◌≡◌, ◌+◌, ◌-◌, ◌≤◌, Some, [], arith, length, refl, slice_get, subst, sym}
 use Rattle.cx_lives.proofs.Commands.{count_all, count_more, count_none, named_here}
 use Rattle.cx_lives.proofs.Lists.{all_at}
 use Rattle.life_records.specs.Limits.{IsCommandOf}
