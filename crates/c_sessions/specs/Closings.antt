@@ -8,7 +8,7 @@ use Rattle.cx_service.specs.declared.close.Kept.{Kept}
 use Rattle.cx_table.specs.declared.remains.Remains.{Remains}
 use Rattle.cx_table.specs.Remains.{AreSeats, Leaves}
 use Rattle.recovery.specs.Kept.{IsOpened}
-use Rattle.cx_service.specs.ClosedOrder.{IsClosedLinearizable}
+use Rattle.cx_service.specs.ClosedOrder.{IsLinearizedBy}
 use Rattle.c_sessions.specs.Handing.{IsCallerMissing, IsSessionRestOf}
 use Rattle.c_sessions.specs.Sessions.{IsSessionReady}
 use Rattle.c_sessions.specs.declared.close.Closing.{Closing}
@@ -27,7 +27,7 @@ module _ {O : Type 0} (line_count : O → ℕ) (lawful : O → List ℕ → Type
     pub seats : List Seated
     pub all : AreSeats r seats
     pub leaves : Leaves r (instance_at r step reads) seats remains
-    pub order : IsClosedLinearizable (instance_at r step reads) seats remains
+    pub order : IsLinearizedBy leaves
 
   -- The last session closes the service; where there are others, the service has further callers. Where it is not closed, what the session has stays: the
   -- service with all its callers, or, where a caller is missing or a share of the service is elsewhere, what it took out.

@@ -16,7 +16,7 @@ use Rattle.seat_pool.specs.Gathering.{AreCallsTold, IsRestOf, IsRoomFor}
 use Rattle.seat_pool.specs.Pooling.{IsHomeOf, all_parts}
 use Rattle.seat_pool.specs.declared.hand.Hand.{Hand}
 use Rattle.seat_pool.specs.declared.lent.Lent.{Lent}
-use Rattle.cx_service.specs.ClosedOrder.{IsClosedLinearizable}
+use Rattle.cx_service.specs.ClosedOrder.{IsLinearizedBy}
 use Rattle.client_pool.specs.Answers.{AreAnswered, AreWhole}
 use Rattle.client_pool.specs.Clients.{HasCalls, IsClientOf}
 use Rattle.client_pool.specs.Lending.{is_live, limits_of}
@@ -107,7 +107,7 @@ former_of c = record { number = c.number; floor = c.floor; answers = c.answers }
 pub record IsClosed {O : Type 0} (r : Running O) (instance : Instance) (clients : List Client) (remains : Remains) : Type 0 where
   pub handed : List Handed
   pub leaves : Leaves r instance (seats_of handed) remains
-  pub order : IsClosedLinearizable instance (seats_of handed) remains
+  pub order : IsLinearizedBy leaves
   pub told : AreCallsTold r (lents_of clients) handed
   pub answered : (calls : List (List Call)) → AllZip (HasCalls r) clients calls → AreAnswered instance remains.trail.history remains.trail.locals calls
   pub whole : All (λ (c : Client). is_live c.lent.kept ≡ true) clients → (calls : List (List Call)) → AllZip (HasCalls r) clients calls → AreWhole r.base.place remains.trail.history calls

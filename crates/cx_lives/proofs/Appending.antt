@@ -22,12 +22,12 @@ module _ {Op Reply Store : Type 0} (m : Meaning Op Reply Store) (life : Life Op)
   legal_then begun (one ∷ lives) (first ∷ records) are is = (are.0, legal_then (begun_after m begun one first.journal first.kept) lives records are.1 is)
   legal_then begun _ _ are is = absurd are
 
-  pub told_then : (trail : Ending) (begun : Begun Store) (lives : List (Life Op)) (records : List (LifeRecord Reply)) (trails : List Ending) → AreToldFrom m begun lives records trails
-      → IsToldBy m.encoding life trail told → IsBaseOf m trail.base (begun_by m begun lives records) → AreToldFrom m begun (lives ++ life ∷ []) (records ++ told ∷ []) (trails ++ trail ∷ [])
-  told_then trail begun [] [] [] are by is = (by, is, tt)
-  told_then trail begun (one ∷ lives) (first ∷ records) (t ∷ trails) are by is =
-      (are.0, are.1, told_then trail (begun_after m begun one first.journal first.kept) lives records trails are.2 by is)
-  told_then trail begun _ _ trails are by is = absurd are
+  pub told_then : (lines : ℕ) (is_lawful : List ℕ → Type 0) (trail : Ending) (begun : Begun Store) (lives : List (Life Op)) (records : List (LifeRecord Reply)) (trails : List Ending) → AreToldFrom m lines is_lawful begun lives records trails
+      → IsToldBy m lines is_lawful life trail told → IsBaseOf m trail.base (begun_by m begun lives records) → AreToldFrom m lines is_lawful begun (lives ++ life ∷ []) (records ++ told ∷ []) (trails ++ trail ∷ [])
+  told_then lines is_lawful trail begun [] [] [] are by is = (by, is, tt)
+  told_then lines is_lawful trail begun (one ∷ lives) (first ∷ records) (t ∷ trails) are by is =
+      (are.0, are.1, told_then lines is_lawful trail (begun_after m begun one first.journal first.kept) lives records trails are.2 by is)
+  told_then lines is_lawful trail begun _ _ trails are by is = absurd are
 
   pub begun_then : (begun : Begun Store) (lives : List (Life Op)) (records : List (LifeRecord Reply)) → AreLivesFrom m begun.place begun.store lives records
       → begun_by m begun (lives ++ life ∷ []) (records ++ told ∷ []) ≡ begun_after m (begun_by m begun lives records) life told.journal told.kept
@@ -57,9 +57,9 @@ module _ {Op Reply Store : Type 0} where
       let long : 0 < length (lives ++ life ∷ []) = omega (arith, length-append lives (life ∷ [])) in
       record {
         legal = legal_then m life ran.told (nothing_begun m) lives lived.records have.legal has.legal;
-        told = told_then m life ran.told ran.trail (nothing_begun m) lives lived.records lived.trails have.told has.told (subst (λ (b : Base). IsBaseOf m b begun) (sym has.began) last.0.is);
+        told = told_then m life ran.told lines is_lawful ran.trail (nothing_begun m) lives lived.records lived.trails have.told has.told (subst (λ (b : Base). IsBaseOf m b begun) (sym has.began) last.0.is);
         ends = (long, has.recovered, subst (λ (b : Begun Store). BeginsLife m lines is_lawful b ran.next) (sym next) has.next, omega (arith, has.few, last.1, count_then lives life));
-        left = record { before = lives; life = life; lives_are = refl; trails_before = lived.trails; trail = ran.trail; trails_are = refl; leaves = has.left };
+        left = record { before = lives; life = life; lives_are = refl; trails_before = lived.trails; trail = ran.trail; trails_are = refl; by = has.told.order; leaves = has.left };
       }
 
 -- what goes on where lives were lived, and before the first life

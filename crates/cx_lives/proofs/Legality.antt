@@ -18,9 +18,9 @@ use Rattle.life_records.specs.Lives.{IsPrefixKept, IsKeptStop, IsLegal}
 use Rattle.life_records.specs.Records.{JournalLine, Life, LifeRecord, Meaning}
 use Rattle.cx_lives.specs.Crash.{HasCrashed}
 use Rattle.cx_lives.specs.Life.{HasRun, IsServiceOf}
-use Rattle.cx_lives.specs.Lives.{HasLivedOver, HasLost, IsToldBy, LeavesImage, table_of}
+use Rattle.cx_lives.specs.Lives.{HasLivedOver, HasLost, IsLinearized, IsToldBy, LeavesImage, table_of}
 use Rattle.cx_lives.specs.declared.crash.Crashed.{Crashed}
-use Rattle.cx_service.specs.ClosedOrder.{IsClosedLinearizable}
+use Rattle.cx_service.specs.ClosedOrder.{IsClosedLinearizable, IsLinearizedBy}
 use Rattle.typed_object.specs.Meaning.{HasMeaning}
 use Rattle.cx_lives.proofs.Recovering.{keeps_to}
 use Rattle.cx_lives.proofs.Entries.{few_entries}
@@ -88,27 +88,13 @@ module _ {O Op Reply Store : Type 0} {o : Ghosts O} {m : Meaning Op Reply Store}
   steps_same : instance_at service o.step o.only_reads ≡ object_instance (o.step object) (o.only_reads object) life.clients remains.trail.base
   steps_same = λ i. record { callers = is.callers_are i; base = sym ran.leaves.base i; step = o.step (is.same i); reads = o.only_reads (is.same i) }
 
-  told_by : IsToldBy m.encoding life remains.trail flagged
-  told_by = record {
-    is_told = subst (λ (b : Base). IsTold m.encoding life b.place remains.trail.history remains.trail.locals flagged) (sym ran.leaves.base) (retold service.base.place remains.trail.history remains.trail.locals ran.is_told);
-    kept = lost.flags.kept_is ∙ keeps_to lost.ends (ran.leaves.callers ∙ is.callers_are) flagged_from;
-    order = record {
-      step = o.step object;
-      reads = o.only_reads object;
-      seats = ran.seats;
-      remains = remains;
-      trail_is = refl;
-      order = subst (λ (x : Instance). IsClosedLinearizable x ran.seats remains) steps_same ran.order;
-    };
-  }
-
   -- the table that was closed, said over its trail
-  closed_table : Leaves (table_of life.clients (o.line_count object) remains.trail) (object_instance (o.step object) (o.only_reads object) life.clients remains.trail.base) ran.seats remains
+  closed_table : IsClosedLinearizable (table_of life.clients (o.line_count object) remains.trail) (object_instance (o.step object) (o.only_reads object) life.clients remains.trail.base) ran.seats remains
   closed_table =
       let l = ran.leaves in
       let of_table : Running (Unit {0}) = record { table = service.table; callers = service.callers; lines = service.lines; base = service.base; object = tt } in
       let same : of_table ≡ table_of life.clients (o.line_count object) remains.trail = λ i. record { table = sym l.of i; callers = is.callers_are i; lines = is.lines_are i; base = sym l.base i; object = tt } in
-      let closed : Leaves of_table (instance_at service o.step o.only_reads) ran.seats remains = record {
+      let leaves : Leaves of_table (instance_at service o.step o.only_reads) ran.seats remains = record {
         callers = l.callers;
         lines = l.lines;
         first = l.first;
@@ -131,23 +117,23 @@ module _ {O Op Reply Store : Type 0} {o : Ghosts O} {m : Meaning Op Reply Store}
         times = l.times;
         images = l.images;
       } in
-      subst (λ (x : Running (Unit {0})). Leaves x (object_instance (o.step object) (o.only_reads object) life.clients remains.trail.base) ran.seats remains) same
-      (subst (λ (x : Instance). Leaves of_table x ran.seats remains) steps_same closed)
+      let order : IsLinearizedBy leaves = record { linearizable = ran.order.linearizable; history = ran.order.history; calls = ran.order.calls; one_order = ran.order.one_order } in
+      subst (λ (x : Running (Unit {0})). IsClosedLinearizable x (object_instance (o.step object) (o.only_reads object) life.clients remains.trail.base) ran.seats remains) same
+      (subst (λ (x : Instance). IsClosedLinearizable of_table x ran.seats remains) steps_same (record { leaves = leaves; order = order }))
 
-  leaves_image : (opening : List ℕ) → HasMeaning (o.lawful object) opening (o.step object) (o.only_reads object) m → LeavesImage m (o.line_count object) (o.lawful object) life remains.trail crashed.image
-  leaves_image opening means = record {
-    readable = crash.readable;
-    opening = opening;
-    step = o.step object;
-    reads = o.only_reads object;
-    means = means;
-    seats = ran.seats;
-    remains = remains;
-    closed = closed_table;
-    whole = crash.whole;
-    trail_is = refl;
-    left = crash.left;
-  }
+  module _ (opening : List ℕ) (means : HasMeaning (o.lawful object) opening (o.step object) (o.only_reads object) m) where
+    abbrev linearized : IsLinearized m (o.line_count object) (o.lawful object) life remains.trail
+    linearized = record { opening = opening; step = o.step object; reads = o.only_reads object; means = means; seats = ran.seats; remains = remains; closed = closed_table; trail_is = refl }
+
+    abbrev told_by : IsToldBy m (o.line_count object) (o.lawful object) life remains.trail flagged
+    told_by = record {
+      is_told = subst (λ (b : Base). IsTold m.encoding life b.place remains.trail.history remains.trail.locals flagged) (sym ran.leaves.base) (retold service.base.place remains.trail.history remains.trail.locals ran.is_told);
+      kept = lost.flags.kept_is ∙ keeps_to lost.ends (ran.leaves.callers ∙ is.callers_are) flagged_from;
+      order = linearized;
+    }
+
+    leaves_image : LeavesImage linearized crashed.image
+    leaves_image = record { readable = crash.readable; whole = crash.whole; left = crash.left }
 
   pub lived : (opening : List ℕ) → HasMeaning (o.lawful object) opening (o.step object) (o.only_reads object) m → IsEnded life flagged → HasReplies m base.place begun.store life flagged
       → GoesOn m (o.line_count object) (o.lawful object) base.place begun.store life flagged crashed.next → IsBaseOf m crashed.next (begun_after m begun life flagged.journal flagged.kept)
@@ -165,7 +151,7 @@ module _ {O Op Reply Store : Type 0} {o : Ghosts O} {m : Meaning Op Reply Store}
           legal = legal_of m (o.line_count object) (o.lawful object) begun.place begun.store life told flagged crashed.next from begun_from ended has' goes';
           kept = kept_of m (o.line_count object) (o.lawful object) begun.place begun.store life told flagged crashed.next from begun_from ended has' goes' lost.flags.same.journal crashed.kept lost.flags.kept_is lost.flags.stops;
         };
-        told = told_by;
+        told = told_by opening means;
         began = ran.leaves.base ∙ is.from;
         left = leaves_image opening means;
         recovered = crash.recovered;

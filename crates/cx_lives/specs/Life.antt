@@ -9,7 +9,7 @@ use Rattle.life_records.specs.Told.{IsTold}
 use Rattle.life_records.specs.Works.{AreWorks}
 use Rattle.life_records.specs.Limits.{IsLifeInLimits}
 use Rattle.life_records.specs.Records.{Life, LifeRecord, Meaning}
-use Rattle.cx_service.specs.ClosedOrder.{IsClosedLinearizable}
+use Rattle.cx_service.specs.ClosedOrder.{IsLinearizedBy}
 use Rattle.cx_lives.specs.Ends.{IsNewIn}
 
 -- a service of this object with this many callers, which opened from this base
@@ -35,8 +35,8 @@ pub record HasRun {O Op Reply Store : Type 0} (m : Meaning Op Reply Store) (step
   pub seats : List Seated
   pub are : AreSeats r seats
   pub leaves : Leaves r (instance_at r step reads) seats remains
-  -- by the order of their steps the history is a linearization
-  pub order : IsClosedLinearizable (instance_at r step reads) seats remains
+  -- by the order of their steps, which are those of the closing, the history is a linearization
+  pub order : IsLinearizedBy leaves
   pub is_told : IsTold m.encoding life r.base.place remains.trail.history remains.trail.locals told
   pub works : AreWorks m.encoding life remains.trail.locals told.journal told.reads told.stops told.fulls
   pub choice : told.choice ≡ life.choice

@@ -193,3 +193,12 @@ module _ (instance : Instance) (limits : List ℕ) where
 
   pub none_made : EachLocal (opening_limited instance limits).locals (λ _ l. l.steps ≡ 0)
   none_made c l at = none_of (range_with_len 0 instance.callers) c l at
+
+  -- nor linked or read anything
+  none_linked_of : (callers : List ℕ) (c : ℕ) (l : Local) → slice_get (map (λ (k : Known). k.local) (map known callers)) c ≡ Some l → (l.own ≡ []) × (l.seen_reads ≡ [])
+  none_linked_of [] c l at = absurd (none-some l at)
+  none_linked_of (caller ∷ callers) zero l at = (let same = same_Some (known caller).local l at in (ap (λ (x : Local). x.own) (sym same), ap (λ (x : Local). x.seen_reads) (sym same)))
+  none_linked_of (caller ∷ callers) (suc c) l at = none_linked_of callers c l at
+
+  pub none_linked : EachLocal (opening_limited instance limits).locals (λ _ l. (l.own ≡ []) × (l.seen_reads ≡ []))
+  none_linked c l at = none_linked_of (range_with_len 0 instance.callers) c l at

@@ -30,7 +30,7 @@ module _ {O : Type 0} (o : Ghosts O) (r : Running O) (s v : Seated) (caller : Is
   still : IsAtRest v.known.local → IsCallerOf r v
   still = look_rests r s v caller look_rest front of rises on
 
-  pub image_taken : (words : List ℕ) (place : ℕ) → ¬ IsAtLimit s.known.local → TakesImage o r words place s v → CheckpointTaken o r words place s v × MeetsFewer 1 s v
+  pub image_taken : (words : List ℕ) (place : ℕ) → ¬ IsAtLimit s.known.local → TakesImage o r s.known.local.steps words place s v → CheckpointTaken o r words place s v × MeetsFewer 1 s v
   image_taken words place allowed taken =
       let met = taken.met in (
         record {
@@ -40,6 +40,7 @@ module _ {O : Type 0} (o : Ghosts O) (r : Running O) (s v : Seated) (caller : Is
           images = taken.images;
           base = taken.base;
           current = taken.current;
+          finds = record { loaded = (let is = taken.loaded in omega (arith, is)); raised = taken.raised };
           reached = taken.reached;
           above = taken.above;
           from = taken.from;
@@ -79,6 +80,7 @@ module _ {O : Type 0} (r : Running O) (n : ℕ) (s u : Seated) (before : ReadPen
     images = taken.images ∙ ap (λ xs. xs ++ words ∷ []) before.images;
     base = taken.base;
     current = taken.current;
+    finds = record { loaded = (let since = before.keeps.since in let is = taken.finds.loaded in omega (arith, since, is)); raised = taken.finds.raised };
     reached = taken.reached;
     above = λ i x at. taken.above i x (ap (λ (xs : List Answer). slice_get xs i) before.keeps.answered ∙ at);
     from = λ i x at. taken.from i x (ap (λ (xs : List SeenRead). slice_get xs i) before.reads ∙ at);

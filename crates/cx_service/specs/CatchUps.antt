@@ -13,7 +13,7 @@ use Rattle.cx_service.specs.declared.update.ReadDone.{ReadDone}
 use Rattle.cx_service.specs.declared.update.ReadDone.TheVariants.{Read, Queued, Full as FullRead, Worn as WornRead, Halted as HaltedRead}
 use Rattle.cx_service.specs.declared.update.Updated.{Updated}
 use Rattle.cx_service.specs.declared.update.Updated.TheVariants.{Done as UpdatedDone, Full as UpdatedFull, Worn as UpdatedWorn, Halted as UpdatedHalted}
-use Rattle.cx_service.specs.Callers.{IsCallerOf, IsStoppedOf, StoppedSeat}
+use Rattle.cx_service.specs.Callers.{FindsCurrent, IsCallerOf, IsStoppedOf, StoppedSeat}
 use Rattle.cx_turns.specs.Turns.{StepsOn}
 
 -- A caller has seen a place: its front is at the place or above it, and so is what it found in CUR or what is behind an entry that it was
@@ -47,23 +47,26 @@ pub record SeesCurrent {O : Type 0} (r : Running O) (before after : Seated) (fou
   pub caller : IsCallerOf r after
   pub allowed : ¬ IsAtLimit before.known.local
   pub made : MakesTwoSteps before after
+  pub finds : FindsCurrent before after
   pub is : found ≡ root_place_of r.callers after.known.local.seen_cur
   pub seen : HasSeen r.callers found after.known.local
 
--- The caller has seen the place.
+-- The caller has seen the place: CUR was loaded in this call.
 pub record CatchUpCaught {O : Type 0} (r : Running O) (place : ℕ) (before after : Seated) : Type 0 where
   pub caller : IsCallerOf r after
   pub keeps : CatchUpKeeps before after
   pub allowed : ¬ IsAtLimit before.known.local
   pub made : MakesTwoSteps before after
+  pub finds : FindsCurrent before after
   pub seen : HasSeen r.callers place after.known.local
 
--- The place found in CUR is below it.
+-- The place found in CUR by this call is below it.
 pub record CatchUpBehind {O : Type 0} (r : Running O) (place found : ℕ) (before after : Seated) : Type 0 where
   pub caller : IsCallerOf r after
   pub keeps : CatchUpKeeps before after
   pub allowed : ¬ IsAtLimit before.known.local
   pub made : MakesTwoSteps before after
+  pub finds : FindsCurrent before after
   pub is : found ≡ root_place_of r.callers after.known.local.seen_cur
   pub below : found < place
 

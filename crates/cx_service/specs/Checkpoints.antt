@@ -9,7 +9,7 @@ use Rattle.cx_rule.specs.Running.{Running}
 use Rattle.cx_rule.specs.Seats.{IsAtLimit, Seated}
 use Rattle.cx_service.specs.declared.checkpoint.Checkpointed.{Checkpointed}
 use Rattle.cx_service.specs.declared.checkpoint.Checkpointed.TheVariants.{Taken, Pending, Halted}
-use Rattle.cx_service.specs.Callers.{IsCallerOf, IsStoppedOf, StoppedSeat}
+use Rattle.cx_service.specs.Callers.{FindsCurrent, IsCallerOf, IsStoppedOf, StoppedSeat}
 use Rattle.cx_service.specs.Drives.{MeetsFewer}
 use Rattle.cx_service.specs.Lookups.{ReadDue, ReadKeeps, ReadPending}
 
@@ -20,7 +20,8 @@ pub record CheckpointKeeps (before after : Seated) : Type 0 where
   pub times : after.known.times.reads ≡ before.known.times.reads
 
 -- The caller took one image more, these words at this place, and nothing else: they are a lawful base. The place is that of the code last found
--- in CUR, above each ticket and not below any place that the caller was answered before, and not above the caller's front. The limit allowed a step.
+-- in CUR, above each ticket and not below any place that the caller was answered before, and not above the caller's front. CUR was loaded in this call,
+-- and DUR raised by the code found. The limit allowed a step.
 pub record CheckpointTaken {O : Type 0} (o : Ghosts O) (r : Running O) (words : List ℕ) (place : ℕ) (before after : Seated) : Type 0 where
   pub caller : IsCallerOf r after
   pub keeps : CheckpointKeeps before after
@@ -28,6 +29,7 @@ pub record CheckpointTaken {O : Type 0} (o : Ghosts O) (r : Running O) (words : 
   pub images : after.known.images ≡ before.known.images ++ words ∷ []
   pub base : LawfulBase r.lines (o.lawful r.object) (record { place = place; words = words })
   pub current : place ≡ root_place_of r.callers after.known.local.seen_cur
+  pub finds : FindsCurrent before after
   pub reached : place ≤ after.known.local.front
   pub above : (i : ℕ) (x : Answer) → slice_get before.known.local.answered i ≡ Some x → x.ticket < place
   pub from : (i : ℕ) (x : SeenRead) → slice_get before.known.local.seen_reads i ≡ Some x → x.place ≤ place

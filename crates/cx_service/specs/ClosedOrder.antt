@@ -1,23 +1,26 @@
 -- What a closed table tells of the order of its callers' operations.
-use Rattle.std.specs.Prelude.{◌≡◌, ℕ, List, map}
+use Rattle.std.specs.Prelude.{◌≡◌, List}
+use Rattle.core_order.specs.TotalOrder.{HasOrder}
 use Rattle.core_runs.specs.Linearizable.{IsLinearizable}
-use Rattle.cx_core.specs.declared.local.Local.{Local}
-use Rattle.cx_core.specs.Shown.{shown}
 use Rattle.cx_core.specs.State.{Instance}
-use Rattle.cx_rule.specs.Rule.{IsReached, opening_limited}
+use Rattle.cx_rule.specs.Rule.{opening_limited}
+use Rattle.cx_rule.specs.Running.{Running}
 use Rattle.cx_rule.specs.Seats.{Seated}
 use Rattle.cx_table.specs.declared.remains.Remains.{Remains}
-use Rattle.cx_table.specs.Remains.{locals_of}
+use Rattle.cx_table.specs.Remains.{Leaves}
 use Rattle.cx_service.specs.CallOrder.{KeepsCalls}
 
--- There are words and local states that were reached by all callers' steps. Of the local states the seats show all but the words of replicas held
--- exclusively. By the order of those steps they are a linearizable object's, with the history of the trail. The history also keeps the
--- order that the seats' counts of steps give.
-pub record IsClosedLinearizable (instance : Instance) (seats : List Seated) (r : Remains) : Type 0 where
-  pub words : List ℕ
-  pub whole : List Local
-  pub shows : map shown whole ≡ locals_of seats
-  pub reached : IsReached instance words whole
-  pub linearizable : IsLinearizable instance (opening_limited instance reached.limits) (record { words = words; locals = whole })
+-- By the order of the steps by which a table came to what it left, that is a linearizable object's, with the history of the trail. The words, the local
+-- states and the list of steps are those of the closing itself. The history also keeps the order that the seats' counts of steps give. And all operations,
+-- reads among them, have one order, in which the object alone gives each reply, and which keeps the order of those steps.
+pub record IsLinearizedBy {O : Type 0} {table : Running O} {instance : Instance} {seats : List Seated} {r : Remains} (leaves : Leaves table instance seats r) : Type 0 where
+  pub linearizable : IsLinearizable instance (opening_limited instance leaves.reached.limits) (record { words = leaves.words; locals = leaves.whole })
   pub history : linearizable.history ≡ r.trail.history
-  pub calls : KeepsCalls reached.events seats (record { words = words; locals = whole })
+  pub calls : KeepsCalls leaves.reached.events seats (record { words = leaves.words; locals = leaves.whole })
+  pub one_order : HasOrder instance (opening_limited instance leaves.reached.limits) leaves.reached.events (record { words = leaves.words; locals = leaves.whole })
+
+-- A table was closed, and left this: the steps that all callers made, the words and the local states to which they led, the history, and that by the
+-- order of those steps it is a linearizable object's.
+pub record IsClosedLinearizable {O : Type 0} (table : Running O) (instance : Instance) (seats : List Seated) (r : Remains) : Type 0 where
+  pub leaves : Leaves table instance seats r
+  pub order : IsLinearizedBy leaves

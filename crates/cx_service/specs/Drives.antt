@@ -8,6 +8,8 @@ use Rattle.cx_rule.specs.Seats.{IsAtLimit, Seated, unanswered_ticket}
 use Rattle.cx_rule.specs.Timing.{EndsIn}
 use Rattle.cx_service.specs.declared.drive.Driven.{Driven}
 use Rattle.cx_service.specs.declared.drive.Driven.TheVariants.{Done, Pending, Halted}
+use Rattle.cx_service.specs.declared.drive.Turned.{Turned}
+use Rattle.cx_service.specs.declared.drive.Turned.TheVariants.{Answered, Refused, Ended}
 use Rattle.cx_service.specs.Callers.{IsCallerOf, IsLinkedOf, IsStoppedOf, StoppedSeat}
 use Rattle.cx_turns.specs.Answering.{with_answer}
 use Rattle.cx_turns.specs.Bringing.{BringsEntries}
@@ -88,3 +90,9 @@ abbrev pub Drives : {O : Type 0} → Running O → ℕ → Seated → Driven →
 Drives r tries before (Done after answer) = DriveDone r before after answer × MeetsAtMost tries before after
 Drives r tries before (Pending after) = DrivePending r tries before after
 Drives r tries before (Halted after) = DriveHalted r before after × DriveDue r tries before after
+
+-- the result of one turn, which left this in the caller's buffer
+abbrev pub TurnsOnce : {O : Type 0} → Running O → List ℕ → Seated → Turned → Type 0
+TurnsOnce r reply before (Answered after ticket) = DriveDone r before after (record { ticket = ticket; reply = reply }) × MeetsAtMost 1 before after
+TurnsOnce r reply before (Refused after) = DrivePending r 1 before after
+TurnsOnce r reply before (Ended after) = DriveHalted r before after × DriveDue r 1 before after

@@ -2,7 +2,7 @@
 
 ghost use Rattle.std.specs.Prelude.{◌≡◌, ◌≤◌, [], IfErr, IfOk, map, vec_capacity, vec_len};
 ghost use Rattle.cx_rule.specs.Running.{instance_at};
-ghost use Rattle.cx_table.specs.Remains.{AreSeats, Leaves};
+ghost use Rattle.cx_table.specs.Remains.{AreSeats};
 ghost use Rattle.cx_service.specs.Closes.{seat_of, seats_of};
 ghost use Rattle.cx_service.specs.ClosedOrder.{IsClosedLinearizable};
 
@@ -44,8 +44,7 @@ impl<O: Object> Service<O> {
     /// ```
     pub fn close(self, alloc: Global, callers: Vec<Handed>) -> Result<Remains, Kept<O>>
         requires { AreSeats self (seats_of callers.items) }
-        ensures remains { IfOk result (λ r. Leaves self (instance_at self O.step O.only_reads) (seats_of callers.items) r) }
-        ensures order { IfOk result (λ r. IsClosedLinearizable (instance_at self O.step O.only_reads) (seats_of callers.items) r) }
+        ensures remains { IfOk result (λ r. IsClosedLinearizable self (instance_at self O.step O.only_reads) (seats_of callers.items) r) }
         ensures kept { IfErr result (λ k. (k.service ≡ self) × (k.callers ≡ callers)) }
     {
         let Ok(room) = self.shared.room(alloc) else {

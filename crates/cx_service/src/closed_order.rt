@@ -5,8 +5,9 @@ ghost use Rattle.cx_rule.specs.Running.{IsRunning, Running, instance_at};
 ghost use Rattle.cx_rule.specs.Seats.{Seated};
 ghost use Rattle.cx_table.specs.Remains.{Leaves};
 ghost use Rattle.cx_table.specs.declared.remains.Remains.{Remains};
-ghost use Rattle.cx_service.specs.ClosedOrder.{IsClosedLinearizable};
+ghost use Rattle.cx_service.specs.ClosedOrder.{IsLinearizedBy};
 
+use core_order::one_order::runs_have_one_order;
 use cx_base::Object;
 
 /// What a table leaves was reached by the steps of all its callers, one after another, in the order in which they were made. By that order it is
@@ -15,6 +16,8 @@ use cx_base::Object;
 /// of the caller's steps: the operation was answered when the caller had made the one number of steps, and had not begun when it had made the other.
 /// Where by these counts, in the order of all steps, one operation ended before another one began, it stands before it in the history (`KeepsCalls`).
 pub fn closed_tables_are_linearizable<O: Object>()
-    ensures { (table : Running O) (seats : List Seated) (r : Remains) → IsRunning O.line_count O.lawful table → Leaves table (instance_at table O.step O.only_reads) seats r →
-        IsClosedLinearizable (instance_at table O.step O.only_reads) seats r }
-{}
+    ensures { (table : Running O) (seats : List Seated) (r : Remains) → IsRunning O.line_count O.lawful table →
+        (leaves : Leaves table (instance_at table O.step O.only_reads) seats r) → IsLinearizedBy leaves }
+{
+    runs_have_one_order();
+}

@@ -2,11 +2,11 @@
 
 ghost use Rattle.std.specs.Prelude.{◌≤◌};
 ghost use Rattle.cx_service.specs.Callers.{IsLinkedOf};
-ghost use Rattle.cx_service.specs.Drives.{Drives};
+ghost use Rattle.cx_service.specs.Drives.{Drives, TurnsOnce};
 
 use crate::callers::{Caller, Desk, Linked, Stopped};
 use crate::service::Service;
-use cx_base::{Halt, Object};
+use cx_base::{Halt, OP_WORDS, Object, OpWords};
 use cx_core::Answer;
 use cx_turns::update_turn;
 
@@ -19,6 +19,17 @@ pub enum Driven {
     Pending(Linked),
     /// The step limit was reached.
     Halted(Stopped),
+}
+
+/// The result of one turn.
+#[derive(Drop)]
+pub(crate) enum Turned {
+    /// The entry at this ticket is answered.
+    Answered(Caller, u64),
+    /// It was refused.
+    Refused(Linked),
+    /// The step limit was reached.
+    Ended(Stopped),
 }
 
 impl<O: Object> Service<O> {
@@ -44,30 +55,33 @@ impl<O: Object> Service<O> {
         ensures { Drives self.now tries linked result }
     {
         let mut linked = linked;
+        let mut reply = [0; OP_WORDS];
         for _turn in 0..tries {
-            match self.drive_once(linked) {
-                Driven::Pending(back) => linked = back,
-                Driven::Done(caller, answer) => return Driven::Done(caller, answer),
-                Driven::Halted(stopped) => return Driven::Halted(stopped),
+            match self.drive_once(linked, &mut reply) {
+                Turned::Refused(back) => linked = back,
+                Turned::Answered(caller, ticket) => {
+                    return Driven::Done(caller, Answer { ticket, reply });
+                }
+                Turned::Ended(stopped) => return Driven::Halted(stopped),
             }
         }
         Driven::Pending(linked)
     }
 
-    /// One turn of it.
-    fn drive_once(&self, linked: Linked) -> Driven
+    /// One turn of it. The reply is written into the buffer, since each copy of its words costs a good part of the turn.
+    fn drive_once(&self, linked: Linked, reply: &mut OpWords) -> Turned
         requires { IsLinkedOf self.now linked }
-        ensures { Drives self.now 1 linked result }
+        ensures { TurnsOnce self.now reply.new linked result }
     {
         let ticket = linked.ticket();
         let Linked { mut desk } = linked;
         let Desk { seat, scratch } = &mut *desk;
         // refusals are counted in a word
         let _met = seat.met();
-        match update_turn(&self.shared, seat, ticket, scratch) {
-            Ok(Some(reply)) => Driven::Done(Caller { desk }, Answer { ticket, reply }),
-            Ok(None) => Driven::Pending(Linked { desk }),
-            Err(Halt) => Driven::Halted(Stopped {
+        match update_turn(&self.shared, seat, ticket, scratch, reply) {
+            Ok(true) => Turned::Answered(Caller { desk }, ticket),
+            Ok(false) => Turned::Refused(Linked { desk }),
+            Err(Halt) => Turned::Ended(Stopped {
                 desk,
                 linked: Some(ticket),
             }),

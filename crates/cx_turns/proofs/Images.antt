@@ -283,8 +283,8 @@ module _ {O : Type 0} (o : Ghosts O) (r : Running O) (hold : Right) (first s : S
       pub taken_cur : v.known.local.seen_cur ≡ first.known.local.seen_cur
       taken_cur = ap (λ (x : Seated). x.known.local.seen_cur) released ∙ raised_cur
 
-      pub taken_image : IsAtCurrent o r first hold → TellsWords s.known s.region image → LawfulBase r.lines (o.lawful r.object) (base_of image) → (place : ℕ) → slice_index image 0 ≡ place → TakesImage o r image place first v
-      taken_image at tells base place is =
+      pub taken_image : IsAtCurrent o r first hold → TellsWords s.known s.region image → code ≡ s.known.local.seen_cur → LawfulBase r.lines (o.lawful r.object) (base_of image) → (place : ℕ) → slice_index image 0 ≡ place → TakesImage o r first.known.times.loaded image place first v
+      taken_image at tells code_is base place is =
           let region = loads.held.of.region in
           let size = loads.held.sized.region in
           let here : slice_index image 0 ≡ root_place_of r.callers first.known.local.seen_cur =
@@ -312,6 +312,8 @@ module _ {O : Type 0} (o : Ghosts O) (r : Running O) (hold : Right) (first s : S
             images = ap (λ (x : Seated). x.known.images) released ∙ ap (λ xs. xs ++ image ∷ []) raised_images;
             base = subst (λ n. LawfulBase r.lines (o.lawful r.object) (record { place = n; words = image })) is base;
             current = now ∙ sym (ap (root_place_of r.callers) taken_cur);
+            loaded = ap (λ (x : Seated). x.known.times.loaded) released ∙ ap (λ (x : Seated). x.known.times.loaded) raise.made ∙ ap (λ (x : Seated). x.known.times.loaded) loads.rest;
+            raised = (let a = ap (λ (x : Seated). x.known.local.raised) released in let b = ap (λ (x : Seated). x.known.local.raised) raise.made in let c = ap (λ (x : Seated). x.known.local.seen_cur) released in let d = ap (λ (x : Seated). x.known.local.seen_cur) raise.made in omega (arith, a, b, c, d, code_is));
             reached = omega (arith, cur, front, front_is, front_now, raised_front);
             above = λ i x there. (
                 let below = raise.lawful.answered i x (ap (λ (y : Seated). slice_get y.known.local.answered i) loads.rest ∙ there) in

@@ -1,5 +1,5 @@
 -- The result of a turn that answers its caller's entry, and of one that answers a read.
-use Rattle.std.specs.Prelude.{◌≡◌, ◌≢◌, ◌+◌, ◌<◌, ◌≤◌, ◌⊎◌, false, ℕ, List, [], ◌∷◌, ◌++◌, length, slice_get, IfSome, Option, Some, None}
+use Rattle.std.specs.Prelude.{◌≡◌, ◌≢◌, ◌+◌, ◌<◌, ◌≤◌, ◌⊎◌, true, false, ℕ, Bool, List, [], ◌∷◌, ◌++◌, length, slice_get, IfSome, Option, Some, None}
 use Rattle.std.specs.Option.{option_map}
 use Rattle.cx_base.specs.Codes.{root_place_of}
 use Rattle.cx_base.specs.declared.object.Object.{Ghosts}
@@ -73,14 +73,14 @@ pub record AnswersEntry (refusals ticket : ℕ) (reply : List ℕ) (before after
   pub ended : EndsIn after.known.local.steps before.known.times.answered after.known.times.answered
 
 -- the result of a turn for an entry with a ticket; one that answers it meets a refusal where its publication was lost once
-abbrev pub TurnsFor : ℕ → Seated → Seated → Option (List ℕ) → Type 0
-TurnsFor ticket before after (Some reply) = AnswersEntry 1 ticket reply before after
-TurnsFor ticket before after None = TurnRefused before after
+abbrev pub TurnsFor : ℕ → List ℕ → Seated → Seated → Bool → Type 0
+TurnsFor ticket reply before after true = AnswersEntry 1 ticket reply before after
+TurnsFor ticket reply before after false = TurnRefused before after
 
 -- the same of one that did not halt: the limit allowed a step
-pub record TurnsUpdating (ticket : ℕ) (before after : Seated) (reply : Option (List ℕ)) : Type 0 where
+pub record TurnsUpdating (ticket : ℕ) (reply : List ℕ) (before after : Seated) (answered : Bool) : Type 0 where
   pub allowed : ¬ IsAtLimit before.known.local
-  pub turned : TurnsFor ticket before after reply
+  pub turned : TurnsFor ticket reply before after answered
 
 -- no entry is answered
 pub record AnswersNone (before after : Seated) : Type 0 where

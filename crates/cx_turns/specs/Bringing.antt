@@ -1,5 +1,5 @@
 -- The entries of others that a call brings onto a replica by their write sets.
-use Rattle.std.specs.Prelude.{◌≡◌, ◌+◌, ◌⊎◌, ℕ, List, Option, Some, None}
+use Rattle.std.specs.Prelude.{◌≡◌, ◌+◌, ◌⊎◌, true, false, ℕ, Bool, List, Option, Some, None}
 use Rattle.cx_rule.specs.Seats.{Seated}
 use Rattle.cx_turns.specs.Turns.{KeepsCount}
 use Rattle.redo_set.specs.Taking.{sets_read}
@@ -35,3 +35,12 @@ BringsIn before after None = after.known.sets ≡ before.known.sets
 pub record CountsIn {X : Type 0} (taken : ℕ) (before : Seated) (now : ℕ) (after : Seated) (given : Option X) : Type 0 where
   pub counted : KeepsCount taken before now after
   pub by_sets : BringsIn before after given
+
+-- the same of a turn that says whether it gave something
+abbrev pub BringsTurn : Seated → Seated → Bool → Type 0
+BringsTurn before after true = BringsEntries before after
+BringsTurn before after false = after.known.sets ≡ before.known.sets
+
+pub record CountsTurn (taken : ℕ) (before : Seated) (now : ℕ) (after : Seated) (given : Bool) : Type 0 where
+  pub counted : KeepsCount taken before now after
+  pub by_sets : BringsTurn before after given

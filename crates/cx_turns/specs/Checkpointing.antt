@@ -26,20 +26,23 @@ abbrev pub TakesNone : Seated → Seated → Type 0
 TakesNone before after = after.known.images ≡ before.known.images
 
 -- The caller took one image more, at a place: it is a lawful base. The place is that of the code last found in CUR, above each ticket and not
--- below any place that the caller was answered before. No refusal is met, and the caller is at rest.
-pub record TakesImage {O : Type 0} (o : Ghosts O) (r : Running O) (image : List ℕ) (place : ℕ) (before after : Seated) : Type 0 where
+-- below any place that the caller was answered before. That code was loaded after this many steps of the caller, and DUR was raised by it. No
+-- refusal is met, and the caller is at rest.
+pub record TakesImage {O : Type 0} (o : Ghosts O) (r : Running O) (begun : ℕ) (image : List ℕ) (place : ℕ) (before after : Seated) : Type 0 where
   pub rest : IsAtRest after.known.local
   pub met : after.known.local.met ≡ before.known.local.met
   pub images : after.known.images ≡ before.known.images ++ image ∷ []
   pub base : LawfulBase r.lines (o.lawful r.object) (record { place = place; words = image })
   pub current : place ≡ root_place_of r.callers after.known.local.seen_cur
+  pub loaded : after.known.times.loaded ≡ begun
+  pub raised : after.known.local.seen_cur ≤ after.known.local.raised
   pub reached : place ≤ after.known.local.front
   pub above : (i : ℕ) (x : Answer) → slice_get before.known.local.answered i ≡ Some x → x.ticket < place
   pub from : (i : ℕ) (x : SeenRead) → slice_get before.known.local.seen_reads i ≡ Some x → x.place ≤ place
 
--- the result of a turn that takes an image; one that is refused makes at most four steps
+-- the result of a turn that takes an image, for which CUR is loaded by its first step; one that is refused makes at most four steps
 abbrev pub TakesTurn : {O : Type 0} → Ghosts O → Running O → List ℕ → Seated → Seated → Option ℕ → Type 0
-TakesTurn o r image before after (Some place) = TakesImage o r image place before after
+TakesTurn o r image before after (Some place) = TakesImage o r before.known.local.steps image place before after
 TakesTurn o r image before after None = TurnRefused before after × StepsBy 4 before after × StepsOn before after × TakesNone before after
 
 -- the same of one that did not halt: the limit allowed a step

@@ -45,7 +45,7 @@ fn take_image<O: Object>(
 ) -> Result<u64, Halt>
     requires current { IsAtCurrent O.Object shared.now seat.old hold }
     requires words { length into.old ≡ length shared.now.base.words }
-    ensures taken { MatchResult result (λ place. TakesImage O.Object shared.now into.new place seat.old seat.new) (λ _. HaltsImage seat.old seat.new) }
+    ensures taken { MatchResult result (λ place. TakesImage O.Object shared.now seat.old.known.times.loaded into.new place seat.old seat.new) (λ _. HaltsImage seat.old seat.new) }
     ensures turns { StaysIn shared.now beside_checkpoint seat.old seat.new }
     ensures length { length into.new ≡ length into.old }
 {

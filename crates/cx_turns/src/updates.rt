@@ -6,41 +6,41 @@ ghost use Rattle.cx_rule.specs.Seats.{unanswered_ticket};
 ghost use Rattle.cx_rule.specs.Steps.{Halts};
 ghost use Rattle.cx_table.specs.Tokens.{IsDowngradedOf, IsWonOf};
 ghost use Rattle.cx_turns.specs.Answering.{AnswersBy, AnswersEntry, HaltsFor, HaltsWon, IsPublishedFor, IsReadyFor, TurnsUpdating, beside_hand_over, beside_settling, beside_update};
-ghost use Rattle.cx_turns.specs.Bringing.{CountsIn};
+ghost use Rattle.cx_turns.specs.Bringing.{CountsTurn};
 ghost use Rattle.cx_turns.specs.Turns.{KeepsIn, MayTurn, Turns, TurnsIn, cur_rises};
 ghost use Rattle.strong_trylock.specs.Held.{HasRight};
 
 use crate::preparation::prepare;
 use crate::scratch::Scratch;
-use cx_base::{Halt, OP_WORDS, Object, OpWords};
+use cx_base::{Halt, Object, OpWords};
 use cx_table::{CallerSeat, Downgraded, Shared, Won};
 use publish::{Published, make_durable, publish, retire};
 
 /// One turn for the caller's entry with a ticket, which is linked and not answered. A replica that nobody holds is brought up to the
 /// ticket under a protection of its place, where that is at most the ticket. Where its place is behind the ring, the current replica is
 /// copied over it first. It is made durable and published, DUR is raised by the code that won or that was found in CUR, and where it won
-/// the replica that was current before is released. No protection stands after the turn. It returns the reply, or `None` where each replica was
-/// refused, or the current one was held exclusively or at another place when it was to be copied, or was behind the ring after the copy. `Halt` comes
+/// the replica that was current before is released. No protection stands after the turn. It writes the reply into the caller's
+/// buffer, or returns false where each replica was refused, or the current one was held exclusively or at another place when it was to be copied, or was behind the ring after the copy. `Halt` comes
 /// only where the seat's steps equal its limit.
 pub fn update_turn<O: Object>(
     shared: &Shared<O>,
     seat: &mut CallerSeat,
     ticket: u64,
     scratch: &mut Scratch,
-) -> Result<Option<OpWords>, Halt>
+    reply: &mut OpWords,
+) -> Result<bool, Halt>
     requires ready { MayTurn shared.now ticket seat.old }
     requires last { unanswered_ticket seat.old.known.local ≡ Some ticket }
-    ensures turned { IfOk result (TurnsUpdating ticket seat.old seat.new) }
+    ensures turned { IfOk result (TurnsUpdating ticket reply.new seat.old seat.new) }
     ensures halted { OnErr result (HaltsFor shared.now.callers ticket seat.old seat.new) }
-    ensures counted { IfOk result (CountsIn scratch.old.taken seat.old scratch.new.taken seat.new) }
+    ensures counted { IfOk result (CountsTurn scratch.old.taken seat.old scratch.new.taken seat.new) }
     ensures turns { Turns shared.now beside_update seat.old seat.new }
 {
-    let mut reply = [0; OP_WORDS];
-    let Some(held) = prepare(shared, seat, ticket, scratch, &mut reply)? else {
-        return Ok(None);
+    let Some(held) = prepare(shared, seat, ticket, scratch, reply)? else {
+        return Ok(false);
     };
     hand_over(shared, seat, held)?;
-    Ok(Some(reply))
+    Ok(true)
 }
 
 /// Publishes a replica that is ready for the caller's entry, and answers the entry.

@@ -20,7 +20,7 @@ use Rattle.doc_text.specs.Summary.{summary_text}
 -- The records are of legal lives of the script. Each is witnessed by the execution log of the service that ran it.
 pub record AreRecords (script : Script Op) (trails : List Ending) (records : List (LifeRecord Reply)) : Type 0 where
   pub lives : AreLegalLives (document_meaning script.lines) script records
-  pub told : AreTold (document_meaning script.lines) script.lives records trails
+  pub told : AreTold (document_meaning script.lines) script.lines (IsImageOfStore script.lines) script.lives records trails
 
 -- The text is the report of such records.
 pub record IsReport (script : Script Op) (trails : List Ending) (text : List ℕ) : Type 0 where

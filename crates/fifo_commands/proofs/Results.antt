@@ -14,6 +14,7 @@ use Rattle.fifo_object.specs.Queue.{Queue, reply_to}
 use Rattle.fifo_object.specs.Words.{reply_words}
 use Rattle.fifo_object.specs.declared.operations.FifoOp.{FifoOp}
 use Rattle.fifo_object.specs.declared.operations.FifoReply.{FifoReply}
+use Rattle.fifo_object.specs.Fifo.{IsFifo}
 use Rattle.fifo_object.specs.FifoMeaning.{fifo_meaning}
 use Rattle.fifo_commands.specs.FifoLives.{AreFifoLivesFrom, CommandHasReply, IsFifoLife, queue_at, uncut}
 use Rattle.fifo_commands.specs.Leaving.{with_no_stops}
@@ -102,7 +103,7 @@ result_more client before told =
     ∙ ap (λ ls. result (length ls) (last_words (replicate 144 0) ls)) (sym (kept_more client before told))
 
 results_from : (lines place : ℕ) (queue : Queue) (before : List FifoRecord) (begun : Begun Queue) (lives : List FifoLife) (records : List FifoRecord) (trails : List Ending) →
-    AreFifoLivesFrom lines place queue lives records → AreToldFrom (fifo_meaning lines) begun (map uncut lives) (map with_no_stops records) trails →
+    AreFifoLivesFrom lines place queue lives records → AreToldFrom (fifo_meaning lines) lines (IsFifo lines) begun (map uncut lives) (map with_no_stops records) trails →
     begun.store ≡ queue → ((client : ℕ) → begun.results client ≡ result_of client before) → (i : ℕ) (trail : Ending) → slice_get trails i ≡ Some trail → HasResultsOf (before ++ take i records) trail.base
 results_from lines place queue before begun [] [] [] are told same results i trail at = absurd (none-some trail at)
 results_from lines place queue before begun [] [] (first ∷ trails) are told same results i trail at = absurd told

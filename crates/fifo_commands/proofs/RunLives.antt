@@ -59,9 +59,9 @@ pub lived_is : (lines : ℕ) (lives : List FifoLife) (lived : Lived FifoReply) (
 lived_is lines lives lived left have records trails = record {
   legal = subst (λ rs. AreFifoLivesFrom lines 0 [] lives rs) (sym records) (lives_from lines 0 [] lives lived.records have.legal);
   told =
-      subst (λ ts. AreTold (fifo_meaning lines) (map uncut lives) (map with_no_stops left.records) ts) (sym trails)
-      (subst (λ rs. AreTold (fifo_meaning lines) (map uncut lives) (map with_no_stops rs) lived.trails) (sym records)
-      (subst (λ rs. AreTold (fifo_meaning lines) (map uncut lives) rs lived.trails) (sym (same_records lines 0 [] lives lived.records have.legal)) have.told));
+      subst (λ ts. AreTold (fifo_meaning lines) lines (IsFifo lines) (map uncut lives) (map with_no_stops left.records) ts) (sym trails)
+      (subst (λ rs. AreTold (fifo_meaning lines) lines (IsFifo lines) (map uncut lives) (map with_no_stops rs) lived.trails) (sym records)
+      (subst (λ rs. AreTold (fifo_meaning lines) lines (IsFifo lines) (map uncut lives) rs lived.trails) (sym (same_records lines 0 [] lives lived.records have.legal)) have.told));
 }
 
 -- ---- a life more of a script

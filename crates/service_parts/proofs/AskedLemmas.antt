@@ -9,16 +9,17 @@ use Rattle.cx_service.specs.Callers.{IsCallerOf}
 use Rattle.cx_service.specs.CatchUps.{HasSeen}
 use Rattle.cx_service.specs.Lookups.{ReadAnswered, ReadPending}
 use Rattle.cx_service.specs.Submits.{next_entry}
-use Rattle.cx_service.specs.Updates.{KeepsLists, ReadQueues, UpdateDone, UpdateWorn}
-use Rattle.cx_service.specs.declared.update.Updated.TheVariants.{Done, Worn}
+use Rattle.cx_core.specs.declared.local.FullNote.{FullNote}
+use Rattle.cx_service.specs.Updates.{KeepsLists, ReadQueues, UpdateDone, UpdateFull, UpdateWorn}
+use Rattle.cx_service.specs.declared.update.Updated.TheVariants.{Done, Full, Worn}
 use Rattle.cx_service.proofs.Seeing.{lists_seen, queued_sees, read_behind, update_behind}
 use Rattle.cx_turns.specs.declared.lookup.Seen.{Seen}
-use Rattle.cx_turns.specs.Answering.{with_answer}
-use Rattle.service_parts.specs.Asking.{IsOperationAnswered, IsAsked}
+use Rattle.cx_turns.specs.Answering.{reads_with, with_answer}
+use Rattle.service_parts.specs.Asking.{IsAsked, IsIdleSince, IsOperationAnswered, IsReadBeside}
 use Rattle.service_parts.specs.declared.call.Asked.TheVariants.{Told}
 
 -- an update behind tries that changed nothing of the caller's lists
-module _ {O : Type 0} (r : Running O) (op : List ℕ) (before u : Seated) (keeps : KeepsLists before u) where
+module _ {O : Type 0} (r : Running O) (op : List ℕ) (before u : Seated) (keeps : KeepsLists before u) (idle : IsIdleSince before u) where
   -- the caller's next entry is the same
   same_entry : (ticket : ℕ) → next_entry r u.known.local op ticket ≡ next_entry r before.known.local op ticket
   same_entry ticket =
@@ -32,8 +33,15 @@ module _ {O : Type 0} (r : Running O) (op : List ℕ) (before u : Seated) (keeps
       limit = done.links.limit ∙ keeps.limit;
       own = done.links.own ∙ ap (λ (xs : List OwnEntry). xs ++ next_entry r u.known.local op answer.ticket ∷ []) keeps.own ∙ ap (λ (x : OwnEntry). before.known.local.own ++ x ∷ []) (same_entry answer.ticket);
       reads = done.links.reads ∙ keeps.reads;
+      begun = record {
+        at = done.links.begun.at;
+        from = (let from = done.links.begun.from in let since = idle.since in omega (arith, from, since));
+        is = done.links.begun.is ∙ ap (λ xs. xs ++ done.links.begun.at ∷ []) idle.times.linked;
+      };
+      read = done.links.read ∙ idle.times.reads;
     };
     answered = done.answered ∙ ap (with_answer answer.ticket answer.reply) keeps.answered;
+    ended = record { at = done.ended.at; to = done.ended.to; is = done.ended.is ∙ ap (λ xs. xs ++ done.ended.at ∷ []) idle.times.answered };
   }
 
   pub done_asked : (after : Seated) (answer : Answer) (place : ℕ) → UpdateDone r op u after answer → place ≡ answer.ticket + 1 → IsAsked r op before (Told after answer.reply place)
@@ -43,7 +51,7 @@ module _ {O : Type 0} (r : Running O) (op : List ℕ) (before u : Seated) (keeps
   )
 
 -- the same of a read that entered the queue
-module _ {O : Type 0} (r : Running O) (op : List ℕ) (before u : Seated) (keeps : KeepsLists before u) where
+module _ {O : Type 0} (r : Running O) (op : List ℕ) (before u : Seated) (keeps : KeepsLists before u) (idle : IsIdleSince before u) where
   pending_keeps : (v : Seated) → ReadPending r 8 u v → KeepsLists before v
   pending_keeps v p = record {
     number = p.keeps.number ∙ keeps.number;
@@ -55,8 +63,54 @@ module _ {O : Type 0} (r : Running O) (op : List ℕ) (before u : Seated) (keeps
     cur = (let first = keeps.cur in let more = p.keeps.cur in omega (arith, first, more));
   }
 
+  pending_idle : (v : Seated) → ReadPending r 8 u v → IsIdleSince before v
+  pending_idle v p = record {
+    times = record { linked = p.keeps.linked ∙ idle.times.linked; answered = p.keeps.ended ∙ idle.times.answered; reads = p.times ∙ idle.times.reads };
+    since = (let first = idle.since in let more = p.keeps.since in omega (arith, first, more));
+  }
+
+  full_idle : (v w : Seated) (note : FullNote) → IsIdleSince before v → UpdateFull r v w note → IsIdleSince before w
+  full_idle v w note was full = record {
+    times = record { linked = full.times.linked ∙ was.times.linked; answered = full.times.answered ∙ was.times.answered; reads = full.times.reads ∙ was.times.reads };
+    since = (let first = was.since in let more = full.steps in omega (arith, first, more));
+  }
+
+  worn_idle : (v w : Seated) → IsIdleSince before v → UpdateWorn r v w → IsIdleSince before w
+  worn_idle v w was worn = record {
+    times = record { linked = worn.times.linked ∙ was.times.linked; answered = worn.times.answered ∙ was.times.answered; reads = worn.times.reads ∙ was.times.reads };
+    since = (let first = was.since in let more = worn.steps in omega (arith, first, more));
+  }
+
+  pub idle_full : (w : Seated) (note : FullNote) → UpdateFull r u w note → IsIdleSince before w
+  idle_full w note full = full_idle u w note idle full
+
+  pub idle_worn : (w : Seated) → UpdateWorn r u w → IsIdleSince before w
+  idle_worn w worn = worn_idle u w idle worn
+
+  pub idle_queued_full : (w : Seated) (note : FullNote) → ReadQueues r op u (Full w note) → IsIdleSince before w
+  idle_queued_full w note queues = full_idle queues.refused w note (pending_idle queues.refused queues.pending) queues.entered
+
+  pub idle_queued_worn : (w : Seated) → ReadQueues r op u (Worn w) → IsIdleSince before w
+  idle_queued_worn w queues = worn_idle queues.refused w (pending_idle queues.refused queues.pending) queues.entered
+
+  pub read_asked : (after : Seated) (found : Seen) → ReadAnswered r op u after found → IsReadBeside op found.place found.reply before after
+  read_asked after found read = record {
+    own = read.keeps.own ∙ keeps.own;
+    answered = read.keeps.answered ∙ keeps.answered;
+    reads = read.reads ∙ ap (λ (n : ℕ). reads_with found.place op found.reply n u.known.local.seen_reads) (ap length keeps.answered) ∙ ap (λ xs. reads_with found.place op found.reply (length before.known.local.answered) xs) keeps.reads;
+    times = record {
+      begun = read.times.begun;
+      ended = read.times.ended;
+      from = (let from = read.times.from in let since = idle.since in omega (arith, from, since));
+      to = read.times.to;
+      is = read.times.is ∙ ap (λ xs. xs ++ (read.times.begun, read.times.ended) ∷ []) idle.times.reads;
+    };
+    linked = read.keeps.linked ∙ idle.times.linked;
+    ended = read.keeps.ended ∙ idle.times.answered;
+  }
+
   pub queued_asked : (after : Seated) (answer : Answer) (place : ℕ) → ReadQueues r op u (Done after answer) → place ≡ answer.ticket + 1 → IsAsked r op before (Told after answer.reply place)
-  queued_asked after answer place queues is = done_asked r op before queues.refused (pending_keeps queues.refused queues.pending) after answer place queues.entered is
+  queued_asked after answer place queues is = done_asked r op before queues.refused (pending_keeps queues.refused queues.pending) (pending_idle queues.refused queues.pending) after answer place queues.entered is
 
 module _ {O : Type 0} (r : Running O) (op : List ℕ) (before u : Seated) (caller : IsCallerOf r before) (now : IsCallerOf r u) (keeps : KeepsLists before u) where
   abbrev Sees : ℕ → Seated → Type 0

@@ -8,7 +8,8 @@ use Rattle.cx_rule.specs.Running.{Running, instance_at}
 use Rattle.cx_rule.specs.Seats.{Seated}
 use Rattle.cx_service.specs.Starts.{Starts}
 use Rattle.cx_table.specs.declared.remains.Remains.{Remains}
-use Rattle.cx_table.specs.Remains.{Leaves, opening_seat}
+use Rattle.cx_service.specs.ClosedOrder.{IsClosedLinearizable}
+use Rattle.cx_table.specs.Remains.{opening_seat}
 use Rattle.service_parts.specs.Callers.{AreNew, TellsEach}
 use Rattle.service_parts.specs.Lives.{IsOpen, IsServiceFrom, IsServedBy, MayServe}
 
@@ -47,10 +48,10 @@ new_of object lines callers limits base service seats starts = (limits, starts.o
 
 -- a service that was started from a base is served, and what was told of its callers is so
 pub told_of : {O T : Type 0} (o : Ghosts O) (object : O) (callers : ℕ) (base : Base) (tells : Running O → Seated → Seated → T → Type 0) (service : Running O) (new seats : List Seated) (told : List T) (r : Remains) → IsOpen o object callers base service
-    → AreNew service callers new → Leaves service (instance_at service o.step o.only_reads) seats r → TellsEach (tells service) new seats told → IsServedBy o object callers base tells r told
+    → AreNew service callers new → IsClosedLinearizable service (instance_at service o.step o.only_reads) seats r → TellsEach (tells service) new seats told → IsServedBy o object callers base tells r told
 told_of o object callers base tells service new seats told r is are_new leaves tells_so = record {
   served = record {
-    left = record { table = service; seats = seats; object_is = is.object_is; opened = is.opened; leaves = leaves };
+    left = record { table = service; seats = seats; object_is = is.object_is; opened = is.opened; leaves = leaves.leaves; order = leaves.order };
     callers_are = is.callers_are;
     base_is = is.base_is;
   };

@@ -6,6 +6,7 @@ use Rattle.cx_rule.specs.Running.{Running, instance_at}
 use Rattle.cx_rule.specs.Seats.{Seated}
 use Rattle.cx_table.specs.declared.remains.Remains.{Remains}
 use Rattle.cx_table.specs.Remains.{Leaves}
+use Rattle.cx_service.specs.ClosedOrder.{IsLinearizedBy}
 use Rattle.recovery.specs.Kept.{IsKeptBy, IsOpened}
 use Rattle.service_parts.specs.Callers.{AreAllCallers, AreNew, TellsEach}
 use Rattle.cx_base.specs.declared.object.Object.{Ghosts}
@@ -30,13 +31,15 @@ pub record IsOpenWith {O : Type 0} (o : Ghosts O) (object : O) (count_asked : �
   pub count : length seats ≡ count_asked
   pub new : AreNew table count_asked seats
 
--- what a service of this object left when it was closed, which opened from a lawful base
+-- What a service of this object left when it was closed, which opened from a lawful base. By the order of all callers' steps its history is a
+-- linearization of their calls.
 pub record IsLeftBy {O : Type 0} (o : Ghosts O) (object : O) (r : Remains) : Type 0 where
   pub table : Running O
   pub seats : List Seated
   pub object_is : table.object ≡ object
   pub opened : IsOpened o.line_count o.lawful table
   pub leaves : Leaves table (instance_at table o.step o.only_reads) seats r
+  pub order : IsLinearizedBy leaves
 
 -- it was of this many callers, and opened from this base
 pub record IsServiceFrom {O : Type 0} (o : Ghosts O) (object : O) (callers : ℕ) (base : Base) (r : Remains) : Type 0 where

@@ -2,9 +2,10 @@
 
 ghost use Rattle.std.specs.Prelude.{◌≡◌, IfOk, length};
 ghost use Rattle.cx_core.specs.Merge.{IsHistory};
+ghost use Rattle.cx_service.specs.ClosedOrder.{IsClosedLinearizable};
 ghost use Rattle.cx_service.specs.Closes.{seats_of};
 ghost use Rattle.cx_service.specs.Starts.{AreFewCallers};
-ghost use Rattle.cx_table.specs.Remains.{AreSeats, Leaves, locals_of};
+ghost use Rattle.cx_table.specs.Remains.{AreSeats, locals_of};
 ghost use Rattle.recovery.specs.Kept.{IsOpened};
 ghost use Rattle.cx_rule.specs.Running.{instance_at};
 ghost use Rattle.service_parts.specs.Lives.{IsOpenWith, IsServiceFrom, IsServedBy, MayServe};
@@ -51,7 +52,7 @@ pub fn closed<O: Object>(
     requires callers { AreSeats service (seats_of callers.items) }
     ensures history { IfOk result (λ r. IsHistory service.base.place r.trail.history (locals_of (seats_of callers.items))) }
     ensures left { IfOk result (IsServiceFrom O.Object service.object service.callers service.base) }
-    ensures leaves { IfOk result (Leaves service (instance_at service O.step O.only_reads) (seats_of callers.items)) }
+    ensures leaves { IfOk result (IsClosedLinearizable service (instance_at service O.step O.only_reads) (seats_of callers.items)) }
 {
     match service.close(alloc, callers) {
         Ok(remains) => Ok(remains),

@@ -4,7 +4,7 @@ use Rattle.cx_rule.specs.Rule.{opening_limited}
 use Rattle.cx_rule.specs.Running.{instance_at}
 use Rattle.core_runs.proofs.Ordering.{linearizable}
 use Rattle.cx_rule.proofs.Opening.{limited_lawful}
-use Rattle.cx_service.proofs.CallOrder.{keeps_calls, none_made}
+use Rattle.cx_service.proofs.CallOrder.{keeps_calls, none_linked, none_made}
 use Rattle.cx_service.proofs.closed_order.closed_tables_are_linearizable.Goals as goal
 
 pub returns : goal.returns
@@ -16,11 +16,8 @@ returns g c = λ table seats r running leaves. (
     let is = linearizable instance leaves.reached.events _ _ opening leaves.reached.ran in
     let same = sym (history_is instance.base.place is.history leaves.whole is.merged) ∙ history_is instance.base.place law.history leaves.whole law.tickets.merged in
     record {
-      words = leaves.words;
-      whole = leaves.whole;
-      shows = leaves.shows;
-      reached = leaves.reached;
       linearizable = is;
       history = same ∙ leaves.history;
       calls = keeps_calls instance (opening_limited instance leaves.reached.limits) _ leaves.reached.events opening (none_made instance leaves.reached.limits) leaves.reached.ran seats leaves.times;
+      one_order = c.runs_have_one_order.ensures instance leaves.reached.events _ _ opening (none_linked instance leaves.reached.limits) leaves.reached.ran;
     })

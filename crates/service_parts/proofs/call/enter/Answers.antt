@@ -7,7 +7,7 @@ place_behind-place-requires g c = done_front c.args.service.now c.args.op.now c.
 
 pub returns-in-Done-clause-asked : goal.returns-in-Done-clause-asked
 returns-in-Done-clause-asked g c =
-    done_asked c.args.service.now c.args.op.now c.args.caller c.loop.caller c.loop.invariant.keeps c.in-Done.back c.in-Done.answer c.place_behind-place.result c.in-Done.ensures c.place_behind-place.ensures
+    done_asked c.args.service.now c.args.op.now c.args.caller c.loop.caller c.loop.invariant.keeps c.loop.invariant.idle c.in-Done.back c.in-Done.answer c.place_behind-place.result c.in-Done.ensures c.place_behind-place.ensures
 
 pub returns-in-Done-clause-sees : goal.returns-in-Done-clause-sees
 returns-in-Done-clause-sees g c =

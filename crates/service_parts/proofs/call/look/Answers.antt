@@ -11,7 +11,7 @@ returns-in-Read-clause-sees g c =
 
 pub returns-in-Queued-clause-asked : goal.returns-in-Queued-clause-asked
 returns-in-Queued-clause-asked g c =
-    queued_asked c.args.service.now c.args.op.now c.args.caller c.loop.caller c.loop.invariant.keeps c.in-Queued.back c.in-Queued.answer c.place_behind-place.result c.in-Queued.ensures c.place_behind-place.ensures
+    queued_asked c.args.service.now c.args.op.now c.args.caller c.loop.caller c.loop.invariant.keeps c.loop.invariant.idle c.in-Queued.back c.in-Queued.answer c.place_behind-place.result c.in-Queued.ensures c.place_behind-place.ensures
 
 pub returns-in-Queued-clause-sees : goal.returns-in-Queued-clause-sees
 returns-in-Queued-clause-sees g c =

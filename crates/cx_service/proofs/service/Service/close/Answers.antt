@@ -5,8 +5,8 @@ use Rattle.cx_service.specs.Closes.{seats_of}
 use Rattle.cx_table.specs.Remains.{Leaves}
 use Rattle.cx_service.proofs.service.Service.close.Goals as goal
 
-pub returns-clause-order : goal.returns-clause-order
-returns-clause-order g c =
+pub returns-clause-remains : goal.returns-clause-remains
+returns-clause-remains g c =
     let step = g.O.Object.step in
     let reads = g.O.Object.only_reads in
     let seats = seats_of c.args.callers.items in
@@ -14,4 +14,4 @@ returns-clause-order g c =
     let running = subst (λ (t : Running _). IsRunning g.O.Object.line_count g.O.Object.lawful t) c.self.view_is c.lines-lines.ensures.running in
     let leaves = subst (λ (t : Running _). Leaves t (instance_at t step reads) seats remains) c.self.view_is
     (subst (λ (ss : List Seated). Leaves c.self.inside.shared (instance_at c.self.inside.shared step reads) ss remains) c.as_seats.ensures c.gather_in.ensures) in
-    c.closed_tables_are_linearizable.ensures c.args.self seats remains running leaves
+    record { leaves = leaves; order = c.closed_tables_are_linearizable.ensures c.args.self seats remains running leaves }

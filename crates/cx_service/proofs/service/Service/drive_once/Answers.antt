@@ -7,32 +7,32 @@ use Rattle.cx_service.specs.Drives.{DriveDone, DriveDue, DriveHalted, DrivePendi
 use Rattle.cx_service.specs.declared.callers.Desk.{Desk}
 use Rattle.cx_service.proofs.Turning.{turn_done, turn_halted, turn_refused}
 use Rattle.cx_turns.specs.Answering.{HaltsFor, TurnsFor}
-use Rattle.cx_turns.specs.Bringing.{BringsIn}
+use Rattle.cx_turns.specs.Bringing.{BringsTurn}
 use Rattle.cx_service.proofs.service.Service.drive_once.Goals as goal
 
-pub returns-in-Ok-Some : goal.returns-in-Ok-Some
-returns-in-Ok-Some g c =
+pub returns-in-Ok-true : goal.returns-in-Ok-true
+returns-in-Ok-true g c =
     let s = c.deref_mut.result.now.seat in
     let is = ap (λ (d : Desk). d.seat) c.deref_mut.ensures.value ∙ c.linked.view_is in
     let v = c.update_turn.new.seat in
     let ticket = c.ticket-ticket.result in
-    let answer : Answer = record { ticket = ticket; reply = c.in-Ok-Some.reply } in
-    let answers = subst (TurnsFor ticket s v) c.in-Ok-Some.field-0-is c.in-Ok-Some.ensures.turned.turned in
+    let answer : Answer = record { ticket = ticket; reply = c.update_turn.new.reply } in
+    let answers = subst (TurnsFor ticket c.update_turn.new.reply s v) c.in-Ok-true.field-0-test c.in-Ok-true.ensures.turned.turned in
     subst (λ (x : Seated). DriveDone c.args.self.now x v answer × MeetsAtMost 1 x v) is (
       turn_done c.args.self.now s v (subst (IsLinkedOf c.args.self.now) (sym is) c.requires) c.update_turn.ensures.turns.rest c.update_turn.ensures.turns.front (subst (λ (t : Running _). IsSeatOf t v) c.self.view_is c.update_turn.ensures.turns.seat) c.update_turn.ensures.turns.since
-          ticket c.in-Ok-Some.reply (subst (λ (x : Seated). unanswered_ticket x.known.local ≡ Some ticket) (sym is) c.ticket-ticket.ensures)
-          c.in-Ok-Some.ensures.turned.allowed (subst (BringsIn {X = List ℕ} s v) c.in-Ok-Some.field-0-is c.in-Ok-Some.ensures.counted.by_sets) answers,
+          ticket c.update_turn.new.reply (subst (λ (x : Seated). unanswered_ticket x.known.local ≡ Some ticket) (sym is) c.ticket-ticket.ensures)
+          c.in-Ok-true.ensures.turned.allowed (subst (BringsTurn s v) c.in-Ok-true.field-0-test c.in-Ok-true.ensures.counted.by_sets) answers,
       answers.most,
     )
 
-pub returns-in-Ok-None : goal.returns-in-Ok-None
-returns-in-Ok-None g c =
+pub returns-in-Ok-false : goal.returns-in-Ok-false
+returns-in-Ok-false g c =
     let s = c.deref_mut.result.now.seat in
     let is = ap (λ (d : Desk). d.seat) c.deref_mut.ensures.value ∙ c.linked.view_is in
     let v = c.update_turn.new.seat in
     subst (λ (x : Seated). DrivePending c.args.self.now 1 x v) is
     (turn_refused c.args.self.now s v (subst (IsLinkedOf c.args.self.now) (sym is) c.requires) c.update_turn.ensures.turns.rest c.update_turn.ensures.turns.front (subst (λ (t : Running _). IsSeatOf t v) c.self.view_is c.update_turn.ensures.turns.seat) c.update_turn.ensures.turns.since
-    c.in-Ok-None.ensures.turned.allowed (omega (arith, c.met-met.ensures)) (subst (BringsIn {X = List ℕ} s v) c.in-Ok-None.field-0-is c.in-Ok-None.ensures.counted.by_sets) (subst (TurnsFor c.ticket-ticket.result s v) c.in-Ok-None.field-0-is c.in-Ok-None.ensures.turned.turned))
+    c.in-Ok-false.ensures.turned.allowed (omega (arith, c.met-met.ensures)) (subst (BringsTurn s v) c.in-Ok-false.field-0-test c.in-Ok-false.ensures.counted.by_sets) (subst (TurnsFor c.ticket-ticket.result c.update_turn.new.reply s v) c.in-Ok-false.field-0-test c.in-Ok-false.ensures.turned.turned))
 
 pub returns-in-Err : goal.returns-in-Err
 returns-in-Err g c =

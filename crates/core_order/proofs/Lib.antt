@@ -1,0 +1,5 @@
+pub mod Layers
+pub mod Appearing
+pub mod OneOrder
+pub mod Composing
+pub mod Imaging
