@@ -15,7 +15,8 @@ In each round the service and each peer run in turn, so that what else the machi
 round to round. A figure is the median over rounds of the ratio within a round. Throughput is calls by wall time in the callers'
 threads, and processor time is that of those threads: making and filling a store is not counted. Each runs for about M milliseconds:
 the service makes one store, and as many updates as a short run before told. A size that some program does not take is left out, and
-said.
+said. A run of one caller is made again, at most 8 times, until the other hardware thread of its core was idle before and after it
+(`core_probe.py`); how many never were is said.
 
 Example: python3 bench/performance.py --rounds 1 --threads 2 --sizes 1024x100
 Status 0 where the page or the plot is written; 1 where a program is not built or no size was measured; 2 where the words are others.
@@ -30,6 +31,7 @@ import sys
 from dataclasses import dataclass
 
 from build import path_of
+from core_probe import Core
 from performance_plot import Panel, drawn
 from performance_words import advice, comparison, short, size_words, thread_words
 from service import PARTS, READ_PARTS, parts
@@ -48,6 +50,8 @@ MAPS = ["btree_mutex", "btree_rwlock"]
 LEAST_ROUNDS = 9
 # the updates of each caller in the short run that tells how many a longer one has; of reads alone it makes as many
 FIRST_UPDATES = 500
+# how often a run of one caller is made until the core is its own
+TRIES = 8
 PICTURE = os.path.join("pictures", "performance.svg")
 QUEUE_HEAD = "## A queue"
 
@@ -105,7 +109,16 @@ def taken(lines, keys):
 
 
 def ran(form, setting, options):
-    """Runs a form once."""
+    """Runs a form once; one caller until the core was its own, where that can be told."""
+    if setting.threads > 1 or options.core is None:
+        return ran_once(form, setting, options)
+    run, is_alone = options.core.alone(lambda: ran_once(form, setting, options), TRIES)
+    options.single += 1
+    options.shared += not is_alone
+    return run
+
+
+def ran_once(form, setting, options):
     said = said_by(words_of(form, setting, options.ms))
     calls = said["updates"] + said["reads"]
     if not (calls and said["wall"] and said["cpu"]):
@@ -187,6 +200,24 @@ def machine():
     return f"{os.cpu_count()} processors, {names[0] if names else os.uname().machine}, load {os.getloadavg()[0]:.1f} before"
 
 
+def core_words(options):
+    """What is said of the cores of the runs of one caller."""
+    if options.core is None:
+        return "Whether the other hardware thread of a core was busy was not looked at."
+    if options.shared:
+        return f"Of {options.single} runs of one caller {options.shared} shared the core with another hardware thread, the others had it alone."
+    return "In all runs of one caller the other hardware thread of the core was idle."
+
+
+def core_here():
+    """What tells whether a core is one's own, or None where there is no C compiler or no binding to a processor."""
+    try:
+        return Core()
+    except (OSError, AttributeError, subprocess.CalledProcessError) as why:
+        print(f"whether a core is shared is not told: {why}", file=sys.stderr)
+        return None
+
+
 def shares(measured, peer):
     """For each size and number of threads the throughput of the service by that of a peer, for each share of reads."""
     found = {}
@@ -220,7 +251,7 @@ def page(measured, options, where, left_out, found):
         "",
         f"{where}. Medians of {options.rounds} rounds of {options.ms} milliseconds, in which all run in turn (`bench/performance.py`; the others "
         "are `bench/peers`). Our service: thousands of calls a second, and in brackets the nanoseconds of processor time of a call. The others: "
-        "how many times as many calls a second, and in brackets how many times that processor time.",
+        f"how many times as many calls a second, and in brackets how many times that processor time. {core_words(options)}",
         "",
         markdown(measured),
         "",
@@ -286,6 +317,8 @@ def options_of(words):
     parser.add_argument("--threads", type=numbers, default=[1, 2, 4])
     parser.add_argument("--reads", type=numbers, default=[0, 50, 90, 99, 100])
     parser.add_argument("--sizes", type=pairs, default=[(1024, 100), (1024, 1000), (16384, 100), (16384, 1000)])
+    # what tells whether a core is shared; the runs of one caller, and those of them that shared it
+    parser.set_defaults(core=None, single=0, shared=0)
     options = parser.parse_args(words)
     if options.redraw and not options.doc:
         parser.error("--redraw wants --doc")
@@ -302,6 +335,7 @@ def main(words):
             sys.exit(f"{os.path.relpath(program)} is not there\n\n{__doc__}")
     sizes = [size for size in options.sizes if taken(*size)]
     where = machine()
+    options.core = core_here()
     measured = {}
     for size, threads, reads in itertools.product(sizes, options.threads, options.reads):
         setting = Setting(*size, threads, reads)

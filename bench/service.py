@@ -4,7 +4,8 @@
 Build the program first: python3 bench/build.py service_bench
 A store of 1,024 lines has documents of 32 bytes at 100 keys. One service runs long enough that its callers' cells come round again many
 times; its making and closing are not counted. Each caller has a thread of its own. The least of several runs stands, since others load
-the machine. `--rounds N` sets how many.
+the machine. `--rounds N` sets how many. The runs of one caller are sorted by whether the other hardware thread of its core was busy before
+and after (`core_probe.py`): the least of each kind stands.
 
 The parts are those of 16 updates of one caller, and of 64 reads after them, made one after another on a thread of its own, between
 which the steps and the clock are read. What it takes to read the clock is in each part's time once.
@@ -13,11 +14,13 @@ Example: python3 bench/service.py --rounds 3
 Status 0 where the tables are printed, 1 where the program is not built, 2 where the words are others.
 """
 import argparse
+import functools
 import os
 import subprocess
 import sys
 
 from build import path_of
+from core_probe import ALONE, MODES, SHARED, Core
 
 BENCH = path_of("service_bench")
 LEAST_ROUNDS = 9
@@ -87,18 +90,29 @@ def beside(left, right):
     return [(left[i] if i < len(left) else blank[0]) + (right[i] if i < len(right) else blank[1]) for i in range(rows)]
 
 
-def least(rounds, threads, updates, reads):
+def of_a_call(got, what):
+    return got[what] / (got["updates"] + got["reads"])
+
+
+def least(runs):
     """The run with the least processor time of a call."""
-    runs = [run(threads, updates, reads) for _ in range(rounds)]
-    return min(runs, key=lambda got: got["cpu"] / (got["updates"] + got["reads"]))
+    return min(runs, key=lambda got: of_a_call(got, "cpu"))
 
 
-def row(rounds, threads, reads):
-    got = least(rounds, threads, UPDATES if reads < 100 else LOOKS, reads)
-    calls = got["updates"] + got["reads"]
+def by_mode(runs):
+    """The least processor time of a call of the runs of each mode of the core."""
+    found = {mode: [got for got, its in runs if its == mode] for mode in MODES}
+    return {mode: f"{of_a_call(least(of), 'cpu'):.0f}" if of else "none" for mode, of in found.items()}
+
+
+def row(core, rounds, threads, reads):
+    work = functools.partial(run, threads, UPDATES if reads < 100 else LOOKS, reads)
+    runs = [core.told(work) if threads == 1 else (work(), None) for _ in range(rounds)]
+    got = least(got for got, _ in runs)
+    modes = by_mode(runs) if threads == 1 else {ALONE: "", SHARED: ""}
     updates, looks = max(got["updates"], 1), max(got["reads"], 1)
     return [
-        threads, reads, calls, f"{got['cpu'] / calls:.0f}", f"{got['wall'] / calls:.0f}",
+        threads, reads, got["updates"] + got["reads"], f"{of_a_call(got, 'cpu'):.0f}", modes[ALONE], modes[SHARED], f"{of_a_call(got, 'wall'):.0f}",
         f"{got['submit'] / updates:.1f}", f"{got['drive'] / updates:.1f}", f"{got['read'] / looks:.1f}",
     ]
 
@@ -115,8 +129,9 @@ if __name__ == "__main__":
     rounds = parser.parse_args().rounds
     if not os.path.exists(BENCH):
         sys.exit(__doc__)
-    head = ["threads", "reads in 100", "calls", "cpu ns a call", "wall ns a call", "submit steps", "drive steps", "read steps"]
-    table([head] + [row(rounds, threads, reads) for threads in (1, 2, 4) for reads in (0, 50, 100)])
+    core = Core()
+    head = ["threads", "reads in 100", "calls", "cpu ns a call", "core alone", "core shared", "wall ns a call", "submit steps", "drive steps", "read steps"]
+    table([head] + [row(core, rounds, threads, reads) for threads in (1, 2, 4) for reads in (0, 50, 100)])
     print()
     runs = [parts(400) for _ in range(rounds)]
     table(beside(parts_table(runs, "an update", PARTS, "retire"), parts_table(runs, "a read", READ_PARTS, "read_release")))

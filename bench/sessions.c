@@ -3,8 +3,14 @@
  *
  *   cc -O2 -std=c11 -D_POSIX_C_SOURCE=200809L -Iinclude bench/sessions.c crates/githoppu_c/out/libgithoppu_c.a $KIT/c/liblibc_c.a -pthread -o /tmp/sessions
  *   /tmp/sessions
+ *   /tmp/sessions core
  *
- * 100 keys; of 100 calls of a thread 0, 90 or 100 read. The least time of five runs stands. Neither table is durable. */
+ * 100 keys; of 100 calls of a thread 0, 90 or 100 read. The least time of five runs stands. Neither table is durable.
+ *
+ * With the word `core` the store alone is measured, by 1 and 4 threads, and by processor time: each thread makes its calls in slices, before and after
+ * each of which the loop of core_probe.h tells whether the other hardware thread of its core is busy. Of each mode the median of its slices stands, and
+ * in brackets their quartiles and how many they are; slices in which the mode changed are left out. Two libraries are compared by running both in turn. */
+#include "core_probe.h"
 #include "githoppu.h"
 #include <pthread.h>
 #include <stdio.h>
@@ -14,7 +20,7 @@
 #include <sqlite3.h>
 #endif
 
-enum { KEYS = 100, CALLS = 5000, ROUNDS = 5 };
+enum { KEYS = 100, CALLS = 5000, ROUNDS = 5, SLICES = 1000, SLICE = 100 };
 
 /* On what the calls are made. */
 enum place { STORE, MUTEX, SQLITE };
@@ -24,10 +30,16 @@ struct row {
     long number;
 };
 
+/* A turn of the loop before and after a slice of calls, and the nanoseconds of processor time of a call. */
+struct slice {
+    double before, after, call;
+};
+
 struct work {
     void *session;
     int number, reads;
     enum place place;
+    struct slice *slices; /* SLICES of them, or NULL where the calls are made in one go */
 };
 
 static struct row table[KEYS];
@@ -111,31 +123,48 @@ static void open_sqlite(void) {}
 static void close_sqlite(void) {}
 #endif
 
+/* The call of a number. */
+static void call(struct work *w, int i) {
+    char into[1025], key[16];
+    int reads = (i * 37 + w->number) % 100 < w->reads;
+    snprintf(key, sizeof key, "key%02d", (i * 61 + w->number * 17) % KEYS);
+    if (w->session)
+        on_store(&w->session, key, reads, into);
+    else
+        under_mutex(key, reads, into);
+}
+
+static void run_slices(struct work *w) {
+    double turn = core_probe();
+    for (int s = 0; s < SLICES; s++) {
+        double from = thread_ns();
+        for (int i = 0; i < SLICE; i++)
+            call(w, s * SLICE + i);
+        w->slices[s] = (struct slice){ turn, 0, (thread_ns() - from) / SLICE };
+        turn = w->slices[s].after = core_probe();
+    }
+}
+
 static void *run(void *at) {
     struct work *w = at;
-    char into[1025], key[16];
     if (w->place == SQLITE) {
         run_on_sqlite(w);
         return NULL;
     }
-    for (int i = 0; i < CALLS; i++) {
-        int reads = (i * 37 + w->number) % 100 < w->reads;
-        snprintf(key, sizeof key, "key%02d", (i * 61 + w->number * 17) % KEYS);
-        if (w->session)
-            on_store(&w->session, key, reads, into);
-        else
-            under_mutex(key, reads, into);
-    }
+    if (w->slices)
+        run_slices(w);
+    for (int i = 0; !w->slices && i < CALLS; i++)
+        call(w, i);
     return w->session;
 }
 
-static double seconds(void **sessions, int threads, int reads, enum place place) {
+static double seconds(void **sessions, int threads, int reads, enum place place, struct slice *slices) {
     pthread_t made[8];
     struct work works[8];
     struct timespec from, to;
     clock_gettime(CLOCK_MONOTONIC, &from);
     for (int i = 0; i < threads; i++) {
-        works[i] = (struct work){ sessions ? sessions[i] : NULL, i, reads, place };
+        works[i] = (struct work){ sessions ? sessions[i] : NULL, i, reads, place, slices ? slices + i * SLICES : NULL };
         if (pthread_create(&made[i], NULL, run, &works[i]) != 0)
             exit(1);
     }
@@ -165,7 +194,7 @@ static double least(int threads, int reads, enum place place) {
             if (place == STORE)
                 githoppu_add(sessions, table[i].key, 0, &reply);
         }
-        double took = seconds(place == STORE ? sessions : NULL, threads, reads, place);
+        double took = seconds(place == STORE ? sessions : NULL, threads, reads, place, NULL);
         if (place == STORE)
             githoppu_give_up(sessions, (size_t)threads);
         if (place == SQLITE)
@@ -176,13 +205,67 @@ static double least(int threads, int reads, enum place place) {
     return best;
 }
 
-int main(void) {
+static int by_time(const void *one, const void *other) {
+    double x = *(const double *)one, y = *(const double *)other;
+    return (x > y) - (x < y);
+}
+
+/* Prints the median of a call over the slices of a mode, its quartiles, and how many slices they are. */
+static void print_mode(const struct slice *slices, int count, double least, enum core_mode mode) {
+    static double calls[4 * SLICES];
+    int found = 0;
+    for (int s = 0; s < count; s++)
+        if (core_mode(least, slices[s].before, slices[s].after) == mode)
+            calls[found++] = slices[s].call;
+    qsort(calls, (size_t)found, sizeof *calls, by_time);
+    if (found)
+        printf(" %.0f (%.0f to %.0f, %d)", calls[found / 2], calls[found / 4], calls[found * 3 / 4], found);
+    else
+        printf(" none");
+}
+
+static void print_core(int threads, int reads) {
+    static struct slice slices[4 * SLICES];
+    void *sessions[4];
+    githoppu_words reply;
+    char key[16];
+    double least = 1e9;
+    if (githoppu_open(1024, sessions, (size_t)threads) != GITHOPPU_DONE)
+        exit(1);
+    for (int i = 0; i < KEYS; i++) {
+        snprintf(key, sizeof key, "key%02d", i);
+        if (githoppu_add(sessions, key, 0, &reply) != GITHOPPU_DONE)
+            exit(1);
+    }
+    seconds(sessions, threads, reads, STORE, slices);
+    githoppu_give_up(sessions, (size_t)threads);
+    for (int s = 0; s < threads * SLICES; s++)
+        if (slices[s].after < least)
+            least = slices[s].after;
+    printf("%d %d", threads, reads);
+    print_mode(slices, threads * SLICES, least, CORE_ALONE);
+    print_mode(slices, threads * SLICES, least, CORE_SHARED);
+    puts("");
+}
+
+static int core(void) {
+    static const int counts[] = { 1, 4 }, shares[] = { 0, 50, 90, 100 };
+    puts("threads reads_of_100 ns_a_call_alone ns_a_call_where_the_other_thread_of_the_core_is_busy");
+    for (int c = 0; c < 2; c++)
+        for (int s = 0; s < 4; s++)
+            print_core(counts[c], shares[s]);
+    return 0;
+}
+
+int main(int count, char **words) {
     static const int counts[] = { 1, 2, 4 }, shares[] = { 0, 90, 100 };
 #ifdef WITH_SQLITE
     static const enum place last = SQLITE;
 #else
     static const enum place last = MUTEX;
 #endif
+    if (count > 1)
+        return strcmp(words[1], "core") == 0 ? core() : 2;
     puts("threads reads_of_100 store_us_a_call mutex_us_a_call sqlite_us_a_call");
     for (int c = 0; c < 3; c++)
         for (int s = 0; s < 3; s++) {

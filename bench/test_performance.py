@@ -13,11 +13,13 @@ import unittest
 import xml.etree.ElementTree as ElementTree
 
 import aims
+import core_probe
 import performance
 import performance_plot
 import performance_words
 import queue_performance
 import queue_turns
+import service
 from performance import FORMS, OURS, REGION, Ran, Setting
 
 SVG = "{http://www.w3.org/2000/svg}"
@@ -65,6 +67,52 @@ class Measuring(unittest.TestCase):
         lines = performance.markdown(measured(SIZES, [1, 2, 4], lambda form, reads: 1 + form)).split("\n")
         self.assertEqual(2 + 45, len(lines))
         self.assertEqual({9}, {line.count("|") for line in lines})
+
+
+class Cores(unittest.TestCase):
+    """Which runs had their core alone, by a loop whose times are given."""
+
+    @staticmethod
+    def core(*turns):
+        _, mode = core_probe.compiled()
+        first = [1.0] * core_probe.FIRST_TURNS
+        return core_probe.Core((iter([*first, *turns]).__next__, mode))
+
+    def test_modes(self):
+        for before, after, mode in ((1.0, 1.1, core_probe.ALONE), (1.6, 1.5, core_probe.SHARED), (1.0, 1.6, core_probe.MIXED), (1.3, 1.3, core_probe.MIXED)):
+            self.assertEqual(("made", mode), self.core(before, after).told(lambda: "made"))
+
+    def test_a_quicker_turn_is_the_new_least(self):
+        core = self.core(0.5, 0.8, 0.5, 0.5)
+        self.assertEqual([core_probe.MIXED, core_probe.ALONE], [core.told(int)[1] for _ in range(2)])
+        self.assertEqual(0.5, core.least)
+
+    def test_a_run_is_made_until_the_core_is_its_own(self):
+        made = iter(range(9))
+        self.assertEqual((2, True), self.core(1.6, 1.6, 1.0, 1.6, 1.0, 1.0).alone(made.__next__, 8))
+        self.assertEqual((4, False), self.core(*[1.6] * 4).alone(made.__next__, 2))
+
+    def test_a_run_is_bound_to_one_processor(self):
+        core = self.core(1.0, 1.0)
+        self.assertEqual({core.one}, core.told(lambda: os.sched_getaffinity(0))[0])
+        self.assertEqual(core.all, os.sched_getaffinity(0))
+
+    def test_the_loop_takes_time(self):
+        turn, _ = core_probe.compiled()
+        self.assertGreater(turn(), 0)
+
+    def test_what_is_said_of_the_cores(self):
+        options = performance.options_of([])
+        self.assertIn("not looked at", performance.core_words(options))
+        options.core, options.single = self.core(), 7
+        self.assertIn("In all runs", performance.core_words(options))
+        options.shared = 2
+        self.assertIn("Of 7 runs of one caller 2 shared", performance.core_words(options))
+
+    def test_the_least_of_each_mode_stands(self):
+        runs = [({"cpu": cpu, "updates": 3, "reads": 7}, mode) for cpu, mode in ((90, "alone"), (80, "alone"), (130, "shared"), (10, "mixed"))]
+        self.assertEqual({"alone": "8", "shared": "13", "mixed": "1"}, service.by_mode(runs))
+        self.assertEqual("none", service.by_mode(runs[:2])["shared"])
 
 
 class Turns(unittest.TestCase):
