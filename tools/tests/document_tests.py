@@ -147,6 +147,20 @@ class PageRules(unittest.TestCase):
         self.assertEqual([], list(page_rules.misquoted({"docs/THEOREMS.md": page}, [source])))
         self.assertEqual(["docs/THEOREMS.md:3: in no source: pub c : d"], list(page_rules.misquoted({"docs/THEOREMS.md": page}, [source.replace("d", "e")])))
 
+    def test_a_definition_is_broken_after_an_arrow_alone(self):
+        source = "pub a : b → c →\n  d\npub e : f → g\n"
+        for page in (source, "pub a : b →\n  c → d\npub e : f →\n    g\n", "pub a : b → c → d\n"):
+            self.assertEqual([], list(page_rules.misquoted({"docs/THEOREMS.md": f"```antt\n{page}```\n"}, [source])), page)
+        rows = [
+            ("pub a : b → c →\n  e\n", 3, "pub a : b → c → e"),
+            ("pub a :\n b → c → d\n", 2, "pub a :"),
+            ("pub a : b → c\n→ d\n", 2, "pub a : b → c"),
+            ("pub e : f → g\npub a : b →\n", 3, "pub a : b →"),
+        ]
+        for page, number, line in rows:
+            found = list(page_rules.misquoted({"docs/THEOREMS.md": f"```antt\n{page}```\n"}, [source]))
+            self.assertEqual(f"docs/THEOREMS.md:{number}: in no source: {line}", found[0], page)
+
 
 class Examples(unittest.TestCase):
     """A fenced block of a doc comment is code of the file that the line before it names."""
