@@ -1,4 +1,4 @@
-"""Image texts, and what is recovered from an image, read by docs/FORMATS.md alone.
+"""Image texts, and what is recovered from an image, read by docs/FORMATS.md and docs/TABLE_WORDS.md alone.
 
 This reader shares nothing with the program. `read_image` takes a text, `recovered` makes the five checks in their order, and
 `recovered_text` is what `recover` writes. A refusal says which word it is of, what was found there, and what was wanted.
@@ -369,7 +369,7 @@ def shown(text):
 
 
 def place_of(image, at):
-    """What the word at an address is called, by docs/FORMATS.md."""
+    """What the word at an address is called, by docs/TABLE_WORDS.md."""
     region, word = divmod(at, image.region_words)
     return f"word {at}, which is {word_name(word)} of region {region}"
 

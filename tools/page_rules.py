@@ -14,10 +14,11 @@ LENGTHS = {
     "docs/ARCHITECTURE.md": 150,
     "docs/DECISIONS.md": 120,
     "docs/FAQ.md": 55,
-    "docs/FORMATS.md": 600,
+    "docs/FORMATS.md": 395,
     GLOSSARY: 80,
     "docs/REFERENCE.md": 300,
     THEOREMS: 310,
+    "docs/TABLE_WORDS.md": 290,
     "docs/TUTORIAL.md": 200,
     "docs/WRONG_BODIES.md": 136,
 }

@@ -1,4 +1,4 @@
-//! A bounded queue of texts behind a lock: a `VecDeque`, and a durable copy of it, which is a ring of lines. `docs/FORMATS.md` has the
+//! A bounded queue of texts behind a lock: a `VecDeque`, and a durable copy of it, which is a ring of lines. `docs/TABLE_WORDS.md` has the
 //! layout of its lines.
 
 use crate::work::thread_time;

@@ -1,4 +1,4 @@
-//! The words of one region, with the document store in its object part, and a durable copy of them. `docs/FORMATS.md` has the layout.
+//! The words of one region, with the document store in its object part, and a durable copy of them. `docs/TABLE_WORDS.md` has the layout.
 
 use std::cmp::Ordering;
 use std::hint::black_box;
