@@ -288,7 +288,7 @@ def options_of(words):
     parser.add_argument("--sizes", type=pairs, default=[(1024, 100), (1024, 1000), (16384, 100), (16384, 1000)])
     options = parser.parse_args(words)
     if options.redraw and not options.doc:
-        parser.error("--redraw wants --doc")
+        parser.error("--redraw needs --doc")
     return options
 
 

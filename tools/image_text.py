@@ -26,7 +26,7 @@ NUMBERED_REPLIES = {6: "sum", 11: "count", 12: "set", 13: "stale", 14: "rev"}
 
 @dataclass
 class Image:
-    """What a loss of power left: `words` has those that are not 0, by address."""
+    """What a crash left: `words` has those that are not 0, by address."""
 
     callers: int
     lines: int
@@ -58,7 +58,7 @@ class Image:
 
 @dataclass
 class Recovered:
-    """What a loss of power left: `last` is the last revision given, and each document has its key before it and its revision behind it."""
+    """What a crash left: `last` is the last revision given, and each document has its key before it and its revision behind it."""
 
     place: int
     outcomes: list

@@ -335,7 +335,7 @@ class WrongReports(unittest.TestCase):
         self.assertEqual((4, "the line is not UTF-8"), (caught.exception.line, caught.exception.why))
 
     def test_answered_first_is_refused_first(self):
-        """A wrong reply is named though a later line is none of a report."""
+        """A wrong reply is named though a later line is not a line of a report."""
         script, report = row("written_read_back")
         with self.assertRaises(Fault) as caught:
             judged(script, report.replace(b"= new", b"= none").replace(b"power", b"Power"))
@@ -393,7 +393,7 @@ class Statuses(unittest.TestCase):
                 self.assertEqual(picture, out.read_text(encoding="utf-8"))
                 out.unlink()
             script = ROWS / "room.script"
-            self.assertEqual((f"{script}, line 1: the line is none of a report\n", 1), said_by(draw_life.main, [script]))
+            self.assertEqual((f"{script}, line 1: the line is not a line of a report\n", 1), said_by(draw_life.main, [script]))
             self.assertEqual((f"{out}: No such file or directory\n", 2), said_by(draw_life.main, [out]))
             for words in ([], ["-o"], [report, "-o"], [report, out], ["-o", out], ["--texts"], [report, "--texts", "--texts"]):
                 self.assertEqual(("usage: draw_life.py [--texts] REPORT [-o FILE]\n", 2), said_by(draw_life.main, words))

@@ -1,6 +1,6 @@
 #!/usr/bin/env python3
 """Images that no run leaves: every word of a good one changed, and of old ones that a run left, several things wrong, trees and texts with
-one thing wrong, and texts that are none of an image.
+one thing wrong, and texts that are not image texts.
 
     hostile_images.py [PROGRAM]
 

@@ -17,7 +17,7 @@ const COUNT: usize = 2;
 
 /// A queue and its durable copy.
 ///
-/// The copy is made in place, so a loss of power while it is made would leave it torn. It shows what durable words cost at least.
+/// The copy is made in place, so a crash while it is made would leave it torn. It shows what durable words cost at least.
 pub struct Queue {
     items: VecDeque<Item>,
     head: usize,
