@@ -8,7 +8,7 @@ import textwrap
 
 README, GLOSSARY, THEOREMS = "README.md", "docs/GLOSSARY.md", "docs/THEOREMS.md"
 LENGTHS = {
-    README: 70,
+    README: 95,
     "CONTRIBUTING.md": 120,
     "crates/README.md": 102,
     "docs/ARCHITECTURE.md": 150,
