@@ -11,19 +11,23 @@ LENGTHS = {
     README: 95,
     "CONTRIBUTING.md": 120,
     "crates/README.md": 102,
-    "docs/ARCHITECTURE.md": 150,
+    "docs/ARCHITECTURE.md": 180,
     "docs/C_AND_RUST.md": 290,
     "docs/DECISIONS.md": 120,
-    "docs/FAQ.md": 55,
+    "docs/FAQ.md": 75,
     "docs/FORMATS.md": 395,
     GLOSSARY: 80,
+    "docs/PERFORMANCE.md": 260,
     "docs/REFERENCE.md": 195,
     THEOREMS: 310,
     "docs/TABLE_WORDS.md": 290,
-    "docs/TUTORIAL.md": 200,
+    "docs/TUTORIAL.md": 265,
     "docs/WRONG_BODIES.md": 136,
+    "tools/README.md": 115,
 }
-WIDTH = 120
+# the widest line of README, and of every other page
+WIDTHS = {README: 120}
+WIDTH = 160
 MOST_TERMS = 70
 # our own phrases, each with what the field or plain English says
 IDIOMS = {
@@ -62,14 +66,16 @@ def prose(text):
 
 
 def long_pages(pages):
-    """Pages over their length, and lines of README over their width."""
+    """Pages over their length, and lines over their page's width."""
     for page, most in LENGTHS.items():
         count = len(pages.get(page, "").splitlines())
         if count > most:
             yield f"{page}:{count}: {count} lines, over {most}"
-    for number, line in numbered(pages.get(README, "")):
-        if len(line) > WIDTH:
-            yield f"{README}:{number}: {len(line)} characters, over {WIDTH}"
+    for page, text in pages.items():
+        width = WIDTHS.get(page, WIDTH)
+        for number, line in numbered(text):
+            if len(line) > width:
+                yield f"{page}:{number}: {len(line)} characters, over {width}"
 
 
 def idioms(pages):

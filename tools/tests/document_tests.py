@@ -91,10 +91,13 @@ class PageRules(unittest.TestCase):
         self.assertEqual([f"docs/GLOSSARY.md:{most + 1}: {most + 1} lines, over {most}"], list(page_rules.long_pages({"docs/GLOSSARY.md": "a\n" * (most + 1)})))
         self.assertEqual([], list(page_rules.long_pages({"docs/OTHER.md": "a\n" * 1000})))
 
-    def test_a_line_of_the_readme_over_its_width(self):
-        page = "\n".join(["a" * 120, "a" * 121])
-        self.assertEqual(["README.md:2: 121 characters, over 120"], list(page_rules.long_pages({"README.md": page})))
-        self.assertEqual([], list(page_rules.long_pages({"docs/FAQ.md": page})))
+    def test_a_line_over_its_width(self):
+        page = "\n".join(["a" * 120, "a" * 121, f"| {'a' * 156} |", "```", "a" * 161, "```"])
+        self.assertEqual(
+            [f"README.md:{number}: {width} characters, over 120" for number, width in ((2, 121), (3, 160), (5, 161))],
+            list(page_rules.long_pages({"README.md": page})),
+        )
+        self.assertEqual(["docs/OTHER.md:5: 161 characters, over 160"], list(page_rules.long_pages({"docs/OTHER.md": page})))
 
     def test_an_idiom(self):
         rows = [
