@@ -2,7 +2,7 @@
  * failure) leaves of them; and recovery from an image. Nothing is durable by itself: persistent memory is simulated in RAM, and the data end with the
  * process unless an image of the store, closed or running, was written to a file (githoppu_file.h does that).
  *
- * Link the program with libgithoppu_c.a and with liblibc_c.a of the toolchain, in that order (docs/C_AND_RUST.md; `pkg-config githoppu` prints both).
+ * Link the program with libgithoppu_c.a and with liblibc_c.a of the toolchain, in that order (docs/REFERENCE.md; `pkg-config githoppu` prints both).
  *
  * THREE RULES, which the caller has to keep and no code checks:
  *   1. A session is a pointer that githoppu_open, githoppu_recover or a call of a session put out, and so is a closed store. Pass it to this library

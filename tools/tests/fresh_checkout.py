@@ -4,9 +4,9 @@
     fresh_checkout.py
 
 Clones this repository, as it is committed, into a new folder, and runs there, one after another: the two commands of README.md, which run the main job
-and the quick test; a load of 8,000 updates; the library without a proof, from nothing; and a C program that is linked with it. Of each it prints
-the seconds of the clock and of all processors, and how many seconds of the clock it may take on four processors that do nothing else. More than that
-is told and is no failure, since other work makes it so.
+and the quick test; a load of 8,000 updates; the library without a proof, from nothing; and a C program that is linked with it as docs/REFERENCE.md has
+it. Of each it prints the seconds of the clock and of all processors, and how many seconds of the clock it may take on four processors that do
+nothing else. More than that is told and is no failure, since other work makes it so.
 
 It takes 6 minutes on four processors. The gate does not run it.
 
