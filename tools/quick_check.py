@@ -185,7 +185,7 @@ def refusals():
 def bindings():
     """The programs and tests in C and Rust; None where there is neither `cc` nor `cargo`."""
     ran = subprocess.run([TOOLS / "bindings"], stdin=subprocess.DEVNULL, capture_output=True, text=True, errors="replace", check=False)
-    tried = re.findall(r"(?m)^bindings: (the exports|C and C\+\+|the Rust .*)$", ran.stderr)
+    tried = re.findall(r"(?m)^bindings: (the exports|C and C\+\+|the Rust .*|installed programs)$", ran.stderr)
     failed = re.findall(r"(?m)^bindings: failed: (.*)$", ran.stderr)
     if ran.returncode != 0:
         return max(len(tried), 1), [*failed, ran.stderr]
