@@ -45,6 +45,7 @@ from build_tests import Builds, Runs, Unproved
 from check_tests import QuickChecks
 from clause_tests import ClauseComparisons
 from document_tests import Documents, Examples, PageRules
+from dump_tests import Dumps
 from end_tests import Ends
 from help_tests import Helps
 from history_tests import Histories

@@ -6,7 +6,7 @@
 PREFIX is a folder in which tools/install put the library. It is copied to another place first, since no path may stand in it. A C program and a C++ program are
 built by pkg-config's words, with the shared library, with the archive in them, and with the C library in them too; CMake projects of six lines by
 find_package and by pkg_check_modules; a cargo project of six lines; and the examples of the Python module are run. Each program opens a store, saves
-it, loads it, and prints what it found. That an install writes the same again, honours DESTDIR, and refuses other words is tried too. What a tool is missing
+it, loads it, and prints what it found, and tools/dump prints the file. That an install writes the same again, honours DESTDIR, and refuses other words is tried too. What a tool is missing
 for is passed over, and said.
 
 It takes half a minute.
@@ -31,6 +31,7 @@ from told import asked_words
 
 MOST_SECONDS = 300
 SOLD = b"sold 42\n"
+DUMPED = [b"session 0 update 1 = sum 41", b"documents 1", b"document sold rev 1 41"]
 PROGRAM = """#include <githoppu_file.h>
 
 int main(void) {
@@ -155,7 +156,14 @@ class Installed:
     def runs(self, folder, program="./shop", env=None):
         written = ended(folder, [program], env)
         must(written == SOLD, f"{folder.name}: it wrote {written!r}")
-        must(not list(folder.rglob("*.new")), f"{folder.name}: a save left a file")
+        has_saved(folder)
+
+
+def has_saved(folder):
+    """The file that a program saved in a folder is printed, and no other one is left."""
+    dumped = ended(folder, [ROOT / "tools" / "dump", "shop.saved"]).splitlines()
+    must(dumped[-3:] == DUMPED, f"{folder.name}: tools/dump wrote {dumped}")
+    must(not list(folder.rglob("*.new")), f"{folder.name}: a save left a file")
 
 
 def needs_of(program):
@@ -246,6 +254,7 @@ def by_cargo(it):
     env = {name: value for name, value in os.environ.items() if name not in ("GITHOPPU_LIBRARY", "CARGO_TARGET_DIR")}
     ran = subprocess.run(["cargo", "run", "-q", "--offline"], cwd=folder, capture_output=True, env=env, timeout=MOST_SECONDS, check=False)
     must((ran.returncode, ran.stdout) == (0, SOLD), f"cargo: status {ran.returncode}: {ran.stdout!r} {ran.stderr.decode('utf-8', 'replace')[-3_000:]}")
+    has_saved(folder)
 
 
 def by_python(it):
