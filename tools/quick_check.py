@@ -4,7 +4,7 @@
 
 It takes the program that tools/build takes, and has it built where there is none. The parts run side by side on all processors. They are the rows of
 the program; 300 random scripts, loads, images and traces for each word of the program, each compared with a plain program in Python; images that no
-run leaves; ends that fail, and memory and threads that are refused, where there is `cc`; and the programs and tests in C and Rust, where there are `cc` and `cargo`, over
+run leaves; ends that fail, and memory and threads that are refused, where there is `cc`; and the programs and tests in C, Rust and Python, where there are `cc` and `cargo`, over
 the library that tools/bindings takes. For each part a line says what was tried, how many passed, and in how many seconds.
 
 It takes under 3 minutes on four processors from a program that is built, a third of it for the library where that is not built. It proves nothing: `.ci/run`
@@ -183,9 +183,9 @@ def refusals():
 
 
 def bindings():
-    """The programs and tests in C and Rust; None where there is neither `cc` nor `cargo`."""
+    """The programs and tests in C, Rust and Python."""
     ran = subprocess.run([TOOLS / "bindings"], stdin=subprocess.DEVNULL, capture_output=True, text=True, errors="replace", check=False)
-    tried = re.findall(r"(?m)^bindings: (the exports|C and C\+\+|the Rust .*|installed programs)$", ran.stderr)
+    tried = re.findall(r"(?m)^bindings: (the exports|C and C\+\+|the Rust .*|the Python tests|installed programs)$", ran.stderr)
     failed = re.findall(r"(?m)^bindings: failed: (.*)$", ran.stderr)
     if ran.returncode != 0:
         return max(len(tried), 1), [*failed, ran.stderr]
@@ -194,7 +194,7 @@ def bindings():
 
 # the longest first, so that none is left for the end
 PARTS = {
-    "programs and tests in C and Rust": bindings,
+    "programs and tests in C, Rust and Python": bindings,
     "images that no run leaves": hostile,
     "allocations and threads refused": refusals,
     "random scripts of documents (run)": scripts,

@@ -15,14 +15,16 @@
     ...     queue[0].push("one"), queue[0].push("two"), queue[0].pop(), len(queue[0])
     (True, True, 'one', 1)
 
-Nothing is durable by itself: persistent memory is simulated in RAM, and the data end with the process. An image keeps them, of the running store or of the
-closed one, and a store is opened from it again:
+Nothing is durable by itself: persistent memory is simulated in RAM, and the data end with the process. A file keeps them, which is saved while the store
+runs, or when it is closed, and loaded again, also in C and in Rust (include/githoppu_file.h has its format, and what a save replaces, keeps and removes):
 
+    >>> import tempfile
+    >>> path = os.path.join(tempfile.mkdtemp(), "shop")
     >>> with Store(lines=64) as store:
     ...     store[0].put("fruit", '"pear"')
-    ...     image = store[0].checkpoint()
+    ...     store[0].save(path)
     True
-    >>> with Store.recover(image, sessions=3) as store:
+    >>> with Store.load(path, sessions=3) as store:
     ...     store[2].get("fruit")
     '"pear"'
 
@@ -41,8 +43,12 @@ finds. The names and numbers of statuses and replies are those of include/githop
 """
 from __future__ import annotations
 
+import contextlib
 import ctypes
+import errno
+import fcntl
 import os
+import stat
 import threading
 import time
 from ctypes import POINTER, byref, c_int32, c_size_t, c_uint64, c_void_p
@@ -52,7 +58,7 @@ from typing import Generic, Iterator, List, Optional, Tuple, Type, TypeVar, Unio
 
 __version__ = "0.4.0"
 __all__ = [
-    "BadImage", "BadSize", "Busy", "Closed", "Error", "Image", "Lost", "Malformed", "NoMemory", "NoRoom", "NotClosed", "NotNumber", "OutOfTurn", "Outcome",
+    "BadImage", "BadSize", "Busy", "Closed", "Error", "FileFault", "Image", "Lost", "Malformed", "NoMemory", "NoRoom", "NotClosed", "NotNumber", "OutOfTurn", "Outcome",
     "Queue", "QueueSession", "Session", "Stale", "Store", "SumOverflow", "TooLong", "Worn", "library_version",
 ]
 
@@ -62,17 +68,21 @@ PATIENCE = 1.0
 TRIES = 16
 WORDS = 144
 WORD = 8
+LARGEST = 2**64 - 1
 LONGEST_KEY, LONGEST_DOCUMENT, LONGEST_TEXT = 64, 1024, 56
 
 DONE, PENDING, AGAIN, FULL, WORN, STOPPED, OUT_OF_TURN, BAD_SIZE, NO_MEMORY, NO_SESSION, TOO_LONG, OTHERS, LOST = range(13)
 NOT_AN_IMAGE, OTHER_KIND, IMAGE_SIZE, IMAGE_ROOT, IMAGE_VERSION, IMAGE_PLACE, IMAGE_BODY, IMAGE_NUMBERS = range(13, 21)
 BEHIND, MALFORMED = 23, 24
+(NOT_OPENED, NOT_READ, FILE_FOREIGN, FILE_LENGTH, FILE_CHANGED, FILE_FORMAT, NOT_MADE, NOT_WRITTEN, NOT_SYNCED, NOT_RENAMED, FOLDER_NOT_SYNCED, FILE_EMPTY,
+ NOT_REGULAR) = range(32, 45)
 # the kinds of operations and of replies of a store, and of a queue
 PUT, DEL, ADD, GET, NEXT, COUNT, PUTIF, REV = range(1, 9)
 NEW, REPLACED, DELETED, ABSENT, DOC, SUM, NOT_NUMBER, OVERFLOW, NO_ROOM, KEY, NUMBER, SET, STALE, REVISION = range(1, 15)
 PUSH, POP, PEEK, LEN = range(1, 5)
 PUSHED, QUEUE_FULL, TEXT, EMPTY, LENGTH = range(1, 6)
 
+AnyPath = Union[str, "os.PathLike[str]"]
 _Words = c_uint64 * WORDS
 
 
@@ -269,6 +279,36 @@ class Stale(Error):
         self.revision = revision
 
 
+class FileFault(Error):
+    """A save or a load of a file, by the status; where a call of the system failed, `__cause__` is what it said. After a status of a save other than
+    FOLDER_NOT_SYNCED the path has the file that it had before.
+
+    >>> Store.load("/no such file")
+    Traceback (most recent call last):
+    githoppu.FileFault: the file cannot be opened: No such file or directory
+    >>> try:
+    ...     Store.load(os.devnull)
+    ... except FileFault as why:
+    ...     why.status == NOT_OPENED
+    True
+    """
+
+
+_FILE_TEXTS = {
+    NOT_OPENED: "the file cannot be opened",
+    NOT_READ: "the file cannot be read",
+    FILE_FOREIGN: "the file was not saved by githoppu",
+    FILE_LENGTH: "the file is shorter or longer than it was saved",
+    FILE_CHANGED: "a byte of the file was changed since it was saved",
+    FILE_FORMAT: "the file has a format that this version does not know",
+    NOT_MADE: "the new file cannot be made",
+    NOT_WRITTEN: "the new file cannot be written",
+    NOT_SYNCED: "the new file cannot be synced",
+    NOT_RENAMED: "the new file cannot be renamed",
+    FOLDER_NOT_SYNCED: "the folder of the new file cannot be synced",
+    FILE_EMPTY: "the file is empty",
+    NOT_REGULAR: "the path is a folder, a device, a pipe or a socket",
+}
 _IMAGE_TEXTS = {
     NOT_AN_IMAGE: "the words are not an image",
     OTHER_KIND: "the image is of the other kind of object",
@@ -288,6 +328,8 @@ def _error(status: int) -> Error:
     """The exception of a status."""
     if status in _IMAGE_TEXTS:
         return BadImage(status, _IMAGE_TEXTS[status])
+    if status in _FILE_TEXTS:
+        return FileFault(status, _FILE_TEXTS[status])
     return _ERRORS.get(status, Error)(status)
 
 
@@ -351,6 +393,233 @@ class _Patience:
         return now - self.since < PATIENCE
 
 
+# ---- files ----
+
+_FILE_NAME, _FILE_HEAD, _FILE_ENDS = b"githfile", 32, 40
+# the most symbolic links that a save follows, the names that are looked at for what ended processes left, and the most new files of one folder at once
+_LINKS, _LEFT, _NEW_FILES = 40, 64, 1000
+
+
+def _tables() -> List[List[int]]:
+    """For CRC-32C of eight bytes at a time: what a byte does at each of eight distances from the end."""
+    first = []
+    for value in range(256):
+        for _ in range(8):
+            value = (value >> 1) ^ (0x82F63B78 if value & 1 else 0)
+        first.append(value)
+    found = [first]
+    for _ in range(7):
+        found.append([(value >> 8) ^ first[value & 255] for value in found[-1]])
+    return found
+
+
+_TABLES = _tables()
+
+
+def _checksum(data: bytes) -> int:
+    """CRC-32C, as in RFC 3720.
+
+    >>> hex(_checksum(b"123456789"))
+    '0xe3069283'
+    """
+    t0, t1, t2, t3, t4, t5, t6, t7 = _TABLES
+    state, whole = 0xFFFFFFFF, len(data) // 8 * 8
+    for at in range(0, whole, 8):
+        word = int.from_bytes(data[at : at + 8], "little") ^ state
+        state = (
+            t7[word & 255] ^ t6[word >> 8 & 255] ^ t5[word >> 16 & 255] ^ t4[word >> 24 & 255]
+            ^ t3[word >> 32 & 255] ^ t2[word >> 40 & 255] ^ t1[word >> 48 & 255] ^ t0[word >> 56]
+        )
+    for byte in data[whole:]:
+        state = t0[(state ^ byte) & 255] ^ (state >> 8)
+    return state ^ 0xFFFFFFFF
+
+
+def _word(value: int) -> bytes:
+    return value.to_bytes(8, "little")
+
+
+def _file_of(image: bytes) -> bytes:
+    """The bytes of the file of an image."""
+    data = _FILE_NAME + _word(1) + _word(len(image) // 8)
+    data += _word(_checksum(data)) + image
+    return data + _word(_checksum(data))
+
+
+def _image_in(data: bytes) -> bytes:
+    """The bytes of the image in those of a file."""
+    named, end = data[:8] == _FILE_NAME[: len(data)], len(data) - 8
+    if not data:
+        raise _error(FILE_EMPTY)
+    if len(data) < _FILE_ENDS:
+        raise _error(FILE_LENGTH if named else FILE_FOREIGN)
+    if _word(_checksum(_FILE_NAME + data[8:24])) != data[24:32]:
+        raise _error(FILE_CHANGED if named else FILE_FOREIGN)
+    if not named:
+        raise _error(FILE_CHANGED)
+    if data[8:16] != _word(1):
+        raise _error(FILE_FORMAT)
+    if len(data) != _FILE_ENDS + 8 * int.from_bytes(data[16:24], "little"):
+        raise _error(FILE_LENGTH)
+    if _word(_checksum(data[:end])) != data[end:]:
+        raise _error(FILE_CHANGED)
+    return data[_FILE_HEAD:end]
+
+
+@contextlib.contextmanager
+def _told(status: int) -> Iterator[None]:
+    """What the system refuses is raised with a status."""
+    try:
+        yield
+    except OSError as why:
+        raise FileFault(status, f"{_FILE_TEXTS[status]}: {why.strerror}") from why
+
+
+def _behind_links(path: str) -> str:
+    """The path behind all symbolic links at a path."""
+    for _ in range(_LINKS):
+        try:
+            path = os.path.join(os.path.dirname(path), os.readlink(path))
+        except OSError as why:
+            if why.errno in (errno.EINVAL, errno.ENOENT):
+                return path
+            raise
+    raise OSError(errno.ELOOP, os.strerror(errno.ELOOP))
+
+
+def _replaced(folder: int, name: str) -> Optional[os.stat_result]:
+    """What is known of the file that a save replaces, or None where there is none."""
+    try:
+        old = os.stat(name, dir_fd=folder, follow_symlinks=False)
+    except FileNotFoundError:
+        return None
+    if not stat.S_ISREG(old.st_mode):
+        raise _error(NOT_REGULAR)
+    return old
+
+
+def _is_named(folder: int, name: str, file: int) -> bool:
+    """Whether a name is that of an open file, a regular one."""
+    try:
+        about, named = os.fstat(file), os.stat(name, dir_fd=folder, follow_symlinks=False)
+    except OSError:
+        return False
+    return stat.S_ISREG(about.st_mode) and (about.st_dev, about.st_ino) == (named.st_dev, named.st_ino)
+
+
+def _is_locked_now(file: int) -> Optional[bool]:
+    """Locks a file until it is closed: whether that was done; None where the system locks no files."""
+    try:
+        fcntl.flock(file, fcntl.LOCK_EX | fcntl.LOCK_NB)
+    except OSError as why:
+        return False if why.errno == errno.EWOULDBLOCK else None
+    return True
+
+
+def _remove_left(folder: int, name: str) -> None:
+    """Removes the new file of this name, where an ended process left it: nobody locks it."""
+    for way in (os.O_RDWR, os.O_RDONLY):
+        try:
+            file = os.open(name, way | os.O_NOFOLLOW | os.O_NONBLOCK, dir_fd=folder)
+        except PermissionError:
+            continue
+        except OSError:
+            return
+        try:
+            if _is_locked_now(file) and _is_named(folder, name, file):
+                os.unlink(name, dir_fd=folder)
+        except OSError:
+            pass
+        finally:
+            os.close(file)
+        return
+
+
+def _new_file(folder: int, mode: int) -> Tuple[str, int]:
+    """Makes a new file, and locks it."""
+    for at in range(_LEFT):
+        _remove_left(folder, f".githoppu.{at}.new")
+    for at in range(_NEW_FILES):
+        name = f".githoppu.{at}.new"
+        try:
+            file = os.open(name, os.O_WRONLY | os.O_CREAT | os.O_EXCL, mode, dir_fd=folder)
+        except FileExistsError:
+            continue
+        # another save can take it for one that was left, until it is locked; where the system locks no files, none is removed
+        if _is_locked_now(file) is not False and _is_named(folder, name, file):
+            return name, file
+        os.close(file)
+    raise FileExistsError(errno.EEXIST, os.strerror(errno.EEXIST))
+
+
+def _keep_rights(file: int, old: os.stat_result) -> None:
+    """Gives the new file the rights of the one that it replaces. Who may not give it the group gives that no more than others have."""
+    now, mode = os.fstat(file), old.st_mode & 0o777
+    if (now.st_uid, now.st_gid) != (old.st_uid, old.st_gid):
+        try:
+            os.fchown(file, old.st_uid, old.st_gid)
+        except OSError:
+            try:
+                os.fchown(file, -1, old.st_gid)
+            except OSError:
+                mode = mode & 0o707 | (mode & 0o7) << 3
+    if now.st_mode & 0o777 != mode:
+        os.fchmod(file, mode)
+
+
+def _write(file: int, data: bytes) -> None:
+    rest = memoryview(data)
+    while rest:
+        rest = rest[os.write(file, rest) :]
+
+
+def _replace(folder: int, name: str, data: bytes) -> None:
+    """Writes a new file in a folder, syncs it, and renames it to a name. It stays open for its lock until then."""
+    with _told(NOT_MADE):
+        old = _replaced(folder, name)
+        made, file = _new_file(folder, 0o666 if old is None else 0o600)
+    try:
+        with _told(NOT_WRITTEN):
+            _write(file, data)
+            if old is not None:
+                _keep_rights(file, old)
+        with _told(NOT_SYNCED):
+            os.fsync(file)
+        with _told(NOT_RENAMED):
+            os.rename(made, name, src_dir_fd=folder, dst_dir_fd=folder)
+    except BaseException:
+        with contextlib.suppress(OSError):
+            os.unlink(made, dir_fd=folder)
+        raise
+    finally:
+        os.close(file)
+
+
+def _save(path: AnyPath, data: bytes) -> None:
+    with _told(NOT_MADE):
+        place, name = os.path.split(_behind_links(os.fspath(path)))
+        if place and not name:
+            raise _error(NOT_REGULAR)
+        folder = os.open(place or ".", os.O_RDONLY | os.O_DIRECTORY)
+    try:
+        _replace(folder, name, data)
+        with _told(FOLDER_NOT_SYNCED):
+            os.fsync(folder)
+    finally:
+        os.close(folder)
+
+
+def _read(path: AnyPath) -> bytes:
+    with _told(NOT_OPENED):
+        # a pipe without a writer would hold up the opening
+        file = os.open(path, os.O_RDONLY | os.O_NONBLOCK)
+    with os.fdopen(file, "rb") as opened:
+        if not stat.S_ISREG(os.fstat(file).st_mode):
+            raise FileFault(NOT_OPENED, "the file cannot be opened: it is no regular file")
+        with _told(NOT_READ):
+            return opened.read()
+
+
 # ---- images ----
 
 
@@ -411,8 +680,18 @@ class Image:
         True
         """
         number, reply = c_uint64(), _Words()
-        _must(_library.githoppu_outcome(self._words(), len(self), session if session >= 0 else 8, byref(number), reply))
+        _must(_library.githoppu_outcome(self._words(), len(self), session if 0 <= session < 8 else 8, byref(number), reply))
         return Outcome(number.value, tuple(reply)) if number.value else None
+
+    def save(self, path: AnyPath) -> None:
+        """Saves it to a file: to a new one, which is synced and renamed to the path, and the folder is synced. A symbolic link is followed, and the rights of
+        the file that is replaced are kept."""
+        _save(path, _file_of(self.data))
+
+    @classmethod
+    def load(cls, path: AnyPath) -> Image:
+        """The image in a file that was saved, from here, from C or from Rust. That its words are an image is not looked at here."""
+        return cls(_image_in(_read(path)))
 
 
 # ---- sessions ----
@@ -484,7 +763,7 @@ class _Session:
         (True, 1, False)
         """
         with self._pointer.lock:
-            status = _library.githoppu_see_place(self._pointer.handle(), place, byref(self._pointer.at))
+            status = _library.githoppu_see_place(self._pointer.handle(), min(max(place, 0), LARGEST), byref(self._pointer.at))
         if status not in (DONE, BEHIND):
             raise _error(status)
         return status == DONE
@@ -503,6 +782,10 @@ class _Session:
                     break
         _must(status)
         return Image(ctypes.string_at(words, len(words) * WORD))
+
+    def save(self, path: AnyPath) -> None:
+        """Saves the running store to a file, as `checkpoint` takes it and `Image.save` writes it."""
+        self.checkpoint().save(path)
 
     def give_up(self) -> None:
         """Drops the session. The store is dropped with its last session, and is not closed any more then."""
@@ -589,7 +872,8 @@ class Session(_Session):
         ...     store[0].put_if("fruit", "1", 0), store[0].put_if("fruit", "2", 1), store[0].revision("fruit"), store[0].revision("wine")
         (1, 2, 2, None)
         """
-        reply = self._ask(_document_op(PUTIF, key, document, revision))
+        # no key has a revision that is no word
+        reply = self._ask(_document_op(PUTIF, key, document, revision if 0 <= revision <= LARGEST else LARGEST))
         if reply[0] == STALE:
             raise Stale(reply[3])
         if reply[0] == NO_ROOM:
@@ -667,6 +951,10 @@ class Closed:
         _must(status)
         return Image(ctypes.string_at(words, len(words) * WORD))
 
+    def save(self, path: AnyPath) -> None:
+        """Saves what is durable of it to a file, its image by choice 0."""
+        self.image(0).save(path)
+
     def give_up(self) -> None:
         """Drops it."""
         self._pointer.give_up()
@@ -704,6 +992,11 @@ class _Shared(Generic[S]):
         words, made = image._words(), cls.__new__(cls)
         made._sessions = cls._made(sessions, lambda slots: getattr(_library, cls._recover)(words, len(image), slots, sessions))
         return made
+
+    @classmethod
+    def load(cls, path: AnyPath, sessions: int = 1):
+        """Opens it from a file that was saved, from here, from C or from Rust."""
+        return cls.recover(Image.load(path), sessions)
 
     def __len__(self) -> int:
         """How many sessions there are."""
