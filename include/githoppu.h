@@ -21,8 +21,8 @@
  * THREADS. Different threads may use different sessions at once, and any thread may make any call under rule 2. The library starts no thread and
  * takes no lock. A call makes at most the given number of tries and answers AGAIN, FULL or PENDING where other sessions were in the way.
  *
- * LOOK AT BOTH, the status and the kind of the reply (word 0): DONE says that there is an answer, and the kind which one it is, as NO_ROOM of a put. A malformed
- * operation, as one with an empty key, changes nothing and is answered MALFORMED by the functions of this header, githoppu_put and those like it.
+ * LOOK AT BOTH, the status and the kind of the reply (word 0): DONE says that there is an answer, and the kind which one it is, as NO_ROOM of a put. A
+ * malformed operation, as one with an empty key, changes nothing and is answered MALFORMED by the functions of this header, githoppu_put and those like it.
  */
 #ifndef GITHOPPU_H
 #define GITHOPPU_H

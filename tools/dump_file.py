@@ -14,9 +14,8 @@ Status 0 where it is printed, 1 where the file cannot be read or is refused, 2 w
 import sys
 from pathlib import Path
 
-from image_text import (
-    GREATEST_PLACE, LINE_WORDS, OLD_VERSION, PART, REPLY_WORDS, SLOT_WORDS, SLOTS, VERSION, BadImage, Image, Part, Words, is_of_key, place_of, reply_of, text_in,
-)
+from image_text import GREATEST_PLACE, LINE_WORDS, OLD_VERSION, PART, REPLY_WORDS, SLOT_WORDS, SLOTS, VERSION
+from image_text import BadImage, Image, Part, Words, is_of_key, place_of, reply_of, text_in
 from told import helped
 
 WORD = 8

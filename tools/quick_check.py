@@ -4,8 +4,8 @@
 
 It takes the program that tools/build takes, and has it built where there is none. The parts run side by side on all processors. They are the rows of
 the program; 300 random scripts, loads, images and traces for each word of the program, each compared with a plain program in Python; images that no
-run leaves; ends that fail, and memory and threads that are refused, where there is `cc`; and the programs and tests in C, Rust and Python, where there are `cc` and `cargo`, over
-the library that tools/bindings takes. For each part a line says what was tried, how many passed, and in how many seconds.
+run leaves; ends that fail, and memory and threads that are refused, where there is `cc`; and the programs and tests in C, Rust and Python, where there are
+`cc` and `cargo`, over the library that tools/bindings takes. For each part a line says what was tried, how many passed, and in how many seconds.
 
 It takes under 3 minutes on four processors from a program that is built, a third of it for the library where that is not built. It proves nothing: `.ci/run`
 does, in 50 minutes on four processors.

@@ -22,7 +22,7 @@
         }                                                                 \
     } while (0)
 
-/* ---- the calls of the system: the one with number fails_at fails, a short write writes one byte, and a write can be the last thing that a process does ---- */
+/* ---- the calls of the system: the one with number fails_at fails, a short write writes one byte, and a process can be killed in a write ---- */
 
 static long calls, fails_at, short_writes, dies_at_write;
 

@@ -58,8 +58,8 @@ from typing import Generic, Iterator, List, Optional, Tuple, Type, TypeVar, Unio
 
 __version__ = "0.4.0"
 __all__ = [
-    "BadImage", "BadSize", "Busy", "Closed", "Error", "FileFault", "Image", "Lost", "Malformed", "NoMemory", "NoRoom", "NotClosed", "NotNumber", "OutOfTurn", "Outcome",
-    "Queue", "QueueSession", "Session", "Stale", "Store", "SumOverflow", "TooLong", "Worn", "library_version",
+    "BadImage", "BadSize", "Busy", "Closed", "Error", "FileFault", "Image", "Lost", "Malformed", "NoMemory", "NoRoom", "NotClosed", "NotNumber", "OutOfTurn",
+    "Outcome", "Queue", "QueueSession", "Session", "Stale", "Store", "SumOverflow", "TooLong", "Worn", "library_version",
 ]
 
 SERIES = "0.4"
@@ -1049,8 +1049,8 @@ class _Shared(Generic[S]):
 
 
 class Store(_Shared[Session]):
-    """A document store, which 1 to 8 sessions share: `store[0]`, .. It lives as long as one of them. The lines, 64 to 16,384, have 64 bytes each; a document takes
-    one, and one for each 56 bytes of its key and of its text.
+    """A document store, which 1 to 8 sessions share: `store[0]`, .. It lives as long as one of them. The lines, 64 to 16,384, have 64 bytes each; a document
+    takes one, and one for each 56 bytes of its key and of its text.
 
     >>> import threading
     >>> store = Store(lines=64, sessions=4)

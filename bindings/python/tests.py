@@ -37,8 +37,8 @@ class Stores(unittest.TestCase):
             one = store[0]
             self.assertEqual((None, True, False, '"pear"'), (one.get("fruit"), one.put("fruit", '"apple"'), one.put("fruit", '"pear"'), one.get("fruit")))
             self.assertEqual((2**63 - 1, 2**63 - 6), (one.add("sold", 2**63 - 1), one.add("sold", -5)))
-            for wrong, error in (((lambda: one.add("fruit")), NotNumber), ((lambda: one.add("sold", 6)), SumOverflow), ((lambda: one.add("sold", 2**63)), SumOverflow)):
-                self.assertRaises(error, wrong)
+            for key, amount, error in (("fruit", 1, NotNumber), ("sold", 6, SumOverflow), ("sold", 2**63, SumOverflow)):
+                self.assertRaises(error, one.add, key, amount)
             self.assertEqual((["fruit", "sold"], 2, True, False), (list(one.keys()), one.count(), one.delete("fruit"), one.delete("fruit")))
             self.assertEqual((True, True), (one.put("a", "x" * 1024), one.put("b", b"x" * 1024)))
             self.assertRaises(NoRoom, one.put, "c", "x" * 1024)

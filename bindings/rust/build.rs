@@ -14,7 +14,8 @@ fn main() {
         None => library_near(&here),
     };
     if !library.join(LIBRARY).is_file() {
-        panic!("there is no {LIBRARY} in {}: install it by tools/install PREFIX in the repository of Githoppu, and set GITHOPPU_LIBRARY to PREFIX/lib", library.display());
+        let place = library.display();
+        panic!("there is no {LIBRARY} in {place}: run tools/install PREFIX in the repository of Githoppu, and set GITHOPPU_LIBRARY to PREFIX/lib");
     }
     println!("cargo:rerun-if-changed={}", library.join(LIBRARY).display());
     println!("cargo:rustc-link-search=native={}", library.display());

@@ -6,8 +6,8 @@
 PREFIX is a folder in which tools/install put the library. It is copied to another place first, since no path may stand in it. A C program and a C++ program are
 built by pkg-config's words, with the shared library, with the archive in them, and with the C library in them too; CMake projects of six lines by
 find_package and by pkg_check_modules; a cargo project of six lines; and the examples of the Python module are run. Each program opens a store, saves
-it, loads it, and prints what it found, and tools/dump prints the file. That an install writes the same again, honours DESTDIR, and refuses other words is tried too. What a tool is missing
-for is passed over, and said.
+it, loads it, and prints what it found, and tools/dump prints the file. That an install writes the same again, honours DESTDIR, and refuses other words is
+tried too. What a tool is missing for is passed over, and said.
 
 It takes half a minute.
 Example: installed_programs.py bindings/out/prefix
