@@ -1,5 +1,5 @@
-/* githoppu.h in C99 without a feature macro, and without -pthread, which is one too: <time.h> declares no clock that is never set, so a function that tries again
- * ends by the time of day, in whole seconds, and not before GITHOPPU_PATIENCE_MS. */
+/* githoppu.h in C99 without a feature macro, and without -pthread, which is one too: <time.h> declares no clock that is never set, so a function that tries
+ * again ends by the time of day, in whole seconds, and not before GITHOPPU_PATIENCE_MS. */
 #define GITHOPPU_PATIENCE_MS 1000
 #define GITHOPPU_ROUNDS 2000000000
 #include "githoppu.h"
