@@ -3,6 +3,9 @@
 #ifndef _POSIX_C_SOURCE
 #define _POSIX_C_SOURCE 200809L
 #endif
+/* An update that is in the log has to be done: a reader that is not scheduled is waited for this long. */
+#define GITHOPPU_PATIENCE_MS 60000
+#define GITHOPPU_ROUNDS 1073741824
 #include "githoppu_store.h"
 #include "githoppu_file.h"
 #include <pthread.h>
@@ -32,7 +35,6 @@ enum {
 /* Word 0 of operations of documents and of a queue, as githoppu.h's functions write them. */
 enum { PUT = 1, DEL = 2, ADD = 3, GET = 4, NEXT = 5, COUNT = 6, PUTIF = 7, REV = 8 };
 enum { PUSH = 1, POP = 2, PEEK = 3, LEN = 4 };
-enum { GITHOPPU_MALFORMED = 24 }; /* until the header has it */
 
 /* ---- Words as bytes. ---- */
 
@@ -344,7 +346,7 @@ static int rewrite_wal(struct database *db) {
     char bytes[32768];
     off_t at = 0;
     ssize_t some = 1;
-    int failed, file = open(path, O_RDWR);
+    int failed, file = open(path, O_RDWR | O_CLOEXEC);
     if (file < 0)
         return errno == ENOENT ? GITHOPPU_DONE : system_fault(db, GITHOPPU_STORE_NOT_OPENED, "open", path);
     while ((some = pread(file, bytes, sizeof bytes, at)) > 0 && pwrite(file, bytes, (size_t)some, at) == some)
@@ -380,12 +382,12 @@ static int prepare(struct database *db) {
 }
 
 /* Opens and locks the file. Nothing of it is changed before it is known to be ours. */
-static int open_database(struct database *db, const char *path, int *fresh) {
-    int status;
+static int open_database(struct database *db, const char *path, int existing, int *fresh) {
+    int status, flags = SQLITE_OPEN_READWRITE | SQLITE_OPEN_NOMUTEX | (existing ? 0 : SQLITE_OPEN_CREATE);
     githoppu_crc_start(&db->crc);
     if (!sqlite3_threadsafe())
         return because(db, GITHOPPU_STORE_NOT_OPENED, "open of %s: this SQLite was built for one thread alone", path);
-    if (sqlite3_open_v2(path, &db->handle, SQLITE_OPEN_READWRITE | SQLITE_OPEN_CREATE | SQLITE_OPEN_NOMUTEX, NULL) != SQLITE_OK) {
+    if (sqlite3_open_v2(path, &db->handle, flags, NULL) != SQLITE_OK) {
         if (db->handle == NULL)
             return GITHOPPU_NO_MEMORY;
         status = fault(db, OPENING, "open");
@@ -397,6 +399,8 @@ static int open_database(struct database *db, const char *path, int *fresh) {
                      "PRAGMA temp_store=MEMORY; PRAGMA fullfsync=ON; PRAGMA checkpoint_fullfsync=ON; PRAGMA synchronous=FULL");
     if (status == GITHOPPU_DONE)
         status = identify(db, fresh);
+    if (status == GITHOPPU_DONE && *fresh && existing)
+        status = because(db, GITHOPPU_STORE_NOT_OPENED, "open of %s: it is empty, and a store is to be there", path);
     if (status == GITHOPPU_DONE)
         status = use_wal(db);
     if (status == GITHOPPU_DONE)
@@ -406,6 +410,32 @@ static int open_database(struct database *db, const char *path, int *fresh) {
     if (status == GITHOPPU_DONE)
         status = empty_wal(db, SQLITE_CHECKPOINT_TRUNCATE, OPENING);
     return status;
+}
+
+/* Syncs the folder of a path, so that a name in it is not lost: 0, or -1 with errno. */
+static int sync_folder(const char *path) {
+    const char *slash = strrchr(path, '/');
+    size_t length = slash == NULL ? 0 : (size_t)(slash - path) + 1;
+    char *folder = (char *)malloc(length + 2);
+    int file, failed, why;
+    if (folder == NULL) {
+        errno = ENOMEM;
+        return -1;
+    }
+    memcpy(folder, path, length);
+    memcpy(folder + length, ".", 2);
+    file = open(folder, O_RDONLY | O_CLOEXEC);
+    why = errno;
+    free(folder);
+    if (file < 0) {
+        errno = why;
+        return -1;
+    }
+    failed = fsync(file);
+    why = errno;
+    close(file);
+    errno = why;
+    return failed;
 }
 
 /* Makes the tables of a new store in one transaction, with the image that it begins with, or none. */
@@ -426,7 +456,7 @@ static int create(struct database *db, const struct image *image, uint64_t logge
         status = write_image(db, image);
     if (status == GITHOPPU_DONE)
         status = run(db, "COMMIT", "COMMIT");
-    if (status == GITHOPPU_DONE && githoppu_sync_folder(path_of(db)) != 0)
+    if (status == GITHOPPU_DONE && sync_folder(path_of(db)) != 0)
         status = system_fault(db, GITHOPPU_STORE_NOT_OPENED, "fsync of the folder", path_of(db));
     return status;
 }
@@ -446,14 +476,14 @@ static int copy_database(struct database *db, const char *path) {
     /* a failure there is none of the store */
     if (status == GITHOPPU_STORE_FAILED)
         status = GITHOPPU_STORE_NOT_WRITTEN;
-    if (status == GITHOPPU_DONE && ((file = open(name, O_RDWR)) < 0 || fsync(file) != 0))
+    if (status == GITHOPPU_DONE && ((file = open(name, O_RDWR | O_CLOEXEC)) < 0 || fsync(file) != 0))
         status = system_fault(db, GITHOPPU_STORE_NOT_WRITTEN, "fsync", name);
     if (file >= 0)
         close(file);
     if (status == GITHOPPU_DONE && link(name, path) != 0)
         status = system_fault(db, GITHOPPU_STORE_NOT_WRITTEN, "link", path);
     unlink(name);
-    if (status == GITHOPPU_DONE && githoppu_sync_folder(path) != 0) {
+    if (status == GITHOPPU_DONE && sync_folder(path) != 0) {
         status = system_fault(db, GITHOPPU_STORE_NOT_WRITTEN, "fsync of the folder", path);
         unlink(path);
     }
@@ -496,7 +526,7 @@ struct githoppu_store_update {
 /* A session for reads; each is alone in its lines of the cache. */
 struct reader {
     pthread_mutex_t lock;
-    void *session;
+    githoppu_session *session;
     char apart[128];
 };
 
@@ -512,7 +542,7 @@ struct githoppu_store {
     uint64_t logged;    /* the place of the next row; the leader's */
 
     pthread_mutex_t doing; /* who does a batch in RAM. It is taken before the lead is given up, so batches are done in the log's order */
-    void *writer;
+    githoppu_session *writer;
     _Atomic uint64_t done; /* the store's place; written under doing, as are: */
     int behind;            /* an update that is in the log is not done */
     uint64_t number[CLIENTS];
@@ -535,7 +565,7 @@ struct githoppu_store {
 };
 
 /* The place of a session's store: by halves, since a session tells only whether its store's place is below another. */
-static uint64_t current_place(void **session) {
+static uint64_t current_place(githoppu_session **session) {
     uint64_t reached = 0, beyond = 2 * LAST_PLACE;
     while (beyond - reached > 1) {
         uint64_t middle = reached + (beyond - reached) / 2;
@@ -549,7 +579,7 @@ static uint64_t current_place(void **session) {
 
 /* Opens the sessions: of an image, or of an empty object where there are no words. */
 static int open_sessions(githoppu_store *s, const uint64_t *words, size_t count) {
-    void *sessions[1 + MOST_READERS];
+    githoppu_session *sessions[1 + MOST_READERS];
     unsigned i;
     int status = words == NULL ? s->object.open(s->object.context, s->db.lines, sessions, 1 + s->readers)
                                : s->object.recover(s->object.context, words, count, sessions, 1 + s->readers);
@@ -570,14 +600,14 @@ static int apply(githoppu_store *s, unsigned client, const githoppu_words *op, g
     if (s->behind)
         return GITHOPPU_STORE_FAILED;
     status = githoppu_do(&s->writer, op, reply);
-    if (status != GITHOPPU_DONE || githoppu_place(&s->writer) != place + 1) {
+    if ((status != GITHOPPU_DONE && status != GITHOPPU_MALFORMED) || githoppu_place(&s->writer) != place + 1) {
         s->behind = 1;
         return GITHOPPU_STORE_FAILED;
     }
     atomic_store(&s->done, place + 1);
     s->number[client]++;
     s->reply[client] = *reply;
-    return reply->word[0] == 0 ? GITHOPPU_MALFORMED : GITHOPPU_DONE;
+    return status;
 }
 
 /* ---- What is in the file is taken, row by row. ---- */
@@ -1022,7 +1052,7 @@ static int look(githoppu_store *s, const githoppu_words *op, githoppu_words *rep
     }
     status = githoppu_do(&mine->session, op, reply);
     pthread_mutex_unlock(&mine->lock);
-    return status == GITHOPPU_DONE && reply->word[0] == 0 ? GITHOPPU_MALFORMED : status;
+    return status;
 }
 
 int githoppu_store_call(githoppu_store *s, unsigned client, const githoppu_words *op, githoppu_words *reply) {
@@ -1163,7 +1193,7 @@ static int open_store(githoppu_store *s, const char *path, const githoppu_store_
     if (s->readers > MOST_READERS || (o->lines != 0 && (o->lines < 64 || o->lines > 16384)) ||
         (o->sync != GITHOPPU_STORE_FULL && o->sync != GITHOPPU_STORE_NORMAL))
         return because(&s->db, GITHOPPU_BAD_SIZE, "open of %s: the lines are not 64 to 16,384, the readers not 1 to 7, or sync is no such number", path);
-    status = open_database(&s->db, path, &fresh);
+    status = open_database(&s->db, path, o->existing, &fresh);
     if (status == GITHOPPU_DONE)
         status = fresh ? begin(s, o->saved) : load(s);
     if (status == GITHOPPU_DONE && s->sync == GITHOPPU_STORE_NORMAL)
@@ -1214,12 +1244,12 @@ int githoppu_store_close(githoppu_store *s) {
 
 /* ---- The objects, and the calls of each. ---- */
 
-static int32_t open_documents(const void *context, uint64_t lines, void **sessions, size_t count) {
+static int32_t open_documents(const void *context, uint64_t lines, githoppu_session **sessions, size_t count) {
     (void)context;
     return githoppu_open(lines, sessions, count);
 }
 
-static int32_t recover_documents(const void *context, const uint64_t *words, size_t words_count, void **sessions, size_t count) {
+static int32_t recover_documents(const void *context, const uint64_t *words, size_t words_count, githoppu_session **sessions, size_t count) {
     (void)context;
     return githoppu_recover(words, words_count, sessions, count);
 }
@@ -1243,12 +1273,12 @@ static int reads_documents(const void *context, const githoppu_words *op) {
     return 1;
 }
 
-static int32_t open_queue(const void *context, uint64_t lines, void **sessions, size_t count) {
+static int32_t open_queue(const void *context, uint64_t lines, githoppu_session **sessions, size_t count) {
     (void)context;
     return githoppu_open_queue(lines, sessions, count);
 }
 
-static int32_t recover_queue(const void *context, const uint64_t *words, size_t words_count, void **sessions, size_t count) {
+static int32_t recover_queue(const void *context, const uint64_t *words, size_t words_count, githoppu_session **sessions, size_t count) {
     (void)context;
     return githoppu_recover_queue(words, words_count, sessions, count);
 }
@@ -1344,6 +1374,6 @@ const char *githoppu_store_text(int status) {
     case GITHOPPU_STORE_READ_ONLY: return "the store is read-only since a failure: open the file again";
     case GITHOPPU_STORE_FORKED: return "the process is a fork of the one that opened the store";
     case GITHOPPU_STORE_NO_CLIENT: return "the number of the client is above 63";
-    default: return githoppu_file_text(status);
+    default: return githoppu_status_text(status);
     }
 }

@@ -58,8 +58,8 @@ enum githoppu_store_sync {
 /* An object that a file keeps. Another one than the two below is told by its functions; each gets the context. */
 typedef struct githoppu_store_object {
     uint64_t number;                                                                         /* which the file keeps: 1 and 2 are those below */
-    int32_t (*open)(const void *context, uint64_t lines, void **sessions, size_t count);     /* as githoppu_open */
-    int32_t (*recover)(const void *context, const uint64_t *words, size_t words_count, void **sessions, size_t count); /* as githoppu_recover */
+    int32_t (*open)(const void *context, uint64_t lines, githoppu_session **sessions, size_t count);     /* as githoppu_open */
+    int32_t (*recover)(const void *context, const uint64_t *words, size_t words_count, githoppu_session **sessions, size_t count); /* as githoppu_recover */
     int (*reads)(const void *context, const githoppu_words *op); /* whether the library takes an operation for a read: it is well-formed, and of a kind that
                                                                     changes nothing. Where this is wrong, the store becomes read-only */
     const void *context;
@@ -79,6 +79,8 @@ typedef struct githoppu_store_options {
     unsigned gather_us;                  /* how many microseconds a leader waits at most for the clients that were answered last and are not back yet, so
                                             that more updates share a sync. A client alone never waits. 0: none; 300 is worth it from 4 clients on */
     int sync;                            /* GITHOPPU_STORE_FULL or GITHOPPU_STORE_NORMAL */
+    int existing;                        /* not 0: a store that is not there is not made, and the opening answers NOT_OPENED. 0: a missing file and an
+                                            empty one become a new store */
 } githoppu_store_options;
 
 typedef struct githoppu_store githoppu_store;
