@@ -161,9 +161,22 @@ static int status_of(int code, int error, enum moment moment) {
     }
 }
 
+/* The system's error behind SQLite's last one, or 0. Of a COMMIT the files alone know it. */
+static int system_error(struct database *db, int code) {
+    sqlite3_file *wal = NULL;
+    int error = sqlite3_system_errno(db->handle);
+    if (error != 0 || (code & 255) != SQLITE_IOERR)
+        return error;
+    if (sqlite3_file_control(db->handle, "main", SQLITE_FCNTL_JOURNAL_POINTER, &wal) == SQLITE_OK && wal != NULL && wal->pMethods != NULL)
+        (void)wal->pMethods->xFileControl(wal, SQLITE_FCNTL_LAST_ERRNO, &error);
+    if (error == 0)
+        (void)sqlite3_file_control(db->handle, "main", SQLITE_FCNTL_LAST_ERRNO, &error);
+    return error;
+}
+
 /* What SQLite's last error is to a caller, with a line that says it. */
 static int fault(struct database *db, enum moment moment, const char *call) {
-    int code = sqlite3_extended_errcode(db->handle), error = sqlite3_system_errno(db->handle);
+    int code = sqlite3_extended_errcode(db->handle), error = system_error(db, code);
     int status = status_of(code, error, moment);
     if (error == 0)
         return because(db, status, "%s in %s: %s (SQLite %d)", call, path_of(db), sqlite3_errmsg(db->handle), code);
@@ -320,13 +333,6 @@ static int identify(struct database *db, int *fresh) {
         status = ask_number(db, "PRAGMA user_version", &version);
     if (status == GITHOPPU_DONE)
         status = ask_number(db, "SELECT count(*) FROM sqlite_master", &tables);
-    if (status == GITHOPPU_STORE_FORMAT) {
-        uint64_t *words = NULL;
-        size_t count = 0;
-        if (githoppu_load_words(path_of(db), &words, &count) == GITHOPPU_DONE)
-            because(db, status, "%s is a file of githoppu_save: open a new store with options.saved", path_of(db));
-        free(words);
-    }
     if (status == GITHOPPU_DONE)
         status = run(db, "COMMIT", "COMMIT");
     *fresh = application == 0 && version == 0 && tables == 0;
@@ -381,6 +387,14 @@ static int prepare(struct database *db) {
     return status;
 }
 
+static int is_saved(const char *path) {
+    uint64_t *words;
+    size_t count;
+    int status = githoppu_load_words(path, &words, &count);
+    free(words);
+    return status == GITHOPPU_DONE;
+}
+
 /* Opens and locks the file. Nothing of it is changed before it is known to be ours. */
 static int open_database(struct database *db, const char *path, int existing, int *fresh) {
     int status, flags = SQLITE_OPEN_READWRITE | SQLITE_OPEN_NOMUTEX | (existing ? 0 : SQLITE_OPEN_CREATE);
@@ -399,6 +413,8 @@ static int open_database(struct database *db, const char *path, int existing, in
                      "PRAGMA temp_store=MEMORY; PRAGMA fullfsync=ON; PRAGMA checkpoint_fullfsync=ON; PRAGMA synchronous=FULL");
     if (status == GITHOPPU_DONE)
         status = identify(db, fresh);
+    if (status == GITHOPPU_STORE_FORMAT && is_saved(path))
+        because(db, status, "%s is a file of githoppu_save: open a new store with options.saved", path_of(db));
     if (status == GITHOPPU_DONE && *fresh && existing)
         status = because(db, GITHOPPU_STORE_NOT_OPENED, "open of %s: it is empty, and a store is to be there", path);
     if (status == GITHOPPU_DONE)

@@ -12,6 +12,7 @@
 #include "githoppu_store.h"
 #include "lossy_disk.h"
 #include "test_folders.h"
+#include <limits.h>
 #include <pthread.h>
 #include <signal.h>
 #include <stdatomic.h>
@@ -332,10 +333,10 @@ static int judged_right(const char *folder, const char *copy, uint64_t round) {
 }
 
 int main(int count, char **words) {
-    char folder[1024], after[1024], copy[1024];
+    char folder[1024], after[1024], copy[1024], whole[PATH_MAX];
     uint64_t rounds, round, state, updates = 0, seed;
     int i, wrong = 0;
-    CHECK(count == 5 && strlen(words[4]) < 900);
+    CHECK(count == 5);
     for (way = KILL; way < WAYS && strcmp(words[1], way_names[way]) != 0; way++) {
     }
     CHECK(way < WAYS);
@@ -344,10 +345,11 @@ int main(int count, char **words) {
     state = seeded(seed);
     told = (struct told *)mmap(NULL, sizeof *told, PROT_READ | PROT_WRITE, MAP_SHARED | MAP_ANONYMOUS, -1, 0);
     CHECK(told != MAP_FAILED);
-    snprintf(folder, sizeof folder, "%s/live", words[4]);
-    snprintf(after, sizeof after, "%s/after", words[4]);
-    snprintf(copy, sizeof copy, "%s/copy", words[4]);
     mkdir(words[4], 0777);
+    CHECK(realpath(words[4], whole) != NULL && strlen(whole) < 900);
+    snprintf(folder, sizeof folder, "%s/live", whole);
+    snprintf(after, sizeof after, "%s/after", whole);
+    snprintf(copy, sizeof copy, "%s/copy", whole);
     remove_folder(after);
     for (round = 0; round < rounds && !wrong; round++) {
         if (round % FRESH == 0) {

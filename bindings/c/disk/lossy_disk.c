@@ -426,7 +426,7 @@ void lossy_begin(const char *of, uint64_t seed) {
     DIR *all = opendir(of);
     struct dirent *one;
     int i;
-    if (all == NULL)
+    if (all == NULL || of[0] != '/')
         die(of);
     snprintf(folder, sizeof folder, "%s", of);
     state = seed * UINT64_C(2654435761) + UINT64_C(88172645463325252);

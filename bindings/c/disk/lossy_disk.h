@@ -12,7 +12,7 @@
 
 enum { LOST_POWER = 42 };
 
-/* Follows the files of a folder; they are taken as synced. */
+/* Follows the files of a folder, whose path is absolute and without links, as SQLite passes it on; they are taken as synced. */
 void lossy_begin(const char *folder, uint64_t seed);
 
 /* The power fails at the given number of writes, syncs and changes of names from now on; what is left is written into a new folder. */

@@ -19,8 +19,10 @@
 
 static inline void copy_file(const char *from, const char *to) {
     static char bytes[1 << 16];
-    FILE *in = fopen(from, "rb"), *out = fopen(to, "wb");
+    FILE *in = fopen(from, "rb"), *out;
     size_t some;
+    unlink(to);
+    out = fopen(to, "wb");
     CHECK(in != NULL && out != NULL);
     while ((some = fread(bytes, 1, sizeof bytes, in)) > 0)
         CHECK(fwrite(bytes, 1, some, out) == some);
