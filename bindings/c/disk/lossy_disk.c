@@ -26,7 +26,7 @@ struct change {
 /* A file: what is synced, and the changes since. */
 struct file {
     unsigned char *bytes;
-    size_t length, longest; /* longest: with all changes */
+    size_t length, longest, room; /* longest: with all changes */
     struct change *first, **last;
 };
 
@@ -161,12 +161,14 @@ static void remember(struct file *file, int cuts, size_t at, const void *bytes, 
 }
 
 static void resize(struct file *file, size_t length) {
-    unsigned char *bytes = (unsigned char *)realloc(file->bytes, length + 1);
-    if (bytes == NULL)
-        die("no memory");
+    if (length > file->room) {
+        file->room = 2 * length;
+        file->bytes = (unsigned char *)realloc(file->bytes, file->room);
+        if (file->bytes == NULL)
+            die("no memory");
+    }
     if (length > file->length)
-        memset(bytes + file->length, 0, length - file->length);
-    file->bytes = bytes;
+        memset(file->bytes + file->length, 0, length - file->length);
     file->length = length;
 }
 

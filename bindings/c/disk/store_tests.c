@@ -795,7 +795,7 @@ int main(int count, char **words) {
     CHECK(count == 2);
     mkdir(words[1], 0777);
     CHECK(realpath(words[1], whole) != NULL && strlen(whole) < 900);
-    snprintf(folder, sizeof folder, "%s", whole);
+    memcpy(folder, whole, strlen(whole) + 1);
     for (i = 0; i < sizeof tests / sizeof tests[0]; i++)
         tests[i]();
     rmdir(folder);
