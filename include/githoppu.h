@@ -21,8 +21,8 @@
  * THREADS. Different threads may use different sessions at once, and any thread may make any call under rule 2. The library starts no thread and
  * takes no lock. A call makes at most the given number of tries and answers AGAIN, FULL or PENDING where other sessions were in the way.
  *
- * LOOK AT BOTH, the status and the kind of the reply (word 0): DONE says that there is an answer, and the kind which one it is, as NO_ROOM of a put. A malformed
- * operation, as one with an empty key, changes nothing and is answered MALFORMED by the functions of this header, githoppu_put and those like it.
+ * LOOK AT BOTH, the status and the kind of the reply (word 0): DONE says that there is an answer, and the kind which one it is, as NO_ROOM of a put. A
+ * malformed operation, as one with an empty key, changes nothing and is answered MALFORMED by the functions of this header, githoppu_put and those like it.
  */
 #ifndef GITHOPPU_H
 #define GITHOPPU_H
@@ -206,12 +206,12 @@ void githoppu_drop(githoppu_either what);
 }
 #endif
 
-/* Whether the header and the library that is linked are of one version: DONE, OLD_HEADER or OLD_LIBRARY. */
+/* Whether the header and the library that is linked are of one version, but for the third number, which changes no call: DONE, OLD_HEADER or OLD_LIBRARY. */
 static inline int githoppu_check_version(void) {
-    uint64_t library = githoppu_version();
-    if (library == GITHOPPU_VERSION)
+    uint64_t library = githoppu_version() / 1000, header = GITHOPPU_VERSION / 1000;
+    if (library == header)
         return GITHOPPU_DONE;
-    return library > GITHOPPU_VERSION ? GITHOPPU_OLD_HEADER : GITHOPPU_OLD_LIBRARY;
+    return library > header ? GITHOPPU_OLD_HEADER : GITHOPPU_OLD_LIBRARY;
 }
 
 /* What a status says, in one line: of each status of this library, those of files among them. */

@@ -22,7 +22,7 @@
         }                                                                 \
     } while (0)
 
-/* ---- the calls of the system: the one with number fails_at fails, a short write writes one byte, and a write can be the last thing that a process does ---- */
+/* ---- the calls of the system: the one with number fails_at fails, a short write writes one byte, and a process can be killed in a write ---- */
 
 static long calls, fails_at, short_writes, dies_at_write;
 
@@ -634,14 +634,15 @@ static void test_at_once(const char *folder) {
 }
 
 int main(int count, char **words) {
-    char folder[3000];
+    char folder[3000], *whole;
     if (count == 3) {
         snprintf(store_path, sizeof store_path, "%s/saved.store", words[1]);
         CHECK(saved(store_path, 1) == GITHOPPU_NOT_WRITTEN && errno == ENOSPC && new_files(words[1]) == 0);
         return 0;
     }
-    CHECK(count == 2 && realpath(words[1], NULL) != NULL && strlen(realpath(words[1], NULL)) < sizeof folder);
-    strcpy(folder, realpath(words[1], NULL));
+    CHECK(count == 2 && (whole = realpath(words[1], NULL)) != NULL && strlen(whole) < sizeof folder);
+    strcpy(folder, whole);
+    free(whole);
     snprintf(store_path, sizeof store_path, "%s/saved.store", folder);
     snprintf(queue_path, sizeof queue_path, "%s/saved.queue", folder);
     test_bytes();
