@@ -12,7 +12,7 @@ use Rattle.cx_service.specs.CallOrder.{KeepsCalls}
 
 -- By the order of the steps by which a table came to what it left, that is a linearizable object's, with the history of the trail. The words, the local
 -- states and the list of steps are those of the closing itself. The history also keeps the order that the seats' counts of steps give. And all operations,
--- reads among them, have one order, in which the object alone gives each reply, and which keeps the order of those steps.
+-- reads among them, have one order, in which the object alone makes each by its step and gives each reply, and which keeps the order of those steps.
 pub record IsLinearizedBy {O : Type 0} {table : Running O} {instance : Instance} {seats : List Seated} {r : Remains} (leaves : Leaves table instance seats r) : Type 0 where
   pub linearizable : IsLinearizable instance (opening_limited instance leaves.reached.limits) (record { words = leaves.words; locals = leaves.whole })
   pub history : linearizable.history ≡ r.trail.history

@@ -1,4 +1,5 @@
-use Rattle.std.proofs.Common.{◌∙◌, sym, arith}
+use Rattle.std.proofs.Common.{◌∙◌, sym, subst, arith}
+use Rattle.cx_core.specs.Base.{LawfulBase}
 use Rattle.cx_core.proofs.MergeLemmas.{history_is}
 use Rattle.cx_rule.specs.Rule.{opening_limited}
 use Rattle.cx_rule.specs.Running.{instance_at}
@@ -19,5 +20,5 @@ returns g c = λ table seats r running leaves. (
       linearizable = is;
       history = same ∙ leaves.history;
       calls = keeps_calls instance (opening_limited instance leaves.reached.limits) _ leaves.reached.events opening (none_made instance leaves.reached.limits) leaves.reached.ran seats leaves.times;
-      one_order = c.runs_have_one_order.ensures instance leaves.reached.events _ _ opening (none_linked instance leaves.reached.limits) leaves.reached.ran;
+      one_order = c.runs_have_one_order.ensures table.object table.callers table.base (subst (λ n. LawfulBase n (g.O.Object.lawful table.object) table.base) running.lines running.base) leaves.reached.events _ _ opening (none_linked instance leaves.reached.limits) leaves.reached.ran;
     })
