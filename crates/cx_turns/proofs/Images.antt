@@ -1,5 +1,5 @@
 -- What a turn by which an image is taken does to the seat.
-use Rattle.std.proofs.Common.{◌≡◌, ◌+◌, ◌-◌, ◌==◌, ◌<◌, ◌≤◌, inl, inr, ℕ, Bool, true, false, cond, List, [], ◌∷◌, ◌++◌, append-nil, length, length-append, slice_index, refl, ap, sym, subst, ◌∙◌, arith, Some, None, drop, set, suc, take}
+use Rattle.std.proofs.Common.{◌≡◌, ◌+◌, ◌-◌, ◌==◌, ◌<◌, ◌≤◌, inl, inr, ℕ, Bool, IsTrue, true, false, cond, List, [], ◌∷◌, ◌++◌, append-nil, length, length-append, slice_index, refl, ap, sym, subst, ◌∙◌, arith, Some, None, drop, set, suc, take}
 use Rattle.std.proofs.lemmas.Bool.{cases_eq}
 use Rattle.std.proofs.lemmas.List.{drop_all, get_or_append_left, get_or_push, length-drop, length-set, length-take}
 use Rattle.std.proofs.lemmas.List.Elements.{Contains-append_left}
@@ -177,6 +177,10 @@ module _ {O : Type 0} (o : Ghosts O) (r : Running O) (found : ℕ) (s mid new : 
     };
     answered = ap (λ (t : Seated). unanswered_ticket t.known.local) same ∙ ap (λ (t : Seated). unanswered_ticket t.known.local) load.made ∙ may.answered;
   }
+
+  -- and CUR was loaded
+  pub has_seen : beside_read new ≡ beside_read mid → IsTrue new.known.times.seen
+  has_seen same = ap (λ (t : Seated). t.known.times.seen) same ∙ ap (λ (t : Seated). t.known.times.seen) load.made ∙ ap (λ (b : Bool). cond b s.known.times.seen true) may.rest.fresh
 
 -- ---- the raise, and the right given back
 
