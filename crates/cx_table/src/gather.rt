@@ -176,6 +176,7 @@ impl<O: Object> Shared<O> {
             summary: _,
             before: _,
             copy: _,
+            last: _,
         } = seat;
         self.table.shared.join_seat::<InFront>(closing, seat);
     }

@@ -123,6 +123,7 @@ impl<O: Object> Shared<O> {
             summary,
             before,
             copy,
+            last: 0,
         }
     }
 }

@@ -55,11 +55,18 @@ impl CallerSeat {
         self.ticket_cell_as(ticket, false)
     }
 
-    /// The first cell that has a ticket and is offered with it, or is not, as is asked for.
+    /// A cell that has a ticket and is offered with it, or is not, as is asked for.
     fn ticket_cell_as(&self, ticket: u64, offered: bool) -> Option<u64>
         ensures some { IfSome result (λ j. (j < 16) × HasTicketAs self.now.known.local j ticket offered) }
         ensures none { IfNone result ((j : ℕ) → j < 16 → ¬ HasTicketAs self.now.known.local j ticket offered) }
     {
+        let (last, before) = self.last_cells();
+        if self.has_ticket_as(last, ticket, offered) {
+            return Some(last);
+        }
+        if self.has_ticket_as(before, ticket, offered) {
+            return Some(before);
+        }
         for j in 0..16 {
             if self.has_ticket_as(j, ticket, offered) {
                 return Some(j);

@@ -34,6 +34,8 @@ pub struct CallerSeat {
     pub(crate) before: u64,
     /// What is known in plain memory of the replica held exclusively and of the caller's cells.
     pub(crate) copy: Copies,
+    /// The cell that was linked last: in it and the one before it a ticket is looked for first.
+    pub(crate) last: u64,
 }
 
 impl Model for CallerSeat {
@@ -137,10 +139,25 @@ impl CallerSeat {
         true
     }
 
+    /// The cell that was linked last, and the one before it.
+    pub(crate) fn last_cells(&self) -> (u64, u64)
+        ensures { (result.0 < 16) × (result.1 < 16) }
+    {
+        let last = self.last % 16;
+        (last, (last + 15) % 16)
+    }
+
     /// The cell that has a ticket.
     pub(crate) fn ticket_cell(&self, ticket: u64) -> Option<u64>
         ensures { IfSome result (λ j. (j < 16) × ((cell_of self.now.known.local j).ticket ≡ Some ticket)) }
     {
+        let (last, before) = self.last_cells();
+        if is_ticket(ticket, self.cell_ticket(last)) {
+            return Some(last);
+        }
+        if is_ticket(ticket, self.cell_ticket(before)) {
+            return Some(before);
+        }
         for j in 0..16 {
             if is_ticket(ticket, self.cell_ticket(j)) {
                 return Some(j);

@@ -51,6 +51,7 @@ impl<O: Object> Shared<O> {
             Instruction::Exchange(seen, code),
         );
         seat.summary.link(self.callers, j, found);
+        seat.last = j;
         Ok(found)
     }
 
