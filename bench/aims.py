@@ -24,7 +24,7 @@ import sys
 from dataclasses import dataclass
 
 from performance import OURS, SERVICE, Ran, Setting, machine, numbers, pairs, said_by, service_words, table_of, updates_of, with_section, written
-from performance_words import short
+from performance_words import short, wrapped
 
 HEAD = "## Beside the same steps unproved"
 LEAST_ROUNDS = 25
@@ -129,7 +129,7 @@ def section(measured, options, where):
     ]
     if options.rounds < LEAST_ROUNDS:
         lines += ["", f"A try: figures take {LEAST_ROUNDS} rounds or more."]
-    return "\n".join(lines) + "\n"
+    return wrapped("\n".join(lines)) + "\n"
 
 
 def options_of(words):

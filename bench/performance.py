@@ -33,7 +33,7 @@ from dataclasses import dataclass
 from build import path_of
 from core_probe import Core
 from performance_plot import Panel, drawn
-from performance_words import advice, comparison, short, size_words, thread_words
+from performance_words import advice, comparison, short, size_words, thread_words, wrapped
 from service import PARTS, READ_PARTS, parts
 
 HERE = os.path.dirname(os.path.abspath(__file__))
@@ -233,7 +233,7 @@ def page(measured, options, where, left_out, found):
         "# Performance",
         "",
         "A service beside what a user would take instead: the words of one region under a mutex, each changed word also stored in a durable copy, "
-        "and a `BTreeMap` under a lock, which is not durable. Updates put a document of 32 bytes at a key that is there, reads get one.",
+        "and a `BTreeMap` under a lock, which has no crash image. Updates put a document of 32 bytes at a key that is there, reads get one.",
         "",
         "## Which to take",
         "",
@@ -268,7 +268,7 @@ def page(measured, options, where, left_out, found):
         lines += ["", f"Not measured: {size_words(*size)}, which not all programs take."]
     if options.rounds < LEAST_ROUNDS:
         lines += ["", f"A try: figures take {LEAST_ROUNDS} rounds or more."]
-    return "\n".join(lines) + "\n"
+    return wrapped("\n".join(lines)) + "\n"
 
 
 def written(name, text):
@@ -321,7 +321,7 @@ def options_of(words):
     parser.set_defaults(core=None, single=0, shared=0)
     options = parser.parse_args(words)
     if options.redraw and not options.doc:
-        parser.error("--redraw wants --doc")
+        parser.error("--redraw needs --doc")
     return options
 
 

@@ -3,6 +3,16 @@
 Figures are throughputs of the service where 1 is that of the other form: for each size, a pair of lines and keys, and number of threads
 those of each share of reads.
 """
+import textwrap
+
+# the widest line of a page
+WIDTH = 155
+
+
+def wrapped(page):
+    """A page whose lines of words are no wider than the widest; rows of tables, headings and pictures stay as they are."""
+    lines = [[line] if line[:1] in ("|", "#", "!", "") else textwrap.wrap(line, WIDTH, break_long_words=False, break_on_hyphens=False) for line in page.split("\n")]
+    return "\n".join(line for of_one in lines for line in of_one)
 
 
 def size_words(lines, keys):
@@ -89,12 +99,12 @@ def updates_in(figures):
 
 
 def map_words(mutex, rwlock):
-    """How the service is beside a map that is not durable, under a mutex and under a readers-writer lock."""
+    """How the service is beside a map that has no crash image, under a mutex and under a readers-writer lock."""
     words = ""
     if updates_in(mutex):
         words += f", and {range_words(updates_in(mutex))} times as many as a `BTreeMap` under one"
     faster = [1 / ratio for ratios in rwlock.values() for ratio in ratios.values()]
-    return words + f". A `BTreeMap` under a readers-writer lock makes {range_words(faster)} times as many calls as the service, over all rows below. Neither map is durable."
+    return words + f". A `BTreeMap` under a readers-writer lock makes {range_words(faster)} times as many calls as the service, over all rows below. Neither map has a crash image."
 
 
 def advice(figures, maps=None):
@@ -103,7 +113,7 @@ def advice(figures, maps=None):
     found = wins(figures)
     service = (
         "**Take the service** where an acknowledged change must survive a crash (a power failure in the simulated persistent memory: when the process "
-        "ends its data are gone, unless an image was saved), or where a stalled thread must not stop all others at once. They go on reading, and each can make "
+        "ends its data are gone, unless the store was saved), or where a stalled thread must not stop all others at once. They go on reading, and each can make "
         "at most 16 more updates before it gets `Full`, which names the stalled thread. With a lock, a stalled thread stops all others, and a crash in the "
         "middle of a change leaves it half made."
     )

@@ -23,7 +23,7 @@ from dataclasses import dataclass
 
 from build import path_of
 from performance import LEAST_ROUNDS, PEERS, QUEUE_HEAD, machine, said_by, with_section, written
-from performance_words import short
+from performance_words import short, wrapped
 
 SERVICE = path_of("fifo_bench")
 FORMS = ("our service", "VecDeque, Mutex")
@@ -88,7 +88,7 @@ def section(measured, options, where):
     ]
     if options.rounds < LEAST_ROUNDS:
         lines += ["", f"A try: figures take {LEAST_ROUNDS} rounds or more."]
-    return "\n".join(lines) + "\n"
+    return wrapped("\n".join(lines)) + "\n"
 
 
 def callers_of(text):

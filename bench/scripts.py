@@ -1,10 +1,10 @@
 #!/usr/bin/env python3
 """Seconds and peak memory of `cx_tool run` for lives of clients, for scripts of every command, and for long documents.
 
-Build the program first: tools/build --proved. One without a proof is slower, so it is none to measure.
+Build the program first: tools/build --proved. One without a proof is slower, so it is not the one to measure.
 
 Many commands are made in one life, by one client and by 8, with all 8 raising one number by its revision, and in many lives of 8 clients, each
-with a service that is started and closed, and a loss of power. Lives without commands show what that costs alone; a script of the same size in
+with a service that is started and closed, and a crash. Lives without commands show what that costs alone; a script of the same size in
 comments shows what reading its bytes costs alone. The texts of one line are as long as an input may be, and no documents, or short ones; of some
 the value would take many times the memory of its text.
 

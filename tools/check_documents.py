@@ -7,9 +7,9 @@ apart at `::` and `.`, has to stand as a whole word in a source, as an item, a c
 to lead to a file. Each that is found nowhere is a line `FILE:LINE: NAME`. A word in capitals stands for what a reader puts there, but in the name of a page;
 `*` stands for anything, as does what is left out before `_`; what a build makes, under `out`, is not looked for.
 
-A page is wrong where it is over its length, a line of README.md where it has over 120 characters; so is a phrase of a list of idioms, a term in italics
-where theorems are stated (README.md, docs/THEOREMS.md) that docs/GLOSSARY.md has not, a table that stands twice, a page that no other names, and
-a definition in docs/THEOREMS.md that is not as in its source. A fenced block in a doc comment of crates/*/src is an example: the line before it ends in the
+A page is wrong where it is over its length, a line where it has over 160 characters, of README.md over 120; so is a phrase of a list of idioms, a term
+in italics where theorems are stated (README.md, docs/THEOREMS.md) that docs/GLOSSARY.md has not, a table that stands twice, a page that no other names,
+and a definition in docs/THEOREMS.md that is not as in its source. A fenced block in a doc comment of crates/*/src is an example: the line before it ends in the
 name of a file, From `crates/NAME/src/FILE.rt`:, of a crate of crates.txt, and its 2 to 8 lines stand there one after another, so the gate compiles them.
 The rules are in page_rules.py. It takes 3 seconds.
 

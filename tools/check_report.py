@@ -11,7 +11,7 @@ with the one that wrote the report. Any number of lives and clients is judged.
 It takes a second for a report of 20,000 lines.
 Example: check_report.py examples/two_shops.script docs/pictures/two_shops.report
 Status 0 and `legal: ..` where the report is one of legal lives; status 1 and `line N: WHY` with the first line that is not;
-status 2 where the script is none; status 3 where a file cannot be read, or the words are others.
+status 2 where the script is not a script; status 3 where a file cannot be read, or the words are others.
 """
 import bisect
 import sys
@@ -361,7 +361,7 @@ class LifeJudge:
         if len(answered) < CELLS:
             raise Fault(full.line, f"client {full.client} has {len(answered)} answered entries from ticket {full.ticket} on, not {CELLS}")
 
-    # the loss of power
+    # the crash
 
     def judge_power(self):
         power = self.told.power

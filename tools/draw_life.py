@@ -4,7 +4,7 @@
     draw_life.py [--texts] REPORT [-o FILE]
 
 The history runs downwards along one line. Each client has a lane beside it. An entry stands at its ticket, and a read at its
-place: behind all entries with lower tickets. Where power was lost the entries that were not kept stand in a hatched band, and
+place: behind all entries with lower tickets. After a crash the entries that were not kept stand in a hatched band, and
 the next life goes on from the last one kept. A report of more than 30 commands, or of more than 24 clients, is drawn in columns and without
 texts, and says so; with --texts it has them. The picture is as wide as its texts, from 480 to 800, or as its lanes.
 
@@ -12,7 +12,7 @@ Without -o the picture goes to standard output. It has a background of its own, 
 
 It takes a second.
 Example: draw_life.py docs/pictures/two_shops.report -o /tmp/two_shops.svg
-Status 0 where there is a picture; 1 and `line N: WHY` where the report has a line that is none; 2 where a file cannot be read or written, or
+Status 0 where there is a picture; 1 and `line N: WHY` where the report has a line that is not one of a report; 2 where a file cannot be read or written, or
 the words are others.
 """
 import sys
@@ -105,7 +105,7 @@ CODE_LETTER = 7.6
 LOST = "  lost"
 NOTE_LETTER = 6.0
 NOTE_LINE = 16
-CHOICE_NOTE = "The choice is the number behind 'power' in the script: it picks what a loss of power leaves of what was not durable yet."
+CHOICE_NOTE = "The choice is the number behind 'power' in the script: it picks what a crash leaves of what was not durable yet."
 
 
 @dataclass
@@ -252,7 +252,7 @@ class Picture:
         self.rows = put
 
     def least_below(self, row):
-        """How much of a column a row wants to begin in it: a life's first one some rows of the life, and a loss of power nothing."""
+        """How much of a column a row wants to begin in it: a life's first one some rows of the life, and a crash nothing."""
         if row.kind == "power":
             return 0
         return row.height + 4 * self.look.row if row.kind == "head" else row.height / 2
@@ -324,7 +324,7 @@ class Picture:
             self.line(x, top, x, end, "history")
 
     def end_of_lane(self, rows, client):
-        """A lane ends where its client ended, or where power was lost; in this column it may go through, or not be there."""
+        """A lane ends where its client ended, or where the crash is; in this column it may go through, or not be there."""
         last = rows[-1]
         ended = self.ended.get((last.life, client))
         if ended is None:
@@ -456,9 +456,9 @@ class Picture:
     def draw_power(self, row):
         power = row.item
         left, right = row.left + self.history - 8, self.text_left(row) - 8
-        self.add(f'<path d="{zigzag(left, right, row.top + 14)}" class="power"><title>power loss</title></path>')
+        self.add(f'<path d="{zigzag(left, right, row.top + 14)}" class="power"><title>crash</title></path>')
         if self.look.texts:
-            self.pair(self.text_left(row), row.top + 18, "Power loss", power_words(power))
+            self.pair(self.text_left(row), row.top + 18, "Crash", power_words(power))
         else:
             self.text(row.left + self.history + 10, row.top + 35, f"kept {power.kept} of {power.entries}", "small")
             self.text(row.left + self.history + 10, row.top + 49, counted(power.size, power.counted[:-1]), "small soft")
@@ -539,7 +539,7 @@ LEGEND = (
     ("stop", "stopped", '<path d="M-4 -4L4 4M-4 4L4 -4" class="stop"/>'),
     ("full", "gave up", '<path d="M-4 -4H4V4H-4Z" class="full"/>'),
     ("lost", "lost", '<rect x="-7" y="-6" width="14" height="12" fill="url(#hatch)"/>'),
-    ("power", "power loss", f'<path d="{zigzag(-9, 9, 0)}" class="power"/>'),
+    ("power", "crash", f'<path d="{zigzag(-9, 9, 0)}" class="power"/>'),
 )
 
 
@@ -598,7 +598,7 @@ def fitted(command, reply, columns):
 
 
 def drawn(data, texts=False):
-    """The picture of a report, with texts where they are wanted or there is room; raises Fault where it has a line that is none."""
+    """The picture of a report, with texts where they are wanted or there is room; raises Fault where it has a line that is not one of a report."""
     report = read_report(data)
     if report.fault:
         raise report.fault

@@ -57,7 +57,7 @@ TEXT_RULE = "TEXT               1 to 56 bytes, each 0x21 to 0x7E"
 CLIENT_RULE = "K                  a client of the life: a number below its N"
 COMMANDS_RULE = "a script           has at most 1,000 lives and 100,000 commands"
 JSON_RULE = "JSON               a value as JSON has it, nested at most 127 deep"
-NUMBER_RULE = "JSON               each number in it is an integer of 64 bits, with a sign or without; -0 is none"
+NUMBER_RULE = "JSON               each number in it is an integer of 64 bits, with a sign or without; -0 is not allowed"
 LENGTH_RULE = "JSON               its compact text, without spaces between its parts, has at most 1,024 bytes"
 IMAGE_ROW = "image N L W        N is 1 to 8, L is 64 to 16384, W at most 2^64 - 1; the first line"
 ROOT_ROW = "root CODE          at most 2^64 - 1; the second line"
@@ -65,27 +65,27 @@ WORD_ROW = "AT V               AT is below W and above the AT of the line before
 
 SENTENCES = {
     "utf8": "The line is not UTF-8: the marked byte cannot stand there. Only empty lines and comments may have any bytes.",
-    "header": "A script begins with its lines line, and this line is none.",
-    "life": "Here a life line must stand, and this is none.",
+    "header": "A script begins with its lines line, and this is not one.",
+    "life": "A life line must stand here, and this is not one.",
     "lives": "This would be the 1,001st life.",
-    "cut": "This is no cut line for a client of the life that has none yet.",
-    "client": "The line begins with no client of this life.",
+    "cut": "This is not a cut line for a client of the life that has none yet.",
+    "client": "The line does not begin with a client of this life.",
     "commands": "This would be the 100,001st command.",
-    "command": "This is no command, or a command with too few or too many words. Words are separated by exactly one space.",
+    "command": "This is not a command, or a command with too few or too many words. Words are separated by exactly one space.",
     "key": "The key is empty, longer than 64 bytes, or has a byte that a key may not have.",
-    "number": "This is no integer within 64 bits, or no revision. Neither has a plus sign or leading zeros, -0 is none, and a revision has no sign.",
-    "json": "The document is no JSON from the marked place on.",
-    "fraction": "A number of the document is no integer within 64 bits. Fractions, exponents and -0 are not taken.",
+    "number": "This is not an integer within 64 bits, or not a revision. Neither has a plus sign or leading zeros, -0 is neither, and a revision has no sign.",
+    "json": "The document is not JSON from the marked place on.",
+    "fraction": "A number of the document is not an integer within 64 bits. Fractions, exponents and -0 are not accepted.",
     "long": "The document's compact text has more than 1,024 bytes.",
     "text": "The text is empty, longer than 56 bytes, or has a byte that a text may not have.",
-    "image": "An image text begins with its image line, and this line is none.",
-    "root": "The second line of an image text is its root line, and this is none.",
-    "word": "This is no line of a word that is not 0. There are no comments, no empty lines, and addresses rise.",
+    "image": "An image text begins with its image line, and this is not one.",
+    "root": "The second line of an image text is its root line, and this is not one.",
+    "word": "This is not the line of a word other than 0. There are no comments, no empty lines, and addresses rise.",
 }
 CHECKS = {
     "size": "The image has another number of words than 2N regions.",
     "root": "The root names a place beyond the last one.",
-    "version": "The object part of the region that the root names has another version, or is none.",
+    "version": "The object part of the region that the root names has another version, or is not an object part.",
     "place": "The region that the root names is at another place than the root says.",
     "body": "The region that the root names holds no lawful results, or no lawful store.",
 }

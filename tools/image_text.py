@@ -1,4 +1,4 @@
-"""Image texts, and what is recovered from an image, read by docs/FORMATS.md alone.
+"""Image texts, and what is recovered from an image, read by docs/FORMATS.md and docs/TABLE_WORDS.md alone.
 
 This reader shares nothing with the program. `read_image` takes a text, `recovered` makes the five checks in their order, and
 `recovered_text` is what `recover` writes. A refusal says which word it is of, what was found there, and what was wanted.
@@ -26,7 +26,7 @@ NUMBERED_REPLIES = {6: "sum", 11: "count", 12: "set", 13: "stale", 14: "rev"}
 
 @dataclass
 class Image:
-    """What a loss of power left: `words` has those that are not 0, by address."""
+    """What a crash left: `words` has those that are not 0, by address."""
 
     callers: int
     lines: int
@@ -58,7 +58,7 @@ class Image:
 
 @dataclass
 class Recovered:
-    """What a loss of power left: `last` is the last revision given, and each document has its key before it and its revision behind it."""
+    """What a crash left: `last` is the last revision given, and each document has its key before it and its revision behind it."""
 
     place: int
     outcomes: list
@@ -369,7 +369,7 @@ def shown(text):
 
 
 def place_of(image, at):
-    """What the word at an address is called, by docs/FORMATS.md."""
+    """What the word at an address is called, by docs/TABLE_WORDS.md."""
     region, word = divmod(at, image.region_words)
     return f"word {at}, which is {word_name(word)} of region {region}"
 

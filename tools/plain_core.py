@@ -407,7 +407,7 @@ class Core:
     def load_gap(self, l, s, i):
         return s < self.slots and i < SLOT_WORDS
 
-    # ---- losses of power
+    # ---- crashes
 
     def codes_left(self):
         """The codes on the way of the wins from DUR up to CUR."""

@@ -4,10 +4,9 @@
     record_trace.py CALLERS LINES SEED [--steps N] [--wrong N] [--check FILE]
 
 The trace goes to standard output and what is found of it to standard error, as the program says it: `yes events E crashes K`,
-`no line N: guard` or `no line N: place P`, and `refused line N: REASON` for a text that is none. With `--wrong N` so many changes are made
-afterwards: a line left out or doubled, an event swapped with the next of another caller, an argument changed, a place one too high or too
-low. With `--steps N` it has so many lines behind the first, 300 if nothing is said. With `--check FILE` the trace is
-read from that file instead, and where a line fails it is shown with what its caller knew, or with the codes that a loss of power may leave.
+`no line N: guard` or `no line N: place P`, and `refused line N: REASON` for a text that is not a trace. With `--wrong N` it has N
+changes: a line left out or doubled, an event swapped with the next of another caller, an argument changed, a place one too high or too low.
+With `--steps N` it has N lines after the first, 300 if nothing is said. With `--check FILE` the trace is read from that file instead, and where a line fails it is shown with what its caller knew, or with the codes that a crash may leave.
 
 It takes a second for a trace of 10,000 lines.
 Example: record_trace.py 3 64 5 --wrong 1
@@ -148,7 +147,7 @@ def known(core, l):
 
 
 class Recorder:
-    """Makes random steps that are allowed, each caller at its own work, and losses of power between them."""
+    """Makes random steps that are allowed, each caller at its own work, and crashes between them."""
 
     def __init__(self, core, seed):
         self.core = core
@@ -365,7 +364,7 @@ def changed(chosen, lines):
 
 
 def displaced(chosen, lines):
-    """Names a place one too high, or too low, at a loss of power."""
+    """Names a place one too high, or too low, at a crash."""
     crashes = [at for at, line in enumerate(lines) if line.startswith("crash")]
     if crashes:
         at = chosen.choice(crashes)

@@ -183,7 +183,7 @@ def item_of(number, line):
         found = pattern.fullmatch(text)
         if found:
             return form(number, *(part_of(number, part) for part in found.groups()))
-    raise Fault(number, "the line is none of a report")
+    raise Fault(number, "the line is not a line of a report")
 
 
 def part_of(number, part):

@@ -91,10 +91,13 @@ class PageRules(unittest.TestCase):
         self.assertEqual([f"docs/GLOSSARY.md:{most + 1}: {most + 1} lines, over {most}"], list(page_rules.long_pages({"docs/GLOSSARY.md": "a\n" * (most + 1)})))
         self.assertEqual([], list(page_rules.long_pages({"docs/OTHER.md": "a\n" * 1000})))
 
-    def test_a_line_of_the_readme_over_its_width(self):
-        page = "\n".join(["a" * 120, "a" * 121])
-        self.assertEqual(["README.md:2: 121 characters, over 120"], list(page_rules.long_pages({"README.md": page})))
-        self.assertEqual([], list(page_rules.long_pages({"docs/FAQ.md": page})))
+    def test_a_line_over_its_width(self):
+        page = "\n".join(["a" * 120, "a" * 121, f"| {'a' * 156} |", "```", "a" * 161, "```"])
+        self.assertEqual(
+            [f"README.md:{number}: {width} characters, over 120" for number, width in ((2, 121), (3, 160), (5, 161))],
+            list(page_rules.long_pages({"README.md": page})),
+        )
+        self.assertEqual(["docs/OTHER.md:5: 161 characters, over 160"], list(page_rules.long_pages({"docs/OTHER.md": page})))
 
     def test_an_idiom(self):
         rows = [
@@ -146,6 +149,20 @@ class PageRules(unittest.TestCase):
         source = "-- a comment\npub a : b\n    pub c : d\n"
         self.assertEqual([], list(page_rules.misquoted({"docs/THEOREMS.md": page}, [source])))
         self.assertEqual(["docs/THEOREMS.md:3: in no source: pub c : d"], list(page_rules.misquoted({"docs/THEOREMS.md": page}, [source.replace("d", "e")])))
+
+    def test_a_definition_is_broken_after_an_arrow_alone(self):
+        source = "pub a : b → c →\n  d\npub e : f → g\n"
+        for page in (source, "pub a : b →\n  c → d\npub e : f →\n    g\n", "pub a : b → c → d\n"):
+            self.assertEqual([], list(page_rules.misquoted({"docs/THEOREMS.md": f"```antt\n{page}```\n"}, [source])), page)
+        rows = [
+            ("pub a : b → c →\n  e\n", 3, "pub a : b → c → e"),
+            ("pub a :\n b → c → d\n", 2, "pub a :"),
+            ("pub a : b → c\n→ d\n", 2, "pub a : b → c"),
+            ("pub e : f → g\npub a : b →\n", 3, "pub a : b →"),
+        ]
+        for page, number, line in rows:
+            found = list(page_rules.misquoted({"docs/THEOREMS.md": f"```antt\n{page}```\n"}, [source]))
+            self.assertEqual(f"docs/THEOREMS.md:{number}: in no source: {line}", found[0], page)
 
 
 class Examples(unittest.TestCase):

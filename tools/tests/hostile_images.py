@@ -1,6 +1,6 @@
 #!/usr/bin/env python3
 """Images that no run leaves: every word of a good one changed, and of old ones that a run left, several things wrong, trees and texts with
-one thing wrong, and texts that are none of an image.
+one thing wrong, and texts that are not image texts.
 
     hostile_images.py [PROGRAM]
 
@@ -9,7 +9,7 @@ tools/build takes.
 
 It takes a minute.
 Example: hostile_images.py
-Status 0 where each was answered as docs/FORMATS.md has it, 1 at the first that was not, 2 where the words are others.
+Status 0 where each was answered as docs/FORMATS.md and docs/TABLE_WORDS.md have it, 1 at the first that was not, 2 where the words are others.
 """
 import random
 import subprocess
@@ -482,7 +482,7 @@ def first_wrong(program, images, at_once=4):
 def main(words):
     words = asked_words(__doc__, words, (0, 1))
     wrong, count = first_wrong(needed(*words), every_image())
-    print(wrong or f"{count} images answered as docs/FORMATS.md has it")
+    print(wrong or f"{count} images answered as docs/FORMATS.md and docs/TABLE_WORDS.md have it")
     return 1 if wrong else 0
 
 

@@ -6,7 +6,7 @@
 What the next life reads is the sum of what the commands added that were answered or kept, by the lines of the report itself, and each
 report is legal. The tables: one client stopped after 0, 1, 2 and so on steps, up to the first run in which it is not stopped; both stopped,
 at each pair of steps of a coarse grid, and at each pair near the steps at which what comes of a client's command changes. Each for four
-choices of what the loss of power leaves of words that were not yet durable. The program is the one given, or the one that tools/build takes.
+choices of what the crash leaves of words that were not yet durable. The program is the one given, or the one that tools/build takes.
 
 It takes ten seconds.
 Example: stopped_clients.py

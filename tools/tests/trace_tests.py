@@ -10,7 +10,7 @@ from program import FOR_THE_GATE, is_tested
 from record_trace import MOST_LINES, explanation, found_in
 
 ROWS = Path(__file__).resolve().parent / "rows"
-FORMATS = ROWS.parents[2] / "docs" / "FORMATS.md"
+TABLE_WORDS = ROWS.parents[2] / "docs" / "TABLE_WORDS.md"
 
 
 def trace_rows():
@@ -19,9 +19,9 @@ def trace_rows():
 
 
 def shown_traces():
-    """The traces that docs/FORMATS.md shows."""
+    """The traces that docs/TABLE_WORDS.md shows."""
     blocks, block = [], []
-    for line in FORMATS.read_text("utf-8").split("\n"):
+    for line in TABLE_WORDS.read_text("utf-8").split("\n"):
         if line.startswith("    "):
             block.append(line[4:])
         elif block:

@@ -43,7 +43,7 @@ class Tutorial(unittest.TestCase):
                 shutil.copytree(ROOT / name, root / name, ignore=shutil.ignore_patterns("out"))
             shutil.copy(ROOT / "crates.txt", root)
             commands = commands_of(page)
-            self.assertEqual(3, sum("git apply" in command for command in commands))
+            self.assertEqual(4, sum("git apply" in command for command in commands))
             for command in commands:
                 ran = subprocess.run(["bash", "-c", command], cwd=root, capture_output=True, text=True, check=False)
                 self.assertEqual((0, ""), (ran.returncode, ran.stderr), command)

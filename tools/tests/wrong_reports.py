@@ -94,7 +94,7 @@ WRONG = [
     ("gave_up", "ticket 1", "ticket 2", 20, "15 answered entries from ticket 2 on, not 16"),
     ("gave_up", "full 0.17", "full 0.16", 20, "command 0.16 was answered in line 18"),
     ("gave_up", "full 0.17", "full 0.18", 19, "command 0.17 has no entry before this line"),
-    # the loss of power
+    # the crash
     ("written_read_back", "power 0", "power 1", 5, "the power choice is 0, not 1"),
     ("written_read_back", "of 2", "of 3", 5, "the number of entries is 2, not 3"),
     ("written_read_back", "kept 2", "kept 3", 5, "3 entries are kept of 2"),
@@ -106,9 +106,9 @@ WRONG = [
     ("stopped_linked_lost", "get a = none", "get a = 1", 6, "the reply is none, not 1"),
     # the text
     ("written_read_back", "documents 1\n", "documents 1", 5, "the line does not end with LF"),
-    ("written_read_back", "power", "Power", 5, "the line is none of a report"),
-    ("written_read_back", "0 0.1", "00 0.1", 2, "the line is none of a report"),
-    ("written_read_back", "power", "\npower", 5, "the line is none of a report"),
+    ("written_read_back", "power", "Power", 5, "the line is not a line of a report"),
+    ("written_read_back", "0 0.1", "00 0.1", 2, "the line is not a line of a report"),
+    ("written_read_back", "power", "\npower", 5, "the line is not a line of a report"),
     ("written_read_back", "kept 2 of 2", "kept 2 of 18446744073709551616", 5, "is above 2^64 - 1"),
     ("ordinary_use", "power 1 kept 4 of 4 documents 3\n", "", 6, "a life begins before the power line of life 0"),
     ("written_read_back", "power 0 kept 2 of 2 documents 1\n", "", 5, "the report ends before the power line of life 0"),

@@ -1,4 +1,4 @@
-//! A bounded queue of texts behind a lock: a `VecDeque`, and a durable copy of it, which is a ring of lines. `docs/FORMATS.md` has the
+//! A bounded queue of texts behind a lock: a `VecDeque`, and a durable copy of it, which is a ring of lines. `docs/TABLE_WORDS.md` has the
 //! layout of its lines.
 
 use crate::work::thread_time;
@@ -17,7 +17,7 @@ const COUNT: usize = 2;
 
 /// A queue and its durable copy.
 ///
-/// The copy is made in place, so a loss of power while it is made would leave it torn. It shows what durable words cost at least.
+/// The copy is made in place, so a crash while it is made would leave it torn. It shows what durable words cost at least.
 pub struct Queue {
     items: VecDeque<Item>,
     head: usize,

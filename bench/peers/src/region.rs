@@ -1,4 +1,4 @@
-//! The words of one region, with the document store in its object part, and a durable copy of them. `docs/FORMATS.md` has the layout.
+//! The words of one region, with the document store in its object part, and a durable copy of them. `docs/TABLE_WORDS.md` has the layout.
 
 use std::cmp::Ordering;
 use std::hint::black_box;
@@ -36,7 +36,7 @@ pub enum Answer {
 
 /// A region and its durable copy, with the positions of the words that changed since the copy was the same.
 ///
-/// The copy is made in place, so a loss of power while it is made would leave it torn. It shows what durable words cost at least.
+/// The copy is made in place, so a crash while it is made would leave it torn. It shows what durable words cost at least.
 pub struct Region {
     lines: u64,
     pub words: Vec<u64>,

@@ -1,7 +1,6 @@
 //! The history of a state and the full images along it, executable: slow and plain, as the definitions are.
 
 ghost use Rattle.std.specs.Prelude.{◌≡◌, ◌+◌, ◌-◌, ◌^◌, ◌<◌, ◌≤◌, ◌↔◌, ℕ, Bool, List, length, IsTrue, IfOk, IfSome, None};
-ghost use Rattle.cx_base.specs.Memory.{Words};
 ghost use Rattle.cx_base.specs.VecMemory.{words_of};
 ghost use Rattle.cx_core.specs.Base.{LawfulBase};
 ghost use Rattle.cx_core.specs.History.{IsFull, full_image, image_from};
@@ -11,8 +10,8 @@ ghost use Rattle.cx_core.specs.Region.{place_of};
 ghost use Rattle.cx_core.specs.State.{HasEntries};
 ghost use Rattle.cx_core.specs.Step.{full_step_of};
 
-use cx_base::{OP_WORDS, Object, VecMemory};
-use cx_core::{Base, Entry, Linked, Local, full_step};
+use cx_base::{Object, VecMemory};
+use cx_core::{Base, Entry, Linked, Local, full_step, op_fits};
 use std::alloc::{AllocError, Global};
 
 /// Whether a region is the full image after its place. `Err` says that memory ran out.
@@ -152,9 +151,3 @@ fn step_on<O: Object>(object: &O, memory: &mut VecMemory, entry: &Entry)
         Err(_) => unreachable!(),
     }
 }
-
-/// The law that an operation is 144 words of 64 bits.
-pub(crate) fn op_fits(op: &[u64])
-    requires { length op.now ≡ OP_WORDS }
-    ensures { Words OP_WORDS op.now }
-{}

@@ -10,11 +10,11 @@ ghost use Rattle.cx_core.specs.Merge.{history_of};
 ghost use Rattle.cx_core.specs.Region.{object_part};
 ghost use Rattle.cx_core.specs.RootEvents.{CanRaise, answers_below, reads_at, reply_after, unanswered};
 
-use crate::images::{copied, merged, op_fits};
+use crate::images::{copied, merged};
 use core_guards::answers::{is_below, is_won_code, shows_current};
 use core_guards::callers::Callers;
 use cx_base::{Object, OpWords, VecMemory, root_place};
-use cx_core::{Answer, Base, Entry, Linked, Local, OBJECT_START, SeenRead};
+use cx_core::{Answer, Base, Entry, Linked, Local, OBJECT_START, SeenRead, op_fits};
 use std::alloc::{AllocError, Global};
 
 /// What a raise answers: the caller's own entry that is not answered yet, and a read.
@@ -37,7 +37,10 @@ fn can_raise<O: Object>(
     (code == local.seen_cur || is_won_code(code, local.won))
         && match read {
             None => true,
-            Some(op) => object.reads(op) && shows_current(callers, local, code),
+            Some(op) => {
+                op_fits(op);
+                object.reads(op) && shows_current(callers, local, code)
+            }
         }
 }
 

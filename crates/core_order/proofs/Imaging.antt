@@ -17,7 +17,7 @@ use Rattle.core_runs.proofs.Going.{durable_event}
 use Rattle.core_runs.proofs.Keeps.{bounds_of, event_kept, run_kept}
 use Rattle.core_runs.proofs.WholeLaws.{crash_kept}
 
-durable_run : (instance : Instance) (from : State) (events : List Event) (to : State) → Lawful instance from → Run instance from events to → durable_place instance from.words ≤ durable_place instance to.words
+pub durable_run : (instance : Instance) (from : State) (events : List Event) (to : State) → Lawful instance from → Run instance from events to → durable_place instance from.words ≤ durable_place instance to.words
 durable_run instance from [] to law run = (let same = ap (λ (s : State). durable_place instance s.words) run in omega (arith, same))
 durable_run instance from (event ∷ events) to law run =
     let first = durable_event instance event from run.0 law run.1 in

@@ -1,9 +1,10 @@
 -- The operations of a run in one order, layer by layer: the reads at a place, in the order of their answers, and then the update whose ticket it is.
-use Rattle.std.proofs.Common.{◌≡◌, ◌≢◌, ◌+◌, ◌-◌, ◌*◌, ◌<◌, ◌≤◌, ◌⊎◌, inl, inr, ℕ, zero, suc, List, [], ◌∷◌, ◌++◌, Option, None, Some, length, take, fold, get_or, map, refl, ap, sym, subst, ◌∙◌, arith}
+use Rattle.std.proofs.Common.{◌≡◌, ◌≢◌, ◌+◌, ◌-◌, ◌*◌, ◌<◌, ◌≤◌, ◌⊎◌, inl, inr, ℕ, zero, suc, Bool, IsTrue, List, [], ◌∷◌, ◌++◌, Option, None, Some, length, take, fold, get_or, map, refl, ap, sym, subst, ◌∙◌, arith}
 use Rattle.std.proofs.lemmas.Bool.{cases_eq, cases_lt}
 use Rattle.std.proofs.lemmas.List.{take_more}
 use Rattle.std.proofs.lemmas.Option.{get_or_from_slice_get, none-some, same_Some, slice_get_within}
 use Rattle.std.specs.List.{range_with_len, slice_get}
+use Rattle.cx_base.specs.Memory.{Words}
 use Rattle.cx_core.specs.declared.entry.Base.{Base}
 use Rattle.cx_core.specs.declared.entry.Entry.{Entry}
 use Rattle.cx_core.specs.declared.kinds.Event.{Event}
@@ -11,6 +12,7 @@ use Rattle.cx_core.specs.declared.local.Answer.{Answer}
 use Rattle.cx_core.specs.declared.local.Linked.{Linked}
 use Rattle.cx_core.specs.declared.local.Local.{Local}
 use Rattle.cx_core.specs.declared.local.SeenRead.{SeenRead}
+use Rattle.cx_core.specs.Base.{LawfulBase}
 use Rattle.cx_core.specs.Events.{Run}
 use Rattle.cx_core.specs.History.{image_after}
 use Rattle.cx_core.specs.Lawful.{Lawful}
@@ -25,11 +27,12 @@ use Rattle.core_replica.proofs.ReplyLaws.{reply_own}
 use Rattle.core_runs.specs.RealTime.{IsAhead, IsAnswered, IsBefore, IsPointOf, Operation, Point}
 use Rattle.core_runs.specs.RealTime.Operation.{Update, Read}
 use Rattle.core_runs.specs.RealTime.Point.{At, Behind}
-use Rattle.core_order.specs.TotalOrder.{HasOp, HasOrder, HasReply, IsIn, IsMade, IsUnmade, MayBe, PrecedesIn, Replays, StandsBefore, left_by}
+use Rattle.core_order.specs.TotalOrder.{HasOp, HasReply, IsIn, IsMade, IsUnmade, MayBe, Replays, RunsHaveOrder, StandsBefore}
 use Rattle.core_order.proofs.Appearing.{Appears, appear, runs_on, still_made}
 use Rattle.core_runs.proofs.Keeps.{bounds_of, run_kept}
 use Rattle.core_order.proofs.Layers.{in_layers, in_only, layers, layers_before, layers_once, of_layers, of_only, one_alone, only_at, only_before}
 use Rattle.core_runs.proofs.Ordering.{in_order}
+use Rattle.core_runs.proofs.WholeLaws.{entries_of}
 
 -- ---- keys: of an update twice its ticket and 1, of a read twice its place
 
@@ -97,6 +100,18 @@ own_caller caller ticket (e ∷ rest) i x at = elim (cases_eq e.caller caller) [
     first zero here is next = ap (λ (y : Linked). y.entry.caller) (sym (same_Some (record { ticket = ticket; entry = e }) x here)) ∙ is
     first (suc k) here is next = next k here
 
+-- the laws of an object that its order rests on: a step leaves a lawful image, and one that only reads leaves the image as it was
+pub record OrderLaws (lawful : List ℕ → Type 0) (step : List ℕ → List ℕ → List ℕ × List ℕ) (reads : List ℕ → Bool) : Type 0 where
+  pub keeps : (image op : List ℕ) → lawful image → Words 144 op → lawful (step image op).0
+  pub leaves : (image op : List ℕ) → lawful image → Words 144 op → IsTrue (reads op) → (step image op).0 ≡ image
+
+-- a lawful image stays lawful along entries
+lawful_after : (lawful : List ℕ → Type 0) (step : List ℕ → List ℕ → List ℕ × List ℕ) → ((image op : List ℕ) → lawful image → Words 144 op → lawful (step image op).0) → (n : ℕ) (xs : List Entry) →
+    ((i : ℕ) (x : Entry) → slice_get xs i ≡ Some x → Words 144 x.op) → (image : List ℕ) → lawful image → lawful (image_after step image (take n xs))
+lawful_after lawful step keeps zero xs words image is = is
+lawful_after lawful step keeps (suc n) [] words image is = is
+lawful_after lawful step keeps (suc n) (x ∷ xs) words image is = lawful_after lawful step keeps n xs (λ i y at. words (suc i) y at) (step image x.op).0 (keeps image x.op is (words zero x refl))
+
 -- what had not begun did not take effect, and what was answered did
 ahead_unmade : (s : State) (o : Operation) → IsAhead s o → IsMade s o → ⊥
 ahead_unmade s (Update c i) ahead made = (let same = ap (λ (x : Local). length x.own) (same_Some made.0 ahead.0 (sym made.1 ∙ ahead.1)) in let below = made.2 in let past = ahead.2 in absurd (omega (arith, same, below, past)))
@@ -115,7 +130,7 @@ module _ (instance : Instance) where
       (l, answered.1, slice_get_within l.own i _ own.own)
   answered_made s (Read c i) law answered = answered
 
-  module _ (to : State) (law : Lawful instance to) where
+  module _ (lines : ℕ) (lawful : List ℕ → Type 0) (laws : OrderLaws lawful instance.step instance.reads) (based : LawfulBase lines lawful instance.base) (to : State) (law : Lawful instance to) where
     abbrev base : ℕ
     base = instance.base.place
 
@@ -161,6 +176,10 @@ module _ (instance : Instance) where
     abbrev image_to : ℕ → List ℕ
     image_to place = image_after instance.step (object_part instance.base.words) (take (place - base) history)
 
+    -- it is lawful
+    image_lawful : (place : ℕ) → lawful (image_to place)
+    image_lawful place = lawful_after lawful instance.step laws.keeps (place - base) history (λ i x at. (entries_of instance to law based.numbers i x at).op) (object_part instance.base.words) based.object
+
     -- reads at a place leave it, and each has the object's reply
     replays_reads : (place : ℕ) (xs ys : List Operation) → ((o : Operation) → IsIn xs o → IsMade to o × (key o ≡ 2 * place)) → Replays instance to (image_to place) ys → Replays instance to (image_to place) (xs ++ ys)
     replays_reads place [] ys all rest = rest
@@ -185,7 +204,8 @@ module _ (instance : Instance) where
               let mine : has.0 ≡ l = same_Some has.0 l (sym has.1 ∙ one.0.1) in
               let same : has.2 ≡ x.0 = same_Some has.2 x.0 (sym has.3 ∙ ap (λ (y : Local). slice_get y.seen_reads i) mine ∙ x.1) in
               has.4 ∙ ap (λ (y : SeenRead). y.reply) same ∙ read.reply ∙ ap (λ (p : ℕ). (instance.step (image_to p) x.0.op).1) here)),
-          replays_reads place xs ys (λ o has. all o (inr has)) rest,
+          subst (λ (image : List ℕ). Replays instance to image (xs ++ ys)) (sym (laws.leaves (image_to place) x.0.op (image_lawful place) read.words read.reads))
+              (replays_reads place xs ys (λ o has. all o (inr has)) rest),
         )
 
     module _ (all : List Operation) (each : (o : Operation) → IsMade to o → IsIn all o) (only : (o : Operation) → IsIn all o → IsMade to o) (once : (o : Operation) → StandsBefore all o o → ⊥) where
@@ -280,8 +300,8 @@ module _ (instance : Instance) where
 
   -- ---- the order
 
-  pub one_order : (from to : State) (events : List Event) → Lawful instance from → IsUnmade from → Run instance from events to → HasOrder instance from events to
-  one_order from to events start none run =
+  pub one_order : (lines : ℕ) (lawful : List ℕ → Type 0) → OrderLaws lawful instance.step instance.reads → LawfulBase lines lawful instance.base → RunsHaveOrder instance
+  one_order lines lawful laws based events from to start none run =
       let law = run_kept instance from events to start run in
       let a = appear instance from events to start run in
       let nothing = unmade from none in
@@ -293,7 +313,7 @@ module _ (instance : Instance) where
       record {
         order = layers key_of first n a.all;
         is = record {
-          each = λ o made. (let w = within to law o made in in_layers key_of n first a.all o (each o made) w.from w.below);
+          each = λ o made. (let w = within lines lawful laws based to law o made in in_layers key_of n first a.all o (each o made) w.from w.below);
           only = λ o has. only o (of_layers key_of n first a.all o has).0;
           once = λ o twice. a.once o (layers_once key_of n first a.all o twice);
           real_time = λ x y precedes made_y. (
@@ -308,14 +328,14 @@ module _ (instance : Instance) where
               let at_x = key_at to x p.0 p.1 in
               let at_y = key_at to y q.0 q.1 in
               let stood = a.moments precedes.before precedes.after precedes.moment x y precedes.are precedes.comes_by made_mid (nothing x) made_y (ahead_unmade precedes.moment y precedes.ahead) in
-              let w = within to law x made_x in
-              let v = within to law y made_y in
+              let w = within lines lawful laws based to law x made_x in
+              let v = within lines lawful laws based to law y made_y in
               layers_before key_of n first a.all x y (each x made_x) (each y made_y) w.from v.below (elim (cases_lt (key_of x) (key_of y)) [
                 | inl less ↦ inl less
                 | inr past ↦ inr (omega (arith, rise, at_x, at_y, past), stood)
               ]));
           replays = subst (λ (image : List ℕ). Replays instance to image (layers key_of first n a.all)) (ap (λ (k : ℕ). image_after instance.step (object_part instance.base.words) (take k law.history)) (let e : instance.base.place - instance.base.place ≡ 0 = omega arith in e))
-              (replays to law a.all each only a.once (length law.history) instance.base.place first refl (omega arith) refl);
+              (replays lines lawful laws based to law a.all each only a.once (length law.history) instance.base.place first refl (omega arith) refl);
         };
       }
 

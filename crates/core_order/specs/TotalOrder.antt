@@ -8,6 +8,7 @@ use Rattle.cx_core.specs.declared.local.Linked.{Linked}
 use Rattle.cx_core.specs.declared.local.Local.{Local}
 use Rattle.cx_core.specs.declared.local.SeenRead.{SeenRead}
 use Rattle.cx_core.specs.Events.{Run}
+use Rattle.cx_core.specs.Lawful.{Lawful}
 use Rattle.cx_core.specs.Region.{object_part}
 use Rattle.cx_core.specs.State.{EachLocal, Instance, State}
 
@@ -49,16 +50,12 @@ abbrev pub MayBe : Instance → Operation → List ℕ → Type 0
 MayBe instance (Update caller i) op = Unit {0}
 MayBe instance (Read caller i) op = IsTrue (instance.reads op)
 
--- what it makes of the object's image: nothing, where it only reads
-abbrev pub left_by : Instance → Operation → List ℕ → List ℕ → List ℕ
-left_by instance (Update caller i) op image = (instance.step image op).0
-left_by instance (Read caller i) op image = image
-
--- The object alone, from an image on, makes these operations one after another, and each reply that was given is the object's.
+-- The object alone, from an image on, makes these operations one after another, reads among them, each by its step. Each reply that was given is
+-- the one of this step.
 abbrev pub Replays : Instance → State → List ℕ → List Operation → Type 0
 Replays instance s image [] = Unit {0}
 Replays instance s image (o ∷ os) =
-    (op : List ℕ) × HasOp s o op × MayBe instance o op × ((reply : List ℕ) → HasReply s o reply → reply ≡ (instance.step image op).1) × Replays instance s (left_by instance o op image) os
+    (op : List ℕ) × HasOp s o op × MayBe instance o op × ((reply : List ℕ) → HasReply s o reply → reply ≡ (instance.step image op).1) × Replays instance s (instance.step image op).0 os
 
 -- A list has each operation that took effect in the run of these events, reads among them, each once, and no others. Where one was answered before
 -- another one began, it stands before it. And the object alone, which makes them in this order, gives each reply that was given.
@@ -77,3 +74,7 @@ pub record HasOrder (instance : Instance) (from : State) (events : List Event) (
 -- a state in which no operation took effect
 abbrev pub IsUnmade : State → Type 0
 IsUnmade s = EachLocal s.locals (λ _ l. (l.own ≡ []) × (l.seen_reads ≡ []))
+
+-- each run from such a state has such a list
+abbrev pub RunsHaveOrder : Instance → Type 0
+RunsHaveOrder instance = (events : List Event) (from to : State) → Lawful instance from → IsUnmade from → Run instance from events to → HasOrder instance from events to

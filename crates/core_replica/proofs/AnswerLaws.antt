@@ -36,6 +36,7 @@ answer_stays instance history end_ end' l l' x old up floor = record {
 pub read_stays : (instance : Instance) (history : List Entry) (end_ end' : ℕ) (l l' : Local) (x : SeenRead) → IsRead instance history end_ l x → end_ ≤ end' → l.floor ≤ l'.floor →
     length l.answered ≤ length l'.answered → IsAbove l l' x → IsRead instance history end' l' x
 read_stays instance history end_ end' l l' x old up floor more above = record {
+  words = old.words;
   reads = old.reads;
   reply = old.reply;
   from = old.from;
@@ -124,6 +125,7 @@ answers_longer instance history history' more words locals is within old =
         reads = λ i x at. (
             let was = are.reads i x at in
             record {
+              words = was.words;
               reads = was.reads;
               reply = was.reply ∙ sym (after_stays instance history more x.place x.op (omega (arith, was.durable)));
               from = was.from;

@@ -214,6 +214,7 @@ module _ (instance : Instance) (history : List Entry) (words : List ℕ) (locals
 
       is_read : IsRead instance history end_ l_read (read_now op)
       is_read = record {
+        words = guard.1.4;
         reads = guard.1.0;
         reply = ap (λ h. reply_after instance h place op) same;
         from = shown_from code guard.1.3;

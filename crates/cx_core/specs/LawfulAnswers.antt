@@ -1,6 +1,7 @@
 -- The lawful state's part on answers: each is the history's, and durable.
 use Rattle.std.specs.Prelude.{◌≡◌, ◌<◌, ◌≤◌, ℕ, IsTrue, List, Some, length, slice_get, slice_index}
 use Rattle.cx_base.specs.Codes.{root_place_of}
+use Rattle.cx_base.specs.Memory.{Words}
 use Rattle.cx_core.specs.declared.entry.Entry.{Entry}
 use Rattle.cx_core.specs.declared.local.Answer.{Answer}
 use Rattle.cx_core.specs.declared.local.Linked.{Linked}
@@ -22,10 +23,11 @@ pub record IsAnswer (instance : Instance) (history : List Entry) (end_ : ℕ) (l
   pub durable : x.ticket < end_
   pub told : x.ticket < l.floor
 
--- an answered read only reads, and has the object's reply after the entries below its place. The place is from the base's on
--- and durable, and at most the caller's floor. As many of the caller's own entries as are counted have tickets below it,
+-- an answered read's operation is words and only reads, and it has the object's reply after the entries below its place. The place
+-- is from the base's on and durable, and at most the caller's floor. As many of the caller's own entries as are counted have tickets below it,
 -- all of them answered, and each later one has a ticket at or above it.
 pub record IsRead (instance : Instance) (history : List Entry) (end_ : ℕ) (l : Local) (x : SeenRead) : Type 0 where
+  pub words : Words 144 x.op
   pub reads : IsTrue (instance.reads x.op)
   pub reply : x.reply ≡ reply_after instance history x.place x.op
   pub from : instance.base.place ≤ x.place

@@ -3,6 +3,7 @@
 use Rattle.std.specs.Prelude.{◌≡◌, ◌+◌, ◌-◌, ◌<◌, ◌≤◌, ◌⊎◌, ℕ, max, nat_lt, IsTrue, true, false, if◌then◌else◌, List, [], ◌∷◌, ◌++◌, length, take, slice_get, Option, Some, None, IsNone}
 use Rattle.std.specs.List.{Contains}
 use Rattle.cx_base.specs.Codes.{root_code_of, root_place_of, root_replica_of}
+use Rattle.cx_base.specs.Memory.{Words}
 use Rattle.cx_core.specs.declared.entry.Entry.{Entry}
 use Rattle.cx_core.specs.declared.local.Answer.{Answer}
 use Rattle.cx_core.specs.declared.local.HeldDowngraded.{HeldDowngraded}
@@ -44,11 +45,11 @@ abbrev pub ShowsPlace : ℕ → ℕ → Option HeldShared → Type 0
 ShowsPlace callers code None = ⊥
 ShowsPlace callers code (Some h) = (h.replica ≡ root_replica_of callers code) × Contains h.loaded (0, root_place_of callers code)
 
--- a raise may answer a read where its operation only reads and its code was last loaded from CUR, with nothing since that
--- ends its use, and where the replica that the code names is held shared at the code's place
+-- a raise may answer a read where its operation, which is 144 words, only reads and its code was last loaded from CUR, with
+-- nothing since that ends its use, and where the replica that the code names is held shared at the code's place
 abbrev pub CanAnswer : Instance → ℕ → Local → Option (List ℕ) → Type 0
 CanAnswer instance code l None = Unit {0}
-CanAnswer instance code l (Some op) = IsTrue (instance.reads op) × (code ≡ l.seen_cur) × IsTrue l.fresh × ShowsPlace instance.callers code l.shared
+CanAnswer instance code l (Some op) = IsTrue (instance.reads op) × (code ≡ l.seen_cur) × IsTrue l.fresh × ShowsPlace instance.callers code l.shared × Words 144 op
 
 -- a caller may raise DUR by the code last found in CUR or by the one that it won with
 abbrev pub CanRaise : Instance → ℕ → Option (List ℕ) → Local → Type 0

@@ -1,6 +1,9 @@
 //! What is linked into the queue, and what a service begins with.
 
-use cx_base::{Items, OpWords};
+ghost use Rattle.std.specs.Prelude.{◌≡◌, length};
+ghost use Rattle.cx_base.specs.Memory.{Words};
+
+use cx_base::{Items, OP_WORDS, OpWords};
 
 /// One update: its caller, its number among the caller's updates, and the operation of the object.
 #[derive(Clone, Debug, PartialEq, Eq, Drop)]
@@ -28,3 +31,9 @@ pub struct Image {
     pub root: u64,
     pub pairs: Items<(u64, u64)>,
 }
+
+/// The law that an operation is 144 words of 64 bits.
+pub fn op_fits(op: &[u64])
+    requires { length op.now ≡ OP_WORDS }
+    ensures { Words OP_WORDS op.now }
+{}

@@ -34,7 +34,7 @@ mod part;
 mod region;
 mod step;
 
-pub use entry::{Base, Entry, Image};
+pub use entry::{Base, Entry, Image, op_fits};
 pub use history::{
     full_image_begins, full_image_goes_on, full_images_are_lawful, full_images_stay,
     full_regions_go_on, full_step_keeps,

@@ -117,7 +117,7 @@ module _ {O Op Reply Store : Type 0} {o : Ghosts O} {m : Meaning Op Reply Store}
         times = l.times;
         images = l.images;
       } in
-      let order : IsLinearizedBy leaves = record { linearizable = ran.order.linearizable; history = ran.order.history; calls = ran.order.calls; one_order = ran.order.one_order } in
+      let order : IsLinearizedBy leaves = record { linearizable = ran.order.linearizable; history = ran.order.history; calls = ran.order.calls; images = ran.order.images; one_order = ran.order.one_order } in
       subst (λ (x : Running (Unit {0})). IsClosedLinearizable x (object_instance (o.step object) (o.only_reads object) life.clients remains.trail.base) ran.seats remains) same
       (subst (λ (x : Instance). IsClosedLinearizable of_table x ran.seats remains) steps_same (record { leaves = leaves; order = order }))
 

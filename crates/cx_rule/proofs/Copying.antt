@@ -1,23 +1,28 @@
 -- Copying a replica that is held shared over one that is held exclusively, word by word, and releasing it.
-use Rattle.std.proofs.Common.{false, true, ◌≡◌, ◌≢◌, ◌*◌, ◌==◌, ◌<◌, ◌⊎◌, inl, inr, ℕ, cond, List, [], ◌∷◌, length, set, slice_index, refl, ap, sym, subst, ◌∙◌, eq-eqb, ne_eqb, Option, Some, None}
+use Rattle.std.proofs.Common.{false, true, ◌≡◌, ◌≢◌, ◌*◌, ◌==◌, ◌<◌, ◌⊎◌, inl, inr, ℕ, Bool, cond, List, [], ◌∷◌, ◌++◌, length, set, slice_index, refl, ap, sym, subst, ◌∙◌, eq-eqb, ne_eqb, Option, Some, None}
 use Rattle.std.proofs.lemmas.Bool.{cases_eq}
-use Rattle.std.proofs.lemmas.List.{ext_get_or, get_or-set_other, get_or-set_same, length-set}
+use Rattle.std.proofs.lemmas.List.{append-nil, ext_get_or, get_or-set_other, get_or-set_same, length-set}
 use Rattle.std.proofs.lemmas.Option.{none-some, same_Some}
+use Rattle.cx_base.specs.Codes.{root_place_of}
 use Rattle.cx_base.specs.Noted.{Note, NotesLead}
 use Rattle.cx_core.specs.declared.entry.Base.{Base}
 use Rattle.cx_core.specs.declared.kinds.Kind.TheVariants.{BackOff}
 use Rattle.cx_core.specs.declared.local.HeldShared.{HeldShared}
 use Rattle.cx_core.specs.declared.local.Local.{Local}
-use Rattle.cx_core.specs.Events.{new_word, step_word}
+use Rattle.cx_core.specs.Events.{local_after, new_word, step_word}
+use Rattle.cx_core.specs.Merge.{scene_of}
 use Rattle.cx_core.specs.Region.{region_words}
 use Rattle.cx_core.specs.Rights.{shared_on}
+use Rattle.cx_core.specs.Shown.{shown}
 use Rattle.cx_core.specs.State.{Instance, State}
 use Rattle.cx_core.proofs.HeldLists.{mapped}
+use Rattle.cx_rule.specs.declared.rule.ImageTimes.{ImageTimes}
 use Rattle.cx_rule.specs.declared.rule.Known.{Known}
 use Rattle.cx_rule.specs.Fitting.{AgreeTo, AreEqual, TellsWord, TellsWords, loaded_of, loads_of, word_noted}
 use Rattle.cx_rule.specs.Rule.{IsOrigin}
-use Rattle.cx_rule.specs.Seats.{place_noted}
-use Rattle.cx_rule.specs.Steps.{IsCopyLearned, IsImageLearned}
+use Rattle.cx_rule.specs.Seats.{known_after, place_noted}
+use Rattle.cx_rule.specs.Steps.{IsCopyLearned, IsImageLearned, times_of}
+use Rattle.cx_rule.specs.Timing.{IsImageTaken}
 use Rattle.cx_rule.proofs.Behind.{shared_there}
 use Rattle.cx_rule.proofs.Keeps.{learns_shown}
 
@@ -108,6 +113,23 @@ learns_copied instance r known word small on at agree words within locals law l 
       fits = plain.fits;
     }
 
+-- the times of an image are added where CUR was loaded
+image_added : (instance : Instance) (known : Known) (l l' : Local) (after : Known) (b : Bool) → known.times.seen ≡ b → after.local.steps ≡ l'.steps → known.local ≡ shown l →
+    (known.times.images ++ cond b (times_of instance known after ∷ []) [] ≡ known.times.images)
+    ⊎ ((x : ImageTimes) × (known.times.images ++ cond b (times_of instance known after ∷ []) [] ≡ known.times.images ++ x ∷ []) × IsImageTaken instance.callers l l' known.times x)
+image_added instance known l l' after true seen steps shows = inr (
+  times_of instance known after,
+  refl,
+  record {
+    seen = seen;
+    begun = refl;
+    ended = steps;
+    place = ap (λ (x : Local). root_place_of instance.callers x.seen_cur) shows;
+    durable = ap (λ (x : Local). root_place_of instance.callers x.raised) shows;
+  },
+)
+image_added instance known l l' after false seen steps shows = inl (append-nil known.times.images)
+
 -- The release of a shared right all of whose words were loaded makes these one image more that the caller took: they are a full image.
 pub learns_taking : (instance : Instance) (r : ℕ) (image : List ℕ) (known : Known) (word : ℕ) → r < 2 * instance.callers → shared_on known.local ≡ Some r → word ≡ step_word instance (BackOff r) known.local →
     TellsWords known (length instance.base.words) image → IsImageLearned instance (BackOff r) image known word (λ x. new_word instance (BackOff r) known.local x)
@@ -129,7 +151,14 @@ learns_taking instance r image known word small on at tells words within locals 
       notes = plain.notes;
       traced = plain.traced;
       sets = plain.sets;
-      timed = plain.timed;
+      timed = record {
+        linked = plain.timed.linked;
+        answered = plain.timed.answered;
+        loaded = plain.timed.loaded;
+        reads = plain.timed.reads;
+        current = plain.timed.current;
+        images = image_added instance known l (local_after instance (scene_of instance state) (BackOff r) l) (known_after instance (BackOff r) known (slice_index words word)) known.times.seen refl (ap (λ (x : Local). x.steps) plain.shows) shows;
+      };
       imaged = inr (image, refl, subst (IsOrigin instance law.history) same there.1);
       fits = plain.fits;
     }

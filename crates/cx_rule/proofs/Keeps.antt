@@ -39,6 +39,7 @@ use Rattle.cx_rule.specs.Timing.{AddTimes, AreTimes}
 use Rattle.cx_rule.specs.Told.{KnownOfLoad}
 use Rattle.cx_rule.proofs.Telling.{told_holds}
 use Rattle.cx_rule.proofs.Behind.{behind_notes}
+use Rattle.cx_rule.proofs.Current.{moves_on}
 use Rattle.cx_rule.proofs.Entries.{entries_from}
 use Rattle.cx_core.proofs.Locals.{slice_get-last}
 use Rattle.cx_rule.proofs.Reached.{run_push}
@@ -125,7 +126,7 @@ event_recorded instance kind s id known after word new held at learns =
             (λ (e : (seat ≡ id) × (after ∷ [] ≡ view)). (
             let only = only_item after i k (ap (λ v. slice_get v i) e.1 ∙ item) in
             let was = subst (λ (x : Local). AreTimes instance opening events caller x known.times) mine.shows (held.times id 0 (known ∷ []) known at refl) in
-            let now = times_added instance opening events event state state' caller l l' held.reached.ran ran mine.of_caller there known.times after.times was learnt.timed in
+            let now = times_added instance opening events event state state' caller l l' held.reached.ran ran mine.of_caller there refl (moves_on instance event state state' caller l l' law mine.of_caller there refl makes refl refl) known.times after.times was learnt.timed in
             subst (λ (x : Known). AreTimes instance opening (events ++ event ∷ []) x.local.number x.local x.times) only.1
             (subst (λ n. AreTimes instance opening (events ++ event ∷ []) n after.local after.times) (sym number) (subst (λ (x : Local). AreTimes instance opening (events ++ event ∷ []) caller x after.times) (sym learnt.shows) now))))
             (λ (e : (seat ≢ id) × (get_elem? s.views seat ≡ some view)). times_longer instance opening events (event ∷ []) k.local.number k.local k.times (held.times seat i view k e.1 item))
@@ -183,8 +184,8 @@ learns_there instance kind known words word new fits at locals law l of_caller s
       traced = subst (λ (n : ℕ). IsTraced instance law.history (accesses_after kind known n) (local_after instance scene kind l)) same
           (traced_next instance state law caller l of_caller known shows traced full kind seen.guard fits);
       sets = subst (λ (n : ℕ). SetNotesHold instance state law.history (sets_after kind known n)) same (sets_next instance state law caller l of_caller known kind seen.guard sets);
-      timed = subst (λ (x : Local). AddTimes l (local_after instance scene kind l) known.times (times_by kind x known.times found)) (sym shows)
-          (subst (λ (n : ℕ). AddTimes l (local_after instance scene kind l) known.times (times_by kind (shown l) known.times n)) same (times_next instance scene kind l (found_by instance kind l words) known.times seen.timed));
+      timed = subst (λ (x : Local). AddTimes instance.callers l (local_after instance scene kind l) known.times (times_by kind x known.times found)) (sym shows)
+          (subst (λ (n : ℕ). AddTimes instance.callers l (local_after instance scene kind l) known.times (times_by kind (shown l) known.times n)) same (times_next instance scene kind l (found_by instance kind l words) known.times seen.timed));
       imaged = inl refl;
       fits = fits;
     }

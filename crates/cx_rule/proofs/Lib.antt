@@ -10,6 +10,7 @@ pub mod Keeps
 pub mod Fitting
 pub mod Giving
 pub mod Copying
+pub mod Current
 pub mod Opening
 pub mod Moves
 pub mod Replies

@@ -154,6 +154,9 @@ opening_held instance limits one few place at_place full =
             all_reads = refl;
             begun = λ k x there. absurd (none-some x there);
             read = λ k x there. absurd (none-some x there);
+            seen = λ fresh. absurd (false≢true fresh);
+            current = λ seen. absurd (false≢true seen);
+            images = λ k x there. absurd (none-some x there);
           }));
       images = λ seat i v known view_at item. (
           let first = only_view view v seat view_at in

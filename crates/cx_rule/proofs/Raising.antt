@@ -70,12 +70,14 @@ answered_adds olds news answers ts n m same given (inr one) =
 -- its time, and that of a read that it answers
 raise_adds : (instance : Instance) (scene : Scene) (code : ℕ) (known : Known) (l : Local) → known.local ≡ shown l → (answers : List Answer) → answers ≡ answers_below instance scene.history (root_place_of instance.callers code) (unanswered l) →
     (count : ℕ) (read : Option (List ℕ × List ℕ)) → CanRaise instance code (read_op_in read) known.local →
-    AddTimes l (raised_by instance scene code (read_op_in read) l) known.times (times_raised answers (read_at (root_place_of instance.callers code) count read) known)
+    AddTimes instance.callers l (raised_by instance scene code (read_op_in read) l) known.times (times_raised answers (read_at (root_place_of instance.callers code) count read) known)
 raise_adds instance scene code known l shows answers given count read can = record {
   linked = inl (refl, refl);
   answered = answered_adds l.answered _ answers known.times.answered (one_more known.local.steps) (one_more l.steps) steps given (answers_are instance scene.history (root_place_of instance.callers code) (unanswered l));
   loaded = λ is. absurd (false≢true is);
   reads = by read can;
+  current = inl (refl, refl, λ is. absurd (false≢true is));
+  images = inl refl;
 }
   where
     steps : one_more known.local.steps ≡ one_more l.steps

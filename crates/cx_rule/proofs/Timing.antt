@@ -19,9 +19,12 @@ use Rattle.cx_core.specs.Shown.{shown}
 use Rattle.cx_core.specs.State.{Instance, Scene, State, one_more}
 use Rattle.cx_core.proofs.Locals.{slice_get-push}
 use Rattle.cx_core.proofs.Putting.{either}
+use Rattle.cx_base.specs.Codes.{root_place_of}
+use Rattle.cx_rule.specs.declared.rule.ImageTimes.{ImageTimes}
 use Rattle.cx_rule.specs.declared.rule.Times.{Times}
 use Rattle.cx_rule.specs.Seats.{times_by}
-use Rattle.cx_rule.specs.Timing.{AddTimes, AreTimes, BeginsAt, ComesBy, EndsAt}
+use Rattle.cx_rule.specs.Timing.{AddTimes, AreTimes, BeginsAt, BelowAt, ComesBy, DurableAt, EndsAt}
+use Rattle.cx_rule.proofs.Current.{MovesOn}
 
 module _ (instance : Instance) (from : State) (events : List Event) where
   -- a longer run comes by the same moments
@@ -43,6 +46,20 @@ module _ (instance : Instance) (from : State) (events : List Event) where
   ends_longer : (more : List Event) (caller : ℕ) (operation : Operation) (steps : ℕ) → EndsAt instance from events caller operation steps → EndsAt instance from (events ++ more) caller operation steps
   ends_longer more caller operation steps at = record { by = by_longer more caller steps at.by; answered = at.answered }
 
+  below_longer : (more : List Event) (caller place higher steps : ℕ) → place ≤ higher → BelowAt instance from events caller place steps → BelowAt instance from (events ++ more) caller higher steps
+  below_longer more caller place higher steps up at = record {
+    by = by_longer more caller steps at.by;
+    next = (at.next.0, at.next.1 ++ more, ap (λ (es : List Event). es ++ more) at.next.2, at.next.3);
+    below = λ c l here. (
+        let was = at.below c l here in (
+          λ i x there. (let below = was.0 i x there in omega (arith, below, up)),
+          λ i x there. (let below = was.1 i x there in omega (arith, below, up)),
+        ));
+  }
+
+  durable_longer : (more : List Event) (caller place steps : ℕ) → DurableAt instance from events caller place steps → DurableAt instance from (events ++ more) caller place steps
+  durable_longer more caller place steps at = record { by = by_longer more caller steps at.by; last = at.last; durable = at.durable }
+
   -- so the times of a caller that made none of the further steps stay
   pub times_longer : (more : List Event) (caller : ℕ) (l : Local) (t : Times) → AreTimes instance from events caller l t → AreTimes instance from (events ++ more) caller l t
   times_longer more caller l t are = record {
@@ -54,11 +71,14 @@ module _ (instance : Instance) (from : State) (events : List Event) where
     all_reads = are.all_reads;
     begun = λ i x at. begins_longer more caller (Read caller i) x.0 (are.begun i x at);
     read = λ i x at. ends_longer more caller (Read caller i) x.1 (are.read i x at);
+    seen = are.seen;
+    current = λ is. below_longer more caller (root_place_of instance.callers l.seen_cur) (root_place_of instance.callers l.seen_cur) t.loaded (omega arith) (are.current is);
+    images = λ i x at. (let both = are.images i x at in (below_longer more caller x.place x.place x.begun (omega arith) both.0, durable_longer more caller x.durable x.ended both.1));
   }
 
   -- a caller's own step
   module _ (event : Event) (state state' : State) (caller : ℕ) (x x' : Local) (run : Run instance from events state) (run' : Run instance from (events ++ event ∷ []) state')
-      (here : slice_get state.locals caller ≡ Some x) (here' : slice_get state'.locals caller ≡ Some x') where
+      (here : slice_get state.locals caller ≡ Some x) (here' : slice_get state'.locals caller ≡ Some x') (own : event.caller ≡ caller) (moves : MovesOn instance state state' x x') where
     abbrev now_on : List Event
     now_on = events ++ event ∷ []
 
@@ -70,7 +90,7 @@ module _ (instance : Instance) (from : State) (events : List Event) where
     abbrev behind_step : ComesBy instance from now_on caller x'.steps
     behind_step = record { before = now_on; after = []; are = sym (append-nil now_on); moment = state'; run = run'; local = x'; of_caller = here'; count = refl }
 
-    pub times_added : (t t' : Times) → AreTimes instance from events caller (shown x) t → AddTimes x x' t t' → AreTimes instance from now_on caller (shown x') t'
+    pub times_added : (t t' : Times) → AreTimes instance from events caller (shown x) t → AddTimes instance.callers x x' t t' → AreTimes instance from now_on caller (shown x') t'
     times_added t t' are add = record {
       all_linked = elim add.linked [
         | inl same ↦ ap length same.1 ∙ are.all_linked ∙ sym same.0
@@ -133,18 +153,54 @@ module _ (instance : Instance) (from : State) (events : List Event) where
               (record { by = behind_step; answered = (x', here', (let e : i < length x'.seen_reads = omega (arith, all, is, one) in e)) }))
         ]
       ];
+      seen = λ fresh. elim add.current [
+        | inl same ↦ same.1 ∙ are.seen (same.2 fresh)
+        | inr loads ↦ loads.1
+      ];
+      current = λ is. elim add.current [
+        | inl same ↦ subst (BelowAt instance from now_on caller (root_place_of instance.callers x'.seen_cur)) (sym same.0)
+            (below_longer (event ∷ []) caller (root_place_of instance.callers x.seen_cur) (root_place_of instance.callers x'.seen_cur) t.loaded moves.rises (are.current (sym same.1 ∙ is)))
+        | inr loads ↦ subst (BelowAt instance from now_on caller (root_place_of instance.callers x'.seen_cur)) (sym loads.0) (record {
+          by = at_step;
+          next = (event, [], refl, own);
+          below = λ c l at. (
+              let finds = moves.finds loads.2 loads.3 in
+              let was = moves.answered c l at in (
+                λ i y there. (let below = was.0 i y there in omega (arith, below, finds)),
+                λ i y there. (let below = was.1 i y there in omega (arith, below, finds)),
+              ));
+        })
+      ];
+      images = λ i y at. elim add.images [
+        | inl same ↦ images_longer i y (ap (λ ys. slice_get ys i) (sym same) ∙ at)
+        | inr more ↦ elim (slice_get-push t.images more.0 i y (ap (λ ys. slice_get ys i) (sym more.1) ∙ at)) [
+          | inl was ↦ images_longer i y was
+          | inr new ↦ (
+              let is = more.2 in
+              subst (λ (z : ImageTimes). BelowAt instance from now_on caller z.place z.begun × DurableAt instance from now_on caller z.durable z.ended) new.1 (
+                subst (λ n. BelowAt instance from now_on caller more.0.place n) (sym is.begun)
+                    (below_longer (event ∷ []) caller (root_place_of instance.callers x.seen_cur) more.0.place t.loaded (let place = is.place in omega (arith, place)) (are.current is.seen)),
+                subst (λ n. DurableAt instance from now_on caller more.0.durable n) (sym is.ended) (record { by = behind_step; last = (events, event, refl, own); durable = (let raised = moves.raised in let durable = is.durable in omega (arith, raised, durable)) }),
+              ))
+        ]
+      ];
     }
+      where
+        images_longer : (i : ℕ) (y : ImageTimes) → slice_get t.images i ≡ Some y → BelowAt instance from now_on caller y.place y.begun × DurableAt instance from now_on caller y.durable y.ended
+        images_longer i y was = (let both = are.images i y was in (below_longer (event ∷ []) caller y.place y.place y.begun (omega arith) both.0, durable_longer (event ∷ []) caller y.durable y.ended both.1))
 
 -- a step that links, answers and loads nothing
-abbrev Adds : Times → Local → Local → Type 0
-Adds t l l' = AddTimes l l' t t
+abbrev Adds : ℕ → Times → Local → Local → Type 0
+Adds callers t l l' = AddTimes callers l l' t t
 
-same_times : (l l' : Local) (t : Times) → l'.own ≡ l.own → l'.answered ≡ l.answered → l'.seen_reads ≡ l.seen_reads → (l'.fresh ≡ true → l.fresh ≡ true) → Adds t l l'
-same_times l l' t own answered reads fresh = record {
+same_times : (callers : ℕ) (l l' : Local) (t : Times) → l'.own ≡ l.own → l'.answered ≡ l.answered → l'.seen_reads ≡ l.seen_reads → (l'.fresh ≡ true → l.fresh ≡ true) → Adds callers t l l'
+same_times callers l l' t own answered reads fresh = record {
   linked = inl (ap length own, refl);
   answered = inl (ap length answered, refl);
   loaded = λ is. (ap length reads, inl (fresh is, refl));
   reads = inl (ap length reads, refl);
+  current = inl (refl, refl, fresh);
+  images = inl refl;
 }
 
 never : (l : Local) → false ≡ true → l.fresh ≡ true
@@ -155,53 +211,63 @@ ended true l is = absurd (false≢true is)
 ended false l is = is
 
 -- a link that won, and one that lost
-linking : (b : Bool) (instance : Instance) (l : Local) (j found : ℕ) (t : Times) → AddTimes l (cond b (linked l j) (lost instance.callers l found)) t (record t { linked = t.linked ++ cond b (l.steps ∷ []) [] })
+linking : (b : Bool) (instance : Instance) (l : Local) (j found : ℕ) (t : Times) → AddTimes instance.callers l (cond b (linked l j) (lost instance.callers l found)) t (record t { linked = t.linked ++ cond b (l.steps ∷ []) [] })
 linking true instance l j found t = record {
   linked = inr (length-append l.own _, refl);
   answered = inl (refl, refl);
   loaded = λ is. (refl, inl (is, refl));
   reads = inl (refl, refl);
+  current = inl (refl, refl, λ is. is);
+  images = inl refl;
 }
 linking false instance l j found t = record {
   linked = inl (refl, append-nil t.linked);
   answered = inl (refl, refl);
   loaded = λ is. (refl, inl (is, refl));
   reads = inl (refl, refl);
+  current = inl (refl, refl, λ is. is);
+  images = inl refl;
 }
 
 loading : (b : Bool) (l : Local) (loaded : ℕ) → l.fresh ≡ b → ((l.fresh ≡ true) × (cond b loaded l.steps ≡ loaded)) ⊎ ((l.fresh ≡ false) × (cond b loaded l.steps ≡ l.steps))
 loading true l loaded is = inl (is, refl)
 loading false l loaded is = inr (is, refl)
 
+finding : (b : Bool) (l : Local) (t : Times) → l.fresh ≡ b → ((cond b t.loaded l.steps ≡ t.loaded) × (cond b t.seen true ≡ t.seen) × (true ≡ true → l.fresh ≡ true)) ⊎ ((cond b t.loaded l.steps ≡ l.steps) × (cond b t.seen true ≡ true) × (l.fresh ≡ false) × (true ≡ true))
+finding true l t is = inl (refl, refl, λ _. is)
+finding false l t is = inr (refl, refl, is, refl)
+
 -- a raise's times are its answers'
 abbrev pub IsTimed : Kind → Type 0
 IsTimed (Raise code read) = ⊥
 IsTimed kind = Unit {0}
 
-pub times_next : (instance : Instance) (scene : Scene) (kind : Kind) (l : Local) (found : ℕ) (t : Times) → IsTimed kind → AddTimes l (next instance scene kind l found) t (times_by kind (shown l) t found)
+pub times_next : (instance : Instance) (scene : Scene) (kind : Kind) (l : Local) (found : ℕ) (t : Times) → IsTimed kind → AddTimes instance.callers l (next instance scene kind l found) t (times_by kind (shown l) t found)
 times_next instance scene (Raise code read) l found t timed = absurd timed
-times_next instance scene (WriteCell j i v) l found t timed = same_times l _ t refl refl refl (never l)
+times_next instance scene (WriteCell j i v) l found t timed = same_times instance.callers l _ t refl refl refl (never l)
 times_next instance scene (Link j) l found t timed = linking (found == seen_word l.seen_slot) instance l j found t
 times_next instance scene (TryExclusive r) l found t timed =
-    either (Adds t l) (found == 0) (taken instance scene r l) (refused_by instance.callers r l found) (same_times l _ t refl refl refl (λ is. is)) (same_times l _ t refl refl refl (λ is. is))
+    either (Adds instance.callers t l) (found == 0) (taken instance scene r l) (refused_by instance.callers r l found) (same_times instance.callers l _ t refl refl refl (λ is. is)) (same_times instance.callers l _ t refl refl refl (λ is. is))
 times_next instance scene (TryShared r) l found t timed =
-    either (Adds t l) (nat_lt found exclusive_mark) (shared_by r l found) (passing instance.callers r l found)
-    (same_times l _ t refl refl refl (λ is. is)) (same_times l _ t refl refl refl (ended (is_fresh_on instance.callers r l) l))
+    either (Adds instance.callers t l) (nat_lt found exclusive_mark) (shared_by r l found) (passing instance.callers r l found)
+    (same_times instance.callers l _ t refl refl refl (λ is. is)) (same_times instance.callers l _ t refl refl refl (ended (is_fresh_on instance.callers r l) l))
 times_next instance scene (BackOff r) l found t timed =
     let a = record l { shared = None; steps = one_more l.steps } in
     let b = record l { passer = None; steps = one_more l.steps } in
     let c = record l { downgraded = None; steps = one_more l.steps } in
-    either (Adds t l) (is_at r (shared_on l)) a (cond (is_at r l.passer) b c) (same_times l _ t refl refl refl (λ is. is))
-    (either (Adds t l) (is_at r l.passer) b c (same_times l _ t refl refl refl (λ is. is)) (same_times l _ t refl refl refl (λ is. is)))
-times_next instance scene (LoadWord r i refused) l found t timed = same_times l _ t refl refl refl (ended refused l)
+    either (Adds instance.callers t l) (is_at r (shared_on l)) a (cond (is_at r l.passer) b c) (same_times instance.callers l _ t refl refl refl (λ is. is))
+    (either (Adds instance.callers t l) (is_at r l.passer) b c (same_times instance.callers l _ t refl refl refl (λ is. is)) (same_times instance.callers l _ t refl refl refl (λ is. is)))
+times_next instance scene (LoadWord r i refused) l found t timed = same_times instance.callers l _ t refl refl refl (ended refused l)
 times_next instance scene LoadCur l found t timed = record {
   linked = inl (refl, refl);
   answered = inl (refl, refl);
   loaded = λ is. (refl, loading l.fresh l t.loaded refl);
   reads = inl (refl, refl);
+  current = finding l.fresh l t refl;
+  images = inl refl;
 }
 times_next instance scene Publish l found t timed =
-    either (Adds t l) (found == l.seen_cur) (published instance.callers l) (outrun instance.callers l found) (same_times l _ t refl refl refl (never l)) (same_times l _ t refl refl refl (never l))
-times_next instance scene Confirm l found t timed = same_times l _ t refl refl refl (ended (shows_outdated instance.callers l found l.protection) l)
-times_next instance scene OpenFree l found t timed = same_times l _ t refl refl refl (never l)
-times_next instance scene kind l found t timed = same_times l _ t refl refl refl (λ is. is)
+    either (Adds instance.callers t l) (found == l.seen_cur) (published instance.callers l) (outrun instance.callers l found) (same_times instance.callers l _ t refl refl refl (never l)) (same_times instance.callers l _ t refl refl refl (never l))
+times_next instance scene Confirm l found t timed = same_times instance.callers l _ t refl refl refl (ended (shows_outdated instance.callers l found l.protection) l)
+times_next instance scene OpenFree l found t timed = same_times instance.callers l _ t refl refl refl (never l)
+times_next instance scene kind l found t timed = same_times instance.callers l _ t refl refl refl (λ is. is)

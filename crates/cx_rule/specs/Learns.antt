@@ -26,7 +26,7 @@ pub record Learns (instance : Instance) (s : State) (history : List Entry) (kind
   pub notes : NotesHold instance history after.noted
   pub traced : IsTraced instance history after.accesses (local_after instance (scene_of instance s) kind l)
   pub sets : SetNotesHold instance s history after.sets
-  pub timed : AddTimes l (local_after instance (scene_of instance s) kind l) known.times after.times
+  pub timed : AddTimes instance.callers l (local_after instance (scene_of instance s) kind l) known.times after.times
   pub imaged : AddsImage instance history known.images after.images
   pub fits : WordFits kind
 

@@ -20,6 +20,7 @@ use Rattle.cx_core.specs.Rights.{exclusive_on, is_at, shared_on}
 use Rattle.cx_core.specs.SetEvents.{CanWriteSet}
 use Rattle.core_queue.specs.declared.notes.SetNoted.{SetNoted}
 use Rattle.cx_core.specs.State.{Instance, Scene, one_more, opening_local}
+use Rattle.cx_rule.specs.declared.rule.ImageTimes.{ImageTimes}
 use Rattle.cx_rule.specs.declared.rule.Known.{Known}
 use Rattle.cx_rule.specs.declared.rule.Noted.{Noted}
 use Rattle.cx_rule.specs.declared.rule.Times.{Times}
@@ -65,7 +66,11 @@ shown_next instance kind l found = next instance unseen kind l found
 
 -- the times of a caller without operations
 abbrev pub no_times : Times
-no_times = record { linked = []; answered = []; loaded = 0; reads = [] }
+no_times = record { linked = []; answered = []; loaded = 0; seen = false; reads = []; images = [] }
+
+-- the images that a caller took, and when
+abbrev pub images_of : Known → List (List ℕ) × List ImageTimes
+images_of k = (k.images, k.times.images)
 
 -- what a caller knows that made no step: its opening local state, with its limit of steps
 abbrev pub opening_known : ℕ → ℕ → List ℕ → ℕ → Known
@@ -105,7 +110,7 @@ sets_after _ known found = known.sets
 -- what was seen of CUR may answer a read, where nothing seen before could. A raise has its answers' (`times_raised`).
 abbrev pub times_by : Kind → Local → Times → ℕ → Times
 times_by (Link j) l t found = record t { linked = t.linked ++ (if found == seen_word l.seen_slot then l.steps ∷ [] else []) }
-times_by LoadCur l t found = record t { loaded = if l.fresh then t.loaded else l.steps }
+times_by LoadCur l t found = record t { loaded = if l.fresh then t.loaded else l.steps; seen = if l.fresh then t.seen else true }
 times_by _ l t found = t
 
 -- the last word that was loaded from the place of a replica or stored there, where this one was known before

@@ -1,9 +1,11 @@
 -- What a step leaves of its caller's seat.
-use Rattle.std.specs.Prelude.{◌≡◌, ◌^◌, ◌<◌, ℕ, Bool, List, [], ◌∷◌, ◌++◌, slice_index}
+use Rattle.std.specs.Prelude.{◌≡◌, ◌^◌, ◌<◌, ℕ, Bool, List, [], ◌∷◌, ◌++◌, if◌then◌else◌, slice_index}
 use Rattle.atomic_table.specs.Seated.{TableId}
 use Rattle.atomic_table.specs.Table.{Me}
 use Rattle.cx_core.specs.Events.{Guard, new_word, step_word}
 use Rattle.cx_core.specs.State.{Instance}
+use Rattle.cx_base.specs.Codes.{root_place_of}
+use Rattle.cx_rule.specs.declared.rule.ImageTimes.{ImageTimes}
 use Rattle.cx_rule.specs.declared.rule.Known.{Known}
 use Rattle.cx_core.specs.declared.kinds.Kind.{Kind}
 use Rattle.cx_core.specs.declared.kinds.Kind.TheVariants.{BackOff}
@@ -89,9 +91,23 @@ pub record StepsCopied {O : Type 0} (r : Running O) (step : O → List ℕ → L
   pub made : after ≡ record before { known = known_copied (instance_at r step reads) (BackOff replica) before.known found }
   pub seat : IsSeatOf r after
 
+-- the times of an image that a caller takes by a step behind which it knows this: it has them where CUR was loaded
+abbrev pub times_of : Instance → Known → Known → ImageTimes
+times_of instance known after = record {
+  begun = known.times.loaded;
+  ended = after.local.steps;
+  place = root_place_of instance.callers known.local.seen_cur;
+  durable = root_place_of instance.callers known.local.raised;
+}
+
+abbrev pub image_times : Instance → Known → Known → List ImageTimes
+image_times instance known after = if known.times.seen then times_of instance known after ∷ [] else []
+
 -- What a caller knows after it released a shared right on a replica of which it had loaded all words: these are one image more that it took.
 abbrev pub known_taken : Instance → Kind → List ℕ → Known → ℕ → Known
-known_taken instance kind image known found = record (known_after instance kind known found) { images = known.images ++ image ∷ [] }
+known_taken instance kind image known found =
+    let after = known_after instance kind known found in
+    record after { times = record after.times { images = known.times.images ++ image_times instance known after }; images = known.images ++ image ∷ [] }
 
 -- what that event teaches is known by what the caller noted
 abbrev pub IsImageLearned : Instance → Kind → List ℕ → Known → ℕ → (ℕ → ℕ) → Type 0

@@ -43,4 +43,4 @@ pub use laws::{
     loaded_images_are_learned, told_gaps_may_be_noted, told_sets_may_be_offered,
     what_is_there_fits,
 };
-pub use rule::{CoreRule, Key, Known, Noted, Times, View};
+pub use rule::{CoreRule, ImageTimes, Key, Known, Noted, Times, View};

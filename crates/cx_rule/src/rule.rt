@@ -16,6 +16,19 @@ pub struct Noted {
     pub word: u64,
 }
 
+/// When an image was begun and taken, by how many steps its caller had made, and how far it reaches. It exists in proofs alone.
+#[derive(Drop)]
+pub struct ImageTimes {
+    /// The steps made before the load of CUR that began it.
+    pub begun: u64,
+    /// The steps made with the one that took it.
+    pub ended: u64,
+    /// The place of the code last found in CUR by then.
+    pub place: u64,
+    /// The place of the greatest code that the caller had raised DUR by.
+    pub durable: u64,
+}
+
 /// When the operations of a caller began and were answered, by how many steps the caller had made. It exists in proofs alone.
 #[derive(Drop)]
 pub struct Times {
@@ -25,8 +38,12 @@ pub struct Times {
     pub answered: Items<u64>,
     /// The steps made before the load of CUR since which what was seen of CUR may answer a read.
     pub loaded: u64,
+    /// Whether CUR was so loaded.
+    pub seen: bool,
     /// For each read that was answered, the steps made before that load, and those made with the step that answered it.
     pub reads: Items<(u64, u64)>,
+    /// For each image that was taken once CUR was loaded.
+    pub images: Items<ImageTimes>,
 }
 
 /// What a seat knows of one caller: its local state, the words of entries that it read, in order the loads (false) and stores

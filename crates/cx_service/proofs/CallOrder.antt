@@ -1,29 +1,38 @@
 -- The order of operations by the steps of their callers.
-use Rattle.std.proofs.Common.{◌≡◌, ◌+◌, ◌==◌, ◌<◌, ◌≤◌, ◌⊎◌, inl, inr, ℕ, zero, suc, min, Bool, cond, true, false, List, [], ◌∷◌, ◌++◌, Some, All, map, drop, set, refl, ap, sym, subst, ◌∙◌, arith}
+use Rattle.std.proofs.Common.{◌≡◌, ◌+◌, ◌==◌, ◌<◌, ◌≤◌, ◌⊎◌, inl, inr, ℕ, zero, suc, min, Bool, cond, true, false, List, [], ◌∷◌, ◌++◌, Some, All, length, map, drop, set, append_assoc, refl, ap, sym, subst, ◌∙◌, arith}
 use Rattle.std.proofs.lemmas.Bool.{cases_eq, eq-eqb, false≢true}
+use Rattle.std.proofs.lemmas.List.{append_cancel_left}
 use Rattle.std.proofs.lemmas.List.Elements.{All-contains}
-use Rattle.std.proofs.lemmas.Option.{none-some, same_Some, slice_get_within}
-use Rattle.std.specs.List.{range_with_len, slice_get}
+use Rattle.std.proofs.lemmas.Option.{none-some, same_Some, slice_get_read, slice_get_within}
+use Rattle.std.specs.List.{Contains, range_with_len, slice_get}
 use Rattle.cx_core.specs.declared.kinds.Event.{Event}
+use Rattle.cx_core.specs.declared.local.Linked.{Linked}
 use Rattle.cx_core.specs.declared.local.Local.{Local}
+use Rattle.cx_core.specs.declared.local.SeenRead.{SeenRead}
+use Rattle.cx_core.specs.Crash.{CrashImage, IsCrashImage, recovered}
 use Rattle.cx_core.specs.Events.{Makes, Run, local_after, words_after}
 use Rattle.cx_core.specs.Lawful.{Lawful}
 use Rattle.cx_core.specs.Layout.{max_word}
 use Rattle.cx_core.specs.Merge.{scene_of}
 use Rattle.cx_core.specs.State.{EachLocal, Instance, State}
 use Rattle.cx_core.proofs.ListLemmas.{item_below, slice_get-set_other}
+use Rattle.core_replica.proofs.ReplyLaws.{reply_own}
 use Rattle.core_replica.proofs.StillLaws.{has_run}
 use Rattle.core_runs.specs.Counting.{steps_of}
 use Rattle.core_runs.specs.RealTime.{IsAhead, IsAnswered, IsBefore, IsPointOf, Operation, Point}
 use Rattle.core_runs.specs.RealTime.Operation.{Update, Read}
+use Rattle.core_runs.specs.RealTime.Point.{At, Behind}
 use Rattle.core_runs.proofs.Counting.{counts_run}
 use Rattle.core_runs.proofs.Ordering.{keeps_real_time}
 use Rattle.core_runs.proofs.Keeps.{run_kept}
+use Rattle.core_runs.proofs.WholeLaws.{crash_kept}
+use Rattle.core_order.proofs.Imaging.{durable_run}
+use Rattle.cx_rule.specs.declared.rule.ImageTimes.{ImageTimes}
 use Rattle.cx_rule.specs.declared.rule.Known.{Known}
 use Rattle.cx_rule.specs.Rule.{opening_limited}
 use Rattle.cx_rule.specs.Seats.{Seated, opening_known}
-use Rattle.cx_rule.specs.Timing.{AreTimes, BeginsAt, ComesBy, EndsAt}
-use Rattle.cx_service.specs.CallOrder.{IsBeginningOf, IsBy, IsOperationEnd, KeepsCalls, caller_of}
+use Rattle.cx_rule.specs.Timing.{AllBelow, AreTimes, BeginsAt, BelowAt, ComesBy, DurableAt, EndsAt}
+use Rattle.cx_service.specs.CallOrder.{IsBeginningOf, IsBy, IsOperationEnd, IsPointBelow, KeepsCalls, KeepsImages, caller_of}
 
 -- a caller's steps of two lists, one behind the other, are those of both
 steps_of-append : (caller : ℕ) (x y : List Event) → steps_of caller (x ++ y) ≡ steps_of caller x + steps_of caller y
@@ -180,6 +189,99 @@ module _ (instance : Instance) (from to : State) (events : List Event) (law : La
   pub keeps_calls : (seats : List Seated) → All TimesOf seats → KeepsCalls events seats to
   keeps_calls seats times seat other a b m n p q has has' end_ begin =
       in_call_order a b m n p q (ends_at seat a m (All-contains TimesOf seats seat times has) end_) (begins_at other b n (All-contains TimesOf seats other times has') begin)
+
+  -- what was answered while all that anyone was answered was below a place is below it in the history
+  below_point : (s : State) (rest : List Event) (place : ℕ) (a : Operation) (p : Point) → Run instance s rest to → AllBelow place s → IsAnswered s a → IsPointOf to a p → IsPointBelow place p
+  below_point s rest place (Update caller i) p on below answered at =
+      let law' = run_kept instance from events to law run in
+      let x = item_below answered.0.answered i answered.2 in
+      let still = has_run instance rest s to caller answered.0 on answered.1 in
+      let own = reply_own instance law'.history to.words to.locals caller still.local law'.answers still.of_caller law'.tickets i x.0 (still.has.answered i x.0 x.1) in
+      let mine : at.0 ≡ still.local = same_Some at.0 still.local (sym at.1 ∙ still.of_caller) in
+      let linked : Linked = record { ticket = x.0.ticket; entry = own.entry } in
+      let same : at.2 ≡ linked = same_Some at.2 linked (sym at.3 ∙ ap (λ (y : Local). slice_get y.own i) mine ∙ own.own) in
+      subst (IsPointBelow place) (sym (at.4 ∙ ap (λ (y : Linked). At y.ticket) same)) ((below caller answered.0 answered.1).0 i x.0 x.1)
+  below_point s rest place (Read caller i) p on below answered at =
+      let x = item_below answered.0.seen_reads i answered.2 in
+      let still = has_run instance rest s to caller answered.0 on answered.1 in
+      let mine : at.0 ≡ still.local = same_Some at.0 still.local (sym at.1 ∙ still.of_caller) in
+      let same : at.2 ≡ x.0 = same_Some at.2 x.0 (sym at.3 ∙ ap (λ (y : Local). slice_get y.seen_reads i) mine ∙ still.has.reads i x.0 x.1) in
+      subst (IsPointBelow place) (sym (at.4 ∙ ap (λ (y : SeenRead). Behind y.place) same)) ((below caller answered.0 answered.1).1 i x.0 x.1)
+
+  -- behind a moment to which the caller's next step comes, no steps of others alone
+  none_between : (caller : ℕ) (more after : List Event) (event : Event) (rest : List Event) → more ++ after ≡ event ∷ rest → event.caller ≡ caller → steps_of caller more ≡ 0 → more ≡ []
+  none_between caller [] after event rest is own none = refl
+  none_between caller (e ∷ more) after event rest is own none =
+      let head : e ≡ event = same_Some e event (ap (λ (es : List Event). slice_get es 0) is) in
+      absurd (some_made (e.caller == caller) (steps_of caller more) (eq-eqb e.caller caller (ap (λ (x : Event). x.caller) head ∙ own)) none)
+    where
+      some_made : (b : Bool) (n : ℕ) → b ≡ true → cond b (n + 1) n ≡ 0 → ⊥
+      some_made true n is none = omega (arith, none)
+      some_made false n is none = false≢true is
+
+  -- an image holds what was answered by the step before which it was not begun
+  holds_answered : (c : ℕ) (a : Operation) (m : ℕ) (p : Point) (x : ImageTimes) → EndsAt instance from events (caller_of a) a m → BelowAt instance from events c x.place x.begun → m < max_word → IsBy events (caller_of a) m c x.begun → IsPointOf to a p →
+      IsPointBelow x.place p
+  holds_answered c a m p x ends begins small by at =
+      let end_ = ends.by in
+      let begin = begins.by in
+      let m_is = counted (caller_of a) m end_ in
+      let n_is = counted c x.begun begin in
+      let not_more = by.not_more in
+      let by_made = by.made in
+      let made : m ≤ steps_of (caller_of a) begin.before = elim (one_begins by.before by.after begin.before begin.after (sym by.are ∙ begin.are)) [
+        | inl more ↦ (let adds = ap (steps_of (caller_of a)) more.1 ∙ steps_of-append (caller_of a) by.before more.0 in omega (arith, by_made, adds))
+        | inr more ↦ (
+            let adds = ap (steps_of c) more.1 ∙ steps_of-append c begin.before more.0 in
+            let rest : more.0 ++ by.after ≡ begins.next.0 ∷ begins.next.1 =
+            append_cancel_left begin.before (more.0 ++ by.after) (begins.next.0 ∷ begins.next.1) (sym (append_assoc begin.before more.0 by.after) ∙ ap (λ es. es ++ by.after) (sym more.1) ∙ sym by.are ∙ begin.are ∙ ap (λ es. begin.before ++ es) begins.next.2) in
+            let none = none_between c more.0 by.after begins.next.0 begins.next.1 rest begins.next.3 (omega (arith, n_is, not_more, adds)) in
+            let same = ap (steps_of (caller_of a)) more.1 ∙ steps_of-append (caller_of a) begin.before more.0 ∙ ap (λ es. steps_of (caller_of a) begin.before + steps_of (caller_of a) es) none in
+            omega (arith, by_made, same))
+      ] in
+      let answered = answered_by end_.before end_.after begin.before begin.after end_.moment begin.moment a (sym end_.are ∙ begin.are) end_.run begin.run (omega (arith, m_is, small, made)) ends.answered in
+      below_point begin.moment begin.after x.place a p (goes_on instance begin.before begin.after from begin.moment to begin.run (subst (λ es. Run instance from es to) begin.are run)) begins.below answered at
+
+  -- and its place stays durable
+  stays_durable : (c : ℕ) (x : ImageTimes) (before after : List Event) (s : State) (image : CrashImage) → DurableAt instance from events c x.durable x.ended → x.ended < max_word → events ≡ before ++ after → Run instance from before s →
+      x.ended ≤ steps_of c before → IsCrashImage instance s image → x.durable ≤ (recovered instance image).place
+  stays_durable c x before after s image at small are come made crash =
+      let by = at.by in
+      let front = at.last.0 in
+      let event = at.last.1 in
+      let is = counted c x.ended by in
+      let whole : before ++ after ≡ front ++ (event ∷ by.after) = sym are ∙ by.are ∙ ap (λ es. es ++ by.after) at.last.2 ∙ append_assoc front (event ∷ []) by.after in
+      let count = ap (steps_of c) at.last.2 ∙ steps_of-append c front (event ∷ []) in
+      let own : steps_of c (event ∷ []) ≡ 1 = ap (λ b. cond b 1 0) (eq-eqb event.caller c at.last.3) in
+      let kept = (crash_kept instance s (run_kept instance from before s law come) image crash).durable in
+      let durable = at.durable in
+      elim (one_begins before after front (event ∷ by.after) whole) [
+        | inl more ↦ (let adds = ap (steps_of c) more.1 ∙ steps_of-append c before more.0 in absurd (omega (arith, adds, count, own, is, small, made)))
+        | inr more ↦ (
+            let rest : more.0 ++ after ≡ event ∷ by.after = append_cancel_left front (more.0 ++ after) (event ∷ by.after) (sym (append_assoc front more.0 after) ∙ ap (λ es. es ++ after) (sym more.1) ∙ whole) in
+            let adds = ap (steps_of c) more.1 ∙ steps_of-append c front more.0 in
+            let goes = begun more.0 rest (omega (arith, adds, count, own, is, small, made)) in
+            let prefix : before ≡ by.before ++ goes.0 = more.1 ∙ ap (λ es. front ++ es) goes.1 ∙ sym (append_assoc front (event ∷ []) goes.0) ∙ ap (λ es. es ++ goes.0) (sym at.last.2) in
+            let on = goes_on instance by.before goes.0 from by.moment s by.run (subst (λ es. Run instance from es s) prefix come) in
+            let up = durable_run instance by.moment goes.0 s (run_kept instance from by.before by.moment law by.run) on in
+            omega (arith, durable, up, kept))
+      ]
+    where
+      begun : (more : List Event) → more ++ after ≡ at.last.1 ∷ at.by.after → 0 < steps_of c more → (rest : List Event) × (more ≡ at.last.1 ∷ rest)
+      begun [] is some = absurd (omega (arith, some))
+      begun (e ∷ more) is some = (more, ap (λ f. f ∷ more) (same_Some e at.last.1 (ap (λ (es : List Event). slice_get es 0) is)))
+
+  -- the times of an image that a seat has
+  there : (seat : Seated) (x : ImageTimes) → (has : Contains seat.known.times.images x) → slice_get seat.known.times.images has.0 ≡ Some x
+  there seat x has = slice_get_read seat.known.times.images (length seat.known.times.images) has.0 x refl has.1 (sym has.2)
+
+  pub keeps_images : (seats : List Seated) → All TimesOf seats → KeepsImages instance from events seats to
+  keeps_images seats times = record {
+    holds = λ seat other a m p x has has' end_ took. (
+        let mine = (All-contains TimesOf seats other times has').images took.0 x (there other x took) in
+        holds_answered other.known.local.number a m p x (ends_at seat a m (All-contains TimesOf seats seat times has) end_) mine.0);
+    durable = λ other x before after s image has took. (let mine = (All-contains TimesOf seats other times has).images took.0 x (there other x took) in stays_durable other.known.local.number x before after s image mine.1);
+  }
 
 -- in the state with which a table opens no caller has made a step
 module _ (instance : Instance) (limits : List ℕ) where

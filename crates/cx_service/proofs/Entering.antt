@@ -14,7 +14,7 @@ use Rattle.cx_core.specs.QueueEvents.{IsIdle, IsIdleAt, cell_of, entry_in, next_
 use Rattle.cx_core.specs.Region.{slot_number}
 use Rattle.cx_core.proofs.Locals.{slice_get-last}
 use Rattle.cx_rule.specs.Running.{IsSeatOf, Running}
-use Rattle.cx_rule.specs.Seats.{IsAtLimit, Seated, unanswered_ticket}
+use Rattle.cx_rule.specs.Seats.{IsAtLimit, Seated, images_of, unanswered_ticket}
 use Rattle.mutation_queue.specs.declared.links.LinkTried.{LinkTried}
 use Rattle.mutation_queue.specs.declared.links.LinkTried.TheVariants.{Again, Linked as LinkedAt, Worn}
 use Rattle.mutation_queue.specs.Cells.{writes}
@@ -27,7 +27,7 @@ use Rattle.cx_service.proofs.Cells.{default, own_kept, own_more}
 -- what no step of a submit changes: the seat but for its entries, cells, steps and scans, its front, the slot last looked at, what was
 -- found of FREE and of the callers' needs, and what was loaded from CUR
 abbrev pub beside_submit : Seated → Seated
-beside_submit s = record s { known = record s.known { local = record s.known.local { own = []; cells = []; front = 0; seen_slot = None; seen_free = 0; seen_need = None; seen_cur = 0; fresh = false; scan = None; steps = 0; scans = 0 }; times = record s.known.times { linked = []; loaded = 0 } } }
+beside_submit s = record s { known = record s.known { local = record s.known.local { own = []; cells = []; front = 0; seen_slot = None; seen_free = 0; seen_need = None; seen_cur = 0; fresh = false; scan = None; steps = 0; scans = 0 }; times = record s.known.times { linked = []; loaded = 0; seen = false } } }
 
 -- a seat as if what was loaded from CUR were not fresh
 abbrev pub stale : Seated → Seated
@@ -50,7 +50,7 @@ module _ {O : Type 0} (r : Running O) (s v : Seated) (kept : beside_submit v ≡
     steps = steps;
     idle = idle;
     times = record { answered = ap (λ (x : Seated). x.known.times.answered) kept; reads = ap (λ (x : Seated). x.known.times.reads) kept };
-    images = ap (λ (x : Seated). x.known.images) kept;
+    images = ap (λ (x : Seated). images_of x.known) kept;
   }
 
   -- it is still the seat of its caller

@@ -5,6 +5,7 @@ use Rattle.cx_base.specs.declared.object.Object.{Ghosts}
 use Rattle.cx_core.specs.declared.local.Answer.{Answer}
 use Rattle.cx_core.specs.declared.local.SeenRead.{SeenRead}
 use Rattle.cx_core.specs.Layout.{max_word}
+use Rattle.cx_rule.specs.declared.rule.ImageTimes.{ImageTimes}
 use Rattle.cx_rule.specs.Running.{IsSeatOf, Running}
 use Rattle.cx_rule.specs.Seats.{IsAtLimit, Seated, StepsBy}
 use Rattle.cx_service.specs.Callers.{IsCallerOf, StoppedSeat}
@@ -38,6 +39,7 @@ module _ {O : Type 0} (o : Ghosts O) (r : Running O) (s v : Seated) (caller : Is
           keeps = keeps (omega (arith, met));
           allowed = allowed;
           images = taken.images;
+          times = taken.times;
           base = taken.base;
           current = taken.current;
           finds = record { loaded = (let is = taken.loaded in omega (arith, is)); raised = taken.raised };
@@ -77,7 +79,15 @@ module _ {O : Type 0} (r : Running O) (n : ℕ) (s u : Seated) (before : ReadPen
     caller = taken.caller;
     keeps = keeps_then v taken.keeps;
     allowed = before.allowed;
-    images = taken.images ∙ ap (λ xs. xs ++ words ∷ []) before.images;
+    images = taken.images ∙ ap (λ (p : List (List ℕ) × List ImageTimes). p.0 ++ words ∷ []) before.images;
+    times = record {
+      image = taken.times.image;
+      from = (let since = before.keeps.since in let is = taken.times.from in omega (arith, since, is));
+      to = taken.times.to;
+      at = taken.times.at;
+      durable = taken.times.durable;
+      is = taken.times.is ∙ ap (λ (p : List (List ℕ) × List ImageTimes). p.1 ++ taken.times.image ∷ []) before.images;
+    };
     base = taken.base;
     current = taken.current;
     finds = record { loaded = (let since = before.keeps.since in let is = taken.finds.loaded in omega (arith, since, is)); raised = taken.finds.raised };

@@ -21,7 +21,7 @@ use Rattle.mutation_queue.specs.declared.links.LinkTried.TheVariants.{Again as T
 use Rattle.cx_core.specs.QueueEvents.{IsIdle, IsIdleAt, cell_of, next_number}
 use Rattle.cx_rule.specs.Rule.{IsLawfulLocal}
 use Rattle.cx_rule.specs.Running.{Running}
-use Rattle.cx_rule.specs.Seats.{IsAtLimit, Seated, stepped}
+use Rattle.cx_rule.specs.Seats.{IsAtLimit, Seated, images_of, stepped}
 use Rattle.cx_core.specs.declared.local.FullNote.{FullNote}
 use Rattle.cx_service.specs.declared.submit.Submitted.{Submitted}
 use Rattle.cx_service.specs.declared.submit.Submitted.TheVariants.{Linked as LinkedIs, Again, Full, Worn, Halted}
@@ -113,7 +113,7 @@ module _ {O : Type 0} (r : Running O) (more : ℕ) (s t : Seated) (first : Prece
         let last = after.idle j within still in
         record { free = last.free ∙ none.free; scans = last.scans ∙ none.scans });
     times = record { answered = after.times.answered ∙ ap (λ (x : Seated). x.known.times.answered) first.kept; reads = after.times.reads ∙ ap (λ (x : Seated). x.known.times.reads) first.kept };
-    images = after.images ∙ ap (λ (x : Seated). x.known.images) first.kept;
+    images = after.images ∙ ap (λ (x : Seated). images_of x.known) first.kept;
   }
 
   same_entry : (op : List ℕ) (ticket : ℕ) → next_entry r t.known.local op ticket ≡ next_entry r s.known.local op ticket

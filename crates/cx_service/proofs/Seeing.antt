@@ -14,7 +14,7 @@ use Rattle.cx_core.proofs.Locals.{slice_get-last}
 use Rattle.cx_core.proofs.RootCodes.{place_up}
 use Rattle.cx_rule.specs.Raises.{AnswersOf, TellsAnswers, known_answered}
 use Rattle.cx_rule.specs.Running.{IsSeatOf, Running, instance_at}
-use Rattle.cx_rule.specs.Seats.{IsAtLimit, Seated, stepped}
+use Rattle.cx_rule.specs.Seats.{IsAtLimit, Seated, images_of, stepped}
 use Rattle.cx_service.specs.Callers.{IsCallerOf}
 use Rattle.cx_base.specs.declared.object.Object.{Ghosts}
 use Rattle.cx_service.specs.Checkpoints.{CheckpointTaken}
@@ -216,7 +216,7 @@ module _ {O : Type 0} (r : Running O) (step : O → List ℕ → List ℕ → Li
         reads = ap (λ (x : Seated). x.known.times.reads) raised ∙ append-nil mid.known.times.reads ∙ ap (λ (x : Seated). x.known.times.reads) loaded;
       };
       sets = ap (λ (x : Seated). x.known.sets) raised ∙ ap (λ (x : Seated). x.known.sets) loaded;
-      images = ap (λ (x : Seated). x.known.images) raised ∙ ap (λ (x : Seated). x.known.images) loaded;
+      images = ap (λ (x : Seated). images_of x.known) raised ∙ ap (λ (x : Seated). images_of x.known) loaded;
     }
 
     pub current_sets : v.known.sets ≡ s.known.sets

@@ -14,7 +14,7 @@ use Rattle.cx_core.specs.declared.local.SeenRead.{SeenRead}
 use Rattle.cx_core.specs.Layout.{max_word}
 use Rattle.cx_core.specs.State.{one_more}
 use Rattle.cx_rule.specs.Running.{IsSeatOf, Running}
-use Rattle.cx_rule.specs.Seats.{IsAtLimit, Seated, StepsBy, unanswered_ticket}
+use Rattle.cx_rule.specs.Seats.{IsAtLimit, Seated, StepsBy, images_of, unanswered_ticket}
 use Rattle.cx_service.specs.Callers.{IsBetweenCalls, IsCallerOf, IsLinkedOf, StoppedSeat}
 use Rattle.cx_service.specs.Drives.{DriveDone, DriveHalted, DriveKeeps, DriveDue, DrivePending, MeetsAtMost, MeetsFewer, MeetsMore}
 use Rattle.cx_service.specs.Lookups.{ReadAnswered, ReadDue, ReadHalted, ReadKeeps, ReadPending}
@@ -72,7 +72,7 @@ module _ {O : Type 0} (r : Running O) (s v : Seated) (linked : IsLinkedOf r s) (
     reads = ap (λ (x : Seated). x.known.local.seen_reads) rest;
     linked = ap (λ (x : Seated). x.known.times.linked) rest;
     read = ap (λ (x : Seated). x.known.times.reads) rest;
-    images = ap (λ (x : Seated). x.known.images) rest;
+    images = ap (λ (x : Seated). images_of x.known) rest;
     met = met;
     since = since;
   }
@@ -237,9 +237,9 @@ again_done r s u v answer again d = done_on r again.turns s u again.on v answer 
 pub again_halted : {O : Type 0} (r : Running O) (s u : Seated) (v : StoppedSeat) → DrivesAgain r s u → DriveHalted r u v → DriveHalted r s v
 again_halted r s u v again h = halted_on r again.turns s u again.on v h
 
--- what neither a turn for a read nor one that takes an image changes: what no raise does, but the reads and the images
+-- what neither a turn for a read nor one that takes an image changes: what no raise does, but the reads and the images, and when they were taken
 abbrev pub beside_look : Seated → Seated
-beside_look s = (let b = beside_lookup s in record b { known = record b.known { images = [] } })
+beside_look s = (let b = beside_lookup s in record b { known = record b.known { times = record b.known.times { images = [] }; images = [] } })
 
 -- such a turn keeps the lists, and its caller may go on
 module _ {O : Type 0} (r : Running O) (s v : Seated) (caller : IsCallerOf r s) (rest : beside_look v ≡ beside_look s) (front : s.known.local.front ≤ v.known.local.front) (of : IsSeatOf r v) (rises : s.known.local.seen_cur ≤ v.known.local.seen_cur) (since : StepsOn s v) where
@@ -267,7 +267,7 @@ module _ {O : Type 0} (r : Running O) (s v : Seated) (caller : IsCallerOf r s) (
 -- the same of turns for a read
 module _ {O : Type 0} (r : Running O) (op : List ℕ) (s v : Seated) (caller : IsCallerOf r s) (rest : beside_lookup v ≡ beside_lookup s) (front : s.known.local.front ≤ v.known.local.front) (of : IsSeatOf r v) (rises : s.known.local.seen_cur ≤ v.known.local.seen_cur) (on : StepsOn s v) where
   look_rest : beside_look v ≡ beside_look s
-  look_rest = ap (λ (x : Seated). (let y : Seated = record x { known = record x.known { images = [] } } in y)) rest
+  look_rest = ap (λ (x : Seated). (let y : Seated = record x { known = record x.known { times = record x.known.times { images = [] }; images = [] } } in y)) rest
 
   read_keeps : s.known.local.met ≤ v.known.local.met → ReadKeeps s v
   read_keeps met = look_keeps r s v caller look_rest front of rises on met
@@ -286,7 +286,7 @@ module _ {O : Type 0} (r : Running O) (op : List ℕ) (s v : Seated) (caller : I
     above = answers.above;
     from = answers.from;
     times = record { begun = s.known.local.steps; ended = answers.times.ended; from = omega arith; to = answers.times.to; is = answers.times.is };
-    images = ap (λ (x : Seated). x.known.images) rest;
+    images = ap (λ (x : Seated). images_of x.known) rest;
   }
 
   pub read_refused : ¬ IsAtLimit s.known.local → s.known.local.met ≤ max_word → TurnRefused s v × StepsBy 4 s v × StepsOn s v → ReadPending r 1 s v
@@ -299,7 +299,7 @@ module _ {O : Type 0} (r : Running O) (op : List ℕ) (s v : Seated) (caller : I
     most = most_one s v refused.refusal.met;
     steps = steps;
     times = refused.refusal.times.reads;
-    images = ap (λ (x : Seated). x.known.images) rest;
+    images = ap (λ (x : Seated). images_of x.known) rest;
   }
 
   pub read_ended : HaltsLookup s.known.local.steps op s v → ReadHalted r op s (record { seat = v; linked = None }) × ReadDue 1 s v
@@ -310,7 +310,7 @@ module _ {O : Type 0} (r : Running O) (op : List ℕ) (s v : Seated) (caller : I
       keeps = read_keeps h.halts.counted;
       reads = elim h.reads [ inl none ↦ inl none.same | inr one ↦ inr (one.0, one.1, one.2, one.4) ];
       times = elim h.reads [ inl none ↦ inl none.times | inr one ↦ inr (record { begun = s.known.local.steps; ended = one.3.ended; from = omega arith; to = one.3.to; is = one.3.is }) ];
-      images = ap (λ (x : Seated). x.known.images) rest;
+      images = ap (λ (x : Seated). images_of x.known) rest;
     },
     record { most = h.halts.most; due = λ none. (let same = h.halts.due none in omega (arith, same)) },
   )

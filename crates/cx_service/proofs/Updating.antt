@@ -7,7 +7,7 @@ use Rattle.cx_core.specs.declared.local.Answer.{Answer}
 use Rattle.cx_core.specs.declared.local.Linked.{Linked as OwnEntry}
 use Rattle.cx_core.specs.Region.{slot_number}
 use Rattle.cx_rule.specs.Running.{Running}
-use Rattle.cx_rule.specs.Seats.{IsAtLimit, Seated}
+use Rattle.cx_rule.specs.Seats.{IsAtLimit, Seated, images_of}
 use Rattle.cx_rule.specs.Timing.{KeepsTimes}
 use Rattle.cx_core.specs.declared.local.FullNote.{FullNote}
 use Rattle.cx_service.specs.Callers.{StoppedSeat}
@@ -29,7 +29,7 @@ use Rattle.cx_turns.specs.Turns.{StepsOn}
 pub keeps_all : (s : Seated) → KeepsLists s s
 keeps_all s = record { number = refl; limit = refl; own = refl; answered = refl; reads = refl; front = omega arith; cur = omega arith }
 
-module _ {O : Type 0} (r : Running O) (op : List ℕ) (s u : Seated) (same : KeepsLists s u) (times : KeepsTimes s.known.times u.known.times) (since : StepsOn s u) (stood : IsAtLimit s.known.local → u ≡ s) (images : u.known.images ≡ s.known.images) (met : u.known.local.met ≡ s.known.local.met) where
+module _ {O : Type 0} (r : Running O) (op : List ℕ) (s u : Seated) (same : KeepsLists s u) (times : KeepsTimes s.known.times u.known.times) (since : StepsOn s u) (stood : IsAtLimit s.known.local → u ≡ s) (images : images_of u.known ≡ images_of s.known) (met : u.known.local.met ≡ s.known.local.met) where
   -- what is allowed after the tries so far was so before them
   allowed_first : ¬ IsAtLimit u.known.local → ¬ IsAtLimit s.known.local
   allowed_first free at = free (subst (λ (x : Seated). IsAtLimit x.known.local) (sym (stood at)) at)
@@ -61,7 +61,7 @@ module _ {O : Type 0} (r : Running O) (op : List ℕ) (s u : Seated) (same : Kee
   pub again_since : (tries most : ℕ) (v : Seated) → SubmitAgain r tries most u v → StepsOn s v
   again_since tries most v a = omega (arith, a.since, since)
 
-  pub again_images : (tries most : ℕ) (v : Seated) → SubmitAgain r tries most u v → v.known.images ≡ s.known.images
+  pub again_images : (tries most : ℕ) (v : Seated) → SubmitAgain r tries most u v → images_of v.known ≡ images_of s.known
   again_images tries most v a = a.keeps.images ∙ images
 
   pub again_met : (tries most : ℕ) (v : Seated) → SubmitAgain r tries most u v → v.known.local.met ≡ s.known.local.met

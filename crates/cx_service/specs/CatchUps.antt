@@ -5,7 +5,7 @@ use Rattle.cx_core.specs.declared.local.Answer.{Answer}
 use Rattle.cx_core.specs.declared.local.Local.{Local}
 use Rattle.cx_core.specs.Layout.{max_word}
 use Rattle.cx_rule.specs.Running.{Running}
-use Rattle.cx_rule.specs.Seats.{IsAtLimit, Seated}
+use Rattle.cx_rule.specs.Seats.{IsAtLimit, Seated, images_of}
 use Rattle.cx_rule.specs.Timing.{KeepsTimes}
 use Rattle.cx_service.specs.declared.catch_up.CaughtUp.{CaughtUp}
 use Rattle.cx_service.specs.declared.catch_up.CaughtUp.TheVariants.{Caught, Behind, Halted}
@@ -36,7 +36,7 @@ pub record CatchUpKeeps (before after : Seated) : Type 0 where
   pub steps : after.known.local.steps ≤ before.known.local.steps + 2
   pub times : KeepsTimes before.known.times after.known.times
   pub sets : after.known.sets ≡ before.known.sets
-  pub images : after.known.images ≡ before.known.images
+  pub images : images_of after.known ≡ images_of before.known
 
 -- two steps were made, where their count is not at its end: the load of CUR, and the raise of DUR
 abbrev pub MakesTwoSteps : Seated → Seated → Type 0

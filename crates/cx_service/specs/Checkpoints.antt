@@ -6,7 +6,8 @@ use Rattle.cx_core.specs.Base.{LawfulBase}
 use Rattle.cx_core.specs.declared.local.Answer.{Answer}
 use Rattle.cx_core.specs.declared.local.SeenRead.{SeenRead}
 use Rattle.cx_rule.specs.Running.{Running}
-use Rattle.cx_rule.specs.Seats.{IsAtLimit, Seated}
+use Rattle.cx_rule.specs.Seats.{IsAtLimit, Seated, images_of}
+use Rattle.cx_rule.specs.Timing.{ImageIn}
 use Rattle.cx_service.specs.declared.checkpoint.Checkpointed.{Checkpointed}
 use Rattle.cx_service.specs.declared.checkpoint.Checkpointed.TheVariants.{Taken, Pending, Halted}
 use Rattle.cx_service.specs.Callers.{FindsCurrent, IsCallerOf, IsStoppedOf, StoppedSeat}
@@ -21,12 +22,14 @@ pub record CheckpointKeeps (before after : Seated) : Type 0 where
 
 -- The caller took one image more, these words at this place, and nothing else: they are a lawful base. The place is that of the code last found
 -- in CUR, above each ticket and not below any place that the caller was answered before, and not above the caller's front. CUR was loaded in this call,
--- and DUR raised by the code found. The limit allowed a step.
+-- and DUR raised by the code found. The image was begun and taken by steps of this call, and its place was durable then. By these times the closing tells
+-- that it holds what anyone was answered before (`KeepsImages`). The limit allowed a step.
 pub record CheckpointTaken {O : Type 0} (o : Ghosts O) (r : Running O) (words : List ℕ) (place : ℕ) (before after : Seated) : Type 0 where
   pub caller : IsCallerOf r after
   pub keeps : CheckpointKeeps before after
   pub allowed : ¬ IsAtLimit before.known.local
   pub images : after.known.images ≡ before.known.images ++ words ∷ []
+  pub times : ImageIn before.known.local.steps after.known.local.steps place before.known.times.images after.known.times.images
   pub base : LawfulBase r.lines (o.lawful r.object) (record { place = place; words = words })
   pub current : place ≡ root_place_of r.callers after.known.local.seen_cur
   pub finds : FindsCurrent before after
@@ -39,7 +42,7 @@ pub record CheckpointHalted {O : Type 0} (r : Running O) (before : Seated) (afte
   pub caller : IsStoppedOf r after.seat
   pub linked : after.linked ≡ None
   pub keeps : CheckpointKeeps before after.seat
-  pub images : after.seat.known.images ≡ before.known.images
+  pub images : images_of after.seat.known ≡ images_of before.known
 
 -- The result of a checkpoint in this many turns. The turn that takes the image meets no refusal; one that is refused is as a read's.
 abbrev pub Checkpoints : {O : Type 0} → Ghosts O → Running O → List ℕ → ℕ → Seated → Checkpointed → Type 0

@@ -4,7 +4,7 @@ use Rattle.cx_base.specs.Codes.{root_place_of}
 use Rattle.cx_core.specs.declared.local.Answer.{Answer}
 use Rattle.cx_core.specs.Layout.{max_word}
 use Rattle.cx_rule.specs.Running.{Running}
-use Rattle.cx_rule.specs.Seats.{IsAtLimit, Seated, unanswered_ticket}
+use Rattle.cx_rule.specs.Seats.{IsAtLimit, Seated, images_of, unanswered_ticket}
 use Rattle.cx_rule.specs.Timing.{EndsIn}
 use Rattle.cx_service.specs.declared.drive.Driven.{Driven}
 use Rattle.cx_service.specs.declared.drive.Driven.TheVariants.{Done, Pending, Halted}
@@ -40,7 +40,7 @@ pub record DriveKeeps (before after : Seated) : Type 0 where
   pub reads : after.known.local.seen_reads ≡ before.known.local.seen_reads
   pub linked : after.known.times.linked ≡ before.known.times.linked
   pub read : after.known.times.reads ≡ before.known.times.reads
-  pub images : after.known.images ≡ before.known.images
+  pub images : images_of after.known ≡ images_of before.known
   pub met : before.known.local.met ≤ after.known.local.met
   pub since : StepsOn before after
 

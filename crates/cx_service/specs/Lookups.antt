@@ -4,7 +4,7 @@ use Rattle.cx_base.specs.Codes.{root_place_of}
 use Rattle.cx_core.specs.declared.local.Answer.{Answer}
 use Rattle.cx_core.specs.declared.local.SeenRead.{SeenRead}
 use Rattle.cx_rule.specs.Running.{Running}
-use Rattle.cx_rule.specs.Seats.{IsAtLimit, Seated, StepsBy}
+use Rattle.cx_rule.specs.Seats.{IsAtLimit, Seated, StepsBy, images_of}
 use Rattle.cx_rule.specs.Timing.{ReadsIn}
 use Rattle.cx_service.specs.declared.lookup.Looked.{Looked}
 use Rattle.cx_service.specs.declared.lookup.Looked.TheVariants.{Ended, Found, Refused}
@@ -45,7 +45,7 @@ pub record ReadAnswered {O : Type 0} (r : Running O) (op : List ℕ) (before aft
   pub above : (i : ℕ) (x : Answer) → slice_get before.known.local.answered i ≡ Some x → x.ticket < seen.place
   pub from : (i : ℕ) (x : SeenRead) → slice_get before.known.local.seen_reads i ≡ Some x → x.place ≤ seen.place
   pub times : ReadsIn before.known.local.steps after.known.local.steps before.known.times.reads after.known.times.reads
-  pub images : after.known.images ≡ before.known.images
+  pub images : images_of after.known ≡ images_of before.known
 
 -- In each of the given number of turns one refusal was met, by at most four steps. The limit allowed a step.
 pub record ReadPending {O : Type 0} (r : Running O) (tries : ℕ) (before after : Seated) : Type 0 where
@@ -57,7 +57,7 @@ pub record ReadPending {O : Type 0} (r : Running O) (tries : ℕ) (before after 
   pub most : MeetsAtMost tries before after
   pub steps : StepsBy (4 * tries) before after
   pub times : after.known.times.reads ≡ before.known.times.reads
-  pub images : after.known.images ≡ before.known.images
+  pub images : images_of after.known ≡ images_of before.known
 
 -- A further step was to be made and the steps equal the limit. No read was answered, or this one was, and its shared right is still to
 -- be given back. No entry is linked that no call has answered.
@@ -68,7 +68,7 @@ pub record ReadHalted {O : Type 0} (r : Running O) (op : List ℕ) (before : Sea
   pub reads : (after.seat.known.local.seen_reads ≡ before.known.local.seen_reads)
       ⊎ ((place : ℕ) × (reply : List ℕ) × (after.seat.known.local.seen_reads ≡ reads_with place op reply (length before.known.local.answered) before.known.local.seen_reads) × (after.seat.known.local.shared ≢ None))
   pub times : (after.seat.known.times.reads ≡ before.known.times.reads) ⊎ ReadsIn before.known.local.steps after.seat.known.local.steps before.known.times.reads after.seat.known.times.reads
-  pub images : after.seat.known.images ≡ before.known.images
+  pub images : images_of after.seat.known ≡ images_of before.known
 
 -- A further step is due to a read in this many turns: fewer refusals were met, or a right stands that is still to be released. No turn meets
 -- more than one.

@@ -8,7 +8,7 @@ use Rattle.cx_core.specs.QueueEvents.{IsIdle, cell_of, next_number}
 use Rattle.cx_core.specs.State.{one_more}
 use Rattle.cx_table.specs.Seats.{HasMadeSteps}
 use Rattle.cx_rule.specs.Running.{Running}
-use Rattle.cx_rule.specs.Seats.{IsAtLimit, Seated, unanswered_ticket}
+use Rattle.cx_rule.specs.Seats.{IsAtLimit, Seated, images_of, unanswered_ticket}
 use Rattle.cx_rule.specs.declared.rule.Times.{Times}
 use Rattle.cx_rule.specs.Timing.{BeginsIn}
 use Rattle.cx_core.specs.declared.local.FullNote.{FullNote}
@@ -50,7 +50,7 @@ pub record SubmitKeeps (most : ℕ) (before after : Seated) : Type 0 where
   pub steps : after.known.local.steps ≤ before.known.local.steps + most
   pub idle : (j : ℕ) → j < 16 → IsIdle before.known.local j → LooksForNothing before after
   pub times : KeepsEnds before.known.times after.known.times
-  pub images : after.known.images ≡ before.known.images
+  pub images : images_of after.known ≡ images_of before.known
 
 -- the caller's next entry, with this operation and this ticket
 abbrev pub next_entry : {O : Type 0} → Running O → Local → List ℕ → ℕ → OwnEntry

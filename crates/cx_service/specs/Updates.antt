@@ -5,7 +5,7 @@ use Rattle.cx_core.specs.Layout.{max_word}
 use Rattle.cx_core.specs.QueueEvents.{IsIdle}
 use Rattle.cx_table.specs.Seats.{HasMadeSteps}
 use Rattle.cx_rule.specs.Running.{Running}
-use Rattle.cx_rule.specs.Seats.{IsAtLimit, Seated}
+use Rattle.cx_rule.specs.Seats.{IsAtLimit, Seated, images_of}
 use Rattle.cx_rule.specs.Timing.{BeginsIn, EndsIn, KeepsTimes}
 use Rattle.cx_core.specs.declared.local.FullNote.{FullNote}
 use Rattle.cx_service.specs.declared.submit.Submitted.TheVariants.{Again as SubmitsBack, Halted as SubmitHalts}
@@ -53,7 +53,7 @@ pub record UpdateDone {O : Type 0} (r : Running O) (op : List ℕ) (before after
   pub answered : after.known.local.answered ≡ with_answer answer.ticket answer.reply before.known.local.answered
   pub brought : BringsEntries before after
   pub ended : EndsIn after.known.local.steps before.known.times.answered after.known.times.answered
-  pub images : after.known.images ≡ before.known.images
+  pub images : images_of after.known ≡ images_of before.known
 
 -- No cell is idle after FREE was loaded and a scan made in this call: another caller's need keeps them. The caller linked at least 16
 -- entries in this service.
@@ -68,7 +68,7 @@ pub record UpdateFull {O : Type 0} (r : Running O) (before after : Seated) (note
   pub names : NamesHolder r.callers after.known.local note
   pub sets : after.known.sets ≡ before.known.sets
   pub times : KeepsTimes before.known.times after.known.times
-  pub images : after.known.images ≡ before.known.images
+  pub images : images_of after.known ≡ images_of before.known
 
 -- A cell is idle, and there is no further ticket: CUR was loaded in this call, and the operation written there.
 pub record UpdateWorn {O : Type 0} (r : Running O) (before after : Seated) : Type 0 where
@@ -81,7 +81,7 @@ pub record UpdateWorn {O : Type 0} (r : Running O) (before after : Seated) : Typ
   pub idle : (j : ℕ) × (j < 16) × IsIdle after.known.local j
   pub sets : after.known.sets ≡ before.known.sets
   pub times : KeepsTimes before.known.times after.known.times
-  pub images : after.known.images ≡ before.known.images
+  pub images : images_of after.known ≡ images_of before.known
 
 -- Submits of an operation in 16 tries, none or more, each of which found another's link in every try and handed the caller back.
 pub data SubmitsAgain {O : Type 0} (r : Running O) (op : List ℕ) (first : Seated) : Seated → Type 0 where
@@ -116,7 +116,7 @@ pub record UpdateHalted {O : Type 0} (r : Running O) (op : List ℕ) (before : S
   pub caller : IsStoppedOf r after.seat
   pub number : after.seat.known.local.number ≡ before.known.local.number
   pub lists : HaltsUnlinked r op before after ⊎ HaltsLinked r op before after
-  pub images : after.seat.known.images ≡ before.known.images
+  pub images : images_of after.seat.known ≡ images_of before.known
 
 -- the result of an update of this operation
 abbrev pub Updates : {O : Type 0} → Running O → List ℕ → Seated → Updated → Type 0
@@ -143,7 +143,7 @@ pub record ReadStops {O : Type 0} (r : Running O) (op : List ℕ) (before : Seat
   pub caller : IsStoppedOf r after.seat
   pub number : after.seat.known.local.number ≡ before.known.local.number
   pub lists : (ReadHalted r op before after × ReadDue 8 before after.seat) ⊎ ReadQueues r op before (Halted after)
-  pub images : after.seat.known.images ≡ before.known.images
+  pub images : images_of after.seat.known ≡ images_of before.known
 
 -- the result of a read of this operation
 abbrev pub ReadsInAll : {O : Type 0} → Running O → List ℕ → Seated → ReadDone → Type 0

@@ -19,5 +19,5 @@ pub fn closed_tables_are_linearizable<O: Object>()
     ensures { (table : Running O) (seats : List Seated) (r : Remains) → IsRunning O.line_count O.lawful table →
         (leaves : Leaves table (instance_at table O.step O.only_reads) seats r) → IsLinearizedBy leaves }
 {
-    runs_have_one_order();
+    runs_have_one_order::<O>();
 }

@@ -1,5 +1,5 @@
 -- What a turn by which an image is taken does to the seat.
-use Rattle.std.proofs.Common.{◌≡◌, ◌+◌, ◌-◌, ◌==◌, ◌<◌, inl, inr, ℕ, Bool, false, cond, List, [], ◌∷◌, ◌++◌, append-nil, length, length-append, slice_index, refl, ap, sym, subst, ◌∙◌, arith, Some, None, drop, set, suc, take}
+use Rattle.std.proofs.Common.{◌≡◌, ◌+◌, ◌-◌, ◌==◌, ◌<◌, ◌≤◌, inl, inr, ℕ, Bool, IsTrue, true, false, cond, List, [], ◌∷◌, ◌++◌, append-nil, length, length-append, slice_index, refl, ap, sym, subst, ◌∙◌, arith, Some, None, drop, set, suc, take}
 use Rattle.std.proofs.lemmas.Bool.{cases_eq}
 use Rattle.std.proofs.lemmas.List.{drop_all, get_or_append_left, get_or_push, length-drop, length-set, length-take}
 use Rattle.std.proofs.lemmas.List.Elements.{Contains-append_left}
@@ -15,10 +15,12 @@ use Rattle.cx_core.specs.declared.local.SeenRead.{SeenRead}
 use Rattle.cx_core.specs.LockEvents.{backed_off}
 use Rattle.cx_core.specs.Rights.{is_at, shared_on}
 use Rattle.cx_core.specs.State.{one_more}
+use Rattle.cx_core.proofs.RootCodes.{place_up}
+use Rattle.cx_rule.specs.declared.rule.ImageTimes.{ImageTimes}
 use Rattle.cx_rule.specs.Fitting.{TellsWords, base_of, loaded_of, loads_of, word_noted}
-use Rattle.cx_rule.specs.Running.{Running}
-use Rattle.cx_rule.specs.Seats.{IsAtLimit, Seated, StepsOn, unanswered_ticket}
-use Rattle.cx_rule.specs.Steps.{Halts, Steps, StepsTaking}
+use Rattle.cx_rule.specs.Running.{Running, instance_at}
+use Rattle.cx_rule.specs.Seats.{IsAtLimit, Seated, StepsOn, images_of, unanswered_ticket}
+use Rattle.cx_rule.specs.Steps.{Halts, Steps, StepsTaking, image_times}
 use Rattle.cx_rule.proofs.Copying.{here_or, or_there}
 use Rattle.cx_rule.proofs.Stepping.{on_one, on_same, on_then, on_then_one}
 use Rattle.cx_table.specs.Right.{Right}
@@ -176,6 +178,10 @@ module _ {O : Type 0} (o : Ghosts O) (r : Running O) (found : ℕ) (s mid new : 
     answered = ap (λ (t : Seated). unanswered_ticket t.known.local) same ∙ ap (λ (t : Seated). unanswered_ticket t.known.local) load.made ∙ may.answered;
   }
 
+  -- and CUR was loaded
+  pub has_seen : beside_read new ≡ beside_read mid → IsTrue new.known.times.seen
+  has_seen same = ap (λ (t : Seated). t.known.times.seen) same ∙ ap (λ (t : Seated). t.known.times.seen) load.made ∙ ap (λ (b : Bool). cond b s.known.times.seen true) may.rest.fresh
+
 -- ---- the raise, and the right given back
 
 module _ {O : Type 0} (o : Ghosts O) (r : Running O) (hold : Right) (first s : Seated) (loads : LoadsSome o r hold first s) where
@@ -189,7 +195,7 @@ module _ {O : Type 0} (o : Ghosts O) (r : Running O) (hold : Right) (first s : S
   pub loads_halt : IsAtLimit s.known.local → HaltsImage first s
   loads_halt limit =
       let met = ap (λ (x : Seated). x.known.local.met) loads.rest in
-      record { halts = record { limit = limit; counted = omega (arith, met); most = omega (arith, met); due = λ _. met }; none = ap (λ (x : Seated). x.known.images) loads.rest }
+      record { halts = record { limit = limit; counted = omega (arith, met); most = omega (arith, met); due = λ _. met }; none = ap (λ (x : Seated). images_of x.known) loads.rest }
 
   pub loads_answered : unanswered_ticket first.known.local ≡ None → unanswered_ticket s.known.local ≡ None
   loads_answered none = ap (λ (x : Seated). unanswered_ticket x.known.local) loads.rest ∙ none
@@ -208,7 +214,7 @@ module _ {O : Type 0} (o : Ghosts O) (r : Running O) (hold : Right) (first s : S
       let met = ap (λ (x : Seated). x.known.local.met) h.same ∙ ap (λ (x : Seated). x.known.local.met) loads.rest in
       record {
         halts = record { limit = subst (λ (x : Seated). IsAtLimit x.known.local) (sym h.same) h.limit; counted = omega (arith, met); most = omega (arith, met); due = λ _. met };
-        none = ap (λ (x : Seated). x.known.images) h.same ∙ ap (λ (x : Seated). x.known.images) loads.rest;
+        none = ap (λ (x : Seated). images_of x.known) h.same ∙ ap (λ (x : Seated). images_of x.known) loads.rest;
       }
 
   module _ (code : ℕ) (u : Seated) (raise : RaisesCurrent o r code s u) where
@@ -230,8 +236,8 @@ module _ {O : Type 0} (o : Ghosts O) (r : Running O) (hold : Right) (first s : S
     raised_met : u.known.local.met ≡ first.known.local.met
     raised_met = ap (λ (x : Seated). x.known.local.met) raise.made ∙ ap (λ (x : Seated). x.known.local.met) loads.rest
 
-    raised_images : u.known.images ≡ first.known.images
-    raised_images = ap (λ (x : Seated). x.known.images) raise.made ∙ ap (λ (x : Seated). x.known.images) loads.rest
+    raised_images : images_of u.known ≡ images_of first.known
+    raised_images = ap (λ (x : Seated). images_of x.known) raise.made ∙ ap (λ (x : Seated). images_of x.known) loads.rest
 
     pub raised_cur : u.known.local.seen_cur ≡ first.known.local.seen_cur
     raised_cur = ap (λ (x : Seated). x.known.local.seen_cur) raise.made ∙ ap (λ (x : Seated). x.known.local.seen_cur) loads.rest
@@ -250,7 +256,7 @@ module _ {O : Type 0} (o : Ghosts O) (r : Running O) (hold : Right) (first s : S
         let met = ap (λ (x : Seated). x.known.local.met) h.same ∙ raised_met in
         record {
           halts = record { limit = subst (λ (x : Seated). IsAtLimit x.known.local) (sym h.same) h.limit; counted = omega (arith, met); most = omega (arith, met); due = λ _. met };
-          none = ap (λ (x : Seated). x.known.images) h.same ∙ raised_images;
+          none = ap (λ (x : Seated). images_of x.known) h.same ∙ raised_images;
         }
 
     raised_holds : shared_on u.known.local ≡ Some hold.replica
@@ -264,13 +270,38 @@ module _ {O : Type 0} (o : Ghosts O) (r : Running O) (hold : Right) (first s : S
     }
 
     module _ (image : List ℕ) (found : ℕ) (v : Seated) (steps : StepsTaking r o.step o.only_reads hold.replica found image u v) where
-      released : v ≡ record u { known = record u.known { local = record u.known.local { shared = None; steps = one_more u.known.local.steps }; noted = u.known.noted ++ []; images = u.known.images ++ image ∷ [] } }
+      -- the seat that took it, by its local state
+      abbrev taking : Local → Seated
+      taking x = record u {
+        known = record u.known {
+          local = x;
+          noted = u.known.noted ++ [];
+          times = record u.known.times { images = u.known.times.images ++ image_times (instance_at r o.step o.only_reads) u.known (record u.known { local = x }) };
+          images = u.known.images ++ image ∷ [];
+        };
+      }
+
+      released : v ≡ taking (record u.known.local { shared = None; steps = one_more u.known.local.steps })
       released =
           let l = u.known.local in
           let off : backed_off hold.replica l ≡ record l { shared = None; steps = one_more l.steps } =
           ap (λ (b : Bool). cond b (record l { shared = None; steps = one_more l.steps }) (cond (is_at hold.replica l.passer) (record l { passer = None; steps = one_more l.steps }) (record l { downgraded = None; steps = one_more l.steps })))
           (ap (is_at hold.replica) raised_holds ∙ at_itself hold.replica) in
-          steps.made ∙ ap (λ (x : Local). (let t : Seated = record u { known = record u.known { local = x; noted = u.known.noted ++ []; images = u.known.images ++ image ∷ [] } } in t)) off
+          steps.made ∙ ap taking off
+
+      -- its times
+      abbrev image_now : ImageTimes
+      image_now = record {
+        begun = u.known.times.loaded;
+        ended = one_more u.known.local.steps;
+        place = root_place_of r.callers u.known.local.seen_cur;
+        durable = root_place_of r.callers u.known.local.raised;
+      }
+
+      image_noted : first.known.times.seen ≡ true → v.known.times.images ≡ first.known.times.images ++ image_now ∷ []
+      image_noted seen =
+          let loaded : u.known.times.seen ≡ true = ap (λ (x : Seated). x.known.times.seen) raise.made ∙ ap (λ (x : Seated). x.known.times.seen) loads.rest ∙ seen in
+          ap (λ (x : Seated). x.known.times.images) released ∙ ap (λ (b : Bool). u.known.times.images ++ cond b (image_now ∷ []) []) loaded ∙ ap (λ (p : List (List ℕ) × List ImageTimes). p.1 ++ image_now ∷ []) raised_images
 
       pub taken_turns : Turns r beside_checkpoint first v
       taken_turns = record {
@@ -283,8 +314,8 @@ module _ {O : Type 0} (o : Ghosts O) (r : Running O) (hold : Right) (first s : S
       pub taken_cur : v.known.local.seen_cur ≡ first.known.local.seen_cur
       taken_cur = ap (λ (x : Seated). x.known.local.seen_cur) released ∙ raised_cur
 
-      pub taken_image : IsAtCurrent o r first hold → TellsWords s.known s.region image → code ≡ s.known.local.seen_cur → LawfulBase r.lines (o.lawful r.object) (base_of image) → (place : ℕ) → slice_index image 0 ≡ place → TakesImage o r first.known.times.loaded image place first v
-      taken_image at tells code_is base place is =
+      pub taken_image : IsAtCurrent o r first hold → first.known.times.seen ≡ true → TellsWords s.known s.region image → code ≡ s.known.local.seen_cur → LawfulBase r.lines (o.lawful r.object) (base_of image) → (place : ℕ) → slice_index image 0 ≡ place → TakesImage o r first.known.times.loaded image place first v
+      taken_image at seen tells code_is base place is =
           let region = loads.held.of.region in
           let size = loads.held.sized.region in
           let here : slice_index image 0 ≡ root_place_of r.callers first.known.local.seen_cur =
@@ -309,7 +340,19 @@ module _ {O : Type 0} (o : Ghosts O) (r : Running O) (hold : Right) (first s : S
               fresh = refl;
             }));
             met = ap (λ (x : Seated). x.known.local.met) released ∙ raised_met;
-            images = ap (λ (x : Seated). x.known.images) released ∙ ap (λ xs. xs ++ image ∷ []) raised_images;
+            images = ap (λ (x : Seated). x.known.images) released ∙ ap (λ (p : List (List ℕ) × List ImageTimes). p.0 ++ image ∷ []) raised_images;
+            times = record {
+              image = image_now;
+              from = (let a = ap (λ (x : Seated). x.known.times.loaded) raise.made in let b = ap (λ (x : Seated). x.known.times.loaded) loads.rest in omega (arith, a, b));
+              to = (let a = ap (λ (x : Seated). x.known.local.steps) released in omega (arith, a));
+              at = ap (root_place_of r.callers) raised_cur ∙ sym now;
+              durable = (
+                  let some : 1 ≤ r.callers = (let caller = steps.seat.caller in omega (arith, caller)) in
+                  let a = ap (λ (x : Seated). x.known.local.raised) raise.made in
+                  let up = place_up r.callers s.known.local.seen_cur u.known.local.raised some (omega (arith, a, code_is)) in
+                  omega (arith, up, cur));
+              is = image_noted seen;
+            };
             base = subst (λ n. LawfulBase r.lines (o.lawful r.object) (record { place = n; words = image })) is base;
             current = now ∙ sym (ap (root_place_of r.callers) taken_cur);
             loaded = ap (λ (x : Seated). x.known.times.loaded) released ∙ ap (λ (x : Seated). x.known.times.loaded) raise.made ∙ ap (λ (x : Seated). x.known.times.loaded) loads.rest;

@@ -10,28 +10,30 @@ use Rattle.cx_rule.specs.Fitting.{TellsWords, loaded_of}
 use Rattle.cx_rule.specs.Raises.{known_answered}
 use Rattle.cx_rule.specs.Rule.{IsLawfulLocal}
 use Rattle.cx_rule.specs.Running.{IsSeatOf, Running, instance_at}
-use Rattle.cx_rule.specs.Seats.{IsAtLimit, Seated, StepsBy, unanswered_ticket}
+use Rattle.cx_rule.specs.Seats.{IsAtLimit, Seated, StepsBy, images_of, unanswered_ticket}
+use Rattle.cx_rule.specs.Timing.{ImageIn}
 use Rattle.cx_table.specs.Right.{Right}
 use Rattle.cx_turns.specs.Answering.{beside_raise}
 use Rattle.cx_turns.specs.Turns.{HaltsTurn, IsAtRest, StepsOn, TurnRefused}
 use Rattle.replica.specs.Held.{IsHeldSharedIn, beside_shared}
 
 -- what no such turn changes: what no step of a turn does before its raise, but the greatest code that DUR was raised by, the floor, and the
--- images that the caller took
+-- images that the caller took, and when
 abbrev pub beside_checkpoint : Seated → Seated
-beside_checkpoint s = (let b = beside_raise s in record b { known = record b.known { images = [] } })
+beside_checkpoint s = (let b = beside_raise s in record b { known = record b.known { times = record b.known.times { images = [] }; images = [] } })
 
 -- the caller took no image
 abbrev pub TakesNone : Seated → Seated → Type 0
-TakesNone before after = after.known.images ≡ before.known.images
+TakesNone before after = images_of after.known ≡ images_of before.known
 
 -- The caller took one image more, at a place: it is a lawful base. The place is that of the code last found in CUR, above each ticket and not
--- below any place that the caller was answered before. That code was loaded after this many steps of the caller, and DUR was raised by it. No
--- refusal is met, and the caller is at rest.
+-- below any place that the caller was answered before. That code was loaded after this many steps of the caller, and DUR was raised by it. The image's
+-- times are noted with it. No refusal is met, and the caller is at rest.
 pub record TakesImage {O : Type 0} (o : Ghosts O) (r : Running O) (begun : ℕ) (image : List ℕ) (place : ℕ) (before after : Seated) : Type 0 where
   pub rest : IsAtRest after.known.local
   pub met : after.known.local.met ≡ before.known.local.met
   pub images : after.known.images ≡ before.known.images ++ image ∷ []
+  pub times : ImageIn begun after.known.local.steps place before.known.times.images after.known.times.images
   pub base : LawfulBase r.lines (o.lawful r.object) (record { place = place; words = image })
   pub current : place ≡ root_place_of r.callers after.known.local.seen_cur
   pub loaded : after.known.times.loaded ≡ begun

@@ -64,7 +64,7 @@ beside_turn s = record s {
     };
     noted = [];
     accesses = [];
-    times = record s.known.times { loaded = 0 };
+    times = record s.known.times { loaded = 0; seen = false };
   };
 }
 

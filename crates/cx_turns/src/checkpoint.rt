@@ -1,6 +1,6 @@
 //! A turn by which a caller takes the image of the current replica, while others go on. `Halt` comes only where no access is left.
 
-ghost use Rattle.std.specs.Prelude.{◌≡◌, IfOk, MatchResult, OnErr, length};
+ghost use Rattle.std.specs.Prelude.{◌≡◌, IfOk, IsTrue, MatchResult, OnErr, length};
 ghost use Rattle.cx_rule.specs.Seats.{IsAtLimit};
 ghost use Rattle.cx_rule.specs.Steps.{Halts};
 ghost use Rattle.cx_turns.specs.Checkpointing.{HaltsImage, IsAtCurrent, LoadsImage, LoadsSome, RaisesCurrent, TakesImage, TurnsTaking, beside_checkpoint};
@@ -44,6 +44,7 @@ fn take_image<O: Object>(
     into: &mut [u64],
 ) -> Result<u64, Halt>
     requires current { IsAtCurrent O.Object shared.now seat.old hold }
+    requires seen { IsTrue seat.old.known.times.seen }
     requires words { length into.old ≡ length shared.now.base.words }
     ensures taken { MatchResult result (λ place. TakesImage O.Object shared.now seat.old.known.times.loaded into.new place seat.old seat.new) (λ _. HaltsImage seat.old seat.new) }
     ensures turns { StaysIn shared.now beside_checkpoint seat.old seat.new }

@@ -11,6 +11,7 @@ ghost use Rattle.cx_turns.specs.Turns.{RisesIn, TurnsIn};
 
 use crate::current::read_current;
 use cx_base::{Halt, Object, OpWords, root_place};
+use cx_core::op_fits;
 use cx_table::{AnsweredRead, CallerSeat, Shared, SharedHold};
 use publish::make_durable;
 use strong_trylock::release_shared;
@@ -62,6 +63,7 @@ fn settle_read<O: Object>(
     ensures same { seat.new.known.local.seen_cur ≡ seat.old.known.local.seen_cur }
 {
     let code = seat.seen_cur();
+    op_fits(op);
     answer_read(shared, seat, code, op, reply)?;
     release_shared(shared, seat, hold)?;
     Ok(())

@@ -1,10 +1,11 @@
-use Rattle.std.proofs.Common.{◌∙◌, sym, arith}
+use Rattle.std.proofs.Common.{◌∙◌, sym, subst, arith}
+use Rattle.cx_core.specs.Base.{LawfulBase}
 use Rattle.cx_core.proofs.MergeLemmas.{history_is}
 use Rattle.cx_rule.specs.Rule.{opening_limited}
 use Rattle.cx_rule.specs.Running.{instance_at}
 use Rattle.core_runs.proofs.Ordering.{linearizable}
 use Rattle.cx_rule.proofs.Opening.{limited_lawful}
-use Rattle.cx_service.proofs.CallOrder.{keeps_calls, none_linked, none_made}
+use Rattle.cx_service.proofs.CallOrder.{keeps_calls, keeps_images, none_linked, none_made}
 use Rattle.cx_service.proofs.closed_order.closed_tables_are_linearizable.Goals as goal
 
 pub returns : goal.returns
@@ -19,5 +20,6 @@ returns g c = λ table seats r running leaves. (
       linearizable = is;
       history = same ∙ leaves.history;
       calls = keeps_calls instance (opening_limited instance leaves.reached.limits) _ leaves.reached.events opening (none_made instance leaves.reached.limits) leaves.reached.ran seats leaves.times;
-      one_order = c.runs_have_one_order.ensures instance leaves.reached.events _ _ opening (none_linked instance leaves.reached.limits) leaves.reached.ran;
+      images = keeps_images instance (opening_limited instance leaves.reached.limits) _ leaves.reached.events opening (none_made instance leaves.reached.limits) leaves.reached.ran seats leaves.times;
+      one_order = c.runs_have_one_order.ensures table.object table.callers table.base (subst (λ n. LawfulBase n (g.O.Object.lawful table.object) table.base) running.lines running.base) leaves.reached.events _ _ opening (none_linked instance leaves.reached.limits) leaves.reached.ran;
     })

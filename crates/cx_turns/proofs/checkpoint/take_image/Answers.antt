@@ -8,4 +8,4 @@ returns-clause-taken g c =
     let e = c.in_ok-release_taken.ensures in
     let image = c.load_image.new.into in
     taken_image g.O.Object c.args.shared.now c.args.hold c.args.seat.now c.load_image.new.seat loads.loads c.seen_cur-code.result c.raise_current.new.seat c.in_ok-raise_current.ensures.raised
-    image c.in_ok-release_taken.field-0 c.release_taken.new.seat e.step.made c.requires.current loads.tells c.seen_cur-code.ensures e.base (slice_index image 0) refl
+    image c.in_ok-release_taken.field-0 c.release_taken.new.seat e.step.made c.requires.current c.requires.seen loads.tells c.seen_cur-code.ensures e.base (slice_index image 0) refl

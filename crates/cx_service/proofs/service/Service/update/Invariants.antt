@@ -1,5 +1,5 @@
 use Rattle.std.proofs.Common.{◌≡◌, ◌≤◌}
-use Rattle.cx_rule.specs.Seats.{IsAtLimit}
+use Rattle.cx_rule.specs.Seats.{IsAtLimit, images_of}
 use Rattle.cx_rule.specs.Timing.{KeepsTimes}
 use Rattle.cx_service.specs.Callers.{IsCallerOf}
 use Rattle.cx_service.specs.Updates.{KeepsLists, SubmitsAgain}
@@ -20,5 +20,5 @@ invariant-loop g l = record {
   since : StepsOn l.fn.caller l.caller;
   sets : l.caller.known.sets ≡ l.fn.caller.known.sets;
   met : l.caller.known.local.met ≡ l.fn.caller.known.local.met;
-  images : l.caller.known.images ≡ l.fn.caller.known.images;
+  images : images_of l.caller.known ≡ images_of l.fn.caller.known;
 }
