@@ -5,10 +5,9 @@ ghost use Rattle.cx_base.specs.Calls.{Changes};
 ghost use Rattle.cx_base.specs.Memory.{AreAt, Loaded, Framed, Always, overwritten};
 
 use crate::memory::{Halt, Memory};
-use line_lanes::first_apart;
 
-/// How many words are loaded at once where those that differ are stored: a reply.
-const FEW: usize = 144;
+/// How many words are loaded at once where those that differ are stored: a third of a reply.
+const FEW: usize = 48;
 
 /// Puts words over those from a place on, and stores only those that differ. `Halt` comes only where no access is left, and then
 /// only the first of the words are there.
@@ -28,7 +27,7 @@ pub fn store_words<M: Memory>(mem: &mut M, at: u64, words: &[u64]) -> Result<(),
 
 /// Does as `store_words` for a few words, which are loaded at once.
 fn store_few<M: Memory>(mem: &mut M, at: u64, words: &[u64]) -> Result<(), Halt>
-    requires few { length words.now ≤ 144 }
+    requires few { length words.now ≤ 48 }
     requires within { at + length words.now ≤ M.size mem.old }
     requires small { at + length words.now < 2 ^ 64 }
     requires writable { IsTrue (M.writable mem.old) }
@@ -54,10 +53,8 @@ fn store_differing<M: Memory>(
     requires known { Always (M.stands mem.old) (AreAt at there.now) }
     ensures { Changes M.Memory mem.old mem.new result (λ _ before now. now ≡ overwritten at words.now before) }
 {
-    let mut next = first_apart(words, there, 0);
-    while next < words.len() {
-        mem.store(at + next as u64, words[next])?;
-        next = first_apart(words, there, next + 1);
+    for i in 0..words.len() {
+        store_over(mem, at + i as u64, there[i], words[i])?;
     }
     Ok(())
 }
