@@ -1,4 +1,5 @@
 pub mod Keeping
-pub mod Repeated
+pub mod Named
+pub mod Placed
 pub mod Slots
 pub mod Written
