@@ -1,12 +1,12 @@
 -- What is written of a base says an image whose root names that base.
-use Rattle.std.proofs.Common.{◌≡◌, ◌+◌, ◌-◌, ◌*◌, ◌<◌, ◌≤◌, ◌∙◌, ℕ, List, ap, ap₂, arith, drop, length, refl, slice_index, sym}
+use Rattle.std.proofs.Common.{◌≡◌, ◌+◌, ◌-◌, ◌*◌, ◌≤◌, ◌∙◌, ℕ, List, ap, ap₂, arith, drop, length, slice_index, sym}
 use Rattle.std.proofs.Math.Nat.{mul-add}
 use Rattle.std.proofs.lemmas.List.{ext_get_or, get_or-drop, length-drop}
 use Rattle.cx_base.specs.Codes.{root_place_of}
 use Rattle.cx_core.specs.declared.entry.Image.{Image}
 use Rattle.cx_core.specs.Region.{region_words}
 use Rattle.cx_core.proofs.RootCodes.{code_place}
-use Rattle.recovery.specs.Images.{image_size, region_of}
+use Rattle.recovery.specs.Images.{region_of}
 use Rattle.recovery.specs.Recovery.{HasSize, named_base, place_in_root}
 use Rattle.c_images.specs.Taken.{IsWrittenOf, base_at}
 use Rattle.c_images.specs.Words.{SaysImage, SaysRegion}

@@ -1,7 +1,5 @@
-use Rattle.std.proofs.Common.{◌≡◌, ◌+◌, ◌-◌, ◌*◌, ◌≤◌, ◌∙◌, ap, ap₂, arith, length, refl, subst, sym}
+use Rattle.std.proofs.Common.{◌+◌, ◌-◌, ◌*◌, ◌≤◌, ◌∙◌, ap₂, arith, length, refl, subst, sym}
 use Rattle.cx_core.specs.declared.entry.Image.{Image}
-use Rattle.cx_core.specs.Region.{region_words}
-use Rattle.recovery.specs.Images.{RiseFrom}
 use Rattle.c_images.proofs.Placed.{at_replica, below_count, says_region}
 use Rattle.c_images.proofs.reader.region_image.Goals as goal
 
