@@ -5,10 +5,10 @@
  * has the old file or the new one, each whole; a save that was interrupted may leave a file PATH.PID.N.new, which nobody reads. A load reads the file,
  * checks its checksum, and opens the store or the queue that it holds. Files are the same from C and from Rust, on machines of any byte order.
  *
- * THE FILE: 64-bit words, each with its lowest byte first. Words 0 to 3 are the head: the name "githfile" in bytes, the format 1, the number of words of the
- * image, and the CRC-32C of the first 24 bytes. Then the words of the image, and last the CRC-32C of all bytes before it. (CRC-32C is the checksum
- * of RFC 3720; its upper 32 bits are 0 here.) It finds each change of up to 32 bits in a row, and other changes but for one in 2^32; it is no
- * protection against who wants to deceive.
+ * THE FILE: 64-bit words, each with its lowest byte first. Words 0 to 3 are the head: the name "githfile" in bytes, the format 1 of files, the number of
+ * words of the image, and the CRC-32C of the first 24 bytes. Then the words of the image, and last the CRC-32C of all bytes before it. (CRC-32C is the
+ * checksum of RFC 3720; its upper 32 bits are 0 here.) It finds each change of up to 32 bits in a row, and other changes but for one in 2^32; it is no
+ * protection against who wants to deceive. A save writes an image of format 2, of one replica; a load takes an image of either format.
  *
  * What is tested: `bindings/c/file_tests.c`. Nothing in this header is proved.
  */
@@ -252,9 +252,18 @@ static inline int githoppu_save_words(const char *path, const uint64_t *words, s
     return status;
 }
 
-/* Saves a store or a queue: of a closed one its image by choice 0, what is durable of it, and of a running one what githoppu_checkpoint takes by this
- * session, while the others go on. What was passed is still there afterwards, at *from. DONE, NO_SESSION, OUT_OF_TURN while an operation of the session is
- * pending, AGAIN as of githoppu_checkpoint_into, NO_MEMORY, or one of NOT_MADE to FOLDER_NOT_SYNCED. */
+/* Leaves of the words of an image, which githoppu_image wrote, the replica that the root names, which is the one that recovery reads: an image of format 2.
+ * How many words it has. */
+static inline size_t githoppu_one_replica(uint64_t *words, size_t count) {
+    size_t replicas = (size_t)(2 * words[3]), region = (count - 8) / replicas;
+    memmove(words + 8, words + 8 + region * (size_t)(words[5] % replicas), 8 * region);
+    words[1] = 2;
+    return 8 + region;
+}
+
+/* Saves a store or a queue in an image of format 2: of a closed one what its image by choice 0 has, what is durable of it, and of a running one what
+ * githoppu_checkpoint takes by this session, while the others go on. What was passed is still there afterwards, at *from. DONE, NO_SESSION, OUT_OF_TURN
+ * while an operation of the session is pending, AGAIN as of githoppu_checkpoint_into, NO_MEMORY, or one of NOT_MADE to FOLDER_NOT_SYNCED. */
 static inline int githoppu_save(const char *path, void **from) {
     uint64_t count = 0, *words;
     int why, running = 0, status = githoppu_image_size(from, &count);
@@ -268,6 +277,8 @@ static inline int githoppu_save(const char *path, void **from) {
     if (words == NULL)
         return GITHOPPU_NO_MEMORY;
     status = running ? githoppu_checkpoint_into(from, words, (size_t)count) : githoppu_image_into(from, 0, words, (size_t)count);
+    if (status == GITHOPPU_DONE && !running)
+        count = githoppu_one_replica(words, (size_t)count);
     if (status == GITHOPPU_DONE)
         status = githoppu_save_words(path, words, (size_t)count);
     why = errno;
