@@ -207,12 +207,12 @@ void githoppu_drop(githoppu_either what);
 }
 #endif
 
-/* Whether the header and the library that is linked are of one version: DONE, OLD_HEADER or OLD_LIBRARY. */
+/* Whether the header and the library that is linked are of one version, but for the third number, which changes no call: DONE, OLD_HEADER or OLD_LIBRARY. */
 static inline int githoppu_check_version(void) {
-    uint64_t library = githoppu_version();
-    if (library == GITHOPPU_VERSION)
+    uint64_t library = githoppu_version() / 1000, header = GITHOPPU_VERSION / 1000;
+    if (library == header)
         return GITHOPPU_DONE;
-    return library > GITHOPPU_VERSION ? GITHOPPU_OLD_HEADER : GITHOPPU_OLD_LIBRARY;
+    return library > header ? GITHOPPU_OLD_HEADER : GITHOPPU_OLD_LIBRARY;
 }
 
 /* What a status says, in one line: of each status of this library, those of files among them. */

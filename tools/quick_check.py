@@ -38,6 +38,7 @@ ROWS = [
         f"test_tools.Program.{test}"
         for test in (
             "test_each_row",
+            "test_each_word_at_its_stack",
             "test_largest_input",
             "test_other_words_are_refused_unread",
             "test_a_load_writes_four_lines_and_reads_nothing",

@@ -34,15 +34,22 @@ static int adds = ADDS, texts = TEXTS;
 
 static long taken, given, refused_at;
 
+/* What the library tells as its version, where that is not 0. */
+static uint64_t told_version;
+
 #ifdef __cplusplus
 extern "C" {
 #endif
+uint64_t __real_githoppu_version(void);
+uint64_t __wrap_githoppu_version(void);
 void *__real_malloc(size_t size);
 void *__real_realloc(void *block, size_t size);
 void __real_free(void *block);
 void *__wrap_malloc(size_t size);
 void *__wrap_realloc(void *block, size_t size);
 void __wrap_free(void *block);
+
+uint64_t __wrap_githoppu_version(void) { return told_version != 0 ? told_version : __real_githoppu_version(); }
 
 void *__wrap_malloc(size_t size) {
     if (++taken == refused_at)
@@ -659,11 +666,26 @@ static void test_outcomes_after_crashes(void) {
 /* Whether a number is no status. */
 static int is_none(int status) { return strcmp(githoppu_status_text(status), githoppu_status_text(-1)) == 0; }
 
+/* A library of another version is told, but for the third number. */
+static void test_versions(void) {
+    static const struct {
+        uint64_t version;
+        int status;
+    } told[] = {{4000, GITHOPPU_DONE}, {4001, GITHOPPU_DONE}, {4999, GITHOPPU_DONE}, {3999, GITHOPPU_OLD_LIBRARY}, {5000, GITHOPPU_OLD_HEADER},
+                {1004000, GITHOPPU_OLD_HEADER}, {1, GITHOPPU_OLD_LIBRARY}};
+    size_t i;
+    CHECK(githoppu_check_version() == GITHOPPU_DONE && githoppu_version() == GITHOPPU_VERSION);
+    CHECK(strcmp(GITHOPPU_VERSION_TEXT, "0.4.0") == 0 && GITHOPPU_VERSION == 4000);
+    for (i = 0; i < sizeof told / sizeof *told; i++) {
+        told_version = told[i].version;
+        CHECK(githoppu_check_version() == told[i].status);
+    }
+    told_version = 0;
+}
+
 /* Every status and every kind of reply has a text of its own, and what is none has another. */
 static void test_texts(void) {
     int i, k;
-    CHECK(githoppu_check_version() == GITHOPPU_DONE && githoppu_version() == GITHOPPU_VERSION);
-    CHECK(strcmp(GITHOPPU_VERSION_TEXT, "0.4.0") == 0 && GITHOPPU_VERSION == 4000);
     for (i = 0; i < 100; i++)
         for (k = 0; k < i; k++)
             CHECK(strcmp(githoppu_status_text(i), githoppu_status_text(k)) != 0 || (is_none(i) && is_none(k)));
@@ -1116,6 +1138,7 @@ static void test_closing_refused(void) {
 int main(int count, char **words) {
     if (count > 1 && strcmp(words[1], "short") == 0)
         adds = texts = 300;
+    test_versions();
     test_texts();
     test_sizes();
     test_documents();

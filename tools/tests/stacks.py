@@ -64,8 +64,13 @@ def brackets(count):
     return b"lines 64\nlife 1 power 0\n0 put a " + b"[" * count + b"\n"
 
 
+def many_documents():
+    """A script of as many documents as there is room for, so that the tree of keys is as high as it comes."""
+    return b"lines 16384\nlife 1 power 0\n" + b"".join(b"0 put key%d 1\n" % number for number in range(5_400))
+
+
 def long_script():
-    """A script of as many lives as there may be, and one of as many commands."""
+    """A script of as many lives as there may be."""
     return b"lines 64\n" + b"life 1 power 1\n0 add a 1\n" * 1_000
 
 
@@ -91,22 +96,23 @@ def trace(callers, lines, seed, steps=10_000):
     return "\n".join([f"trace {callers} {lines}", *recorded]).encode() + b"\n"
 
 
-def image_of(program):
-    """The text of the image that a script of deep documents leaves."""
-    return subprocess.run([program, "image"], input=deep_script(), capture_output=True, check=True, timeout=MOST_SECONDS).stdout
+def image_of(program, script):
+    """The text of the image that a script leaves."""
+    return subprocess.run([program, "image"], input=script, capture_output=True, check=True, timeout=MOST_SECONDS).stdout
 
 
 def inputs(program):
     """For each word, what it is run on, with the status."""
     deep, refused = deep_script(), brackets(100_000)
+    scripts = [([], deep, 0), ([], refused, 3), ([], brackets(DEEPEST + 1), 3), ([], long_script(), 0), ([], many_documents(), 0)]
     return {
-        "run": [([], deep, 0), ([], refused, 3), ([], long_script(), 0)],
-        "image": [([], deep, 0), ([], refused, 3), ([], long_script(), 0)],
-        "recover": [([], image_of(program), 0), ([], b"image " + b"9" * 100_000, 3)],
+        "run": scripts,
+        "image": scripts,
+        "recover": [([], image_of(program, deep), 0), ([], image_of(program, many_documents()), 0), ([], b"image " + b"9" * 100_000, 3)],
         "load": [(["0", "8", "500"], b"", 0), (["0", "1", "500"], b"", 0)],
         "pool": [(["8"], pool_script(), 0), (["1"], pool_script(), 0), (["8"], refused, 3)],
         "fifo": [([], queue_script(), 0), ([], refused, 3)],
-        "trace": [([], trace(8, 64, 1), 0), ([], trace(1, 64, 2), 0), ([], trace(8, 16_384, 3, 3_000), 0)],
+        "trace": [([], trace(8, 64, 1), 0), ([], trace(1, 64, 2), 0), ([], trace(8, 16_384, 3, 3_000), 0), ([], b"trace " + b"9" * 100_000, 3)],
     }
 
 
