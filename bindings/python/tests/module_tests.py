@@ -1,7 +1,7 @@
 """Tests of the Python module over the shared library: what each operation answers and refuses, wrong use, threads, images, and files, which are those of C and
 of Rust. tools/bindings runs them over what tools/install put out.
 
-    python3 bindings/python/tests.py
+    PYTHONPATH=PREFIX/share/githoppu/python python3 bindings/python/tests/module_tests.py
 
 The examples in the module's own comments are run too.
 """
@@ -19,7 +19,7 @@ from githoppu import (
     BadImage, BadSize, Error, FileFault, Image, Lost, Malformed, NoRoom, NotClosed, NotNumber, OutOfTurn, Queue, Stale, Store, SumOverflow, TooLong,
 )
 
-OF_C = Path(__file__).resolve().parent.parent / "c" / "out" / "files"
+OF_C = Path(__file__).resolve().parents[2] / "c" / "out" / "files"
 
 
 def status_of(call, *given):
