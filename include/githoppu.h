@@ -76,10 +76,10 @@ enum githoppu_status {
                                  No run of the library is known to answer it */
     /* of a recovery and of githoppu_outcome: why the words are refused. The first check that fails is answered, in this order; that a result is a reply
        is checked last, after 20 */
-    GITHOPPU_NOT_AN_IMAGE = 13,  /* they are not an image: fewer than 8 words, another name or format, a kind that is neither 1 nor 2, numbers of sessions or
-                                    lines that no store has, or one of the last two words of the head is not 0 */
+    GITHOPPU_NOT_AN_IMAGE = 13,  /* they are not an image: fewer than 8 words, another name, a format or a kind that is neither 1 nor 2, numbers of sessions
+                                    or lines that no store has, or one of the last two words of the head is not 0 */
     GITHOPPU_OTHER_KIND = 14,    /* the image is of a queue where a store is asked for, or of a store where a queue is */
-    GITHOPPU_IMAGE_SIZE = 15,    /* it has another number of words than its sessions and lines make */
+    GITHOPPU_IMAGE_SIZE = 15,    /* it has another number of words than its format, sessions and lines make */
     GITHOPPU_IMAGE_ROOT = 16,    /* the root's place is above 2^40 */
     GITHOPPU_IMAGE_VERSION = 17, /* the object's version is not known */
     GITHOPPU_IMAGE_PLACE = 18,   /* the place in the replica that the root names is not the root's */
@@ -171,15 +171,16 @@ int32_t githoppu_close(githoppu_session_handle session, githoppu_either *out);
  * those that may be left. All of them hold every acknowledged update; only what was pending may be there or not. The same choice gives the same words.
  * OUT_OF_TURN where it is not closed: *needed is 0. The closed store is at *out again.
  *
- * An image is 8 words (the name "githoppu" in bytes, the format 1, the kind 1 of a store or 2 of a queue, the sessions, the lines, the root, 0 and 0)
- * and those of all replicas: 128 * (146 + lines) bytes for each session, and 64. Its words have the machine's byte order. An image has no checksum: a
- * byte that is changed in a document, or in a replica that the root does not name, is not seen. A file of githoppu_file.h has one. */
+ * An image is 8 words (the name "githoppu" in bytes, the format, the kind 1 of a store or 2 of a queue, the sessions, the lines, the root, 0 and 0), and
+ * then in format 1, which this call writes, those of all replicas: 128 * (146 + lines) bytes for each session, and 64; in format 2, which
+ * githoppu_checkpoint writes, those of one replica, which stands for each: 64 * (146 + lines) bytes, and 64. Each call that takes an image takes both
+ * formats. Its words have the machine's byte order. An image has no checksum: a byte that is changed in a document, or in a replica that the root does not
+ * name, is not seen. A file of githoppu_file.h has one. */
 int32_t githoppu_image(githoppu_closed_handle closed, uint64_t choice, uint64_t *words, size_t count, uint64_t *needed, githoppu_closed **out);
 
-/* Takes an image of a running store or queue, of whatever session, while the others go on: an image of one moment, in the format of githoppu_image with the
- * object of that moment as each replica, of which githoppu_recover opens a store and githoppu_outcome tells outcomes. It holds every update that any session
- * was answered before the call began, and what it holds is durable. One replica is read for the time of one copy, as a reader does. No memory is taken,
- * and it waits for nobody.
+/* Takes an image of a running store or queue, of whatever session, while the others go on: an image of one moment, in format 2, of which githoppu_recover
+ * opens a store and githoppu_outcome tells outcomes. It holds every update that any session was answered before the call began, and what it holds is
+ * durable. One replica is read for the time of one copy, as a reader does. No memory is taken, and it waits for nobody.
  * DONE where count is the number of words that an image has, which is put into *needed; with another count BAD_SIZE, and no word is written (so ask once
  * with count 0). AGAIN: other sessions were in the way in 16 tries; call again. STOPPED, or OUT_OF_TURN while an operation is pending; of what is no
  * session OUT_OF_TURN and *needed is 0. After AGAIN and STOPPED the words are no image. */

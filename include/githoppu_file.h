@@ -13,10 +13,10 @@
  * The new file is .githoppu.N.new in the same folder, with the least N from 0 on that is free, and is locked (flock) until it is renamed. A save that was
  * killed leaves it; the next save in this folder removes each that nobody locks.
  *
- * THE FILE: 64-bit words, each with its lowest byte first. Words 0 to 3 are the head: the name "githfile" in bytes, the format 1, the number of words of the
- * image, and the CRC-32C of the first 24 bytes. Then the words of the image, and last the CRC-32C of all bytes before it. (CRC-32C is the checksum
- * of RFC 3720; its upper 32 bits are 0 here.) It finds each change of up to 32 bits in a row, and other changes but for one in 2^32; it is no
- * protection against who wants to deceive.
+ * THE FILE: 64-bit words, each with its lowest byte first. Words 0 to 3 are the head: the name "githfile" in bytes, the format 1 of files, the number of
+ * words of the image, and the CRC-32C of the first 24 bytes. Then the words of the image, and last the CRC-32C of all bytes before it. (CRC-32C is the
+ * checksum of RFC 3720; its upper 32 bits are 0 here.) It finds each change of up to 32 bits in a row, and other changes but for one in 2^32; it is no
+ * protection against who wants to deceive. A save writes an image of format 2, of one replica; a load takes an image of either format.
  *
  * What is tested: `bindings/c/file_tests.c`. Nothing in this header is proved.
  */
@@ -361,7 +361,7 @@ static inline int githoppu_save_taken(const char *path, uint64_t *words, uint64_
     return status;
 }
 
-/* Saves a running store or queue, while its other sessions go on: what githoppu_checkpoint takes by this session. DONE, NO_SESSION, OUT_OF_TURN while an
+/* Saves a running store or queue, while its other sessions go on, in an image of format 2: what githoppu_checkpoint takes by this session. DONE, NO_SESSION, OUT_OF_TURN while an
  * operation of the session is pending, AGAIN as of githoppu_checkpoint_into, NO_MEMORY, NOT_REGULAR, or one of NOT_MADE to FOLDER_NOT_SYNCED. */
 static inline int githoppu_save(const char *path, githoppu_session **session) {
     uint64_t count = 0, *words;
@@ -372,15 +372,29 @@ static inline int githoppu_save(const char *path, githoppu_session **session) {
     return words == NULL ? GITHOPPU_NO_MEMORY : githoppu_save_taken(path, words, count, githoppu_checkpoint_into(session, words, (size_t)count));
 }
 
-/* Saves a closed store or queue, which stays: its image by choice 0, what is durable of it. DONE, NO_SESSION, NO_MEMORY, NOT_REGULAR, or one of NOT_MADE to
- * FOLDER_NOT_SYNCED. */
+/* Leaves of the words of an image, which githoppu_image wrote, the replica that the root names, which is the one that recovery reads: an image of format 2.
+ * How many words it has. */
+static inline size_t githoppu_one_replica(uint64_t *words, size_t count) {
+    size_t replicas = (size_t)(2 * words[3]), region = (count - 8) / replicas;
+    memmove(words + 8, words + 8 + region * (size_t)(words[5] % replicas), 8 * region);
+    words[1] = 2;
+    return 8 + region;
+}
+
+/* Saves a closed store or queue, which stays, in an image of format 2: what its image by choice 0 has, what is durable of it. DONE, NO_SESSION, NO_MEMORY,
+ * NOT_REGULAR, or one of NOT_MADE to FOLDER_NOT_SYNCED. */
 static inline int githoppu_save_closed(const char *path, githoppu_closed **closed) {
     uint64_t count = 0, *words;
     int status = githoppu_image_size(closed, &count);
     if (status != GITHOPPU_DONE)
         return status;
     words = githoppu_room(count);
-    return words == NULL ? GITHOPPU_NO_MEMORY : githoppu_save_taken(path, words, count, githoppu_image_into(closed, 0, words, (size_t)count));
+    if (words == NULL)
+        return GITHOPPU_NO_MEMORY;
+    status = githoppu_image_into(closed, 0, words, (size_t)count);
+    if (status == GITHOPPU_DONE)
+        count = githoppu_one_replica(words, (size_t)count);
+    return githoppu_save_taken(path, words, count, status);
 }
 
 /* ---- Loading. ---- */

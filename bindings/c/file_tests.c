@@ -208,7 +208,7 @@ static void test_running(githoppu_session **s) {
     CHECK(githoppu_save(queue_path, &s[1]) == GITHOPPU_DONE && githoppu_load_queue(queue_path, again, 1) == GITHOPPU_DONE);
     CHECK(githoppu_pop(again, &reply) == GITHOPPU_DONE && githoppu_text(&reply, text) == 3 && strcmp(text, "one") == 0);
     githoppu_give_up(again, 1);
-    CHECK(githoppu_checkpoint_size(&s[1], &count) == GITHOPPU_DONE && count == 8 + 2 * 3 * 8 * 210);
+    CHECK(githoppu_checkpoint_size(&s[1], &count) == GITHOPPU_DONE && count == 8 + 8 * 210);
     words = (uint64_t *)calloc((size_t)count + 1, 8);
     handle.at = s[1];
     CHECK(githoppu_checkpoint(handle, words, (size_t)count + 1, &needed, &s[1]) == GITHOPPU_BAD_SIZE && needed == count && words[0] == 0);
@@ -233,7 +233,7 @@ static void test_round_trip(void) {
     short_writes = 40;
     CHECK(githoppu_save_closed(store_path, &closed) == GITHOPPU_DONE && short_writes == 0);
     CHECK(sold_in(store_path) == 41);
-    CHECK(githoppu_load_words(store_path, &words, &count) == GITHOPPU_DONE && count == 8 + 2 * 16 * 210);
+    CHECK(githoppu_load_words(store_path, &words, &count) == GITHOPPU_DONE && count == 8 + 8 * 210 && words[1] == 2);
     CHECK(githoppu_outcome(words, count, 1, &number, reply.word) == GITHOPPU_DONE && number == 1 && githoppu_sum(&reply) == 41);
     free(words);
     githoppu_give_up_closed(&closed);
@@ -250,6 +250,43 @@ static void test_round_trip(void) {
     CHECK(githoppu_load_queue(queue_path, s, 1) == GITHOPPU_DONE);
     CHECK(githoppu_pop(s, &reply) == GITHOPPU_DONE && githoppu_text(&reply, text) == 3 && strcmp(text, "one") == 0);
     githoppu_give_up(s, 1);
+}
+
+/* A closed store is saved as the replica that its image by choice 0 names. A file with the whole image, as saves wrote before, is loaded as the same store,
+ * with the same outcomes; and so it is with each number of sessions, of which the last replica may be the one that is named. */
+static void test_formats(const char *folder) {
+    char path[4096];
+    size_t sessions, of;
+    snprintf(path, sizeof path, "%s/formats", folder);
+    for (sessions = 1; sessions <= 8; sessions++)
+        for (of = 0; of < 12; of++) {
+            githoppu_session *s[8];
+            githoppu_closed *closed = NULL;
+            githoppu_words reply, other;
+            uint64_t count = 0, *words, *one, number, found, replica;
+            size_t length, i;
+            CHECK(githoppu_open(64, s, sessions) == GITHOPPU_DONE);
+            for (i = 0; i < of; i++)
+                CHECK(githoppu_add(&s[i % sessions], "sold", 3, &reply) == GITHOPPU_DONE);
+            CHECK(githoppu_close_all(s, sessions, &closed) == GITHOPPU_DONE);
+            CHECK(githoppu_image_size(&closed, &count) == GITHOPPU_DONE && count == 8 + 2 * sessions * 8 * 210);
+            words = (uint64_t *)malloc((size_t)(8 * count));
+            CHECK(words != NULL && githoppu_image_into(&closed, 0, words, (size_t)count) == GITHOPPU_DONE && words[1] == 1);
+            CHECK(githoppu_save_words(path, words, (size_t)count) == GITHOPPU_DONE && sold_in(path) == 3 * (int64_t)of);
+            CHECK(githoppu_save_closed(path, &closed) == GITHOPPU_DONE && sold_in(path) == 3 * (int64_t)of);
+            githoppu_give_up_closed(&closed);
+            CHECK(githoppu_load_words(path, &one, &length) == GITHOPPU_DONE && length == 8 + 8 * 210 && one[1] == 2 && one[5] == words[5]);
+            replica = words[5] % (2 * sessions);
+            CHECK(memcmp(one + 8, words + 8 + replica * 8 * 210, 8 * 8 * 210) == 0);
+            for (i = 0; i < 8; i++) {
+                CHECK(githoppu_outcome(one, length, i, &number, reply.word) == GITHOPPU_DONE);
+                CHECK(githoppu_outcome(words, (size_t)count, i, &found, other.word) == GITHOPPU_DONE && found == number);
+                CHECK(memcmp(&reply, &other, sizeof reply) == 0 && number == (i >= sessions ? 0 : of / sessions + (i < of % sessions)));
+            }
+            free(one);
+            free(words);
+        }
+    unlink(path);
 }
 
 /* Each bit of a small file changed is named so, and so is the file cut at each length, or with bytes after its end. */
@@ -282,7 +319,7 @@ static void test_changed(const char *folder) {
     size_t length, at;
     unsigned char *bytes = bytes_of(store_path, &length), *more = (unsigned char *)malloc(length + 16);
     githoppu_session *s[1], *nothing;
-    CHECK(length == 40 + 8 * (8 + 2 * 16 * 210) && more != NULL);
+    CHECK(length == 40 + 8 * (8 + 8 * 210) && more != NULL);
     for (at = 0; at < length; at++) {
         CHECK(githoppu_file_fault(bytes, at) == (at == 0 ? GITHOPPU_FILE_EMPTY : GITHOPPU_FILE_LENGTH));
         if (at >= 64 && at < length - 64 && at % 31 != 0)
@@ -410,7 +447,7 @@ static void test_full(const char *folder) {
     githoppu_closed *closed = closed_store(43);
     CHECK(getrlimit(RLIMIT_FSIZE, &was) == 0);
     least = was;
-    least.rlim_cur = 20000;
+    least.rlim_cur = 5000;
     signal(SIGXFSZ, SIG_IGN);
     CHECK(setrlimit(RLIMIT_FSIZE, &least) == 0);
     CHECK(githoppu_save_closed(store_path, &closed) == GITHOPPU_NOT_WRITTEN && errno == EFBIG);
@@ -648,6 +685,7 @@ int main(int count, char **words) {
     snprintf(queue_path, sizeof queue_path, "%s/saved.queue", folder);
     test_bytes();
     test_round_trip();
+    test_formats(folder);
     test_small_file();
     test_changed(folder);
     test_failing_saves(folder);

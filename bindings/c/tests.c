@@ -474,7 +474,9 @@ static void test_refusals(void) {
         int status;
     } turned[] = {
         {words, 1, GITHOPPU_NOT_AN_IMAGE},                            /* the name */
-        {words + 1, 2, GITHOPPU_NOT_AN_IMAGE},                        /* the format */
+        {words + 1, 2, GITHOPPU_NOT_AN_IMAGE},                        /* a format that there is not */
+        {words + 1, 1, GITHOPPU_NOT_AN_IMAGE},                        /* no format */
+        {words + 1, 3, GITHOPPU_IMAGE_SIZE},                      /* the format of one replica */
         {words + 2, 3, GITHOPPU_OTHER_KIND},                      /* the kind */
         {words + 2, 2, GITHOPPU_NOT_AN_IMAGE},                        /* a kind that there is not */
         {words + 2, 1, GITHOPPU_NOT_AN_IMAGE},                        /* no kind */
@@ -727,6 +729,211 @@ static void test_queue_image(void) {
     githoppu_give_up(s, 2);
 }
 
+/* ---- images of one replica ---- */
+
+/* The checkpoint of the store or queue of a session, in words that the caller frees. It takes no memory. */
+static uint64_t *checkpoint_of(githoppu_session **session, uint64_t *count) {
+    uint64_t *words;
+    long before;
+    CHECK(githoppu_checkpoint_size(session, count) == GITHOPPU_DONE && *count == HEAD + REGION);
+    words = (uint64_t *)__real_malloc(*count * sizeof *words);
+    CHECK(words != NULL);
+    before = taken;
+    CHECK(githoppu_checkpoint_into(session, words, *count) == GITHOPPU_DONE && taken == before);
+    return words;
+}
+
+/* The image of format 1 that has the region of these words as each replica, in words that the caller frees. */
+static uint64_t *spread_of(const uint64_t *words, uint64_t replicas) {
+    uint64_t *all = (uint64_t *)__real_malloc((HEAD + replicas * REGION) * sizeof *all), i;
+    CHECK(all != NULL);
+    memcpy(all, words, HEAD * sizeof *all);
+    all[1] = 1;
+    for (i = 0; i < replicas; i++)
+        memcpy(all + HEAD + i * REGION, words + HEAD, REGION * sizeof *all);
+    return all;
+}
+
+/* A checkpoint has one replica, and is what the image of the closed store has at the same place; a store is opened from it with any number of sessions. */
+static void test_checkpoints(void) {
+    githoppu_session *s[8];
+    githoppu_closed *closed;
+    githoppu_words reply;
+    githoppu_session_handle handle;
+    uint64_t count, all, needed = 1, word = 7, *words, *image;
+    size_t i;
+    CHECK(githoppu_open(LINES, s, 3) == GITHOPPU_DONE);
+    DO(githoppu_put(&s[0], "fruit", "1", 1, &reply), GITHOPPU_NEW);
+    DO(githoppu_add(&s[2], "fruit", 4, &reply), GITHOPPU_SUM);
+    words = checkpoint_of(&s[1], &count);
+    CHECK(words[1] == 2 && words[2] == 1 && words[3] == 3 && words[4] == LINES && words[5] == 2 * 6 && words[6] == 0 && words[7] == 0 && words[HEAD] == 2);
+    CHECK(is_outcome(words, count, 0, 1, GITHOPPU_NEW) && is_outcome(words, count, 2, 1, GITHOPPU_SUM) && is_outcome(words, count, 1, 0, GITHOPPU_NO_OPERATION));
+    handle.at = s[1];
+    CHECK(githoppu_checkpoint(handle, &word, 1, &needed, &s[1]) == GITHOPPU_BAD_SIZE && needed == HEAD + REGION && word == 7);
+    CHECK(githoppu_close_all(s, 3, &closed) == GITHOPPU_DONE);
+    image = image_of(&closed, 0, &all);
+    CHECK(image[1] == 1 && image[5] / 6 == 2 && memcmp(image + HEAD + image[5] % 6 * REGION, words + HEAD, REGION * sizeof *words) == 0);
+    githoppu_give_up_closed(&closed);
+    for (i = 1; i <= 8; i++) {
+        CHECK(githoppu_recover(words, count, s, i) == GITHOPPU_DONE);
+        DO(githoppu_add(&s[i - 1], "fruit", 1, &reply), GITHOPPU_SUM);
+        CHECK(githoppu_sum(&reply) == 6);
+        githoppu_give_up(s, i);
+    }
+    CHECK(githoppu_recover_queue(words, count, s, 1) == GITHOPPU_OTHER_KIND && githoppu_recover(words, count, s, 9) == GITHOPPU_BAD_SIZE);
+    __real_free(image);
+    __real_free(words);
+    /* of a queue, and its checkpoint again */
+    CHECK(githoppu_open_queue(LINES, s, 1) == GITHOPPU_DONE);
+    DO(githoppu_push(s, "text", &reply), GITHOPPU_PUSHED);
+    for (i = 0; i < 3; i++) {
+        words = checkpoint_of(s, &count);
+        githoppu_give_up(s, 1);
+        CHECK(words[1] == 2 && words[2] == 2 && words[5] == 2 * words[HEAD] && recover_one(words, count, s) == GITHOPPU_OTHER_KIND);
+        CHECK(githoppu_recover_queue(words, count, s, 1) == GITHOPPU_DONE);
+        __real_free(words);
+        DO(githoppu_peek(s, &reply), GITHOPPU_TEXT);
+        DO(githoppu_push(s, "more", &reply), GITHOPPU_PUSHED);
+    }
+    DO(githoppu_len(s, &reply), GITHOPPU_LENGTH);
+    CHECK(githoppu_length(&reply) == 4);
+    githoppu_give_up(s, 1);
+}
+
+/* Each refusal of an image of one replica, of one word that was turned, by recovery and by outcomes. */
+static void test_checkpoint_refusals(void) {
+    githoppu_session *s[2], *one[1];
+    githoppu_words reply;
+    uint64_t count, *words, *region, *more, number;
+    size_t i;
+    CHECK(githoppu_open(LINES, s, 2) == GITHOPPU_DONE);
+    DO(githoppu_put(&s[0], "fruit", "\"apple\"", 7, &reply), GITHOPPU_NEW);
+    DO(githoppu_add(&s[0], "sold", 5, &reply), GITHOPPU_SUM);
+    words = checkpoint_of(&s[1], &count);
+    githoppu_give_up(s, 2);
+    region = words + HEAD;
+    {
+        struct {
+            uint64_t *word, mask;
+            int status;
+        } turned[] = {
+            {words, 1, GITHOPPU_NOT_AN_IMAGE},                           /* the name */
+            {words + 1, 1, GITHOPPU_NOT_AN_IMAGE},                       /* a format that there is not */
+            {words + 1, 2, GITHOPPU_NOT_AN_IMAGE},                       /* no format */
+            {words + 1, 3, GITHOPPU_IMAGE_SIZE},                     /* the format of all replicas */
+            {words + 2, 3, GITHOPPU_OTHER_KIND},                     /* the kind */
+            {words + 2, 1, GITHOPPU_NOT_AN_IMAGE},                       /* no kind */
+            {words + 3, 2, GITHOPPU_NOT_AN_IMAGE},                       /* no sessions */
+            {words + 3, 1, GITHOPPU_IMAGE_PLACE},                    /* three sessions: the root has another place */
+            {words + 4, 1, GITHOPPU_IMAGE_SIZE},                     /* one line more */
+            {words + 4, 64, GITHOPPU_NOT_AN_IMAGE},                      /* no lines */
+            {words + 5, (uint64_t)1 << 63, GITHOPPU_IMAGE_ROOT},     /* the root */
+            {words + 5, 4, GITHOPPU_IMAGE_PLACE},                    /* another place */
+            {words + 5, 3, GITHOPPU_DONE},                           /* another replica, which is the same */
+            {words + 6, 1, GITHOPPU_NOT_AN_IMAGE},                       /* a last word of the head */
+            {words + 7, 1, GITHOPPU_NOT_AN_IMAGE},                       /* the other */
+            {region + 1168, 128, GITHOPPU_IMAGE_VERSION},            /* the object's version */
+            {region, 64, GITHOPPU_IMAGE_PLACE},                      /* the place */
+            {region + 3, 1, GITHOPPU_IMAGE_BODY},                    /* a word of the results that is 0 */
+            {region + 1169, (uint64_t)1 << 40, GITHOPPU_IMAGE_BODY}, /* the index */
+            {region + 8, (uint64_t)1 << 41, GITHOPPU_IMAGE_NUMBERS}, /* a result's number */
+            {region + 9, 99 ^ GITHOPPU_SUM, GITHOPPU_IMAGE_BODY},    /* the kind of a kept reply */
+        };
+        for (i = 0; i < sizeof turned / sizeof *turned; i++) {
+            one[0] = not_a_session(one);
+            number = 7;
+            *turned[i].word ^= turned[i].mask;
+            CHECK(recover_one(words, count, one) == turned[i].status);
+            if (turned[i].status != GITHOPPU_OTHER_KIND)
+                CHECK(githoppu_outcome(words, count, 0, &number, reply.word) == turned[i].status);
+            *turned[i].word ^= turned[i].mask;
+            CHECK((one[0] == not_a_session(one)) == (turned[i].status != GITHOPPU_DONE) && (number == 7) == (turned[i].status != GITHOPPU_DONE));
+            if (turned[i].status == GITHOPPU_DONE)
+                githoppu_give_up(one, 1);
+        }
+    }
+    /* one word less, none of the region, and one more */
+    more = (uint64_t *)__real_malloc((count + 1) * sizeof *more);
+    CHECK(more != NULL);
+    memcpy(more, words, count * sizeof *more);
+    more[count] = 0;
+    CHECK(recover_one(more, count - 1, one) == GITHOPPU_IMAGE_SIZE && recover_one(more, HEAD, one) == GITHOPPU_IMAGE_SIZE);
+    CHECK(recover_one(more, count + 1, one) == GITHOPPU_IMAGE_SIZE && recover_one(more, HEAD - 1, one) == GITHOPPU_NOT_AN_IMAGE);
+    CHECK(githoppu_outcome(more, count + 1, 0, &number, reply.word) == GITHOPPU_IMAGE_SIZE);
+    __real_free(more);
+    __real_free(words);
+}
+
+/* What a store is asked after a turned word: the status of the recovery, and where that is DONE each key with its document, in their order. */
+static int is_same_store(const uint64_t *one, uint64_t one_count, const uint64_t *two, uint64_t two_count) {
+    githoppu_session *s[1], *t[1];
+    int status = recover_one(one, one_count, s);
+    char key[65], other[65];
+    if (recover_one(two, two_count, t) != status)
+        return 0;
+    key[0] = 0;
+    while (status == GITHOPPU_DONE) {
+        githoppu_words a, b;
+        CHECK(githoppu_next(s, key, &a) == GITHOPPU_DONE && githoppu_next(t, key, &b) == GITHOPPU_DONE);
+        if (memcmp(&a, &b, sizeof a) != 0)
+            return 0;
+        if (a.word[0] != GITHOPPU_KEY)
+            break;
+        githoppu_key(&a, key);
+        githoppu_key(&b, other);
+        CHECK(githoppu_get(s, key, &a) == GITHOPPU_DONE && githoppu_get(t, other, &b) == GITHOPPU_DONE);
+        if (memcmp(&a, &b, sizeof a) != 0)
+            return 0;
+    }
+    if (status == GITHOPPU_DONE) {
+        githoppu_give_up(s, 1);
+        githoppu_give_up(t, 1);
+    }
+    return 1;
+}
+
+/* Each word of an image of one replica turned is refused, or means what it says: it is answered as the image of format 1 that has that region as each
+ * replica, by outcomes of each session, and by the store that is opened from it. */
+static void test_turned_checkpoints(void) {
+    enum { SESSIONS = 2 };
+    githoppu_session *s[SESSIONS];
+    githoppu_words reply, other;
+    uint64_t count, *words, *all, at, bit, session, done = 0, step = adds < ADDS ? 21 : 3;
+    CHECK(githoppu_open(LINES, s, SESSIONS) == GITHOPPU_DONE);
+    DO(githoppu_put(&s[0], "fruit", "\"apple\"", 7, &reply), GITHOPPU_NEW);
+    DO(githoppu_put(&s[1], "pear", "[1,2]", 5, &reply), GITHOPPU_NEW);
+    DO(githoppu_add(&s[0], "sold", 5, &reply), GITHOPPU_SUM);
+    DO(githoppu_del(&s[1], "pear", &reply), GITHOPPU_DELETED);
+    words = checkpoint_of(&s[1], &count);
+    githoppu_give_up(s, SESSIONS);
+    all = spread_of(words, 2 * SESSIONS);
+    for (at = 0; at < count; at++) {
+        /* the format of one is not that of the other, and with other numbers of sessions or lines the sizes differ apart */
+        if (at == 1 || at == 3 || at == 4)
+            continue;
+        for (bit = at % step; bit < 64; bit += step) {
+            uint64_t mask = (uint64_t)1 << bit, i, number = 7, found = 7;
+            words[at] ^= mask;
+            for (i = 0; i < (at < HEAD ? 1 : 2 * SESSIONS); i++)
+                all[at + i * REGION] ^= mask;
+            for (session = 0; session < SESSIONS; session++) {
+                int status = githoppu_outcome(words, count, session, &number, reply.word);
+                CHECK(githoppu_outcome(all, HEAD + 2 * SESSIONS * REGION, session, &found, other.word) == status && found == number);
+                CHECK(status != GITHOPPU_DONE || memcmp(&reply, &other, sizeof reply) == 0);
+                done += status == GITHOPPU_DONE;
+            }
+            if (bit < step)
+                CHECK(is_same_store(words, count, all, HEAD + 2 * SESSIONS * REGION));
+            words[at] ^= mask;
+            for (i = 0; i < (at < HEAD ? 1 : 2 * SESSIONS); i++)
+                all[at + i * REGION] ^= mask;
+        }
+    }
+    CHECK(done > 0);
+    __real_free(all);
+    __real_free(words);
+}
+
 static void *add_and_close(void *at) {
     struct worker *w = (struct worker *)at;
     int status;
@@ -948,6 +1155,9 @@ int main(int count, char **words) {
     test_outcome_refusals();
     test_outcomes();
     test_queue_image();
+    test_checkpoints();
+    test_checkpoint_refusals();
+    test_turned_checkpoints();
     test_places_in_turn();
     test_catching_up();
     test_closing_refused();

@@ -666,6 +666,13 @@ class Image:
         ctypes.memmove(words, self.data, count * WORD)
         return words
 
+    def _one_replica(self) -> Image:
+        """Of the image of a closed store the replica that its root names, which is the one that recovery reads, as an image of format 2."""
+        sessions, _, root = (int.from_bytes(self.data[at : at + WORD], "little") for at in (24, 32, 40))
+        region = (len(self.data) - 64) // (2 * sessions)
+        start = 64 + region * (root % (2 * sessions))
+        return Image(self.data[:8] + _word(2) + self.data[16:64] + self.data[start : start + region])
+
     def outcome(self, session: int) -> Optional[Outcome]:
         """What became of the last update of a session, 0 to 7, or None where it made none: after a crash this tells whether an update that was not answered
         took effect.
@@ -953,8 +960,8 @@ class Closed:
         return Image(ctypes.string_at(words, len(words) * WORD))
 
     def save(self, path: AnyPath) -> None:
-        """Saves what is durable of it to a file, its image by choice 0."""
-        self.image(0).save(path)
+        """Saves what is durable of it to a file: what its image by choice 0 has, in an image of one replica."""
+        self.image(0)._one_replica().save(path)
 
     def give_up(self) -> None:
         """Drops it."""

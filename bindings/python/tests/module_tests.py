@@ -158,6 +158,18 @@ class Files(unittest.TestCase):
             self.assertEqual((OF_C / name).read_bytes(), self.path.read_bytes())
         self.assertEqual("one", Queue.load(OF_C / "saved.queue")[0].pop())
 
+    def test_a_closed_store_is_saved_as_one_replica(self):
+        for count in (1, 3, 8):
+            store = Store(lines=64, sessions=count)
+            for number in range(7):
+                store[number % count].add("sold")
+            with store.close() as closed:
+                closed.save(self.path)
+                image = closed.image()
+            one = Image.load(self.path)
+            self.assertEqual((8 + 8 * 210, 8 + 2 * count * 8 * 210, 7), (len(one), len(image), self.sold()))
+            self.assertEqual([image.outcome(session) for session in range(8)], [one.outcome(session) for session in range(8)])
+
     def test_each_byte_and_each_length(self):
         Image(bytes(range(160))).save(self.path)
         good = self.path.read_bytes()

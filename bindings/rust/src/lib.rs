@@ -80,7 +80,7 @@ pub enum Error {
     NotAnImage,
     /// The image is of a queue where a store is asked for, or of a store where a queue is.
     OtherKind,
-    /// The image has not as many words as its sessions and lines make.
+    /// The image has not as many words as its format, sessions and lines make.
     ImageSize,
     /// The root's place is above 2^40.
     ImageRoot,
@@ -199,14 +199,15 @@ impl Closed {
         self.0.image(choice).map(Image)
     }
 
-    /// Saves its image by choice 0 to a file: to a new one, which is synced and renamed to the path, and the folder is synced. A symbolic link is followed, and
-    /// the rights of the file that is replaced are kept.
+    /// Saves what its image by choice 0 has, in an image of one replica, to a file: to a new one, which is synced and renamed to the path, and the folder is
+    /// synced. A symbolic link is followed, and the rights of the file that is replaced are kept.
     pub fn save(&mut self, path: impl AsRef<Path>) -> Result<(), FileError> {
-        self.image(0)?.save(path)
+        self.image(0)?.one_replica().save(path)
     }
 }
 
-/// The words of an image. Any words can be made one; what is none is refused where it is recovered.
+/// The words of an image: of all replicas, which is format 1, or of one, which is format 2. Any words can be made one; what is none is refused where it is
+/// recovered.
 #[derive(Clone, Debug, PartialEq, Eq)]
 pub struct Image(Vec<u64>);
 
@@ -219,7 +220,18 @@ impl Image {
         Ok((number > 0).then(|| Outcome { number, reply: outcome::reply_in(kind, &reply) }))
     }
 
-    /// Saves it to a file, as `Closed::save` does.
+    /// Of the image of a closed store the replica that its root names, which is the one that recovery reads, as an image of format 2.
+    fn one_replica(mut self) -> Image {
+        let replicas = 2 * self.0[3] as usize;
+        let region = (self.0.len() - 8) / replicas;
+        let start = 8 + region * (self.0[5] % replicas as u64) as usize;
+        self.0.copy_within(start..start + region, 8);
+        self.0.truncate(8 + region);
+        self.0[1] = 2;
+        self
+    }
+
+    /// Saves it as it is to a file, as `Closed::save` does.
     pub fn save(&self, path: impl AsRef<Path>) -> Result<(), FileError> {
         file::save(path.as_ref(), &self.0)
     }
@@ -348,7 +360,8 @@ impl Session {
         self.0.catch_up(place)
     }
 
-    /// An image of the running store while its other sessions go on: of one moment, with every update that was answered before. Nobody is waited for.
+    /// An image of the running store while its other sessions go on, of one replica: of one moment, with every update that was answered before. Nobody is
+    /// waited for.
     pub fn checkpoint(&mut self) -> Result<Image, Error> {
         self.0.checkpoint().map(Image)
     }
@@ -461,7 +474,8 @@ impl QueueSession {
         self.0.catch_up(place)
     }
 
-    /// An image of the running queue while its other sessions go on: of one moment, with every update that was answered before. Nobody is waited for.
+    /// An image of the running queue while its other sessions go on, of one replica: of one moment, with every update that was answered before. Nobody is
+    /// waited for.
     pub fn checkpoint(&mut self) -> Result<Image, Error> {
         self.0.checkpoint().map(Image)
     }

@@ -79,6 +79,32 @@ fn a_store_and_a_queue_are_saved_and_loaded() {
     assert_eq!(Queue::load(&path, 1).unwrap()[0].pop(), Ok(Some("one".to_string())));
 }
 
+/// A closed store is saved as the replica that its image by choice 0 names, and a running one as its checkpoint; a file with the whole image is loaded too.
+#[test]
+fn files_have_one_replica() {
+    let folder = folder("formats");
+    let path = folder.join("store");
+    let region = 8 * (146 + 64);
+    let mut closed = closed_store(41);
+    let whole = closed.image(0).unwrap();
+    assert_eq!((whole[1], whole.len()), (1, 8 + 2 * 2 * region));
+    whole.save(&path).unwrap();
+    assert_eq!(sold_in(&path), Some("41".to_string()));
+    closed.save(&path).unwrap();
+    assert_eq!(sold_in(&path), Some("41".to_string()));
+    let one = Image::load(&path).unwrap();
+    assert_eq!((one[1], one.len()), (2, 8 + region));
+    for session in 0..8 {
+        assert_eq!(one.outcome(session), whole.outcome(session));
+    }
+    let mut sessions = Store::recover(&one, 3).unwrap();
+    let taken = sessions[2].checkpoint().unwrap();
+    assert_eq!((taken[1], taken[3], &taken[8..]), (2, 3, &one[8..]));
+    sessions[0].save(&path).unwrap();
+    assert_eq!(Image::load(&path).unwrap(), taken);
+    assert_eq!(Store::recover(&taken[..8 + region - 1], 1).err(), Some(Error::ImageSize));
+}
+
 /// The files that the C tests left, where they ran.
 #[test]
 fn files_of_c_are_read() {

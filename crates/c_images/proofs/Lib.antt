@@ -1,4 +1,6 @@
 pub mod Keeping
-pub mod Repeated
+pub mod Named
+pub mod Placed
+pub mod Same
 pub mod Slots
 pub mod Written

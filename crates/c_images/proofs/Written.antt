@@ -10,18 +10,18 @@ use Rattle.recovery.specs.Images.{image_size}
 use Rattle.recovery.specs.Recovery.{IsFaultOf, IsRecovered, NumbersWithin}
 use Rattle.recovery.specs.declared.recovered_base.ImageFault.{ImageFault}
 use Rattle.recovery.specs.declared.recovered_base.ImageFault.TheVariants.{Memory}
-use Rattle.c_images.specs.Words.{HasHead, IsHeaded, IsKind, IsTakenUp, IsWordsFault, AreRemainsWritten, SaysImage, object_kind_in}
+use Rattle.c_images.specs.Words.{HasHead, IsFormat, IsHeaded, IsKind, IsTakenUp, IsWordsFault, AreRemainsWritten, SaysImage, object_kind_in}
 use Rattle.c_images.specs.declared.reader.WordsFault.{WordsFault}
 use Rattle.c_images.specs.declared.reader.WordsFault.TheVariants.{Head, Kind, Image as ImageRefused, Numbers}
 
 -- words with a head whose numbers are within the limits
-pub headed : (kind callers lines root : ℕ) (words : List ℕ) → HasHead kind callers lines root words → IsKind kind → 8 ≤ length words → 1 ≤ callers → callers ≤ 8 → 64 ≤ lines → lines ≤ 16384
+pub headed : (format kind callers lines root : ℕ) (words : List ℕ) → HasHead format kind callers lines root words → IsFormat format → IsKind kind → 8 ≤ length words → 1 ≤ callers → callers ≤ 8 → 64 ≤ lines → lines ≤ 16384
     → IsHeaded words × (object_kind_in words ≡ kind)
-headed kind callers lines root words has known enough some few least most = (
+headed format kind callers lines root words has of known enough some few least most = (
   record {
     enough = enough;
     name = has.name;
-    format = has.format;
+    format = subst IsFormat (sym has.format_is) of;
     kind = subst IsKind (sym has.kind_is) known;
     zeros = has.zeros;
     some = subst (λ n. 1 ≤ n) (sym has.callers_are) some;
@@ -34,17 +34,18 @@ headed kind callers lines root words has known enough some few least most = (
 
 pub left_of : (kind choice : ℕ) (r : Remains) (words : List ℕ) (image : Image) → AreRemainsWritten kind r choice words → SaysImage words image → IsLeftOf r choice image
 left_of kind choice r words image is says =
-    let count : image.count ≡ image_size r.callers r.lines = (let long = is.left.long in let said = says.count in omega (arith, long, said)) in
+    let all = says.replicas is.head.format_is in
+    let count : image.count ≡ image_size r.callers r.lines = (let long = is.left.long in let said = all.count in omega (arith, long, said)) in
     record {
       callers = says.callers ∙ is.head.callers_are;
       lines = says.lines ∙ is.head.lines_are;
       count = count;
       root = says.root ∙ is.head.root_is;
       pairs = record {
-        rising = says.pairs.rising;
-        below = says.pairs.below;
-        some = says.pairs.some;
-        words = λ at small. says.pairs.words at small ∙ is.left.each at (subst (λ n. at < n) count small);
+        rising = all.pairs.rising;
+        below = all.pairs.below;
+        some = all.pairs.some;
+        words = λ at small. all.pairs.words at small ∙ is.left.each at (subst (λ n. at < n) count small);
       };
     }
 

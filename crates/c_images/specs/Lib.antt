@@ -1,3 +1,4 @@
+pub mod Exact
 pub mod Replies
 pub mod Taken
 pub mod Words

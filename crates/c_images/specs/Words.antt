@@ -1,19 +1,23 @@
--- An image in words: eight of head, and then the words of all replicas.
-use Rattle.std.specs.Prelude.{◌≡◌, ◌≢◌, ◌⊎◌, ◌+◌, ◌<◌, ◌≤◌, ℕ, List, length, slice_index}
+-- An image in words: eight of head, and then the words of all replicas, or those of one.
+use Rattle.std.specs.Prelude.{◌≡◌, ◌≢◌, ◌⊎◌, ◌+◌, ◌-◌, ◌*◌, ◌<◌, ◌≤◌, ℕ, List, drop, length, nat_lt, slice_index, if◌then◌else◌}
 use Rattle.cx_base.specs.OldFormat.{OldFormat}
 use Rattle.cx_core.specs.declared.entry.Base.{Base}
 use Rattle.cx_core.specs.declared.entry.Image.{Image}
+use Rattle.cx_core.specs.Region.{region_words}
 use Rattle.cx_table.specs.declared.remains.Remains.{Remains}
 use Rattle.recovery.specs.Crashes.{left_root, left_word}
-use Rattle.recovery.specs.Images.{Gives, image_size}
-use Rattle.recovery.specs.Recovery.{IsFaultOf, IsRecovered, NumbersWithin}
+use Rattle.recovery.specs.Images.{Gives, image_size, region_of}
+use Rattle.recovery.specs.Recovery.{HasSize, IsFaultOf, IsRecovered, NumbersWithin}
 use Rattle.recovery.specs.declared.recovered_base.ImageFault.{ImageFault}
 use Rattle.recovery.specs.declared.recovered_base.ImageFault.TheVariants.{Memory}
 use Rattle.c_images.specs.declared.head.Head.{Head}
 use Rattle.c_images.specs.declared.reader.WordsFault.{WordsFault}
 use Rattle.c_images.specs.declared.reader.WordsFault.TheVariants.{Head as HeadFault, Kind, Image as ImageRefused, Numbers}
 
--- the words of a head: the name and the format, the kind of object, the callers, the lines and the root
+-- the words of a head: the name, the format, the kind of object, the callers, the lines and the root
+abbrev pub format_in : List ℕ → ℕ
+format_in words = slice_index words 1
+
 abbrev pub object_kind_in : List ℕ → ℕ
 object_kind_in words = slice_index words 2
 
@@ -26,6 +30,10 @@ lines_in words = slice_index words 4
 abbrev pub root_in : List ℕ → ℕ
 root_in words = slice_index words 5
 
+-- the formats: the words of all replicas stand after the head, or those of one
+abbrev pub IsFormat : ℕ → Type 0
+IsFormat format = (format ≡ 1) ⊎ (format ≡ 2)
+
 -- the kinds of objects: a document store and a queue
 abbrev pub IsKind : ℕ → Type 0
 IsKind kind = (kind ≡ 1) ⊎ (kind ≡ 2)
@@ -34,11 +42,11 @@ IsKind kind = (kind ≡ 1) ⊎ (kind ≡ 2)
 abbrev pub AreZeros : List ℕ → Type 0
 AreZeros words = (slice_index words 6 ≡ 0) × (slice_index words 7 ≡ 0)
 
--- words that begin with the head of some image: "githoppu", format 1, a kind, 1 to 8 callers, 64 to 16,384 lines, and two words that are 0
+-- words that begin with the head of some image: "githoppu", format 1 or 2, a kind, 1 to 8 callers, 64 to 16,384 lines, and two words that are 0
 pub record IsHeaded (words : List ℕ) : Type 0 where
   pub enough : 8 ≤ length words
   pub name : slice_index words 0 ≡ 8462387323625302375
-  pub format : slice_index words 1 ≡ 1
+  pub format : IsFormat (format_in words)
   pub kind : IsKind (object_kind_in words)
   pub zeros : AreZeros words
   pub some : 1 ≤ callers_in words
@@ -49,6 +57,7 @@ pub record IsHeaded (words : List ℕ) : Type 0 where
 -- words with such a head, which is this one
 pub record IsSaid (words : List ℕ) (head : Head) : Type 0 where
   pub headed : IsHeaded words
+  pub format : head.format ≡ format_in words
   pub callers : head.callers ≡ callers_in words
   pub lines : head.lines ≡ lines_in words
   pub root : head.root ≡ root_in words
@@ -63,13 +72,28 @@ IsHeadFault kind words HeadFault = ¬ IsHeaded words
 IsHeadFault kind words (Kind found) = IsHeaded words × (found ≡ object_kind_in words) × (object_kind_in words ≢ kind)
 IsHeadFault kind words fault = ⊥
 
--- the image that words say: the numbers of the head, and the words after it
+-- the words after the head, of which the first is put at an address; 0 before it
+abbrev pub word_from : ℕ → List ℕ → ℕ → ℕ
+word_from start words at = if nat_lt at start then 0 else slice_index words (at - start + 8)
+
+-- words of format 1 say the words of all replicas
+pub record SaysReplicas (words : List ℕ) (image : Image) : Type 0 where
+  pub count : length words ≡ image.count + 8
+  pub pairs : Gives (λ at. slice_index words (at + 8)) image.count image.pairs
+
+-- Words of format 2 say those of one replica, which stand for each: the image has these words and those of the other replicas, and where that is its size,
+-- the region that the root names is these words, whichever replica that is.
+pub record SaysRegion (words : List ℕ) (image : Image) : Type 0 where
+  pub count : image.count ≡ length words - 8 + region_words image.lines * (2 * image.callers - 1)
+  pub region : HasSize image → region_of image ≡ drop 8 words
+
+-- the image that words say: the numbers of the head, and the words after it, by the format
 pub record SaysImage (words : List ℕ) (image : Image) : Type 0 where
   pub callers : image.callers ≡ callers_in words
   pub lines : image.lines ≡ lines_in words
   pub root : image.root ≡ root_in words
-  pub count : length words ≡ image.count + 8
-  pub pairs : Gives (λ at. slice_index words (at + 8)) image.count image.pairs
+  pub replicas : format_in words ≡ 1 → SaysReplicas words image
+  pub one : format_in words ≡ 2 → SaysRegion words image
 
 -- up to an end, the words after the head are those that a crash leaves; there are as many in all as the other number says
 pub record AreLeftWords (r : Remains) (choice end_ count : ℕ) (words : List ℕ) : Type 0 where
@@ -77,9 +101,9 @@ pub record AreLeftWords (r : Remains) (choice end_ count : ℕ) (words : List �
   pub each : (at : ℕ) → at < end_ → slice_index words (at + 8) ≡ left_word r choice at
 
 -- words that begin with the head of these numbers
-pub record HasHead (kind callers lines root : ℕ) (words : List ℕ) : Type 0 where
+pub record HasHead (format kind callers lines root : ℕ) (words : List ℕ) : Type 0 where
   pub name : slice_index words 0 ≡ 8462387323625302375
-  pub format : slice_index words 1 ≡ 1
+  pub format_is : format_in words ≡ format
   pub kind_is : object_kind_in words ≡ kind
   pub callers_are : callers_in words ≡ callers
   pub lines_are : lines_in words ≡ lines
@@ -88,7 +112,7 @@ pub record HasHead (kind callers lines root : ℕ) (words : List ℕ) : Type 0 w
 
 -- words of what a crash leaves of a closed service by choice, whose object is of this kind
 pub record AreRemainsWritten (kind : ℕ) (r : Remains) (choice : ℕ) (words : List ℕ) : Type 0 where
-  pub head : HasHead kind r.callers r.lines (left_root r choice) words
+  pub head : HasHead 1 kind r.callers r.lines (left_root r choice) words
   pub left : AreLeftWords r choice (image_size r.callers r.lines) (image_size r.callers r.lines) words
 
 -- The base that is taken up from words, for an object with this version, these lawful images and this old format: the one that recovery gives for the image

@@ -1,7 +1,7 @@
 //! The head of an image in words.
 
 ghost use Rattle.std.specs.Prelude.{◌↔◌, IsTrue, MatchResult};
-ghost use Rattle.c_images.specs.Words.{IsHeadFault, IsHeaded, IsHeadOf};
+ghost use Rattle.c_images.specs.Words.{IsFormat, IsHeadFault, IsHeaded, IsHeadOf};
 
 use crate::reader::WordsFault;
 
@@ -9,12 +9,15 @@ use crate::reader::WordsFault;
 pub(crate) const HEAD: usize = 8;
 /// "githoppu" in bytes, the first in the lowest bits.
 pub(crate) const NAME: u64 = 8462387323625302375;
-/// The format.
-pub(crate) const FORMAT: u64 = 1;
+/// The format of an image of all replicas.
+pub(crate) const REPLICAS: u64 = 1;
+/// The format of an image of one region.
+pub(crate) const ONE_REGION: u64 = 2;
 
-/// What the head says: the callers of the service that the image is of, the lines of its object, and the root.
+/// What the head says: the format, the callers of the service that the image is of, the lines of its object, and the root.
 #[derive(Clone, Copy, Debug, Drop)]
 pub struct Head {
+    pub format: u64,
     pub callers: u32,
     pub lines: u64,
     pub root: u64,
@@ -32,6 +35,7 @@ pub fn head_of(words: &[u64], kind: u64) -> Result<Head, WordsFault>
         return Err(WordsFault::Kind { found: words[2] });
     }
     Ok(Head {
+        format: words[1],
         callers: words[3] as u32,
         lines: words[4],
         root: words[5],
@@ -44,7 +48,7 @@ fn is_headed(words: &[u64]) -> bool
 {
     words.len() >= HEAD
         && words[0] == NAME
-        && words[1] == FORMAT
+        && is_format(words[1])
         && (words[2] == 1 || words[2] == 2)
         && words[6] == 0
         && words[7] == 0
@@ -52,4 +56,11 @@ fn is_headed(words: &[u64]) -> bool
         && words[3] <= 8
         && words[4] >= 64
         && words[4] <= 16384
+}
+
+/// Whether this is a format.
+fn is_format(format: u64) -> bool
+    ensures { IsTrue result ↔ IsFormat format }
+{
+    format == REPLICAS || format == ONE_REGION
 }

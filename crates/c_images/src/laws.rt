@@ -1,6 +1,6 @@
-//! That what is written and what is taken is taken up, and keeps replies.
+//! That what is written and what is taken is taken up, and keeps replies; and that words are answered exactly.
 
-ghost use Rattle.std.specs.Prelude.{◌≡◌, ◌<◌, ℕ, All, List, MatchResult, Some, slice_get};
+ghost use Rattle.std.specs.Prelude.{◌≡◌, ◌≢◌, ◌<◌, ℕ, All, Err, List, MatchResult, Some, slice_get};
 ghost use Rattle.cx_core.specs.Base.{LawfulBase};
 ghost use Rattle.cx_rule.specs.Running.{IsRunning, Running, instance_at};
 ghost use Rattle.cx_rule.specs.Seats.{Seated};
@@ -9,6 +9,7 @@ ghost use Rattle.recovery.specs.Crashes.{AreRemainsWhole};
 ghost use Rattle.recovery.specs.Kept.{IsKeptBy, IsOpened};
 ghost use Rattle.recovery.specs.Outcomes.{TellsOutcome};
 ghost use Rattle.recovery.specs.declared.recovered_base.ImageFault.TheVariants.{Memory};
+ghost use Rattle.c_images.specs.Exact.{AreAnsweredExactly};
 ghost use Rattle.c_images.specs.Replies.{IsDocumentReply, IsQueueReply, RepliesGoOn};
 ghost use Rattle.c_images.specs.Taken.{IsWrittenOf, base_at};
 ghost use Rattle.c_images.specs.Words.{IsHeaded, IsKind, IsTakenUp, IsWordsFault, AreRemainsWritten, object_kind_in};
@@ -17,7 +18,7 @@ ghost use Rattle.c_images.specs.declared.reader.WordsFault.TheVariants.{Image};
 use cx_base::Object;
 use recovery::{
     base_of_checkpoint, closed_tables_are_whole, closed_tables_recover, kept_bases_have_results,
-    kept_bases_tell_outcomes, lawful_bases_are_accepted,
+    kept_bases_tell_outcomes, lawful_bases_are_accepted, recovering_is_exact,
 };
 
 /// Words that `write_image` wrote of a closed service have a head of that kind, and `base_of` refuses them only where memory runs out. What it takes up
@@ -89,4 +90,16 @@ pub fn taken_images_keep_replies<O: Object>()
         RepliesGoOn IsQueueReply (O.lawful table.object) (O.step table.object) table.base.words region) seats }
 {
     base_of_checkpoint::<O>();
+}
+
+/// What `base_of` answers for words of either format is what the checks of the image ask for that they say, unless memory runs out: the refusal of the first
+/// that it does not pass, or else the base, or that a number of its results is above its place.
+pub fn words_are_answered_exactly<O: Object>()
+    ensures { (object : O) (words : List ℕ) (answer : _) → IsHeaded words →
+        MatchResult answer
+        (IsTakenUp (O.version_number object) (O.lawful object) (O.old_format object) words)
+        (IsWordsFault (O.version_number object) (O.lawful object) (O.old_format object) words) →
+        answer ≢ Err (Image Memory) → AreAnsweredExactly (O.version_number object) (O.lawful object) (O.old_format object) words answer }
+{
+    recovering_is_exact::<O>();
 }

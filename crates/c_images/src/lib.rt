@@ -4,13 +4,15 @@
 //! The idea: an image says in a head what it is of. Writing one takes no memory; reading one checks whatever the later calls rely on, so any words
 //! are either refused, with the reason, or taken up as a lawful base. There is no checksum here: a changed byte of a value is not seen.
 //!
-//! The words are eight of head and then those of all replicas, one after another. The head is "githoppu" in its bytes, the format 1, the kind of
-//! object, the callers, the lines of the object and the root; the last two words are 0.
+//! The words are eight of head and then, in format 1, those of all replicas, one after another, and in format 2 those of one region, which stand for each
+//! replica. The head is "githoppu" in its bytes, the format, the kind of object, the callers, the lines of the object and the root; the last two words
+//! are 0.
 //!
-//! - `write_image` writes what a crash leaves of a closed service, by choice, as recovery's `crash_image` has it, and takes no memory.
-//! - `write_base` writes an image of which each replica is one base. `taken_images_are_taken_up`: where that is a lawful base at its place, the image is
-//!   refused only where memory runs out, and else the base is taken up.
+//! - `write_image` writes what a crash leaves of a closed service, by choice, as recovery's `crash_image` has it, in format 1, and takes no memory.
+//! - `write_base` writes an image of one region, in format 2. `taken_images_are_taken_up`: where that is a lawful base at its place, the image is refused
+//!   only where memory runs out, and else the base is taken up.
 //! - `head_of`, `base_of`: the base from which a service may start again, or why there is none: recovery's refusals, and what it does not look at.
+//!   `words_are_answered_exactly`: each words of either format with one of these answers, unless memory runs out.
 //! - `written_images_are_taken_up`: what `write_image` wrote is refused only where memory runs out, and what is taken up of it holds each
 //!   answer (`IsKeptBy`).
 //! - `holds_replies`: whether its results keep replies of a document store, or of a queue. Those of a closed service do where those of the base did that it
@@ -26,10 +28,10 @@ mod writer;
 
 pub use head::{Head, head_of};
 pub use laws::{
-    taken_images_are_taken_up, taken_images_keep_replies, written_images_are_taken_up,
-    written_images_keep_replies, written_images_tell_outcomes,
+    taken_images_are_taken_up, taken_images_keep_replies, words_are_answered_exactly,
+    written_images_are_taken_up, written_images_keep_replies, written_images_tell_outcomes,
 };
 pub use reader::{WordsFault, base_of};
 pub use replies::{ReplyKind, holds_replies};
-pub use taken::{base_words, image_words_of, write_base};
+pub use taken::{base_image_words, base_words, write_base};
 pub use writer::{image_words, write_image};

@@ -1,15 +1,16 @@
 //! A base is taken up from words.
 
-ghost use Rattle.std.specs.Prelude.{◌≡◌, ◌<◌, ◌↔◌, IfOk, IsTrue, MatchResult};
+ghost use Rattle.std.specs.Prelude.{◌≡◌, ◌+◌, ◌-◌, ◌<◌, ◌≤◌, ◌^◌, ◌↔◌, IfOk, IsTrue, MatchResult, length};
 ghost use Rattle.cx_core.specs.Base.{LawfulBase};
 ghost use Rattle.cx_core.specs.Region.{slot_number};
-ghost use Rattle.recovery.specs.Images.{IsReadable};
+ghost use Rattle.recovery.specs.Images.{Gives, IsReadable};
 ghost use Rattle.recovery.specs.Recovery.{NumbersWithin};
-ghost use Rattle.c_images.specs.Words.{IsSaid, IsTakenUp, IsWordsFault, SaysImage};
+ghost use Rattle.c_images.specs.Words.{IsSaid, IsTakenUp, IsWordsFault, SaysImage, format_in, word_from};
 ghost use Rattle.c_images.specs.declared.reader.WordsFault.TheVariants.{Numbers};
 
-use crate::head::{HEAD, Head};
-use cx_base::{Items, Object};
+use crate::head::{HEAD, Head, ONE_REGION};
+use crate::taken::base_words;
+use cx_base::{Items, Object, root_replica};
 use cx_core::{Base, Image, slot_start};
 use recovery::{ImageFault, recover};
 use std::alloc::{AllocError, Global};
@@ -57,13 +58,21 @@ fn image_of(alloc: Global, words: &[u64], head: Head) -> Result<Image, AllocErro
     ensures said { IfOk result (SaysImage words.now) }
     ensures readable { IfOk result (IsReadable head.lines) }
 {
-    let mut pairs = Vec::new(alloc);
-    for at in 0..words.len() - HEAD {
-        let word = words[at + HEAD];
-        if word != 0 {
-            pairs.push((at as u64, word))?;
-        }
+    if head.format == ONE_REGION {
+        region_image(alloc, words, head)
+    } else {
+        replicas_image(alloc, words, head)
     }
+}
+
+/// The image that words of format 1 say: the words of all replicas.
+fn replicas_image(alloc: Global, words: &[u64], head: Head) -> Result<Image, AllocError>
+    requires said { IsSaid words.now head }
+    requires format { format_in words.now ≡ 1 }
+    ensures said { IfOk result (SaysImage words.now) }
+    ensures readable { IfOk result (IsReadable head.lines) }
+{
+    let pairs = pairs_from(alloc, words, 0)?;
     Ok(Image {
         callers: head.callers,
         lines: head.lines,
@@ -71,6 +80,41 @@ fn image_of(alloc: Global, words: &[u64], head: Head) -> Result<Image, AllocErro
         root: head.root,
         pairs: Items::of(pairs),
     })
+}
+
+/// The image that words of format 2 say: the words of the replica that the root names. Recovery looks at no other, so pairs for the others take no memory.
+fn region_image(alloc: Global, words: &[u64], head: Head) -> Result<Image, AllocError>
+    requires said { IsSaid words.now head }
+    requires format { format_in words.now ≡ 2 }
+    ensures said { IfOk result (SaysImage words.now) }
+    ensures readable { IfOk result (IsReadable head.lines) }
+{
+    let region = base_words(head.lines);
+    let start = region * u64::from(root_replica(head.callers, head.root));
+    let pairs = pairs_from(alloc, words, start)?;
+    Ok(Image {
+        callers: head.callers,
+        lines: head.lines,
+        count: (words.len() - HEAD) as u64 + region * (2 * u64::from(head.callers) - 1),
+        root: head.root,
+        pairs: Items::of(pairs),
+    })
+}
+
+/// Pairs for the words after the head, of which the first is put at an address.
+fn pairs_from(alloc: Global, words: &[u64], start: u64) -> Result<Vec<(u64, u64)>, AllocError>
+    requires enough { 8 ≤ length words.now }
+    requires start { start ≤ 2 ^ 32 }
+    ensures { IfOk result (λ pairs. Gives (word_from start words.now) (start + (length words.now - 8)) pairs.items) }
+{
+    let mut pairs = Vec::new(alloc);
+    for at in 0..words.len() - HEAD {
+        let word = words[at + HEAD];
+        if word != 0 {
+            pairs.push((start + at as u64, word))?;
+        }
+    }
+    Ok(pairs)
 }
 
 /// The base, where no number of its results is above its place.

@@ -7,7 +7,7 @@ ghost use Rattle.recovery.specs.Crashes.{AreRemainsWhole, left_root, left_word};
 ghost use Rattle.recovery.specs.Images.{image_size};
 ghost use Rattle.c_images.specs.Words.{AreLeftWords, AreRemainsWritten};
 
-use crate::head::{FORMAT, HEAD, NAME};
+use crate::head::{HEAD, NAME, REPLICAS};
 use cx_core::{HEAD_LINES, LINE_WORDS};
 use cx_table::Remains;
 
@@ -28,7 +28,7 @@ pub fn write_image(remains: &Remains, kind: u64, choice: u64, words: &mut [u64])
 {
     write_words(remains, choice, words);
     words[0] = NAME;
-    words[1] = FORMAT;
+    words[1] = REPLICAS;
     words[2] = kind;
     words[3] = u64::from(remains.callers);
     words[4] = remains.lines;

@@ -56,7 +56,7 @@ ComesBack (ClosedDocuments r) choice words code = code ≡ pos 0 → IsStoreAgai
 ComesBack (ClosedQueue r) choice words code = code ≡ pos 0 → IsQueueAgain r choice words
 ComesBack content choice words code = Unit {0}
 
--- words of an image that a session took of a running service: each replica is a region that is a lawful base at its place
+-- words of an image that a session took of a running service: of one region, which is a lawful base at its place
 pub record IsRegionIn {O : Type 0} (o : Ghosts O) (kind : ℕ) (r : Running O) (words : List ℕ) : Type 0 where
   pub place : ℕ
   pub region : List ℕ

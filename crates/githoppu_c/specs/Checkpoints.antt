@@ -2,8 +2,8 @@
 use Rattle.std.specs.Prelude.{◌≡◌, ◌≢◌, ◌⊎◌, ◌+◌, ℕ, ℤ, pos, List, length}
 use Rattle.std.specs.Arc.{arc_value}
 use Rattle.cx_base.specs.declared.object.Object.{Ghosts}
+use Rattle.cx_core.specs.Region.{region_words}
 use Rattle.cx_rule.specs.Running.{Running}
-use Rattle.recovery.specs.Images.{image_size}
 use Rattle.c_images.specs.Taken.{IsWrittenOf}
 use Rattle.c_sessions.specs.Sessions.{TakesIn}
 use Rattle.c_sessions.specs.declared.session.Session.{Session}
@@ -22,11 +22,11 @@ taken_code Again = pos 2
 taken_code Stopped = pos 5
 taken_code OutOfTurn = pos 6
 
--- how many words an image of a running service has
+-- how many words an image of a running service has: a head and one region
 abbrev pub checkpoint_words : {O : Type 0} → Running O → ℕ
-checkpoint_words r = image_size r.callers r.lines + 8
+checkpoint_words r = region_words r.lines + 8
 
--- where an image was taken the words are one of an object of this kind, of which each replica is what was taken
+-- where an image was taken the words are one of an object of this kind, of what was taken
 abbrev pub IsWrittenAs : {O : Type 0} → ℕ → Running O → List ℕ → Taken → List ℕ → Type 0
 IsWrittenAs kind r region (At place) words = IsWrittenOf kind r.callers r.lines place region words
 IsWrittenAs kind r region taken words = Unit {0}

@@ -7,12 +7,12 @@ ghost use Rattle.c_sessions.specs.Sessions.{IsSessionReady};
 ghost use Rattle.githoppu_c.specs.Checkpoints.{TakesAs};
 
 use crate::codes::{AGAIN, BAD_SIZE, DONE, OUT_OF_TURN, STOPPED};
-use c_images::{base_words, image_words_of, write_base};
+use c_images::{base_image_words, base_words, write_base};
 use c_sessions::{Session, Taken, Tries};
 use cx_base::Object;
 
-/// Has a session take an image, where the buffer has as many words as one, which is `needed`; else nothing is changed. The region is loaded into the first
-/// replica of the words, and copied over the others.
+/// Has a session take an image, where the buffer has as many words as one of one region, which is `needed`; else nothing is changed. The region is loaded
+/// into the words after the head.
 pub fn take_to<O: Object>(
     session: &mut Session<O>,
     kind: u64,
@@ -27,7 +27,7 @@ pub fn take_to<O: Object>(
 {
     let lines = session.lines();
     let callers = session.callers();
-    let count = image_words_of(callers, lines);
+    let count = base_image_words(lines);
     *needed = count;
     if words.len() as u64 != count {
         return BAD_SIZE;

@@ -1,4 +1,4 @@
-use Rattle.std.proofs.Common.{◌≡◌, arith, subst, sym}
+use Rattle.std.proofs.Common.{◌≡◌, arith, inr, refl, subst, sym}
 use Rattle.std.specs.Prelude.{MatchResult}
 use Rattle.cx_base.specs.Codes.{root_code_of}
 use Rattle.cx_core.specs.declared.entry.Base.{Base}
@@ -6,14 +6,14 @@ use Rattle.cx_core.specs.Base.{LawfulBase}
 use Rattle.recovery.specs.Recovery.{NumbersWithin}
 use Rattle.recovery.specs.declared.recovered_base.ImageFault.TheVariants.{Memory}
 use Rattle.c_images.specs.Taken.{base_at}
-use Rattle.c_images.proofs.Repeated.{has_size, named}
+use Rattle.c_images.proofs.Named.{has_size, named}
 use Rattle.c_images.proofs.Written.{headed, taken_up}
 use Rattle.c_images.proofs.laws.taken_images_are_taken_up.Goals as goal
 
 pub returns-clause-headed : goal.returns-clause-headed
 returns-clause-headed g c = λ table kind place region words known running written.
     let long = written.long in
-    headed kind table.callers table.lines (root_code_of table.callers place 0) words written.head known (omega (arith, long)) running.some running.few running.enough running.small
+    headed 2 kind table.callers table.lines (root_code_of table.callers place 0) words written.head (inr refl) known (omega (arith, long)) running.some running.few running.enough running.small
 
 pub returns-clause-taken_up : goal.returns-clause-taken_up
 returns-clause-taken_up g c = λ table kind place region words answer running lawful written told.

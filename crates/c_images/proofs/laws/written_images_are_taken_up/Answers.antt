@@ -1,4 +1,4 @@
-use Rattle.std.proofs.Common.{arith}
+use Rattle.std.proofs.Common.{arith, inl, refl}
 use Rattle.recovery.specs.Crashes.{left_root}
 use Rattle.c_images.proofs.Written.{headed, left_of, taken_up}
 use Rattle.recovery.specs.Kept.{IsKeptBy}
@@ -7,7 +7,7 @@ use Rattle.c_images.proofs.laws.written_images_are_taken_up.Goals as goal
 pub returns-clause-headed : goal.returns-clause-headed
 returns-clause-headed g c = λ r kind choice words known whole written.
     let long = written.left.long in
-    headed kind r.callers r.lines (left_root r choice) words written.head known (omega (arith, long)) whole.some whole.few whole.enough whole.small
+    headed 1 kind r.callers r.lines (left_root r choice) words written.head (inl refl) known (omega (arith, long)) whole.some whole.few whole.enough whole.small
 
 pub returns-clause-taken_up : goal.returns-clause-taken_up
 returns-clause-taken_up g c = λ table seats r kind choice words answer opened leaves written told.

@@ -1,6 +1,6 @@
 use Rattle.std.proofs.Common.{◌≡◌, ◌+◌, ◌∙◌, ap, inl, length, refl, rules}
 use Rattle.std.specs.Arc.{arc_value}
-use Rattle.recovery.specs.Images.{image_size}
+use Rattle.cx_core.specs.Region.{region_words}
 use Rattle.c_sessions.specs.Sessions.{TakesIn}
 use Rattle.c_sessions.specs.declared.checkpoint.Taken.TheVariants.{At}
 use Rattle.githoppu_c.proofs.Checkpointed.{taken_base, written_of}
@@ -14,16 +14,16 @@ returns-in-At-clause-takes g c =
     let place = c.in-At.place in
     let takes : TakesIn g.O.Object part 16 s (At place) c.checkpoint.new.self = search rules in
     let base = taken_base g.O.Object part 16 place s c.checkpoint.new.self c.requires.ready c.checkpoint.ensures.ready takes in
-    let all : length c.args.words.now ≡ image_size r.callers r.lines + 8 = search rules in
+    let all : length c.args.words.now ≡ region_words r.lines + 8 = search rules in
     record {
-      told = c.image_words_of-count.ensures ∙ ap (λ n. image_size n c.lines-lines.result + 8) c.callers-callers.ensures ∙ ap (λ n. image_size r.callers n + 8) c.lines-lines.ensures.value;
+      told = c.base_image_words-count.ensures ∙ ap (λ n. region_words n + 8) c.lines-lines.ensures.value;
       took = inl (
         all,
         record {
           region = part;
           taken = At place;
           takes = takes;
-          written = written_of c.args.kind c.callers-callers.result c.lines-lines.result place r.callers r.lines (image_size r.callers r.lines) c.args.words.now part _ c.write_base.new.words c.callers-callers.ensures c.lines-lines.ensures.value all base.size.long c.write_base.ensures;
+          written = written_of c.args.kind c.callers-callers.result c.lines-lines.result place r.callers r.lines (region_words r.lines) c.args.words.now part _ c.write_base.new.words c.callers-callers.ensures c.lines-lines.ensures.value all base.size.long c.write_base.ensures;
           is = refl;
         },
       );
