@@ -1,10 +1,10 @@
 -- Words with a right head that are refused, and sessions that are not opened from them.
-use Rattle.std.proofs.Common.{◌≡◌, inl, inr, ℕ, ℤ, List, Result, Ok, Err, refl, subst, sym}
+use Rattle.std.proofs.Common.{◌≡◌, inl, inr, ℕ, ℤ, List, Result, Ok, Err, subst, sym}
 use Rattle.std.specs.Prelude.{IsErrAnd, MatchResult}
 use Rattle.c_images.specs.declared.reader.WordsFault.{WordsFault}
 use Rattle.c_sessions.specs.declared.start.OpenFault.{OpenFault}
 use Rattle.c_sessions.specs.declared.start.OpenFault.TheVariants.{Start, InTheWay}
-use Rattle.githoppu_c.specs.Codes.{IsOpenCode, open_code}
+use Rattle.githoppu_c.specs.Codes.{open_code}
 use Rattle.githoppu_c.specs.Recoveries.{AreFew, IsRefusal, RefusesWords}
 
 pub refused_words : (kind : ℕ) (faulty : WordsFault → Type 0) (words : List ℕ) (count : ℕ) (code : ℤ) → AreFew count → IsRefusal faulty code → RefusesWords kind faulty words count code
