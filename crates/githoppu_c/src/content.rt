@@ -89,8 +89,8 @@ impl Content {
         }
     }
 
-    /// Has a session take an image while others go on, where the buffer has as many words as an image, which is `needed`. What is taken is taken up
-    /// again where its results keep replies. What is no session is called out of turn, and `needed` is 0.
+    /// Has a session take an image while others go on, where the buffer has as many words as one of one region, which is `needed`. What is taken is taken
+    /// up again where its results keep replies. What is no session is called out of turn, and `needed` is 0.
     pub fn checkpoint(&mut self, words: &mut [u64], needed: &mut u64) -> i32
         requires callable { IsCallable self.old }
         ensures callable { IsCallable self.new }

@@ -160,7 +160,7 @@ pub extern "C" fn githoppu_image(
     code
 }
 
-/// Has a session take an image of its store or queue while others go on, where the buffer has as many words as an image, which is `needed`: the image
+/// Has a session take an image of its store or queue while others go on, where the buffer has as many words as one of one region, which is `needed`: the image
 /// after all that was answered before. Where each result in the words keeps a reply, a recovery of them with 1 to 8 sessions answers DONE, or
 /// NO_MEMORY (`GITHOPPU_NO_MEMORY`) where memory runs out, or AGAIN where the new sessions' queue did not take its first entry. The session stands at `out`
 /// afterwards.
@@ -181,7 +181,7 @@ pub extern "C" fn githoppu_checkpoint(
     code
 }
 
-/// Takes up a document store from the words of an image, and puts a session into each slot. Where it is refused, no slot is written.
+/// Takes up a document store from the words of an image, of either format, and puts a session into each slot. Where it is refused, no slot is written.
 #[unsafe(no_mangle)]
 pub extern "C" fn githoppu_recover(alloc: Global, words: &[u64], sessions: &mut [*mut u8]) -> i32
     ensures { Recovers 1 (IsStoreIn words.now) (IsStoreFault words.now) words.now (length sessions.old) result }
@@ -195,7 +195,7 @@ pub extern "C" fn githoppu_recover(alloc: Global, words: &[u64], sessions: &mut 
     }
 }
 
-/// Takes up a queue from the words of an image, and puts a session into each slot. Where it is refused, no slot is written.
+/// Takes up a queue from the words of an image, of either format, and puts a session into each slot. Where it is refused, no slot is written.
 #[unsafe(no_mangle)]
 pub extern "C" fn githoppu_recover_queue(
     alloc: Global,

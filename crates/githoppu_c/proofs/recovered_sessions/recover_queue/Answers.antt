@@ -1,8 +1,11 @@
-use Rattle.std.proofs.Common.{rules, ap, subst, sym}
+use Rattle.std.proofs.Common.{rules, ◌≡◌, ap, of_z, subst, sym, to_z, w32}
 use Rattle.cx_rule.specs.Running.{Running}
 use Rattle.fifo_object.specs.declared.fifo.Fifo.{Fifo}
+use Rattle.githoppu_c.specs.Codes.{open_code}
 use Rattle.githoppu_c.specs.Contents.{AreBoxes, IsQueueOf}
-use Rattle.githoppu_c.specs.Objects.{IsQueueIn}
+use Rattle.githoppu_c.specs.Objects.{IsQueueFault, IsQueueIn}
+use Rattle.githoppu_c.specs.Recoveries.{AreFew, RefusesWords}
+use Rattle.githoppu_c.proofs.Refused.{handed_on, refused_opening, refused_words}
 use Rattle.githoppu_c.proofs.recovered_sessions.recover_queue.Goals as goal
 
 pub returns-in-Ok-as_queue : goal.returns-in-Ok-as_queue
@@ -17,3 +20,18 @@ returns-in-Ok-as_queue c =
       said = said;
       of = subst (λ n. AreBoxes (IsQueueOf ready.service) n c.in-Ok-as_queue.contents.items) ready.all (c.in-Ok-as_queue.ensures ready.service said.1 ready.each);
     }
+
+pub returns-in_err-base : goal.returns-in_err-base
+returns-in_err-base c =
+    let words = c.args.words.now in
+    let few : AreFew c.args.count = search rules in
+    handed_on _ (RefusesWords 2 (IsQueueFault words) words c.args.count) c.from_residual.result _ c.from_residual.ensures.1
+    (refused_words 2 (IsQueueFault words) words c.args.count _ few c.in_err-base.ensures.told)
+
+pub returns-in-Err-open_from : goal.returns-in-Err-open_from
+returns-in-Err-open_from c =
+    let words = c.args.words.now in
+    let few : AreFew c.args.count = search rules in
+    let code = to_z w32 (of_z w32 c.open_code.result) in
+    let same : code ≡ open_code c.in-Err-open_from.fault = search rules in
+    refused_opening 2 (IsQueueFault words) words c.args.count code c.in-Err-open_from.fault few same
