@@ -212,6 +212,7 @@ int main(int count, char **words) {
     free(file_bytes);
     remove_folder(words[1]);
     CHECK(mkdir(words[1], 0777) == 0);
+    fflush(stdout);
     child = fork();
     CHECK(child >= 0);
     if (child == 0)
