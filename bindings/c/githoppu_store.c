@@ -345,8 +345,8 @@ static int identify(struct database *db, int *fresh) {
     return GITHOPPU_DONE;
 }
 
-/* Writes the bytes of SQLite's own log once more, and syncs them. After a sync that failed, the system may show bytes that are not on the disk and that no later
- * sync writes; what is done from here on must not rest on them. */
+/* Writes the bytes of SQLite's own log once more, and syncs them. After a sync that failed, the system may show bytes that are not on the disk and that no
+ * later sync writes; what is done from here on must not rest on them. */
 static int rewrite_wal(struct database *db) {
     const char *path = sqlite3_filename_wal(path_of(db));
     char bytes[32768];
@@ -923,7 +923,8 @@ static void lead(githoppu_store *s) {
         else
             r->status = r->barrier == NO_BARRIER ? apply(s, r->client, r->op, r->reply) : emptied;
     if (s->behind)
-        snprintf(why, sizeof why, "the update of place %llu is in the log and not done in RAM: open the store again", (unsigned long long)atomic_load(&s->done));
+        snprintf(why, sizeof why, "the update of place %llu is in the log and not done in RAM: open the store again",
+                 (unsigned long long)atomic_load(&s->done));
     pthread_mutex_unlock(&s->doing);
     pthread_mutex_lock(&s->lock);
     if (why[0] != 0)

@@ -98,13 +98,13 @@ int githoppu_store_open(const char *path, const githoppu_store_options *options,
  * with sync FULL nothing that was answered is lost then. The memory is freed in any case, but for FORKED. */
 int githoppu_store_close(githoppu_store *store);
 
-/* What went wrong, in one line, ended by a 0 and cut where the room ends: the call, the path, the words of SQLite and of the system. It is the first failure that
- * made the store read-only, else the last one; "" before any. How many bytes the whole line has. */
+/* What went wrong, in one line, ended by a 0 and cut where the room ends: the call, the path, the words of SQLite and of the system. It is the first failure
+ * that made the store read-only, else the last one; "" before any. How many bytes the whole line has. */
 size_t githoppu_store_why(githoppu_store *store, char *into, size_t room);
 
-/* ---- Updates of documents. DONE, and the reply as of githoppu_put and its kin; what githoppu.h's functions answer of a malformed operation or
- * of one that is too long; NO_CLIENT, NOT_WRITTEN, FAILED, READ_ONLY, DAMAGED, FORKED or NO_MEMORY. One that is refused by its reply, as STALE or NO_ROOM, is in the
- * log too. ---- */
+/* ---- Updates of documents. DONE, and the reply as of githoppu_put and its kin; what githoppu.h's functions answer of a malformed operation or of one that
+ * is too long; NO_CLIENT, NOT_WRITTEN, FAILED, READ_ONLY, DAMAGED, FORKED or NO_MEMORY. One that is refused by its reply, as STALE or NO_ROOM, is in the log
+ * too. ---- */
 
 int githoppu_store_put(githoppu_store *store, unsigned client, const char *key, const char *document, size_t length, githoppu_words *reply);
 int githoppu_store_putif(githoppu_store *store, unsigned client, const char *key, const char *document, size_t length, uint64_t revision,

@@ -1,6 +1,6 @@
-//! A shop on a disk: four threads sell, each sale is answered when it is on the disk, and the process is killed at some moment. The next one opens the same file: every
-//! sale that was answered is there, the sum is right, and each thread learns what its last sale was, also where the process was killed before the answer
-//! came. So it goes 20 times.
+//! A shop on a disk: four threads sell, each sale is answered when it is on the disk, and the process is killed at some moment. The next one opens the same
+//! file: every sale that was answered is there, the sum is right, and each thread learns what its last sale was, also where the process was killed before the
+//! answer came. So it goes 20 times.
 
 use githoppu::disk::{Options, Store};
 use githoppu::{Add, Reply};
@@ -38,8 +38,8 @@ fn learned(store: &Store, answered: &[u64; SELLERS]) -> Result<[u64; SELLERS], B
     Ok(last)
 }
 
-/// Sells until it is killed. A line tells that it begins, and then one after each sale whose it was; a line that the kill cut off was of a sale that was answered,
-/// and tells nothing more than that.
+/// Sells until it is killed. A line tells that it begins, and then one after each sale whose it was; a line that the kill cut off was of a sale that was
+/// answered, and tells nothing more than that.
 fn run(path: &Path, answered: &[u64; SELLERS]) -> Result<(), Box<dyn Error>> {
     let store = open(path)?;
     learned(&store, answered)?;

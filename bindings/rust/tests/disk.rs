@@ -1,5 +1,5 @@
-//! Stores on a disk from Rust: each call and what it answers, openings that are refused, and threads that share a store. What a disk keeps through kills and power
-//! failures is tried in C, whose source this is (`bindings/c/disk`).
+//! Stores on a disk from Rust: each call and what it answers, openings that are refused, and threads that share a store. What a disk keeps through kills and
+//! power failures is tried in C, whose source this is (`bindings/c/disk`).
 
 use githoppu::disk::{Durability, Options, Queue, Store, StoreError, Update};
 use githoppu::{Add, Error, Put, PutIf, Reply};
