@@ -355,7 +355,7 @@ static void checkpoints(void) {
 
 static void copies(void) {
     githoppu_store *s, *copy;
-    char nowhere[2048];
+    char nowhere[2048], third[2048], left[2048];
     fresh("copies");
     snprintf(nowhere, sizeof nowhere, "%s/copies/none/other", folder);
     s = open_small();
@@ -369,6 +369,12 @@ static void copies(void) {
     githoppu_store_why(s, why, sizeof why);
     CHECK(strstr(why, other) != NULL && strstr(why, "errno 17") != NULL);
     CHECK(githoppu_store_copy(s, path) == GITHOPPU_STORE_NOT_WRITTEN && githoppu_store_copy(s, nowhere) == GITHOPPU_STORE_NOT_WRITTEN);
+    /* nor does a copy come beside a log that another database left */
+    snprintf(left, sizeof left, "%s/copies/third-wal", folder);
+    CHECK(fclose(fopen(left, "wb")) == 0);
+    snprintf(third, sizeof third, "%s/copies/third", folder);
+    CHECK(githoppu_store_copy(s, third) == GITHOPPU_STORE_NOT_WRITTEN && unlink(left) == 0);
+    CHECK(githoppu_store_copy(s, third) == GITHOPPU_DONE && open_status(third, NULL) == GITHOPPU_DONE);
     copy = open_at(other, NULL);
     CHECK(sold_in(copy) == 10 && githoppu_store_place(copy) == 10);
     sell(copy, 1);
@@ -667,7 +673,7 @@ static void saved(void) {
     /* of the other kind, and changed */
     CHECK(unlink(path) == 0);
     options.object = &githoppu_store_queue;
-    CHECK(open_status(path, &options) == GITHOPPU_OTHER_KIND && strstr(why, "other kind") != NULL);
+    CHECK(open_status(path, &options) == GITHOPPU_OTHER_KIND && strstr(why, "other kind") != NULL && strstr(why, other) != NULL);
     options.object = NULL;
     file = fopen(other, "r+b");
     CHECK(file != NULL && fseek(file, 500, SEEK_SET) == 0 && fputc('x', file) == 'x' && fclose(file) == 0);
