@@ -23,6 +23,13 @@ fi
 export PREFIX=${PREFIX:-$PWD/bindings/out/prefix}
 [ -f "$PREFIX/lib/libgithoppu.a" ] || tools/install "$PREFIX" || exit 1
 make -s -C bindings/c/disk run ROUNDS="${1:-${DISK_ROUNDS:-40}}" || exit 1
+# as docs/ON_A_DISK.md says it
+export PKG_CONFIG_PATH=$PREFIX/lib/pkgconfig${PKG_CONFIG_PATH:+:$PKG_CONFIG_PATH}
+if [ -f "$PREFIX/lib/pkgconfig/githoppu.pc" ]; then
+    cc -std=c11 $(pkg-config --cflags githoppu sqlite3) bindings/c/shop_on_disk.c $(pkg-config --variable=storesource githoppu) \
+        $(pkg-config --variable=archive githoppu) $(pkg-config --libs sqlite3) -pthread -o bindings/c/out/disk/installed_shop || exit 1
+    bindings/c/out/disk/installed_shop bindings/c/out/disk/installed 2>/dev/null || exit 1
+fi
 if command -v cargo >/dev/null; then
     export GITHOPPU_LIBRARY=$PREFIX/lib
     cd bindings/rust || exit 1
