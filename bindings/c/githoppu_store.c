@@ -345,8 +345,8 @@ static int identify(struct database *db, int *fresh) {
     return GITHOPPU_DONE;
 }
 
-/* Writes the bytes of SQLite's own log once more, and syncs them. After a sync that failed, the system may show bytes that are not on the disk and that no later
- * sync writes; what is done from here on must not rest on them. */
+/* Writes the bytes of SQLite's own log once more, and syncs them. After a sync that failed, the system may show bytes that are not on the disk and that no
+ * later sync writes; what is done from here on must not rest on them. */
 static int rewrite_wal(struct database *db) {
     const char *path = sqlite3_filename_wal(path_of(db));
     char bytes[32768];
@@ -477,14 +477,34 @@ static int create(struct database *db, const struct image *image, uint64_t logge
     return status;
 }
 
+/* Whether nothing of a database is at a path. A log of SQLite's that was left there would be taken for the copy's. */
+static int is_free(struct database *db, const char *path, char *name) {
+    static const char *const ends[] = {"", "-wal", "-journal"};
+    int i;
+    for (i = 0; i < 3; i++) {
+        sprintf(name, "%s%s", path, ends[i]);
+        if (access(name, F_OK) == 0) {
+            errno = EEXIST;
+            return system_fault(db, GITHOPPU_STORE_NOT_WRITTEN, "a copy to", name);
+        }
+    }
+    return GITHOPPU_DONE;
+}
+
 /* A copy at a path where nothing is yet: whole, or not at all. */
 static int copy_database(struct database *db, const char *path) {
     char *name = (char *)malloc(strlen(path) + 32);
     sqlite3_stmt *vacuum = NULL;
-    int file = -1, status = GITHOPPU_DONE;
+    int file = -1, status;
     if (name == NULL)
         return GITHOPPU_NO_MEMORY;
+    status = is_free(db, path, name);
+    if (status != GITHOPPU_DONE) {
+        free(name);
+        return status;
+    }
     sprintf(name, "%s.%ld.new", path, (long)getpid());
+    unlink(name); /* left by an earlier process of this number */
     if (sqlite3_prepare_v2(db->handle, "VACUUM INTO ?", -1, &vacuum, NULL) != SQLITE_OK || sqlite3_bind_text(vacuum, 1, name, -1, SQLITE_STATIC) != SQLITE_OK ||
         sqlite3_step(vacuum) != SQLITE_DONE)
         status = fault(db, WRITING, "VACUUM INTO");
@@ -593,14 +613,14 @@ static uint64_t current_place(githoppu_session **session) {
     return reached;
 }
 
-/* Opens the sessions: of an image, or of an empty object where there are no words. */
-static int open_sessions(githoppu_store *s, const uint64_t *words, size_t count) {
+/* Opens the sessions: of the image that a file has, or of an empty object where there are no words. */
+static int open_sessions(githoppu_store *s, const uint64_t *words, size_t count, const char *file) {
     githoppu_session *sessions[1 + MOST_READERS];
     unsigned i;
     int status = words == NULL ? s->object.open(s->object.context, s->db.lines, sessions, 1 + s->readers)
                                : s->object.recover(s->object.context, words, count, sessions, 1 + s->readers);
     if (status != GITHOPPU_DONE)
-        return because(&s->db, status, "%s in %s: %s", words == NULL ? "an empty store" : "the image", path_of(&s->db), githoppu_store_text(status));
+        return because(&s->db, status, "%s in %s: %s", words == NULL ? "an empty store" : "the image", file, githoppu_store_text(status));
     s->writer = sessions[0];
     for (i = 0; i < s->readers; i++)
         s->reader[i].session = sessions[1 + i];
@@ -667,7 +687,7 @@ static int take_image(githoppu_store *s, sqlite3_stmt *row) {
         return GITHOPPU_NO_MEMORY;
     for (i = 0; i < length / 8; i++)
         words[i] = githoppu_word_at(bytes + 8 * i);
-    status = open_sessions(s, words, length / 8);
+    status = open_sessions(s, words, length / 8, path_of(db));
     free(words);
     if (status == GITHOPPU_DONE && s->logged != place)
         return damaged(db, "the image of place", (long long)place, "it is of another place");
@@ -727,7 +747,7 @@ static int load(githoppu_store *s) {
     if (status == GITHOPPU_DONE)
         status = take_all(s, "SELECT client, number, reply, crc FROM outcome", take_outcome);
     if (status == GITHOPPU_DONE && s->writer == NULL)
-        status = open_sessions(s, NULL, 0);
+        status = open_sessions(s, NULL, 0, path_of(&s->db));
     atomic_store(&s->next_checkpoint, s->logged + s->checkpoint_every);
     if (status == GITHOPPU_DONE)
         status = take_all(s, "SELECT place, client, operation, crc FROM log ORDER BY place", take_row);
@@ -763,7 +783,7 @@ static int take_saved(githoppu_store *s, const char *saved, struct image *image)
         return system_fault(&s->db, status, "open and read", saved);
     if (status != GITHOPPU_DONE)
         return because(&s->db, status, "%s: %s", saved, githoppu_store_text(status));
-    status = open_sessions(s, words, count);
+    status = open_sessions(s, words, count, saved);
     if (status == GITHOPPU_DONE) {
         s->db.lines = words[4]; /* as githoppu.h says of an image */
         for (client = 0; client < 8; client++)
@@ -792,7 +812,7 @@ static int begin(githoppu_store *s, const char *saved) {
         status = take_saved(s, saved, image);
     } else {
         s->db.lines = s->db.lines == 0 ? 16384 : s->db.lines;
-        status = open_sessions(s, NULL, 0);
+        status = open_sessions(s, NULL, 0, path_of(&s->db));
     }
     if (status == GITHOPPU_DONE)
         status = create(&s->db, image, s->logged);
@@ -923,7 +943,8 @@ static void lead(githoppu_store *s) {
         else
             r->status = r->barrier == NO_BARRIER ? apply(s, r->client, r->op, r->reply) : emptied;
     if (s->behind)
-        snprintf(why, sizeof why, "the update of place %llu is in the log and not done in RAM: open the store again", (unsigned long long)atomic_load(&s->done));
+        snprintf(why, sizeof why, "the update of place %llu is in the log and not done in RAM: open the store again",
+                 (unsigned long long)atomic_load(&s->done));
     pthread_mutex_unlock(&s->doing);
     pthread_mutex_lock(&s->lock);
     if (why[0] != 0)
@@ -1229,7 +1250,7 @@ int githoppu_store_open(const char *path, const githoppu_store_options *options,
     s->db.lines = o->lines;
     s->readers = o->readers == 0 ? 3 : o->readers;
     s->gather_us = o->gather_us;
-    s->checkpoint_every = o->checkpoint_every == 0 ? 100000 : o->checkpoint_every;
+    s->checkpoint_every = o->checkpoint_every == 0 ? 100000 : o->checkpoint_every < LAST_PLACE ? o->checkpoint_every : LAST_PLACE;
     s->sync = o->sync;
     s->last = &s->first;
     s->batch = 1;

@@ -1,6 +1,6 @@
 /* A store on a disk, for C99, C11 and C++: a document store or a queue of githoppu.h in RAM, whose updates are in a database of SQLite before they are
  * answered. Many threads share one sync, reads wait for nobody, and opening the file again gives everything that was answered. Compile githoppu_store.c
- * (C11) into the program, and link it with githoppu's library, libsqlite3 and pthreads.
+ * (C11) into the program, and link it with githoppu's library, libsqlite3 (3.31 or later) and pthreads.
  *
  * THE LOG COMES FIRST. An update joins a queue. The first caller that finds no leader leads: it gives the updates in the queue their places, writes them
  * to the log in one transaction, which is one sync, and then does them in RAM in the same order while the next leader syncs. From time to time a
@@ -94,17 +94,17 @@ const char *githoppu_store_text(int status);
  * githoppu_store_why and githoppu_store_close alone. */
 int githoppu_store_open(const char *path, const githoppu_store_options *options, githoppu_store **store);
 
-/* Closes a store, also null: updates that were submitted are written, and SQLite's own log goes into the file. DONE; NOT_WRITTEN or FAILED where that failed:
- * with sync FULL nothing that was answered is lost then. The memory is freed in any case, but for FORKED. */
+/* Closes a store, also null: updates that were submitted are written, and SQLite's own log goes into the file. DONE; READ_ONLY of a store that was;
+ * NOT_WRITTEN or FAILED where that failed: with sync FULL nothing that was answered is lost then. The memory is freed in any case, but for FORKED. */
 int githoppu_store_close(githoppu_store *store);
 
-/* What went wrong, in one line, ended by a 0 and cut where the room ends: the call, the path, the words of SQLite and of the system. It is the first failure that
- * made the store read-only, else the last one; "" before any. How many bytes the whole line has. */
+/* What went wrong, in one line, ended by a 0 and cut where the room ends: the call, the path, the words of SQLite and of the system. It is the first failure
+ * that made the store read-only, else the last one; "" before any. How many bytes the whole line has. */
 size_t githoppu_store_why(githoppu_store *store, char *into, size_t room);
 
-/* ---- Updates of documents. DONE, and the reply as of githoppu_put and its kin; what githoppu.h's functions answer of a malformed operation or
- * of one that is too long; NO_CLIENT, NOT_WRITTEN, FAILED, READ_ONLY, DAMAGED, FORKED or NO_MEMORY. One that is refused by its reply, as STALE or NO_ROOM, is in the
- * log too. ---- */
+/* ---- Updates of documents. DONE, and the reply as of githoppu_put and its kin; what githoppu.h's functions answer of a malformed operation or of one that
+ * is too long; NO_CLIENT, NOT_WRITTEN, FAILED, READ_ONLY, DAMAGED, FORKED or NO_MEMORY. One that is refused by its reply, as STALE or NO_ROOM, is in the log
+ * too. ---- */
 
 int githoppu_store_put(githoppu_store *store, unsigned client, const char *key, const char *document, size_t length, githoppu_words *reply);
 int githoppu_store_putif(githoppu_store *store, unsigned client, const char *key, const char *document, size_t length, uint64_t revision,

@@ -1,5 +1,5 @@
-/* A process that updates a store by 1 to 8 threads is ended again and again at any moment, and the store is opened anew: everything that was answered or read has
- * to be there, of each client's updates a prefix that its outcome tells, and nothing else.
+/* A process that updates a store by 1 to 8 threads is ended again and again at any moment, and the store is opened anew: everything that was answered or read
+ * has to be there, of each client's updates a prefix that its outcome tells, and nothing else.
  *
  *   crash_tests WAY ROUNDS SEED FOLDER     FOLDER is made, and removed in the end
  *
@@ -305,7 +305,8 @@ static int copy_is_right(const char *folder, uint64_t round) {
     return right && githoppu_store_close(copy) == GITHOPPU_DONE;
 }
 
-/* What is there is looked at by a process of its own, so that no lock is left; of a disk that loses it is a copy, so that the next life begins with the opening. */
+/* What is there is looked at by a process of its own, so that no lock is left; of a disk that loses it is a copy, so that the next life begins with the
+ * opening. */
 static int judged_right(const char *folder, const char *copy, uint64_t round) {
     uint64_t number[WRITERS];
     int status;
@@ -370,7 +371,8 @@ int main(int count, char **words) {
     remove_folder(copy);
     rmdir(words[4]);
     printf("%s: %llu rounds from seed %llu, %s; %llu updates, %llu openings, %llu checkpoints and %llu copies by calls, %llu failed syncs\n", way_names[way],
-           (unsigned long long)round, (unsigned long long)seed, !wrong ? "none wrong" : way == NORMAL ? "and an answered update was lost" : "THE LAST ONE WRONG",
+           (unsigned long long)round, (unsigned long long)seed,
+           !wrong ? "none wrong" : way == NORMAL ? "and an answered update was lost" : "THE LAST ONE WRONG",
            (unsigned long long)updates, (unsigned long long)told->openings, (unsigned long long)told->checkpoints, (unsigned long long)told->copies,
            (unsigned long long)told->failures);
     return wrong != (way == NORMAL);

@@ -1,5 +1,6 @@
-/* A byte of a store's file is changed, a page is lost or doubled, the file is cut: the store is refused with a line that says where, or it is what it was; never
- * anything else. Of SQLite's own log, as a killed process leaves it, a changed byte may also be taken for the end of it: the store is then an older one.
+/* A byte of a store's file is changed, a page is lost or doubled, the file is cut: the store is refused with a line that says where, or it is what it was;
+ * never anything else. Of SQLite's own log, as a killed process leaves it, a changed byte may also be taken for the end of it: the store is then an older
+ * one.
  *
  *   damage_tests FOLDER [STEP]     every STEPth byte, 211 without it, and of SQLite's log every fourth of these; the folder is made, and removed in the end */
 #define _GNU_SOURCE
@@ -212,6 +213,7 @@ int main(int count, char **words) {
     free(file_bytes);
     remove_folder(words[1]);
     CHECK(mkdir(words[1], 0777) == 0);
+    fflush(stdout);
     child = fork();
     CHECK(child >= 0);
     if (child == 0)

@@ -28,6 +28,7 @@ struct file {
     unsigned char *bytes;
     size_t length, longest, room; /* longest: with all changes */
     struct change *first, **last;
+    struct file *before; /* all files stay to the end */
 };
 
 struct name {
@@ -55,7 +56,7 @@ static int follows;
 static char folder[1024], left_in[1024];
 static struct names synced, live;
 static struct name_change *made, **made_last = &made;
-static struct file *file_of[FILES];
+static struct file *file_of[FILES], *all_files;
 static int is_folder[FILES];
 static uint64_t state;
 static long calls_left = -1, room_left = -1;
@@ -143,6 +144,8 @@ static struct file *new_file(void) {
     struct file *file = (struct file *)room(sizeof *file);
     file->bytes = (unsigned char *)room(0);
     file->last = &file->first;
+    file->before = all_files;
+    all_files = file;
     return file;
 }
 
