@@ -7,6 +7,7 @@ use Rattle.program_code.specs.declared.instruction.Operand as operand_type
 use Rattle.program_code.specs.declared.instruction.Operand.TheVariants.{Number, In}
 use Rattle.program_code.specs.declared.instruction.Register as register_type
 use Rattle.program_code.specs.declared.instruction.Test.TheVariants.{Always}
+use Rattle.program_code.specs.declared.program.Program as program_type
 use Rattle.program_code.specs.declared.program.ProgramFault as fault_type
 use Rattle.program_code.specs.declared.spelling.FaultKind.TheVariants as fault
 
@@ -93,3 +94,10 @@ IsFaultOf false words count f = (f.kind ≡ fault.Length) × (f.at ≡ 0)
 
 abbrev pub IsFirstFault : List ℕ → ℕ → fault_type.ProgramFault → Type 0
 IsFirstFault words count f = IsFaultOf (has_length words count) words count f
+
+-- what a program has
+abbrev pub words_of : program_type.Program → List ℕ
+words_of program = program.words.items
+
+abbrev pub code_of : program_type.Program → List instruction_type.Instruction
+code_of program = program.code.items

@@ -1,7 +1,7 @@
 //! Programs: words that were decoded and found to keep the rules.
 
 ghost use Rattle.std.specs.Prelude.{◌≡◌, ◌+◌, ◌<◌, ◌≤◌, ◌⊎◌, length, take, slice_index, MatchResult};
-ghost use Rattle.program_code.specs.Program.{Decodes, IsFirstFault};
+ghost use Rattle.program_code.specs.Program.{Decodes, IsFirstFault, code_of, words_of};
 ghost use Rattle.program_code.specs.Program as spec;
 
 use crate::instruction::{Instruction, Operand, Register, Test};
@@ -28,8 +28,8 @@ pub struct Program {
 impl Program {
     /// The program of words, of which so many are instructions and the others constants. `Err` is the first fault, or says that memory ran out.
     pub fn of(alloc: Global, words: &[u64], instructions: usize) -> Result<Program, ProgramFault>
-        ensures made { MatchResult result (λ program. Decodes words.now instructions program.code.items) (λ fault. (fault.kind ≡ FaultKind.Memory) ⊎ IsFirstFault words.now instructions fault) }
-        ensures kept { MatchResult result (λ program. program.words.items ≡ words.now) (λ _. Unit {0}) }
+        ensures made { MatchResult result (λ program. Decodes words.now instructions (code_of program)) (λ fault. (fault.kind ≡ FaultKind.Memory) ⊎ IsFirstFault words.now instructions fault) }
+        ensures kept { MatchResult result (λ program. words_of program ≡ words.now) (λ _. Unit {0}) }
     {
         if !has_length(words, instructions) {
             return Err(ProgramFault {
@@ -46,14 +46,14 @@ impl Program {
 
     /// Its words.
     pub fn words(&self) -> &[u64]
-        ensures { result.now ≡ self.now.words.items }
+        ensures { result.now ≡ words_of self.now }
     {
         &self.words
     }
 
     /// Its instructions.
     pub fn code(&self) -> &[Instruction]
-        ensures { result.now ≡ self.now.code.items }
+        ensures { result.now ≡ code_of self.now }
     {
         &self.code
     }
