@@ -41,6 +41,7 @@ import random_queues
 import record_trace
 import stopped_clients
 import told
+from bpf_tests import Interpreter, Programs
 from build_tests import Builds, Runs, Unproved
 from check_tests import QuickChecks
 from clause_tests import ClauseComparisons
