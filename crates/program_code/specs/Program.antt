@@ -67,7 +67,7 @@ ruled_spelling words at (Ok i) = ruled words at i
 abbrev pub decoded : List ℕ → ℕ → Spelled
 decoded words at = if is_rest words at then Ok Rest else ruled_spelling words at (spelled (slice_index words at) (slice_index words (at + 1)) at)
 
--- so many instructions may be at the head of these words
+-- whether the first `count` of these words may be instructions
 abbrev pub has_length : List ℕ → ℕ → Bool
 has_length words count = nat_lt 0 count && (nat_le count 65536 && nat_le count (length words))
 
@@ -82,12 +82,12 @@ pub record IsFirstOf (words : List ℕ) (f : fault_type.ProgramFault) : Type 0 w
   pub faults : decoded words f.at ≡ Err f.kind
   pub before : (at : ℕ) → at < f.at → IsOk (decoded words at)
 
--- A PROGRAM: so many words are these instructions
+-- A PROGRAM: the first words are these instructions
 pub record Decodes (words : List ℕ) (count : ℕ) (code : List instruction_type.Instruction) : Type 0 where
   pub sized : has_length words count ≡ true
   pub decodes : DecodesTo (take count words) count code
 
--- NO PROGRAM: there cannot be so many instructions, or one is at fault, and none before it
+-- NO PROGRAM: the number of instructions is out of range, or one is at fault, and none before it
 abbrev pub IsFaultOf : Bool → List ℕ → ℕ → fault_type.ProgramFault → Type 0
 IsFaultOf true words count f = IsFirstOf (take count words) f
 IsFaultOf false words count f = (f.kind ≡ fault.Length) × (f.at ≡ 0)

@@ -150,7 +150,7 @@ pub fn signed(code: u64) -> Option<Arith>
     }
 }
 
-/// A move of a register that extends the sign of so many bits.
+/// A move of a register that extends the sign of 8, 16 or 32 bits.
 pub fn extending(bits: u64) -> Option<Arith>
     ensures { result ≡ spec.extending bits }
 {

@@ -25,7 +25,7 @@ pub enum FaultKind {
     Target,
     /// The last instruction goes on behind the end.
     End,
-    /// A call of a helper: only functions of the program are called.
+    /// A call of a helper, or by an address in a register: only functions of the program are called.
     Helper,
     /// An address of a map.
     Map,
@@ -37,7 +37,7 @@ pub enum FaultKind {
     Memory,
 }
 
-/// A word and the one after it, as an instruction at a place.
+/// A word and the one after it, as an instruction at a place. `Err` says why they are none.
 pub fn spelled(word: u64, next: u64, at: u64) -> Result<Instruction, FaultKind>
     ensures { result ≡ spec.spelled word next at }
 {

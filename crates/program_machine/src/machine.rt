@@ -80,7 +80,7 @@ pub struct Machine {
     pub reply: [u64; 144],
 }
 
-/// Where an address is, for an object of so many words and so many constants.
+/// Where an address is, for an object of `words` words and a program of `constants` words.
 #[inline(always)]
 pub fn place_of(address: u64, words: u64, constants: u64) -> Place
     ensures { result ≡ spec.place_of address words constants }

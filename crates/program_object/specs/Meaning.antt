@@ -67,6 +67,6 @@ abbrev pub old_of : ℕ → ℕ → Option ℕ → OldFormat
 old_of lines version None = no_old_format
 old_of lines version (Some old) = record { version = Some old; lawful = IsImage lines old; upgraded = λ image. slice_set image 0 version }
 
--- an object may have so many lines, so much fuel, and this fingerprint beside the one before: each word has an address
+-- whether the lines, the fuel and the fingerprint before fit: each word has an address, and the two fingerprints differ
 abbrev pub fits : ℕ → ℕ → ℕ → Option ℕ → Bool
 fits lines fuel version before = nat_le 1 lines && (nat_le lines (2 ^ 26) && (nat_le fuel (2 ^ 20) && is_other before version))

@@ -3,7 +3,7 @@
 ghost use Rattle.std.specs.Prelude.{◌≡◌};
 ghost use Rattle.program_object.specs.Fingerprint as spec;
 
-/// The fingerprint of words, of which so many are instructions, and of the fuel of an operation.
+/// The fingerprint of a program: of its words, its number of instructions and its fuel.
 pub fn fingerprint(words: &[u64], instructions: u64, fuel: u64) -> u64
     ensures { result ≡ spec.fingerprint words.now instructions fuel }
 {

@@ -14,7 +14,7 @@ use program_code::Program;
 use program_machine::{End, Machine, RunFault};
 use std::alloc::{AllocError, Global};
 
-/// A program over an object of so many lines. Each operation takes at most `fuel` instructions.
+/// A program over an object of `lines` lines. Each operation takes at most `fuel` instructions.
 #[derive(Drop)]
 pub struct ProgramObject {
     lines: u64,
@@ -72,7 +72,7 @@ fn is_other(before: Option<u64>, version: u64) -> bool
     }
 }
 
-/// Whether words are an image of so many lines and of the program with this fingerprint.
+/// Whether words are an image of this number of lines and of the program with this fingerprint.
 fn is_image(words: &[u64], lines: u64, version: u64) -> bool
     requires some { 1 ≤ lines }
     requires few { lines ≤ 2 ^ 26 }
@@ -111,7 +111,7 @@ fn started(lines: u64) -> Machine
         depth: 0,
         frames: [0; 48],
         stack: [0; 512],
-        reply: [0; 144],
+        reply: [0; OP_WORDS],
     }
 }
 

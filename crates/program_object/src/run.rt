@@ -105,7 +105,7 @@ fn step<M: Memory>(
     grant(wish, writes, words, mem, machine, undo)
 }
 
-/// Runs to the end, with at most as many instructions as there is fuel.
+/// Runs to the end, with at most as many instructions as there is fuel. `Halt` comes only where no access is left.
 pub fn to_end<M: Memory>(
     code: &[Instruction],
     constants: &[u64],

@@ -41,7 +41,7 @@ impl Undo {
     }
 }
 
-/// Puts back what stores replaced, the last first. What is no place is left out.
+/// Puts back what stores replaced, the last first. What is no place is left out. `Halt` comes only where no access is left.
 pub fn undo_all<M: Memory>(mem: &mut M, words: u64, undo: &Undo) -> Result<(), Halt>
     requires size { M.size mem.old ≡ words }
     requires few { undo.now.count ≤ 256 }
