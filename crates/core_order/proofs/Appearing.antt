@@ -14,7 +14,7 @@ use Rattle.cx_core.proofs.ListLemmas.{item_below, slice_get-set_other, slice_get
 use Rattle.core_replica.proofs.StillLaws.{has_run}
 use Rattle.core_runs.specs.RealTime.{Operation}
 use Rattle.core_runs.specs.RealTime.Operation.{Update, Read}
-use Rattle.core_order.specs.TotalOrder.{IsIn, IsMade, StandsBefore}
+use Rattle.core_order.specs.TotalOrder.{IsIn, TookEffect, StandsBefore}
 use Rattle.core_runs.proofs.Going.{goes_run, own_stays}
 use Rattle.core_runs.proofs.Keeps.{event_kept, run_kept}
 use Rattle.core_order.proofs.Layers.{before_across, before_parts, before_right, in_either, in_left, in_right}
@@ -61,7 +61,7 @@ module _ (f : ℕ → Operation) (index : (i : ℕ) → index_of (f i) ≡ i) wh
 
 -- ---- what took effect
 
-pub made_or_not : (s : State) (o : Operation) → IsMade s o ⊎ (IsMade s o → ⊥)
+pub made_or_not : (s : State) (o : Operation) → TookEffect s o ⊎ (TookEffect s o → ⊥)
 made_or_not s (Update c i) = elim (cases_lt c (length s.locals)) [
   | inl within ↦ (
       let l = item_below s.locals c within in
@@ -83,7 +83,7 @@ made_or_not s (Read c i) = elim (cases_lt c (length s.locals)) [
 
 module _ (instance : Instance) where
   -- it stays so
-  pub still_made : (from to : State) (events : List Event) (o : Operation) → Lawful instance from → Run instance from events to → IsMade from o → IsMade to o
+  pub still_made : (from to : State) (events : List Event) (o : Operation) → Lawful instance from → Run instance from events to → TookEffect from o → TookEffect to o
   still_made from to events (Update c i) law run made =
       let law' = run_kept instance from events to law run in
       let grows = goes_run instance from events to law law' run in
@@ -135,13 +135,13 @@ module _ (instance : Instance) where
     other : (d : ℕ) → d ≢ e.caller → slice_get t.locals d ≡ slice_get s.locals d
     other d ne = ap (λ ls. slice_get ls d) m.locals ∙ slice_get-set_other s.locals e.caller d now ne
 
-    new_made : (o : Operation) → IsIn news o → IsMade t o × (IsMade s o → ⊥)
+    new_made : (o : Operation) → IsIn news o → TookEffect t o × (TookEffect s o → ⊥)
     new_made o has = elim (in_either updates reads o has) [
       | inl is ↦ (
           let r = of_from (λ i. Update e.caller i) (λ i. refl) (length now.own - length m.local.own) (length m.local.own) o is in
           let from = r.2 in
           let to = r.3 in
-          subst (λ (x : Operation). IsMade t x × (IsMade s x → ⊥)) (sym r.1) (
+          subst (λ (x : Operation). TookEffect t x × (TookEffect s x → ⊥)) (sym r.1) (
             (now, there, omega (arith, from, to)),
             λ made. (let same = ap (λ (x : Local). length x.own) (same_Some made.0 m.local (sym made.1 ∙ m.of_caller)) in let below = made.2 in absurd (omega (arith, same, below, from))),
           ))
@@ -149,13 +149,13 @@ module _ (instance : Instance) where
           let r = of_from (λ i. Read e.caller i) (λ i. refl) (length now.seen_reads - length m.local.seen_reads) (length m.local.seen_reads) o is in
           let from = r.2 in
           let to = r.3 in
-          subst (λ (x : Operation). IsMade t x × (IsMade s x → ⊥)) (sym r.1) (
+          subst (λ (x : Operation). TookEffect t x × (TookEffect s x → ⊥)) (sym r.1) (
             (now, there, omega (arith, from, to)),
             λ made. (let same = ap (λ (x : Local). length x.seen_reads) (same_Some made.0 m.local (sym made.1 ∙ m.of_caller)) in let below = made.2 in absurd (omega (arith, same, below, from))),
           ))
     ]
 
-    made_new : (o : Operation) → IsMade t o → (IsMade s o → ⊥) → IsIn news o
+    made_new : (o : Operation) → TookEffect t o → (TookEffect s o → ⊥) → IsIn news o
     made_new (Update d j) made not = elim (cases_eq d e.caller) [
       | inl mine ↦ (
           let is = ap (λ (x : Local). length x.own) (same_Some made.0 now (sym made.1 ∙ ap (slice_get t.locals) mine ∙ there)) in
@@ -193,11 +193,11 @@ module _ (instance : Instance) where
   -- The operations of a run, each once: what took effect by a moment stands before what took effect behind it.
   pub record Appears (from : State) (events : List Event) (to : State) : Type 0 where
     pub all : List Operation
-    pub each : (o : Operation) → IsMade to o → (IsMade from o → ⊥) → IsIn all o
-    pub only : (o : Operation) → IsIn all o → IsMade to o × (IsMade from o → ⊥)
+    pub each : (o : Operation) → TookEffect to o → (TookEffect from o → ⊥) → IsIn all o
+    pub only : (o : Operation) → IsIn all o → TookEffect to o × (TookEffect from o → ⊥)
     pub once : (o : Operation) → StandsBefore all o o → ⊥
     pub moments : (before after : List Event) (moment : State) (a b : Operation) → events ≡ before ++ after → Run instance from before moment →
-        IsMade moment a → (IsMade from a → ⊥) → IsMade to b → (IsMade moment b → ⊥) → StandsBefore all a b
+        TookEffect moment a → (TookEffect from a → ⊥) → TookEffect to b → (TookEffect moment b → ⊥) → StandsBefore all a b
 
   heads : (e f : Event) (x y : List Event) → e ∷ x ≡ f ∷ y → e ≡ f
   heads e f x y is = same_Some e f (ap (λ (es : List Event). slice_get es 0) is)
@@ -205,15 +205,15 @@ module _ (instance : Instance) where
   pub appear : (from : State) (events : List Event) (to : State) → Lawful instance from → Run instance from events to → Appears from events to
   appear from [] to law run = record {
     all = [];
-    each = λ o made not. absurd (not (subst (λ (s : State). IsMade s o) run made));
+    each = λ o made not. absurd (not (subst (λ (s : State). TookEffect s o) run made));
     only = λ o has. absurd has;
     once = λ o twice. twice;
     moments = nothing_passed;
   }
     where
       nothing_passed : (before after : List Event) (moment : State) (a b : Operation) → [] ≡ before ++ after → Run instance from before moment →
-          IsMade moment a → (IsMade from a → ⊥) → IsMade to b → (IsMade moment b → ⊥) → StandsBefore [] a b
-      nothing_passed [] after moment a b are by made_a new_a made_b new_b = absurd (new_a (subst (λ (s : State). IsMade s a) by made_a))
+          TookEffect moment a → (TookEffect from a → ⊥) → TookEffect to b → (TookEffect moment b → ⊥) → StandsBefore [] a b
+      nothing_passed [] after moment a b are by made_a new_a made_b new_b = absurd (new_a (subst (λ (s : State). TookEffect s a) by made_a))
       nothing_passed (e ∷ before) after moment a b are by made_a new_a made_b new_b = (let long = ap length are in absurd (omega (arith, long)))
   appear from (e ∷ events) to law run =
       let mid = run.0 in
@@ -242,14 +242,14 @@ module _ (instance : Instance) where
       }
     where
       passed : (mid : State) (m : Makes instance e from mid) → Lawful instance mid → (rest : Appears mid events to) (before after : List Event) (moment : State) (a b : Operation) → e ∷ events ≡ before ++ after → Run instance from before moment →
-          IsMade moment a → (IsMade from a → ⊥) → IsMade to b → (IsMade moment b → ⊥) → StandsBefore (news e from mid m ++ rest.all) a b
-      passed mid m law_mid rest [] after moment a b are by made_a new_a made_b new_b = absurd (new_a (subst (λ (s : State). IsMade s a) by made_a))
+          TookEffect moment a → (TookEffect from a → ⊥) → TookEffect to b → (TookEffect moment b → ⊥) → StandsBefore (news e from mid m ++ rest.all) a b
+      passed mid m law_mid rest [] after moment a b are by made_a new_a made_b new_b = absurd (new_a (subst (λ (s : State). TookEffect s a) by made_a))
       passed mid m law_mid rest (f ∷ before) after moment a b are by made_a new_a made_b new_b =
           let head : e ≡ f = heads e f events (before ++ after) are in
           let tail : events ≡ before ++ after = ap (drop 1) are in
           let same : by.0 ≡ mid = makes_one e from by.0 mid (subst (λ (x : Event). Makes instance x from by.0) (sym head) by.1) m in
           let on : Run instance mid before moment = subst (λ (s : State). Run instance s before moment) same by.2 in
-          let not_b : IsMade mid b → ⊥ = λ was. new_b (still_made mid moment before b law_mid on was) in
+          let not_b : TookEffect mid b → ⊥ = λ was. new_b (still_made mid moment before b law_mid on was) in
           elim (made_or_not mid a) [
             | inl here ↦ before_across (news e from mid m) rest.all a b (made_new e from mid m a here new_a) (rest.each b made_b not_b)
             | inr later ↦ before_right (news e from mid m) rest.all a b (rest.moments before after moment a b tail on made_a later made_b new_b)

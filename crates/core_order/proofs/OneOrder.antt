@@ -27,7 +27,7 @@ use Rattle.core_replica.proofs.ReplyLaws.{reply_own}
 use Rattle.core_runs.specs.RealTime.{IsAhead, IsAnswered, IsBefore, IsPointOf, Operation, Point}
 use Rattle.core_runs.specs.RealTime.Operation.{Update, Read}
 use Rattle.core_runs.specs.RealTime.Point.{At, Behind}
-use Rattle.core_order.specs.TotalOrder.{HasOp, HasReply, IsIn, IsMade, IsUnmade, MayBe, Replays, RunsHaveOrder, StandsBefore}
+use Rattle.core_order.specs.TotalOrder.{HasOp, IsRepliedWith, IsIn, TookEffect, IsUnmade, MayBe, Replays, RunsHaveOrder, StandsBefore}
 use Rattle.core_order.proofs.Appearing.{Appears, appear, runs_on, still_made}
 use Rattle.core_runs.proofs.Keeps.{bounds_of, run_kept}
 use Rattle.core_order.proofs.Layers.{in_layers, in_only, layers, layers_before, layers_once, of_layers, of_only, one_alone, only_at, only_before}
@@ -70,7 +70,7 @@ keys_rise (At t) (Behind r) before = omega (arith, before)
 keys_rise (Behind r) (At t) before = omega (arith, before)
 keys_rise (Behind r) (Behind s) before = omega (arith, before)
 
-has_point : (s : State) (o : Operation) → IsMade s o → (p : Point) × IsPointOf s o p
+has_point : (s : State) (o : Operation) → TookEffect s o → (p : Point) × IsPointOf s o p
 has_point s (Update c i) made = (let x = item_below made.0.own i made.2 in (At x.0.ticket, (made.0, made.1, x.0, x.1, refl)))
 has_point s (Read c i) made = (let x = item_below made.0.seen_reads i made.2 in (Behind x.0.place, (made.0, made.1, x.0, x.1, refl)))
 
@@ -113,16 +113,16 @@ lawful_after lawful step keeps (suc n) [] words image is = is
 lawful_after lawful step keeps (suc n) (x ∷ xs) words image is = lawful_after lawful step keeps n xs (λ i y at. words (suc i) y at) (step image x.op).0 (keeps image x.op is (words zero x refl))
 
 -- what had not begun did not take effect, and what was answered did
-ahead_unmade : (s : State) (o : Operation) → IsAhead s o → IsMade s o → ⊥
+ahead_unmade : (s : State) (o : Operation) → IsAhead s o → TookEffect s o → ⊥
 ahead_unmade s (Update c i) ahead made = (let same = ap (λ (x : Local). length x.own) (same_Some made.0 ahead.0 (sym made.1 ∙ ahead.1)) in let below = made.2 in let past = ahead.2 in absurd (omega (arith, same, below, past)))
 ahead_unmade s (Read c i) ahead made = (let same = ap (λ (x : Local). length x.seen_reads) (same_Some made.0 ahead.0 (sym made.1 ∙ ahead.1)) in let below = made.2 in let past = ahead.2 in absurd (omega (arith, same, below, past)))
 
-unmade : (s : State) → IsUnmade s → (o : Operation) → IsMade s o → ⊥
+unmade : (s : State) → IsUnmade s → (o : Operation) → TookEffect s o → ⊥
 unmade s none (Update c i) made = (let long = ap length (none c made.0 made.1).0 in let below = made.2 in absurd (omega (arith, long, below)))
 unmade s none (Read c i) made = (let long = ap length (none c made.0 made.1).1 in let below = made.2 in absurd (omega (arith, long, below)))
 
 module _ (instance : Instance) where
-  answered_made : (s : State) (o : Operation) → Lawful instance s → IsAnswered s o → IsMade s o
+  answered_made : (s : State) (o : Operation) → Lawful instance s → IsAnswered s o → TookEffect s o
   answered_made s (Update c i) law answered =
       let l = answered.0 in
       let x = item_below l.answered i answered.2 in
@@ -151,7 +151,7 @@ module _ (instance : Instance) where
         let is = own_at c base history i x there in
         (is.0, is.1, own_caller c base history i x there)
 
-    within : (o : Operation) → IsMade to o → Within o
+    within : (o : Operation) → TookEffect to o → Within o
     within (Update c i) made =
         let x = item_below made.0.own i made.2 in
         let is = key_at to (Update c i) (At x.0.ticket) (made.0, made.1, x.0, x.1, refl) in
@@ -181,7 +181,7 @@ module _ (instance : Instance) where
     image_lawful place = lawful_after lawful instance.step laws.keeps (place - base) history (λ i x at. (entries_of instance to law based.numbers i x at).op) (object_part instance.base.words) based.object
 
     -- reads at a place leave it, and each has the object's reply
-    replays_reads : (place : ℕ) (xs ys : List Operation) → ((o : Operation) → IsIn xs o → IsMade to o × (key o ≡ 2 * place)) → Replays instance to (image_to place) ys → Replays instance to (image_to place) (xs ++ ys)
+    replays_reads : (place : ℕ) (xs ys : List Operation) → ((o : Operation) → IsIn xs o → TookEffect to o × (key o ≡ 2 * place)) → Replays instance to (image_to place) ys → Replays instance to (image_to place) (xs ++ ys)
     replays_reads place [] ys all rest = rest
     replays_reads place (Update c i ∷ xs) ys all rest =
         let one = all (Update c i) (inl refl) in
@@ -208,7 +208,7 @@ module _ (instance : Instance) where
               (replays_reads place xs ys (λ o has. all o (inr has)) rest),
         )
 
-    module _ (all : List Operation) (each : (o : Operation) → IsMade to o → IsIn all o) (only : (o : Operation) → IsIn all o → IsMade to o) (once : (o : Operation) → StandsBefore all o o → ⊥) where
+    module _ (all : List Operation) (each : (o : Operation) → TookEffect to o → IsIn all o) (only : (o : Operation) → IsIn all o → TookEffect to o) (once : (o : Operation) → StandsBefore all o o → ⊥) where
       -- the update whose ticket this is stands alone in its layer
       record Single (ticket : ℕ) : Type 0 where
         caller : ℕ
@@ -230,7 +230,7 @@ module _ (instance : Instance) where
           let x : Linked = record { ticket = ticket; entry = e.0 } in
           let there : slice_get (own_of c base history) k.0 ≡ Some x = k.1 ∙ ap (λ (t : ℕ). Some (let y : Linked = record { ticket = t; entry = e.0 } in y)) same in
           let mine : slice_get l.0.own k.0 ≡ Some x = ap (λ (os : List Linked). slice_get os k.0) (law.tickets.merged.own c l.0 l.1) ∙ there in
-          let made : IsMade to (Update c k.0) = (l.0, l.1, slice_get_within l.0.own k.0 x mine) in
+          let made : TookEffect to (Update c k.0) = (l.0, l.1, slice_get_within l.0.own k.0 x mine) in
           let has_key = key_at to (Update c k.0) (At ticket) (l.0, l.1, x, mine, refl) in
           record {
             caller = c;
@@ -245,7 +245,7 @@ module _ (instance : Instance) where
                 (λ o twice. once o (only_before key (2 * ticket + 1) all o o twice));
           }
         where
-          same_update : (o : Operation) → IsMade to o → key o ≡ 2 * ticket + 1 → (entry : Entry) → slice_get history (ticket - base) ≡ Some entry → (k : ℕ) (x : Linked) → x.ticket ≡ ticket → slice_get (own_of entry.caller base history) k ≡ Some x →
+          same_update : (o : Operation) → TookEffect to o → key o ≡ 2 * ticket + 1 → (entry : Entry) → slice_get history (ticket - base) ≡ Some entry → (k : ℕ) (x : Linked) → x.ticket ≡ ticket → slice_get (own_of entry.caller base history) k ≡ Some x →
               o ≡ Update entry.caller k
           same_update (Read d j) made is entry at k x ticket_is own =
               let y = item_below made.0.seen_reads j made.2 in
@@ -269,7 +269,7 @@ module _ (instance : Instance) where
               ] in
               ap (λ n. Update n j) caller ∙ ap (λ n. Update entry.caller n) index
 
-      layer_reads : (k place : ℕ) → k ≡ 2 * place → (o : Operation) → IsIn (only_at key k all) o → IsMade to o × (key o ≡ 2 * place)
+      layer_reads : (k place : ℕ) → k ≡ 2 * place → (o : Operation) → IsIn (only_at key k all) o → TookEffect to o × (key o ≡ 2 * place)
       layer_reads k place is o has = (let r = of_only key k all o has in (only o r.0, r.1 ∙ is))
 
       replays : (m place k : ℕ) → k ≡ 2 * place → base ≤ place → place + m ≡ base + length history → Replays instance to (image_to place) (layers key k (odd m) all)
@@ -308,8 +308,8 @@ module _ (instance : Instance) where
       let key_of = key_in to in
       let first = 2 * instance.base.place in
       let n = odd (length law.history) in
-      let each : (o : Operation) → IsMade to o → IsIn a.all o = λ o made. a.each o made (nothing o) in
-      let only : (o : Operation) → IsIn a.all o → IsMade to o = λ o has. (a.only o has).0 in
+      let each : (o : Operation) → TookEffect to o → IsIn a.all o = λ o made. a.each o made (nothing o) in
+      let only : (o : Operation) → IsIn a.all o → TookEffect to o = λ o has. (a.only o has).0 in
       record {
         order = layers key_of first n a.all;
         is = record {

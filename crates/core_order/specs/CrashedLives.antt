@@ -57,17 +57,17 @@ module _ (step : List ℕ → List ℕ → List ℕ × List ℕ) (reads : List �
   last_base base (life ∷ lives) = last_base (next_base base life) lives
 
   -- the object's reply at a place of a history, from the first base on
-  abbrev pub reply_in : Base → List Entry → ℕ → List ℕ → List ℕ
-  reply_in first history place op = (step (image_after step (object_part first.words) (take (place - first.place) history)) op).1
+  abbrev pub reply_by : Base → List Entry → ℕ → List ℕ → List ℕ
+  reply_by first history place op = (step (image_after step (object_part first.words) (take (place - first.place) history)) op).1
 
   -- Each answer that was given in this state stands in a history from the first base on, and it is below the next life's base: an entry's at its ticket,
   -- and a read's behind all entries below its place. The reply is the object's there.
   pub record AnswersStand (first : Base) (history : List Entry) (base next : Base) (s : State) : Type 0 where
     pub updates : EachLocal s.locals (λ _ l. (i : ℕ) (x : Answer) → slice_get l.answered i ≡ Some x →
         (base.place ≤ x.ticket) × (x.ticket < next.place) × (entry : Entry) × (slice_get l.own i ≡ Some (record { ticket = x.ticket; entry = entry }))
-        × (slice_get history (x.ticket - first.place) ≡ Some entry) × (x.reply ≡ reply_in first history x.ticket entry.op))
+        × (slice_get history (x.ticket - first.place) ≡ Some entry) × (x.reply ≡ reply_by first history x.ticket entry.op))
     pub seen : EachLocal s.locals (λ _ l. (i : ℕ) (x : SeenRead) → slice_get l.seen_reads i ≡ Some x →
-        (base.place ≤ x.place) × (x.place ≤ next.place) × (x.reply ≡ reply_in first history x.place x.op))
+        (base.place ≤ x.place) × (x.place ≤ next.place) × (x.reply ≡ reply_by first history x.place x.op))
 
   -- so it is of each of the lives
   abbrev pub AllStand : Base → List Entry → Base → List LifeRun → Type 0

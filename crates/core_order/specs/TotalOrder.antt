@@ -22,9 +22,9 @@ StandsBefore [] a b = ⊥
 StandsBefore (x ∷ xs) a b = ((a ≡ x) × IsIn xs b) ⊎ StandsBefore xs a b
 
 -- an operation took effect: an update is linked, answered or not, and a read is answered
-abbrev pub IsMade : State → Operation → Type 0
-IsMade s (Update caller i) = (l : Local) × (slice_get s.locals caller ≡ Some l) × (i < length l.own)
-IsMade s (Read caller i) = (l : Local) × (slice_get s.locals caller ≡ Some l) × (i < length l.seen_reads)
+abbrev pub TookEffect : State → Operation → Type 0
+TookEffect s (Update caller i) = (l : Local) × (slice_get s.locals caller ≡ Some l) × (i < length l.own)
+TookEffect s (Read caller i) = (l : Local) × (slice_get s.locals caller ≡ Some l) × (i < length l.seen_reads)
 
 -- an operation precedes another one in a run: at a moment that the run of these events passes the one was answered and the other had not begun
 pub record PrecedesIn (instance : Instance) (from : State) (events : List Event) (a b : Operation) : Type 0 where
@@ -41,9 +41,9 @@ abbrev pub HasOp : State → Operation → List ℕ → Type 0
 HasOp s (Update caller i) op = (l : Local) × (slice_get s.locals caller ≡ Some l) × (x : Linked) × (slice_get l.own i ≡ Some x) × (op ≡ x.entry.op)
 HasOp s (Read caller i) op = (l : Local) × (slice_get s.locals caller ≡ Some l) × (x : SeenRead) × (slice_get l.seen_reads i ≡ Some x) × (op ≡ x.op)
 
-abbrev pub HasReply : State → Operation → List ℕ → Type 0
-HasReply s (Update caller i) reply = (l : Local) × (slice_get s.locals caller ≡ Some l) × (x : Answer) × (slice_get l.answered i ≡ Some x) × (reply ≡ x.reply)
-HasReply s (Read caller i) reply = (l : Local) × (slice_get s.locals caller ≡ Some l) × (x : SeenRead) × (slice_get l.seen_reads i ≡ Some x) × (reply ≡ x.reply)
+abbrev pub IsRepliedWith : State → Operation → List ℕ → Type 0
+IsRepliedWith s (Update caller i) reply = (l : Local) × (slice_get s.locals caller ≡ Some l) × (x : Answer) × (slice_get l.answered i ≡ Some x) × (reply ≡ x.reply)
+IsRepliedWith s (Read caller i) reply = (l : Local) × (slice_get s.locals caller ≡ Some l) × (x : SeenRead) × (slice_get l.seen_reads i ≡ Some x) × (reply ≡ x.reply)
 
 -- An operation may be made as what it is: one that was answered as a read only reads, by the object.
 abbrev pub MayBe : Instance → Operation → List ℕ → Type 0
@@ -55,15 +55,15 @@ MayBe instance (Read caller i) op = IsTrue (instance.reads op)
 abbrev pub Replays : Instance → State → List ℕ → List Operation → Type 0
 Replays instance s image [] = Unit {0}
 Replays instance s image (o ∷ os) =
-    (op : List ℕ) × HasOp s o op × MayBe instance o op × ((reply : List ℕ) → HasReply s o reply → reply ≡ (instance.step image op).1) × Replays instance s (instance.step image op).0 os
+    (op : List ℕ) × HasOp s o op × MayBe instance o op × ((reply : List ℕ) → IsRepliedWith s o reply → reply ≡ (instance.step image op).1) × Replays instance s (instance.step image op).0 os
 
 -- A list has each operation that took effect in the run of these events, reads among them, each once, and no others. Where one was answered before
 -- another one began, it stands before it. And the object alone, which makes them in this order, gives each reply that was given.
 pub record IsOrderOf (instance : Instance) (from : State) (events : List Event) (to : State) (order : List Operation) : Type 0 where
-  pub each : (o : Operation) → IsMade to o → IsIn order o
-  pub only : (o : Operation) → IsIn order o → IsMade to o
+  pub each : (o : Operation) → TookEffect to o → IsIn order o
+  pub only : (o : Operation) → IsIn order o → TookEffect to o
   pub once : (o : Operation) → StandsBefore order o o → ⊥
-  pub real_time : (a b : Operation) → PrecedesIn instance from events a b → IsMade to b → StandsBefore order a b
+  pub real_time : (a b : Operation) → PrecedesIn instance from events a b → TookEffect to b → StandsBefore order a b
   pub replays : Replays instance to (object_part instance.base.words) order
 
 -- there is such a list

@@ -10,7 +10,7 @@ use Rattle.cx_table.specs.declared.remains.Remains.{Remains}
 use Rattle.cx_table.specs.Remains.{Leaves}
 use Rattle.cx_service.specs.CallOrder.{KeepsCalls, KeepsImages}
 
--- By the order of the steps by which a table came to what it left, that is a linearizable object's, with the history of the trail. The words, the local
+-- By the order of the steps by which a table reached what it left, that is a linearizable object's, with the history of the trail. The words, the local
 -- states and the list of steps are those of the closing itself. The history also keeps the order that the seats' counts of steps give, and by
 -- these the images that callers took hold what anyone was answered before them, and stay durable. And all operations,
 -- reads among them, have one order, in which the object alone makes each by its step and gives each reply, and which keeps the order of those steps.
