@@ -341,7 +341,7 @@ static inline const char *githoppu_queue_reply_text(uint64_t kind) {
 #endif
 
 /* Milliseconds since some moment, by a clock that is never set, in steps of GITHOPPU_CLOCK_STEP. Where <time.h> does not declare that clock, as with -std=c11
- * and without _POSIX_C_SOURCE, it is the time of day in whole seconds. */
+ * and neither -pthread nor _POSIX_C_SOURCE, it is the time of day in whole seconds. */
 #ifdef CLOCK_MONOTONIC
 #define GITHOPPU_CLOCK_STEP 1
 static inline uint64_t githoppu_clock(void) {

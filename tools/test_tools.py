@@ -51,6 +51,7 @@ from end_tests import Ends
 from help_tests import Helps
 from history_tests import Histories
 from image_tests import ImageExplanations, ProgramOnImages, ReadImages, usage
+from install_tests import Installs
 from name_tests import Names, SourceItems
 from number_tests import HouseNumbers
 from picture_tests import Pictures

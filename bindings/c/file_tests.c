@@ -398,7 +398,7 @@ static int without_rights(const char *folder) {
         CHECK(status == GITHOPPU_NOT_OPENED && errno == EACCES);
         _exit(0);
     }
-    CHECK(waitpid(child, &end, 0) == child && WIFEXITED(end));
+    CHECK(waitpid(child, &end, 0) == child && WIFEXITED(end) && (WEXITSTATUS(end) == 0 || WEXITSTATUS(end) == 2));
     CHECK(chmod(folder, 0755) == 0 && chmod(store_path, 0644) == 0);
     githoppu_give_up_closed(&closed);
     return WEXITSTATUS(end);
@@ -495,13 +495,14 @@ static int as_nobody(const char *folder) {
     child = fork();
     CHECK(child >= 0);
     if (child == 0) {
-        if (geteuid() != 0 || setgid(65534) != 0 || setuid(65534) != 0)
+        /* a folder above can be closed to others */
+        if (geteuid() != 0 || setgid(65534) != 0 || setuid(65534) != 0 || access(room, W_OK) != 0)
             _exit(2);
         CHECK(saved(path, 2) == GITHOPPU_DONE);
         CHECK(stat(path, &about) == 0 && about.st_uid == 65534 && about.st_gid == 65534 && about.st_mode == (S_IFREG | 0644));
         _exit(0);
     }
-    CHECK(waitpid(child, &end, 0) == child && WIFEXITED(end));
+    CHECK(waitpid(child, &end, 0) == child && WIFEXITED(end) && (WEXITSTATUS(end) == 0 || WEXITSTATUS(end) == 2));
     CHECK(new_files(room) == 0 && unlink(path) == 0 && rmdir(room) == 0);
     return WEXITSTATUS(end);
 }

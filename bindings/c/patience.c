@@ -1,6 +1,6 @@
 /* A thread is stopped in the middle of an update, by a signal whose handler waits. Each other session can make at most 16 more updates then. The one after
  * them is answered FULL: after GITHOPPU_PATIENCE_MS milliseconds, or after GITHOPPU_ROUNDS rounds, whichever is over first. Once the thread goes on, so do
- * updates. The Makefile builds this with a patience of 300 ms, and with 3 rounds. */
+ * updates. The Makefile builds this with a patience of 300 ms and no end of rounds, and with 3 rounds and a minute. */
 #include "githoppu.h"
 #include <pthread.h>
 #include <semaphore.h>
@@ -8,6 +8,7 @@
 #include <stdatomic.h>
 #include <stdio.h>
 #include <stdlib.h>
+#include <unistd.h>
 
 enum { MOST_UPDATES = 16, TRIES = 20000 };
 
@@ -56,6 +57,8 @@ int main(void) {
     struct sigaction action;
     long waited = -1;
     int tries, updates = 0, status = GITHOPPU_DONE;
+    /* where neither ends it */
+    alarm(300);
     memset(&action, 0, sizeof action);
     action.sa_handler = stop;
     must(sem_init(&stopped, 0, 0) == 0 && sem_init(&go_on, 0, 0) == 0 && sigaction(SIGUSR1, &action, NULL) == 0, "no signal");

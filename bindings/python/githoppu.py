@@ -54,7 +54,7 @@ import time
 from ctypes import POINTER, byref, c_int32, c_size_t, c_uint64, c_void_p
 from dataclasses import dataclass
 from pathlib import Path
-from typing import Generic, Iterator, List, Optional, Tuple, Type, TypeVar, Union
+from typing import Callable, Dict, Generic, Iterator, List, Optional, Tuple, Type, TypeVar, Union
 
 __version__ = "0.4.0"
 __all__ = [
@@ -319,7 +319,7 @@ _IMAGE_TEXTS = {
     IMAGE_BODY: "the image's results or contents are not valid",
     IMAGE_NUMBERS: "a result in the image has a number above the place",
 }
-_ERRORS: dict = {
+_ERRORS: Dict[int, Type[Error]] = {
     AGAIN: Busy, FULL: Busy, WORN: Worn, OUT_OF_TURN: OutOfTurn, BAD_SIZE: BadSize, NO_MEMORY: NoMemory, NO_SESSION: OutOfTurn, OTHERS: NotClosed, LOST: Lost,
 }
 
@@ -921,6 +921,7 @@ class QueueSession(_Session):
 # ---- stores and queues ----
 
 S = TypeVar("S", Session, QueueSession)
+T = TypeVar("T", bound="_Shared")
 
 
 class Closed:
@@ -979,7 +980,7 @@ class _Shared(Generic[S]):
         self._sessions = self._made(sessions, lambda slots: getattr(_library, self._open)(lines, slots, sessions))
 
     @classmethod
-    def _made(cls, sessions: int, make) -> List[S]:
+    def _made(cls, sessions: int, make: Callable[[ctypes.Array], int]) -> List[S]:
         if not 1 <= sessions <= 8:
             raise BadSize()
         slots = (c_void_p * sessions)()
@@ -987,14 +988,14 @@ class _Shared(Generic[S]):
         return [cls._kind(_Pointer(at)) for at in slots]
 
     @classmethod
-    def recover(cls, image: Image, sessions: int = 1):
+    def recover(cls: Type[T], image: Image, sessions: int = 1) -> T:
         """Opens it from an image, with so many sessions, more or fewer than the image is of."""
         words, made = image._words(), cls.__new__(cls)
         made._sessions = cls._made(sessions, lambda slots: getattr(_library, cls._recover)(words, len(image), slots, sessions))
         return made
 
     @classmethod
-    def load(cls, path: AnyPath, sessions: int = 1):
+    def load(cls: Type[T], path: AnyPath, sessions: int = 1) -> T:
         """Opens it from a file that was saved, from here, from C or from Rust."""
         return cls.recover(Image.load(path), sessions)
 
@@ -1041,7 +1042,7 @@ class _Shared(Generic[S]):
         for session in self._sessions:
             session.give_up()
 
-    def __enter__(self):
+    def __enter__(self: T) -> T:
         return self
 
     def __exit__(self, *_: object) -> None:
