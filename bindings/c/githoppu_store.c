@@ -428,6 +428,26 @@ static int open_database(struct database *db, const char *path, int existing, in
     return status;
 }
 
+/* Makes the tables of a new store in one transaction, with the image that it begins with, or none. */
+static int create(struct database *db, const struct image *image, uint64_t logged) {
+    char meta[256];
+    int status = run(db, "CREATE TABLE", "BEGIN IMMEDIATE;"
+                         "CREATE TABLE meta(format INTEGER, object INTEGER, lines INTEGER, logged INTEGER, crc INTEGER);"
+                         "CREATE TABLE log(place INTEGER PRIMARY KEY, client INTEGER, operation BLOB, crc INTEGER);"
+                         "CREATE TABLE checkpoint(place INTEGER PRIMARY KEY, image BLOB, crc INTEGER);"
+                         "CREATE TABLE outcome(client INTEGER PRIMARY KEY, number INTEGER, reply BLOB, crc INTEGER)");
+    snprintf(meta, sizeof meta, "INSERT INTO meta VALUES(%d, %lld, %lld, %lld, %lld); PRAGMA application_id=%d; PRAGMA user_version=%d", FORMAT,
+             (long long)db->object, (long long)db->lines, (long long)logged, (long long)checksum_of_meta(db, logged), APPLICATION, FORMAT);
+    if (status == GITHOPPU_DONE)
+        status = run(db, "CREATE TABLE", meta);
+    if (status == GITHOPPU_DONE)
+        status = prepare(db);
+    if (status == GITHOPPU_DONE && image != NULL)
+        status = write_image(db, image);
+    /* SQLite syncs the folder with the first sync of its log */
+    return status == GITHOPPU_DONE ? run(db, "COMMIT", "COMMIT") : status;
+}
+
 /* Syncs the folder of a path, so that a name in it is not lost: 0, or -1 with errno. */
 static int sync_folder(const char *path) {
     const char *slash = strrchr(path, '/');
@@ -452,29 +472,6 @@ static int sync_folder(const char *path) {
     close(file);
     errno = why;
     return failed;
-}
-
-/* Makes the tables of a new store in one transaction, with the image that it begins with, or none. */
-static int create(struct database *db, const struct image *image, uint64_t logged) {
-    char meta[256];
-    int status = run(db, "CREATE TABLE", "BEGIN IMMEDIATE;"
-                         "CREATE TABLE meta(format INTEGER, object INTEGER, lines INTEGER, logged INTEGER, crc INTEGER);"
-                         "CREATE TABLE log(place INTEGER PRIMARY KEY, client INTEGER, operation BLOB, crc INTEGER);"
-                         "CREATE TABLE checkpoint(place INTEGER PRIMARY KEY, image BLOB, crc INTEGER);"
-                         "CREATE TABLE outcome(client INTEGER PRIMARY KEY, number INTEGER, reply BLOB, crc INTEGER)");
-    snprintf(meta, sizeof meta, "INSERT INTO meta VALUES(%d, %lld, %lld, %lld, %lld); PRAGMA application_id=%d; PRAGMA user_version=%d", FORMAT,
-             (long long)db->object, (long long)db->lines, (long long)logged, (long long)checksum_of_meta(db, logged), APPLICATION, FORMAT);
-    if (status == GITHOPPU_DONE)
-        status = run(db, "CREATE TABLE", meta);
-    if (status == GITHOPPU_DONE)
-        status = prepare(db);
-    if (status == GITHOPPU_DONE && image != NULL)
-        status = write_image(db, image);
-    if (status == GITHOPPU_DONE)
-        status = run(db, "COMMIT", "COMMIT");
-    if (status == GITHOPPU_DONE && sync_folder(path_of(db)) != 0)
-        status = system_fault(db, GITHOPPU_STORE_NOT_OPENED, "fsync of the folder", path_of(db));
-    return status;
 }
 
 /* Whether nothing of a database is at a path. A log of SQLite's that was left there would be taken for the copy's. */
@@ -629,13 +626,13 @@ static int open_sessions(githoppu_store *s, const uint64_t *words, size_t count,
     return GITHOPPU_DONE;
 }
 
-/* Does an update that is in the log. Its place in the store has to be that of its row. */
-static int apply(githoppu_store *s, unsigned client, const githoppu_words *op, githoppu_words *reply) {
-    uint64_t place = atomic_load(&s->done);
-    int status;
+/* Does the update of the row of a place. It has to have that place in the store too. */
+static int apply(githoppu_store *s, uint64_t place, unsigned client, const githoppu_words *op, githoppu_words *reply) {
+    int status = GITHOPPU_STORE_FAILED;
     if (s->behind)
         return GITHOPPU_STORE_FAILED;
-    status = githoppu_do(&s->writer, op, reply);
+    if (place == atomic_load(&s->done))
+        status = githoppu_do(&s->writer, op, reply);
     if ((status != GITHOPPU_DONE && status != GITHOPPU_MALFORMED) || githoppu_place(&s->writer) != place + 1) {
         s->behind = 1;
         return GITHOPPU_STORE_FAILED;
@@ -717,7 +714,7 @@ static int take_row(githoppu_store *s, sqlite3_stmt *row) {
     if (sqlite3_column_int64(row, 3) != checksum(&s->db.crc, place, (uint64_t)client, bytes, bytes == NULL ? 0 : length) || client < 0 ||
         client >= CLIENTS || !unpacked(&op, bytes, bytes == NULL ? 0 : length))
         return damaged(&s->db, "the row of place", (long long)place, "it has another checksum");
-    if (apply(s, (unsigned)client, &op, &reply) == GITHOPPU_STORE_FAILED)
+    if (apply(s, place, (unsigned)client, &op, &reply) == GITHOPPU_STORE_FAILED)
         return damaged(&s->db, "the row of place", (long long)place, "the store does not do its update");
     s->logged++;
     return GITHOPPU_DONE;
@@ -919,7 +916,7 @@ static int write_batch(githoppu_store *s, const struct request *list, uint64_t *
 /* Writes what is in the queue as one batch, and then does it in RAM, while the next leader may write; with the lock, before and after. */
 static void lead(githoppu_store *s) {
     struct request *list, *r, *next;
-    uint64_t count = 0;
+    uint64_t count = 0, place = s->logged;
     char why[WHY] = "";
     int status, emptied = GITHOPPU_DONE;
     s->leading = 1;
@@ -941,7 +938,7 @@ static void lead(githoppu_store *s) {
         if (status != GITHOPPU_DONE)
             r->status = status;
         else
-            r->status = r->barrier == NO_BARRIER ? apply(s, r->client, r->op, r->reply) : emptied;
+            r->status = r->barrier == NO_BARRIER ? apply(s, place++, r->client, r->op, r->reply) : emptied;
     if (s->behind)
         snprintf(why, sizeof why, "the update of place %llu is in the log and not done in RAM: open the store again",
                  (unsigned long long)atomic_load(&s->done));

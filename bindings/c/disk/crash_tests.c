@@ -26,7 +26,7 @@ static const char *const way_names[WAYS] = {"kill", "power", "failing", "synced"
 
 /* What the processes tell each other: how many updates of each writer were sent, and were answered, and the greatest sum that was read. */
 static struct told {
-    _Atomic uint64_t sent[WRITERS], answered[WRITERS], seen, checkpoints, copies, openings, failures;
+    _Atomic uint64_t sent[WRITERS], answered[WRITERS], seen, checkpoints, copies, openings, failures, last_copy;
 } *told;
 
 static enum ways way;
@@ -131,6 +131,8 @@ static uint64_t sum_in(githoppu_store *in) {
     return strtoull(text, NULL, 10);
 }
 
+static void copy_path(char path[2048], const char *folder, uint64_t number) { snprintf(path, 2048, "%s/copy.%d", folder, (int)number); }
+
 struct reader {
     uint64_t state;
     const char *folder;
@@ -140,7 +142,7 @@ struct reader {
 static void *read_on(void *at) {
     struct reader *reader = (struct reader *)at;
     uint64_t state = reader->state;
-    char copy[4096];
+    char copy[2048];
     while (!stopped) {
         uint64_t sum = sum_in(store);
         if (sum > told->seen)
@@ -148,10 +150,15 @@ static void *read_on(void *at) {
         if (next(&state) % 200 == 0 && githoppu_store_checkpoint(store) == GITHOPPU_DONE)
             told->checkpoints++;
         if (next(&state) % 400 == 0) {
-            snprintf(copy, sizeof copy, "%s/copy", reader->folder);
+            uint64_t last = told->last_copy;
+            copy_path(copy, reader->folder, last + 1);
             unlink(copy);
-            if (githoppu_store_copy(store, copy) == GITHOPPU_DONE)
+            if (githoppu_store_copy(store, copy) == GITHOPPU_DONE) {
                 told->copies++;
+                told->last_copy = last + 1;
+                copy_path(copy, reader->folder, last);
+                unlink(copy);
+            }
         }
         if (next(&state) % 40 == 0)
             sched_yield();
@@ -291,16 +298,20 @@ static void one_life(const char *folder, const char *after, uint64_t round, uint
     ended_badly(child, SIGKILL);
 }
 
-/* A copy that has its name is whole, wherever it was interrupted. */
-static int copy_is_right(const char *folder, uint64_t round) {
+/* A copy that was answered is there, and each that has its name is whole, wherever it was interrupted. */
+static int copy_is_right(const char *folder, uint64_t copy_number, uint64_t round) {
     uint64_t number[WRITERS];
     githoppu_store *copy;
-    char path[4096];
+    char path[2048];
     int right;
-    snprintf(path, sizeof path, "%s/copy", folder);
-    if (access(path, F_OK) != 0)
-        return 1;
-    copy = opened(folder, "copy", round);
+    copy_path(path, folder, copy_number);
+    if (access(path, F_OK) != 0) {
+        if (copy_number > told->last_copy || told->last_copy == 0)
+            return 1;
+        printf("the copy %s is not there\n", path);
+        return 0;
+    }
+    copy = opened(folder, strrchr(path, '/') + 1, round);
     right = copy != NULL && found_right(copy, number, 1);
     return right && githoppu_store_close(copy) == GITHOPPU_DONE;
 }
@@ -321,7 +332,9 @@ static int judged_right(const char *folder, const char *copy, uint64_t round) {
         if (way != KILL)
             lossy_begin(copy, round);
         store = opened(way == KILL ? folder : copy, "store", round);
-        right = store != NULL && found_right(store, number, 0) && copy_is_right(way == KILL ? folder : copy, round);
+        right = store != NULL && found_right(store, number, 0);
+        for (i = 0; right && i < 2; i++)
+            right = copy_is_right(way == KILL ? folder : copy, told->last_copy + (uint64_t)i, round);
         for (i = 0; right && i < WRITERS; i++)
             told->sent[i] = told->answered[i] = number[i];
         fflush(stdout);
@@ -358,7 +371,7 @@ int main(int count, char **words) {
                 updates += told->answered[i];
                 told->sent[i] = told->answered[i] = 0;
             }
-            told->seen = 0;
+            told->seen = told->last_copy = 0;
             new_folder(folder);
         }
         one_life(folder, after, round, &state);

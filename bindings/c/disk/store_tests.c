@@ -106,6 +106,14 @@ static int64_t number_by_sqlite(const char *at, const char *query) {
     return number;
 }
 
+/* How many pages SQLite's own log of a store has had. */
+static long wal_pages(void) {
+    struct stat about;
+    char wal[2100];
+    snprintf(wal, sizeof wal, "%s-wal", path);
+    return stat(wal, &about) == 0 ? (long)about.st_size / 4120 : 0;
+}
+
 /* ---- Calls. ---- */
 
 static void documents(void) {
@@ -514,19 +522,39 @@ static void busy(void) {
     done_with("busy");
 }
 
-/* A file that is no store is refused, and not one byte of it is changed. */
-static void refused_unchanged(int status, const char *says) {
-    char before[2100];
+static int same_bytes(const char *one, const char *two) {
     unsigned char *bytes[2];
     size_t length[2];
-    snprintf(before, sizeof before, "%s.before", path);
-    copy_file(path, before);
-    CHECK(open_status(path, NULL) == status && strstr(why, path) != NULL && strstr(why, says) != NULL);
-    CHECK(githoppu_read_bytes(path, &bytes[0], &length[0]) == GITHOPPU_DONE && githoppu_read_bytes(before, &bytes[1], &length[1]) == GITHOPPU_DONE);
-    CHECK(length[0] == length[1] && memcmp(bytes[0], bytes[1], length[0]) == 0);
+    int same;
+    CHECK(githoppu_read_bytes(one, &bytes[0], &length[0]) == GITHOPPU_DONE && githoppu_read_bytes(two, &bytes[1], &length[1]) == GITHOPPU_DONE);
+    same = length[0] == length[1] && memcmp(bytes[0], bytes[1], length[0]) == 0;
     free(bytes[0]);
     free(bytes[1]);
-    CHECK(unlink(before) == 0);
+    return same;
+}
+
+/* A file that is no store is refused, and not one byte of it is changed, nor of a log of SQLite's beside it. */
+static void refused_unchanged(int status, const char *says) {
+    char before[2100], wal[2100], wal_before[2100];
+    int has_wal;
+    snprintf(before, sizeof before, "%s.before", path);
+    snprintf(wal, sizeof wal, "%s-wal", path);
+    snprintf(wal_before, sizeof wal_before, "%s-wal.before", path);
+    copy_file(path, before);
+    has_wal = access(wal, F_OK) == 0;
+    if (has_wal)
+        copy_file(wal, wal_before);
+    CHECK(open_status(path, NULL) == status && strstr(why, path) != NULL && strstr(why, says) != NULL);
+    CHECK(same_bytes(path, before) && unlink(before) == 0);
+    CHECK(!has_wal || (same_bytes(wal, wal_before) && unlink(wal_before) == 0 && unlink(wal) == 0));
+}
+
+/* Another program that was killed: its database has a log. */
+static int leave_a_log(void) {
+    sqlite3 *db;
+    CHECK(sqlite3_open(path, &db) == SQLITE_OK);
+    CHECK(sqlite3_exec(db, "PRAGMA journal_mode=WAL; INSERT INTO shop VALUES(4)", NULL, NULL, NULL) == SQLITE_OK);
+    return 0;
 }
 
 static void other_formats(void) {
@@ -536,7 +564,7 @@ static void other_formats(void) {
     fresh("formats");
     by_sqlite(path, "CREATE TABLE shop(sold INTEGER); INSERT INTO shop VALUES(3)");
     refused_unchanged(GITHOPPU_STORE_FORMAT, "another program");
-    by_sqlite(path, "PRAGMA journal_mode=WAL; INSERT INTO shop VALUES(4)");
+    CHECK(child_status(leave_a_log) == 0 && wal_pages() > 0);
     refused_unchanged(GITHOPPU_STORE_FORMAT, "another program");
     CHECK(unlink(path) == 0);
     file = fopen(path, "wb");
@@ -760,14 +788,6 @@ static void failed_sync(void) {
     sell(s, 1);
     close_it(s);
     done_with("sync");
-}
-
-/* How many pages SQLite's own log of a store has had. */
-static long wal_pages(void) {
-    struct stat about;
-    char wal[2100];
-    snprintf(wal, sizeof wal, "%s-wal", path);
-    return stat(wal, &about) == 0 ? (long)about.st_size / 4120 : 0;
 }
 
 /* Each sync in turn, over a checkpoint of SQLite's own log: none that fails goes untold, and no update that was answered is lost. */
