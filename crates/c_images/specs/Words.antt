@@ -81,8 +81,8 @@ pub record SaysReplicas (words : List ℕ) (image : Image) : Type 0 where
   pub count : length words ≡ image.count + 8
   pub pairs : Gives (λ at. slice_index words (at + 8)) image.count image.pairs
 
--- Words of format 2 say those of one replica, which stand for each: the image has these words and those of the other replicas, and where that is its size,
--- the region that the root names is these words, whichever replica that is.
+-- Words of format 2 say those of one replica, which stand for each: the image has as many words as these and the other replicas have, and where that is its
+-- size, the region that the root names is these words, whichever replica that is.
 pub record SaysRegion (words : List ℕ) (image : Image) : Type 0 where
   pub count : image.count ≡ length words - 8 + region_words image.lines * (2 * image.callers - 1)
   pub region : HasSize image → region_of image ≡ drop 8 words

@@ -92,8 +92,8 @@ pub fn taken_images_keep_replies<O: Object>()
     base_of_checkpoint::<O>();
 }
 
-/// What `base_of` answers for words of either format is what the checks of the image ask for that they say, unless memory runs out: the refusal of the first
-/// that it does not pass, or else the base, or that a number of its results is above its place.
+/// Whatever image words of either format say, `base_of` answers by its checks, unless memory runs out: with the refusal of the first check that it does not
+/// pass; or that a number of its results is above its place; or else with the base.
 pub fn words_are_answered_exactly<O: Object>()
     ensures { (object : O) (words : List ℕ) (answer : _) → IsHeaded words →
         MatchResult answer

@@ -12,7 +12,7 @@
 //! - `write_base` writes an image of one region, in format 2. `taken_images_are_taken_up`: where that is a lawful base at its place, the image is refused
 //!   only where memory runs out, and else the base is taken up.
 //! - `head_of`, `base_of`: the base from which a service may start again, or why there is none: recovery's refusals, and what it does not look at.
-//!   `words_are_answered_exactly`: each words of either format with one of these answers, unless memory runs out.
+//!   `words_are_answered_exactly`: which of these is answered for words of either format, unless memory runs out.
 //! - `written_images_are_taken_up`: what `write_image` wrote is refused only where memory runs out, and what is taken up of it holds each
 //!   answer (`IsKeptBy`).
 //! - `holds_replies`: whether its results keep replies of a document store, or of a queue. Those of a closed service do where those of the base did that it
