@@ -1,5 +1,6 @@
 -- What the last session needs, and what it makes of it.
 use Rattle.std.proofs.Common.{◌≡◌, ◌<◌, ◌≤◌, ◌+◌, ℕ, Bool, List, [], ◌∷◌, ◌++◌, All, arith, length, refl, sym, ap, ◌∙◌, subst}
+use Rattle.std.proofs.lemmas.List.{append-nil}
 use Rattle.std.proofs.lemmas.List.Elements.{All-nil, All-push}
 use Rattle.std.proofs.lemmas.List.FromFn.{length-range_with_len}
 use Rattle.std.specs.Prelude.{MatchOption, Option, Some, None}
@@ -10,13 +11,14 @@ use Rattle.std.specs.List.{range_with_len}
 use Rattle.crossbeam_queue.specs.Passes.{Pass, view, IsPassOf}
 use Rattle.cx_rule.specs.Running.{Running}
 use Rattle.cx_service.specs.declared.close.Handed.{Handed}
-use Rattle.seat_pool.specs.Gathering.{IsHandedOf, handed_number}
+use Rattle.seat_pool.specs.Gathering.{AreSame, IsHandedOf, handed_number, kept_list}
 use Rattle.seat_pool.specs.Pooling.{total_weight}
 use Rattle.seat_pool.proofs.Poolings.{total_both, units}
-use Rattle.c_sessions.specs.Closings.{Closes, ClosesTo}
+use Rattle.c_sessions.specs.Closings.{AreAccounted, Closes, ClosesTo}
 use Rattle.c_sessions.specs.Handing.{HasTaken, IsExitOf, IsPassIn, IsSessionRestOf}
+use Rattle.c_sessions.specs.declared.exit.Account.{Account}
 use Rattle.c_sessions.specs.declared.exit.Exit.{Exit}
-use Rattle.c_sessions.specs.Rule.{IsHandedInAt, callers_known, knows, numbers_in, pass_weighs, pass_with_given, pass_with_taken}
+use Rattle.c_sessions.specs.Rule.{IsHandedInAt, TellsAll, by_number, callers_known, knows, pass_weighs, pass_with_given, pass_with_taken}
 use Rattle.c_sessions.specs.declared.close.Closing.{Closing}
 use Rattle.c_sessions.specs.declared.close.Closing.TheVariants.{Others, Again, Closed, Kept, Missing, Shared}
 use Rattle.c_sessions.specs.declared.handover.Handover.{Handover}
@@ -26,29 +28,29 @@ use Rattle.c_sessions.specs.declared.session.Session.{Session}
 
 module _ {O : Type 0} (r : Running O) where
   -- a pass that handed in its caller has taken none out
-  pub has_none : (handover : Handover O) (before after : Pass (HandedIn O) (Knows O)) (number : ℕ) (gathered : List Handed) → IsPassOf handover.line after → view before ≡ knows (Some r) (number ∷ []) [] → view after ≡ pass_with_given (view before)
-      → gathered ≡ [] → HasTaken r handover after None gathered
-  has_none handover before after number gathered of was is none = record {
+  pub has_none : (handover : Handover O) (before after : Pass (HandedIn O) (Knows O)) (number : ℕ) (x : HandedIn O) (gathered : List Handed) → IsPassOf handover.line after → view before ≡ knows (Some r) (number ∷ []) [] [] → view after ≡ pass_with_given (view before) x
+      → gathered ≡ [] → HasTaken r (kept_list x.handed) handover after None gathered
+  has_none handover before after number x gathered of was is none = record {
     of = of;
     taken = [];
-    is = is ∙ ap pass_with_given was;
-    numbers = λ h. ap (total_weight (λ (g : Handed). h (handed_number g))) none;
+    is = is ∙ ap (λ (v : Knows O). pass_with_given v x) was ∙ ap (λ (gs : List Handed). knows (Some r) [] gs []) (append-nil (kept_list x.handed));
+    same = λ f. ap (total_weight f) none;
     each = subst (All (IsHandedOf r)) (sym none) (All-nil (IsHandedOf r));
     share_is = none;
   }
 
   -- one more was taken out
-  pub has_more : (handover : Handover O) (before after : Pass (HandedIn O) (Knows O)) (share : Option (Arc (Running O) Global)) (gathered more : List Handed) (x : HandedIn O) (caller : Handed) → x.handed ≡ Some caller → HasTaken r handover before share gathered → IsPassOf handover.line after
-      → IsHandedInAt (view before).home x → view after ≡ pass_with_taken (view before) x → more ≡ gathered ++ caller ∷ [] → HasTaken r handover after (Some x.service) more
-  has_more handover before after share gathered more x caller it has of is taken pushed =
+  pub has_more : (given : List Handed) (handover : Handover O) (before after : Pass (HandedIn O) (Knows O)) (share : Option (Arc (Running O) Global)) (gathered more : List Handed) (x : HandedIn O) (caller : Handed) → x.handed ≡ Some caller → HasTaken r given handover before share gathered → IsPassOf handover.line after
+      → IsHandedInAt (view before).home x → view after ≡ pass_with_taken (view before) x → more ≡ gathered ++ caller ∷ [] → HasTaken r given handover after (Some x.service) more
+  has_more given handover before after share gathered more x caller it has of is taken pushed =
       let home : Some (arc_value x.service) ≡ Some r = sym is.share ∙ ap (λ (v : Knows O). v.home) has.is in
       let same : arc_value x.service ≡ r = one_service (arc_value x.service) r home in record {
         of = of;
-        taken = handed_number caller ∷ has.taken;
-        is = taken ∙ ap (λ v. pass_with_taken v x) has.is ∙ ap (λ (o : Option Handed). knows (Some r) [] (numbers_in o ++ has.taken)) it;
-        numbers = λ h. (
-            let all : total_weight (λ (g : Handed). h (handed_number g)) more ≡ total_weight (λ (g : Handed). h (handed_number g)) (gathered ++ caller ∷ []) = ap (total_weight (λ (g : Handed). h (handed_number g))) pushed in
-            omega (arith, all, total_both (λ (g : Handed). h (handed_number g)) gathered (caller ∷ []), has.numbers h));
+        taken = caller ∷ has.taken;
+        is = taken ∙ ap (λ v. pass_with_taken v x) has.is ∙ ap (λ (o : Option Handed). knows (Some r) [] given (kept_list o ++ has.taken)) it;
+        same = λ f. (
+            let all : total_weight f more ≡ total_weight f (gathered ++ caller ∷ []) = ap (total_weight f) pushed in
+            omega (arith, all, total_both f gathered (caller ∷ []), has.same f));
         each = subst (All (IsHandedOf r)) (sym pushed) (All-push (IsHandedOf r) gathered caller has.each (subst (λ (g : Handed). IsHandedOf r g) (one_caller is.caller caller (sym is.is ∙ it)) (subst (λ (s : Running O). IsHandedOf s is.caller) same is.handed)));
         share_is = same;
       }
@@ -60,27 +62,51 @@ module _ {O : Type 0} (r : Running O) where
       one_caller one two e = cc
 
   -- none was
-  pub has_same : (handover : Handover O) (before after : Pass (HandedIn O) (Knows O)) (share : Option (Arc (Running O) Global)) (gathered : List Handed) → HasTaken r handover before share gathered → IsPassOf handover.line after → view after ≡ view before
-      → HasTaken r handover after share gathered
-  has_same handover before after share gathered has of same = record { of = of; taken = has.taken; is = same ∙ has.is; numbers = has.numbers; each = has.each; share_is = has.share_is }
+  pub has_same : (given : List Handed) (handover : Handover O) (before after : Pass (HandedIn O) (Knows O)) (share : Option (Arc (Running O) Global)) (gathered : List Handed) → HasTaken r given handover before share gathered → IsPassOf handover.line after → view after ≡ view before
+      → HasTaken r given handover after share gathered
+  has_same given handover before after share gathered has of same = record { of = of; taken = has.taken; is = same ∙ has.is; same = has.same; each = has.each; share_is = has.share_is }
 
   -- no list is left where all are taken out
-  none_elsewhere : (xs : List ℕ) → length xs ≡ 0 → xs ≡ []
+  none_elsewhere : {X : Type 0} (xs : List X) → length xs ≡ 0 → xs ≡ []
   none_elsewhere [] none = refl
   none_elsewhere (x ∷ xs) none = absurd (omega (arith, none))
 
-  -- as many as the service has callers are all of them, each once
-  pub has_all : (handover : Handover O) (pass : Pass (HandedIn O) (Knows O)) (share : Option (Arc (Running O) Global)) (gathered : List Handed) (elsewhere : List ℕ) → HasTaken r handover pass share gathered → r.callers ≤ length gathered
-      → ((h : ℕ → ℕ) → pass_weighs h (view pass) + total_weight h elsewhere ≡ total_weight h (range_with_len 0 (callers_known (view pass).home)))
-      → (h : ℕ → ℕ) → total_weight (λ (g : Handed). h (handed_number g)) gathered ≡ total_weight h (range_with_len 0 r.callers)
-  has_all handover pass share gathered elsewhere has many learned h =
-      let at : (k : ℕ → ℕ) → total_weight k has.taken + total_weight k elsewhere ≡ total_weight k (range_with_len 0 r.callers) = λ k. (
-      let held : pass_weighs k (view pass) ≡ 0 + total_weight k has.taken = ap (pass_weighs k) has.is in
-      let range : total_weight k (range_with_len 0 (callers_known (view pass).home)) ≡ total_weight k (range_with_len 0 r.callers) = ap (λ (v : Knows O). total_weight k (range_with_len 0 (callers_known v.home))) has.is in
-      omega (arith, held, range, learned k)) in
-      let few : length elsewhere ≡ 0 = omega (arith, many, at (λ _. 1), has.numbers (λ _. 1), units Handed gathered, units ℕ has.taken, units ℕ elsewhere, units ℕ (range_with_len 0 r.callers), length-range_with_len 0 r.callers) in
-      let none : total_weight h elsewhere ≡ 0 = ap (total_weight h) (none_elsewhere elsewhere few) in
-      omega (arith, none, at h, has.numbers h)
+  module _ (given : List Handed) (handover : Handover O) (pass : Pass (HandedIn O) (Knows O)) (share : Option (Arc (Running O) Global)) (gathered : List Handed) (has : HasTaken r given handover pass share gathered) (many : r.callers ≤ length gathered) (tells : TellsAll (view pass)) where
+    counted : (h : ℕ → ℕ) → total_weight (by_number h) has.taken + (total_weight h tells.due + total_weight (by_number h) tells.left) ≡ total_weight h (range_with_len 0 r.callers)
+    counted h =
+        let held : pass_weighs h (view pass) ≡ 0 + total_weight (by_number h) has.taken = ap (pass_weighs h) has.is in
+        let range : total_weight h (range_with_len 0 (callers_known (view pass).home)) ≡ total_weight h (range_with_len 0 r.callers) = ap (λ (v : Knows O). total_weight h (range_with_len 0 (callers_known v.home))) has.is in
+        omega (arith, held, range, tells.callers h)
+
+    -- none is elsewhere
+    few : (length tells.due ≡ 0) × (length tells.left ≡ 0)
+    few =
+        let all = counted (λ _. 1) in let same = has.same (λ _. 1) in
+        let long = units Handed gathered in let took = units Handed has.taken in let due = units ℕ tells.due in let left = units Handed tells.left in let range = units ℕ (range_with_len 0 r.callers) in let callers = length-range_with_len 0 r.callers in
+        (omega (arith, many, all, same, long, took, due, left, range, callers), omega (arith, many, all, same, long, took, due, left, range, callers))
+
+    -- as many as the service has callers are all of them, each once
+    pub has_all : (h : ℕ → ℕ) → total_weight (λ (g : Handed). h (handed_number g)) gathered ≡ total_weight h (range_with_len 0 r.callers)
+    has_all h =
+        let due : total_weight h tells.due ≡ 0 = ap (total_weight h) (none_elsewhere tells.due few.0) in
+        let left : total_weight (by_number h) tells.left ≡ 0 = ap (total_weight (by_number h)) (none_elsewhere tells.left few.1) in
+        omega (arith, due, left, counted h, has.same (by_number h))
+
+    -- and they are accounted for
+    pub are_accounted : (account : Account O) (handed : List Handed) → account.pass ≡ pass → AreSame handed gathered → AreAccounted handover given account handed
+    are_accounted account handed is order =
+        let of = subst (λ (p : Pass (HandedIn O) (Knows O)). IsPassOf handover.line p) (sym is) has.of in
+        let seen : view account.pass ≡ knows (Some r) [] given has.taken = ap view is ∙ has.is in
+        record {
+          of = of;
+          taken = λ f. (let same : total_weight f (view account.pass).taken ≡ total_weight f has.taken = ap (λ (v : Knows O). total_weight f v.taken) seen in omega (arith, same, order f, has.same f));
+          own = ap (λ (v : Knows O). v.given) seen;
+          among = λ f. (
+              let left : total_weight f tells.left ≡ 0 = ap (total_weight f) (none_elsewhere tells.left few.1) in
+              let gave : total_weight f (view pass).given ≡ total_weight f given = ap (λ (v : Knows O). total_weight f v.given) has.is in
+              let took : total_weight f (view pass).taken ≡ total_weight f has.taken = ap (λ (v : Knows O). total_weight f v.taken) has.is in
+              omega (arith, left, gave, took, order f, has.same f, tells.accounts f));
+        }
 
   -- whose share there is, there is a caller
   pub no_share : (share : Option (Arc (Running O) Global)) (gathered : List Handed) → MatchOption share (gathered ≡ []) (λ s. arc_value s ≡ r) → share ≡ None → 0 < r.callers → r.callers ≤ length gathered → ⊥
@@ -96,12 +122,12 @@ module _ {O : Type 0} (r : Running O) where
       one_share one two e = cc
 
   -- the last session begins with no caller
-  pub rest_begins : (exit : Exit O) (number : ℕ) (handover : Handover O) (pass : Pass (HandedIn O) (Knows O)) → IsExitOf r (number ∷ []) exit → handover ≡ arc_value exit.handover → IsPassOf handover.line pass → view pass ≡ pass_with_given (view exit.pass)
-      → IsSessionRestOf r (record { service = None; exit = record { handover = exit.handover; pass = pass; gathered = exit.gathered; out = exit.out } })
-  rest_begins exit number handover pass is same of given = record {
+  pub rest_begins : (exit : Exit O) (number : ℕ) (x : HandedIn O) (handover : Handover O) (pass : Pass (HandedIn O) (Knows O)) → IsExitOf r (number ∷ []) exit → handover ≡ arc_value exit.handover → IsPassOf handover.line pass → view pass ≡ pass_with_given (view exit.pass) x
+      → IsSessionRestOf r (kept_list x.handed) (record { service = None; exit = record { handover = exit.handover; pass = pass; gathered = exit.gathered; out = exit.out } })
+  rest_begins exit number x handover pass is same of given = record {
     some = is.some;
     count = is.count;
-    has = has_none (arc_value exit.handover) exit.pass pass number exit.gathered.items (subst (λ (h : Handover O). IsPassOf h.line pass) same of) is.pass_of.is given is.gathered.none;
+    has = has_none (arc_value exit.handover) exit.pass pass number x exit.gathered.items (subst (λ (h : Handover O). IsPassOf h.line pass) same of) is.pass_of.is given is.gathered.none;
     gathered = is.gathered.enough;
     out = is.out;
   }
@@ -111,10 +137,10 @@ module _ {O : Type 0} (r : Running O) where
   own_due due handover pass is = subst (λ (ns : List ℕ). IsPassIn r ns handover pass) (sym (ap (λ (v : Knows O). v.due) is.is)) is
 
 module _ {O : Type 0} (line_count : O → ℕ) (lawful : O → List ℕ → Type 0) (step : O → List ℕ → List ℕ → List ℕ × List ℕ) (reads : O → List ℕ → Bool) where
-  pub closes : (s : Session O) (closing : Closing O) → ClosesTo line_count lawful step reads (arc_value s.service) closing → Closes line_count lawful step reads s closing
+  pub closes : (s : Session O) (closing : Closing O) → ClosesTo line_count lawful step reads (arc_value s.service) (arc_value s.exit.handover) (kept_list s.handed) closing → Closes line_count lawful step reads s closing
   closes s Others to = to
   closes s (Again session) to = absurd to
-  closes s (Closed remains) to = to
-  closes s (Kept kept) to = to
+  closes s (Closed remains account) to = to
+  closes s (Kept kept account) to = to
   closes s (Missing rest) to = to
   closes s (Shared rest) to = to

@@ -9,9 +9,11 @@ use lib.ListN.{get_elem?}
 use Rattle.crossbeam_queue.specs.Fifo.{Forks, Learns, Pops, Pushes}
 use Rattle.crossbeam_queue.proofs.Lists.{at_set, at_snoc}
 use Rattle.cx_rule.specs.Running.{Running}
+use Rattle.cx_service.specs.declared.close.Handed.{Handed}
+use Rattle.seat_pool.specs.Gathering.{kept_list}
 use Rattle.seat_pool.specs.Pooling.{total_weight}
 use Rattle.seat_pool.proofs.Poolings.{total_both, total_set}
-use Rattle.c_sessions.specs.Rule.{KeepsOrIsNew, IsHandedInAt, IsNewQueue, KeepsSessions, TellsCallers, callers_known, without_first_due, first_due, new_pass, items_weigh, numbers_in, offering, pass_of_all, pass_weighs, pass_with_given, pass_with_taken}
+use Rattle.c_sessions.specs.Rule.{KeepsOrIsNew, IsHandedInAt, IsNewQueue, KeepsSessions, TellsAll, TellsCallers, by_number, callers_known, callers_weigh, without_first_due, first_due, new_pass, numbers_in, offering, pass_of_all, pass_weighs, pass_with_given, pass_with_taken}
 use Rattle.c_sessions.specs.declared.rule.HandedIn.{HandedIn}
 use Rattle.c_sessions.specs.declared.rule.Knows.{Knows}
 
@@ -19,6 +21,11 @@ use Rattle.c_sessions.specs.declared.rule.Knows.{Knows}
 cut_weighs : (h : ℕ → ℕ) (xs : List ℕ) → total_weight h (take 1 xs) + total_weight h (drop 1 xs) ≡ total_weight h xs
 cut_weighs h [] = refl
 cut_weighs h (x ∷ xs) = omega arith
+
+-- the number of a caller, if it is one, weighs as the caller does by it
+numbers_same : (h : ℕ → ℕ) (o : Option Handed) → total_weight h (numbers_in o) ≡ total_weight (by_number h) (kept_list o)
+numbers_same h None = refl
+numbers_same h (Some g) = refl
 
 module _ {O : Type 0} where
   abbrev Known : Running O → List (Knows O) → Type 0
@@ -43,23 +50,29 @@ module _ {O : Type 0} where
   known_snoc : (r : Running O) (views : List (Knows O)) (w : Knows O) → w.home ≡ Some r → Known r views → Known r (views ++ w ∷ [])
   known_snoc r views w home known j u e = ⊎_elim (λ x. known j u x) (λ x. subst (λ (y : Knows O). y.home ≡ Some r) x home) (at_snoc views w u j e)
 
-  -- the numbers that are with passes
-  all_of : List (Knows O) → List ℕ
-  all_of [] = []
-  all_of (u ∷ us) = u.due ++ (u.taken ++ all_of us)
+  -- what all passes have of one kind
+  all_of : {X : Type 0} (part : Knows O → List X) (us : List (Knows O)) → List X
+  all_of part [] = []
+  all_of part (u ∷ us) = part u ++ all_of part us
 
-  all_weigh : (h : ℕ → ℕ) (us : List (Knows O)) → total_weight h (all_of us) ≡ total_weight (pass_weighs h) us
+  all_weigh : {X : Type 0} (part : Knows O → List X) (f : X → ℕ) (us : List (Knows O)) → total_weight f (all_of part us) ≡ total_weight (λ (u : Knows O). total_weight f (part u)) us
   unfolding all_of
-  all_weigh h [] = refl
-  all_weigh h (u ∷ us) = omega (arith, total_both h u.due (u.taken ++ all_of us), total_both h u.taken (all_of us), all_weigh h us)
+  all_weigh part f [] = refl
+  all_weigh part f (u ∷ us) = omega (arith, total_both f (part u) (all_of part us), all_weigh part f us)
 
-  -- the numbers that are with the other passes
-  others_weigh : (views : List (Knows O)) (pass : ℕ) (v : Knows O) → get_elem? views pass ≡ some v → (others : List ℕ) × ((h : ℕ → ℕ) → total_weight (pass_weighs h) views ≡ pass_weighs h v + total_weight h others)
-  others_weigh [] pass v at = absurd (some-ne-none v (sym at))
-  others_weigh (u ∷ us) zero v at = (all_of us, λ h. (let same : pass_weighs h u ≡ pass_weighs h v = ap (pass_weighs h) (some-injective u v at) in omega (arith, same, all_weigh h us)))
-  others_weigh (u ∷ us) (suc pass) v at =
-      let rest = others_weigh us pass v at in
-      (u.due ++ (u.taken ++ rest.0), λ h. omega (arith, rest.1 h, total_both h u.due (u.taken ++ rest.0), total_both h u.taken rest.0))
+  -- what the other passes have of it
+  others_weigh : {X : Type 0} (part : Knows O → List X) (views : List (Knows O)) (pass : ℕ) (v : Knows O) → get_elem? views pass ≡ some v
+      → (others : List X) × ((f : X → ℕ) → total_weight (λ (u : Knows O). total_weight f (part u)) views ≡ total_weight f (part v) + total_weight f others)
+  others_weigh part [] pass v at = absurd (some-ne-none v (sym at))
+  others_weigh part (u ∷ us) zero v at = (all_of part us, λ f. (let same : total_weight f (part u) ≡ total_weight f (part v) = ap (λ (w : Knows O). total_weight f (part w)) (some-injective u v at) in omega (arith, same, all_weigh part f us)))
+  others_weigh part (u ∷ us) (suc pass) v at =
+      let rest = others_weigh part us pass v at in
+      (part u ++ rest.0, λ f. omega (arith, rest.1 f, total_both f (part u) rest.0))
+
+  -- what passes are to hand in, and what they took out
+  both_weigh : (h : ℕ → ℕ) (us : List (Knows O)) → total_weight (pass_weighs h) us ≡ total_weight (λ (u : Knows O). total_weight h u.due) us + total_weight (λ (u : Knows O). total_weight (by_number h) u.taken) us
+  both_weigh h [] = refl
+  both_weigh h (u ∷ us) = omega (arith, both_weigh h us)
 
   -- a new queue keeps the rule
   pub begins : KeepsOrIsNew {O = O} [] (new_pass ∷ [])
@@ -100,6 +113,7 @@ module _ {O : Type 0} where
               each = All-nil (IsHandedInAt (Some r));
               known = only;
               callers = λ h. omega arith;
+              accounts = λ f. refl;
             })))),
         refl,
       )
@@ -122,13 +136,17 @@ module _ {O : Type 0} where
         each = k.each;
         known = known_snoc k.service (set views pass l) w here (known_set k.service views pass l here k.known);
         callers = λ h. (let s = total_set (pass_weighs h) views pass v l at in omega (arith, s, total_both (pass_weighs h) (set views pass l) (w ∷ []), cut_weighs h v.due, k.callers h));
+        accounts = λ f. (
+            let gave = λ (u : Knows O). total_weight f u.given in let took = λ (u : Knows O). total_weight f u.taken in
+            let s = total_set gave views pass v l at in let t = total_set took views pass v l at in
+            omega (arith, s, t, total_both gave (set views pass l) (w ∷ []), total_both took (set views pass l) (w ∷ []), k.accounts f));
       })
 
   -- the caller of a pass is put into the queue
-  pub gives : (n pass : ℕ) (v : Knows O) (x : HandedIn O) → IsHandedInAt v.home x → v.due ≡ numbers_in x.handed → Pushes KeepsOrIsNew n pass v x (λ w. w ≡ pass_with_given v)
+  pub gives : (n pass : ℕ) (v : Knows O) (x : HandedIn O) → IsHandedInAt v.home x → v.due ≡ numbers_in x.handed → Pushes KeepsOrIsNew n pass v x (λ w. w ≡ pass_with_given v x)
   gives n pass v x is due items views short (inl new) at = absurd (not_new (arc_value x.service) v items views pass is.share new at)
   gives n pass v x is due items views short (inr k) at =
-      let w = pass_with_given v in
+      let w = pass_with_given v x in
       let here = k.known pass v at in (
         w,
         inr (record {
@@ -137,8 +155,12 @@ module _ {O : Type 0} where
           known = known_set k.service views pass w here k.known;
           callers = λ h. (
               let s = total_set (pass_weighs h) views pass v w at in
-              let was : total_weight h v.due ≡ total_weight h (numbers_in x.handed) = ap (total_weight h) due in
-              omega (arith, s, was, total_both (λ (y : HandedIn O). total_weight h (numbers_in y.handed)) items (x ∷ []), k.callers h));
+              let was : total_weight h v.due ≡ total_weight (by_number h) (kept_list x.handed) = ap (total_weight h) due ∙ numbers_same h x.handed in
+              omega (arith, s, was, total_both (λ (y : HandedIn O). total_weight (by_number h) (kept_list y.handed)) items (x ∷ []), k.callers h));
+          accounts = λ f. (
+              let gave = λ (u : Knows O). total_weight f u.given in let took = λ (u : Knows O). total_weight f u.taken in
+              let s = total_set gave views pass v w at in let t = total_set took views pass v w at in
+              omega (arith, s, t, total_both f (kept_list x.handed) v.given, total_both (λ (y : HandedIn O). total_weight f (kept_list y.handed)) items (x ∷ []), k.accounts f));
         }),
         refl,
       )
@@ -154,7 +176,11 @@ module _ {O : Type 0} where
           service = k.service;
           each = All-tail (IsHandedInAt (Some k.service)) x items k.each;
           known = known_set k.service views pass w here k.known;
-          callers = λ h. (let s = total_set (pass_weighs h) views pass v w at in omega (arith, s, total_both h (numbers_in x.handed) v.taken, k.callers h));
+          callers = λ h. (let s = total_set (pass_weighs h) views pass v w at in omega (arith, s, total_both (by_number h) (kept_list x.handed) v.taken, k.callers h));
+          accounts = λ f. (
+              let gave = λ (u : Knows O). total_weight f u.given in let took = λ (u : Knows O). total_weight f u.taken in
+              let s = total_set gave views pass v w at in let t = total_set took views pass v w at in
+              omega (arith, s, t, total_both f (kept_list x.handed) v.taken, k.accounts f));
         }),
         (subst (λ (home : Option (Running O)). IsHandedInAt home x) (sym here) (All-head (IsHandedInAt (Some k.service)) x items k.each), refl),
       )
@@ -163,23 +189,34 @@ module _ {O : Type 0} where
   pub learns : (pass : ℕ) (r : Running O) (v : Knows O) → v.home ≡ Some r → Learns KeepsOrIsNew pass v (TellsCallers v)
   learns pass r v home items views (inl new) at = absurd (not_new r v items views pass home new at)
   learns pass r v home items views (inr k) at =
-      let others = others_weigh views pass v at in record {
-        elsewhere = others.0;
+      let due = others_weigh (λ (u : Knows O). u.due) views pass v at in
+      let given = others_weigh (λ (u : Knows O). u.given) views pass v at in
+      let taken = others_weigh (λ (u : Knows O). u.taken) views pass v at in record {
+        due = due.0;
+        given = given.0;
+        taken = taken.0;
         callers = λ h. (
             let many : total_weight h (range_with_len 0 (callers_known v.home)) ≡ total_weight h (range_with_len 0 k.service.callers) = ap (λ (x : Option (Running O)). total_weight h (range_with_len 0 (callers_known x))) (k.known pass v at) in
-            omega (arith, others.1 h, many, k.callers h));
+            omega (arith, both_weigh h views, due.1 h, taken.1 (by_number h), many, k.callers h));
+        accounts = λ f. omega (arith, given.1 f, taken.1 f, k.accounts f);
       }
 
-  -- the numbers of the callers in the queue
-  numbers_of : List (HandedIn O) → List ℕ
-  numbers_of [] = []
-  numbers_of (x ∷ xs) = numbers_in x.handed ++ numbers_of xs
+  -- the callers in the queue
+  callers_of : List (HandedIn O) → List Handed
+  callers_of [] = []
+  callers_of (x ∷ xs) = kept_list x.handed ++ callers_of xs
 
-  numbers_weigh : (h : ℕ → ℕ) (xs : List (HandedIn O)) → total_weight h (numbers_of xs) ≡ items_weigh h xs
-  unfolding numbers_of
-  numbers_weigh h [] = refl
-  numbers_weigh h (x ∷ xs) = omega (arith, total_both h (numbers_in x.handed) (numbers_of xs), numbers_weigh h xs)
+  callers_same : (f : Handed → ℕ) (xs : List (HandedIn O)) → total_weight f (callers_of xs) ≡ callers_weigh f xs
+  unfolding callers_of
+  callers_same f [] = refl
+  callers_same f (x ∷ xs) = omega (arith, total_both f (kept_list x.handed) (callers_of xs), callers_same f xs)
 
   -- the callers that are with a pass, and the others
-  pub with_others : (v : Knows O) (items : List (HandedIn O)) → TellsCallers v items → (elsewhere : List ℕ) × ((h : ℕ → ℕ) → pass_weighs h v + total_weight h elsewhere ≡ total_weight h (range_with_len 0 (callers_known v.home)))
-  with_others v items tells = (numbers_of items ++ tells.elsewhere, λ h. omega (arith, total_both h (numbers_of items) tells.elsewhere, numbers_weigh h items, tells.callers h))
+  pub with_others : (v : Knows O) (items : List (HandedIn O)) → TellsCallers v items → TellsAll v
+  with_others v items tells = record {
+    due = tells.due;
+    given = tells.given;
+    left = callers_of items ++ tells.taken;
+    callers = λ h. omega (arith, total_both (by_number h) (callers_of items) tells.taken, callers_same (by_number h) items, tells.callers h);
+    accounts = λ f. omega (arith, total_both f (callers_of items) tells.taken, callers_same f items, tells.accounts f);
+  }

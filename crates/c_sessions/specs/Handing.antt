@@ -6,8 +6,7 @@ use Rattle.std.specs.Global.{Global}
 use Rattle.crossbeam_queue.specs.Passes.{Pass, view, IsPassOf}
 use Rattle.cx_rule.specs.Running.{Running}
 use Rattle.cx_service.specs.declared.close.Handed.{Handed}
-use Rattle.seat_pool.specs.Gathering.{IsHandedOf, handed_number}
-use Rattle.seat_pool.specs.Pooling.{total_weight}
+use Rattle.seat_pool.specs.Gathering.{AreSame, IsHandedOf}
 use Rattle.c_sessions.specs.Rule.{knows, pass_with_given}
 use Rattle.c_sessions.specs.declared.exit.Exit.{Exit}
 use Rattle.c_sessions.specs.declared.exit.Rest.{Rest}
@@ -18,7 +17,7 @@ use Rattle.c_sessions.specs.declared.rule.Knows.{Knows}
 -- a pass of the service's queue that is to hand in these callers, and took none out
 pub record IsPassIn {O : Type 0} (r : Running O) (due : List ℕ) (handover : Handover O) (pass : Pass (HandedIn O) (Knows O)) : Type 0 where
   pub of : IsPassOf handover.line pass
-  pub is : view pass ≡ knows (Some r) due []
+  pub is : view pass ≡ knows (Some r) due [] []
 
 -- a queue for this many callers of a service, and a pass of it that is to hand in these
 pub record IsPassOpen {O : Type 0} (r : Running O) (callers : ℕ) (due : List ℕ) (handover : Handover O) (pass : Pass (HandedIn O) (Knows O)) : Type 0 where
@@ -28,7 +27,7 @@ pub record IsPassOpen {O : Type 0} (r : Running O) (callers : ℕ) (due : List �
 -- the caller lies in the queue, or it is handed back and nothing is changed
 pub record HandsInTo {O : Type 0} (handover : Handover O) (before : Pass (HandedIn O) (Knows O)) (given : HandedIn O) (answer : Result (Unit {0}) (HandedIn O)) (after : Pass (HandedIn O) (Knows O)) : Type 0 where
   pub of : IsPassOf handover.line after
-  pub told : MatchResult answer (λ _. view after ≡ pass_with_given (view before)) (λ back. (back ≡ given) × (view after ≡ view before))
+  pub told : MatchResult answer (λ _. view after ≡ pass_with_given (view before) given) (λ back. (back ≡ given) × (view after ≡ view before))
 
 -- an empty list with room for this many
 pub record IsRoom (count : ℕ) (items : List Handed) (capacity : ℕ) : Type 0 where
@@ -43,24 +42,24 @@ pub record IsExitOf {O : Type 0} (r : Running O) (due : List ℕ) (exit : Exit O
   pub gathered : IsRoom r.callers exit.gathered.items (vec_capacity exit.gathered)
   pub out : IsRoom r.callers exit.out.items (vec_capacity exit.out)
 
--- A pass has handed in its caller, and these are the callers that it took out, whose shares of the service are one.
-pub record HasTaken {O : Type 0} (r : Running O) (handover : Handover O) (pass : Pass (HandedIn O) (Knows O)) (share : Option (Arc (Running O) Global)) (gathered : List Handed) : Type 0 where
+-- A pass has handed in its caller, as it was then, and these are the callers that it took out, as they were then, whose shares of the service are one.
+pub record HasTaken {O : Type 0} (r : Running O) (given : List Handed) (handover : Handover O) (pass : Pass (HandedIn O) (Knows O)) (share : Option (Arc (Running O) Global)) (gathered : List Handed) : Type 0 where
   pub of : IsPassOf handover.line pass
-  pub taken : List ℕ
-  pub is : view pass ≡ knows (Some r) [] taken
-  pub numbers : (h : ℕ → ℕ) → total_weight (λ (g : Handed). h (handed_number g)) gathered ≡ total_weight h taken
+  pub taken : List Handed
+  pub is : view pass ≡ knows (Some r) [] given taken
+  pub same : AreSame gathered taken
   pub each : All (IsHandedOf r) gathered
   pub share_is : MatchOption share (gathered ≡ []) (λ s. arc_value s ≡ r)
 
--- what the session that is closed last has of the service's callers, with room for all
-pub record IsSessionRestOf {O : Type 0} (r : Running O) (rest : Rest O) : Type 0 where
+-- what the session that is closed last, which handed in its caller so, has of the service's callers, with room for all
+pub record IsSessionRestOf {O : Type 0} (r : Running O) (given : List Handed) (rest : Rest O) : Type 0 where
   pub some : 0 < r.callers
   pub count : (arc_value rest.exit.handover).callers ≡ r.callers
-  pub has : HasTaken r (arc_value rest.exit.handover) rest.exit.pass rest.service rest.exit.gathered.items
+  pub has : HasTaken r given (arc_value rest.exit.handover) rest.exit.pass rest.service rest.exit.gathered.items
   pub gathered : r.callers ≤ vec_capacity rest.exit.gathered
   pub out : IsRoom r.callers rest.exit.out.items (vec_capacity rest.exit.out)
 
 -- a caller of the service is missing: fewer are there than it has
-pub record IsCallerMissing {O : Type 0} (r : Running O) (rest : Rest O) : Type 0 where
-  pub of : IsSessionRestOf r rest
+pub record IsCallerMissing {O : Type 0} (r : Running O) (given : List Handed) (rest : Rest O) : Type 0 where
+  pub of : IsSessionRestOf r given rest
   pub fewer : length rest.exit.gathered.items < r.callers

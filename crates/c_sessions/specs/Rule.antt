@@ -6,7 +6,7 @@ use mathlib.Core.Option.{some}
 use lib.ListN.{get_elem?}
 use Rattle.cx_rule.specs.Running.{Running}
 use Rattle.cx_service.specs.declared.close.Handed.{Handed}
-use Rattle.seat_pool.specs.Gathering.{IsHandedOf, handed_number}
+use Rattle.seat_pool.specs.Gathering.{IsHandedOf, handed_number, kept_list}
 use Rattle.seat_pool.specs.Pooling.{total_weight}
 use Rattle.c_sessions.specs.declared.rule.HandedIn.{HandedIn}
 use Rattle.c_sessions.specs.declared.rule.Knows.{Knows}
@@ -23,16 +23,16 @@ pub record IsHandedInAt {O : Type 0} (home : Option (Running O)) (x : HandedIn O
   pub is : x.handed ≡ Some caller
   pub handed : IsHandedOf (arc_value x.service) caller
 
-abbrev pub knows : {O : Type 0} → Option (Running O) → List ℕ → List ℕ → Knows O
-knows home due taken = record { offered = None; home = home; due = due; taken = taken }
+abbrev pub knows : {O : Type 0} → Option (Running O) → List ℕ → List Handed → List Handed → Knows O
+knows home due given taken = record { offered = None; home = home; due = due; given = given; taken = taken }
 
 -- the pass of a queue that is new
 abbrev pub new_pass : {O : Type 0} → Knows O
-new_pass = knows None [] []
+new_pass = knows None [] [] []
 
 -- the pass that put a share of this service into it
 abbrev pub offering : {O : Type 0} → Running O → Knows O
-offering r = record { offered = Some r; home = None; due = []; taken = [] }
+offering r = record { offered = Some r; home = None; due = []; given = []; taken = [] }
 
 -- how many callers the service has that a pass knows
 abbrev pub callers_known : {O : Type 0} → Option (Running O) → ℕ
@@ -41,37 +41,44 @@ callers_known (Some r) = r.callers
 
 -- a pass that knows the service and is to hand in all its callers
 abbrev pub pass_of_all : {O : Type 0} → Option (Running O) → Knows O
-pass_of_all home = knows home (range_with_len 0 (callers_known home)) []
+pass_of_all home = knows home (range_with_len 0 (callers_known home)) [] []
 
 -- a pass without the first caller that it was to hand in, and a pass for that caller
 abbrev pub without_first_due : {O : Type 0} → Knows O → Knows O
-without_first_due v = knows v.home (drop 1 v.due) v.taken
+without_first_due v = knows v.home (drop 1 v.due) v.given v.taken
 
 abbrev pub first_due : {O : Type 0} → Knows O → Knows O
-first_due v = knows v.home (take 1 v.due) []
+first_due v = knows v.home (take 1 v.due) [] []
 
--- the caller of a pass was put into the queue
-abbrev pub pass_with_given : {O : Type 0} → Knows O → Knows O
-pass_with_given v = knows v.home [] v.taken
+-- the caller of a pass was put into the queue, as it was then
+abbrev pub pass_with_given : {O : Type 0} → Knows O → HandedIn O → Knows O
+pass_with_given v x = knows v.home [] (kept_list x.handed ++ v.given) v.taken
 
--- a caller was taken out
+-- a caller was taken out, as it was then
 abbrev pub pass_with_taken : {O : Type 0} → Knows O → HandedIn O → Knows O
-pass_with_taken v x = knows v.home v.due (numbers_in x.handed ++ v.taken)
+pass_with_taken v x = knows v.home v.due v.given (kept_list x.handed ++ v.taken)
 
--- the weight of the callers that are with a pass, and of those in the queue, by their numbers
+-- the weight of the callers in the queue, as they are
+abbrev pub callers_weigh : {O : Type 0} → (Handed → ℕ) → List (HandedIn O) → ℕ
+callers_weigh {O = O} f items = total_weight (λ (x : HandedIn O). total_weight f (kept_list x.handed)) items
+
+-- a weight of callers by their numbers
+abbrev pub by_number : (ℕ → ℕ) → Handed → ℕ
+by_number h g = h (handed_number g)
+
+-- the weight of the callers that are with a pass, by their numbers
 abbrev pub pass_weighs : {O : Type 0} → (ℕ → ℕ) → Knows O → ℕ
-pass_weighs h v = total_weight h v.due + total_weight h v.taken
-
-abbrev pub items_weigh : {O : Type 0} → (ℕ → ℕ) → List (HandedIn O) → ℕ
-items_weigh {O = O} h items = total_weight (λ (x : HandedIn O). total_weight h (numbers_in x.handed)) items
+pass_weighs h v = total_weight h v.due + total_weight (by_number h) v.taken
 
 -- What lies in the queue are callers of one service, each with its share of it, and each pass knows which service that is. However callers are
--- weighed by their numbers, those that are with passes and those in the queue are all callers of the service, each once.
+-- weighed by their numbers, those that are with passes and those in the queue are all callers of the service, each once. However they are weighed as they are,
+-- with all that they made and were answered, those that passes put into the queue are those that passes took out and those that lie there.
 pub record KeepsSessions {O : Type 0} (items : List (HandedIn O)) (views : List (Knows O)) : Type 0 where
   pub service : Running O
   pub each : All (IsHandedInAt (Some service)) items
   pub known : (pass : ℕ) (v : Knows O) → get_elem? views pass ≡ some v → v.home ≡ Some service
-  pub callers : (h : ℕ → ℕ) → total_weight (pass_weighs h) views + items_weigh h items ≡ total_weight h (range_with_len 0 service.callers)
+  pub callers : (h : ℕ → ℕ) → total_weight (pass_weighs h) views + callers_weigh (by_number h) items ≡ total_weight h (range_with_len 0 service.callers)
+  pub accounts : (f : Handed → ℕ) → total_weight (λ (v : Knows O). total_weight f v.given) views ≡ total_weight (λ (v : Knows O). total_weight f v.taken) views + callers_weigh f items
 
 -- the queue is new, or what lies in it is the share alone by which its pass learns the service
 pub record IsOpening {O : Type 0} (items : List (HandedIn O)) (views : List (Knows O)) : Type 0 where
@@ -86,7 +93,19 @@ IsNewQueue items views = ((items ≡ []) × (views ≡ new_pass ∷ [])) ⊎ IsO
 abbrev pub KeepsOrIsNew : {O : Type 0} → List (HandedIn O) → List (Knows O) → Type 0
 KeepsOrIsNew items views = IsNewQueue items views ⊎ KeepsSessions items views
 
--- what a pass learns of the queue: each caller of the service is with it, in the queue, or elsewhere, once
+-- What a pass learns of the queue: each caller of the service is with it, in the queue, or with other passes, once. And what it put into the queue and others did is
+-- what it took out, what others did, and what lies there.
 pub record TellsCallers {O : Type 0} (v : Knows O) (items : List (HandedIn O)) : Type 0 where
-  pub elsewhere : List ℕ
-  pub callers : (h : ℕ → ℕ) → pass_weighs h v + items_weigh h items + total_weight h elsewhere ≡ total_weight h (range_with_len 0 (callers_known v.home))
+  pub due : List ℕ
+  pub given : List Handed
+  pub taken : List Handed
+  pub callers : (h : ℕ → ℕ) → pass_weighs h v + callers_weigh (by_number h) items + (total_weight h due + total_weight (by_number h) taken) ≡ total_weight h (range_with_len 0 (callers_known v.home))
+  pub accounts : (f : Handed → ℕ) → total_weight f v.given + total_weight f given ≡ total_weight f v.taken + total_weight f taken + callers_weigh f items
+
+-- the same, where those that lie in the queue count among those that the pass did not take out
+pub record TellsAll {O : Type 0} (v : Knows O) : Type 0 where
+  pub due : List ℕ
+  pub given : List Handed
+  pub left : List Handed
+  pub callers : (h : ℕ → ℕ) → pass_weighs h v + (total_weight h due + total_weight (by_number h) left) ≡ total_weight h (range_with_len 0 (callers_known v.home))
+  pub accounts : (f : Handed → ℕ) → total_weight f v.given + total_weight f given ≡ total_weight f v.taken + total_weight f left

@@ -1,14 +1,17 @@
 //! Sessions are closed one by one, in any order and by any thread. The last one closes the service.
 
-ghost use Rattle.std.specs.Prelude.{◌≡◌, MatchResult};
+ghost use Rattle.std.specs.Prelude.{◌≡◌, List, MatchResult};
+ghost use Rattle.std.specs.Arc.{arc_value};
 ghost use Rattle.cx_rule.specs.Running.{Running};
 ghost use Rattle.cx_service.specs.Closes.{seats_of};
+ghost use Rattle.cx_service.specs.declared.close.Handed as handed_type;
 ghost use Rattle.cx_table.specs.Remains.{AreSeats};
-ghost use Rattle.c_sessions.specs.Closings.{Closes, ClosesTo, IsClosedOf};
+ghost use Rattle.c_sessions.specs.Closings.{AreAccounted, Closes, ClosesTo, IsClosedWith};
 ghost use Rattle.c_sessions.specs.Handing.{IsSessionRestOf};
 ghost use Rattle.c_sessions.specs.Sessions.{IsSessionReady};
+ghost use Rattle.c_sessions.specs.declared.handover.Handover.{Handover};
 
-use crate::exit::{Exit, Rest};
+use crate::exit::{Account, Exit, Rest};
 use crate::gather::gather;
 use crate::rule::HandedIn;
 use crate::session::Session;
@@ -27,10 +30,10 @@ pub enum Closing<O: Object> {
     Others,
     /// Others were in the way: the session is as it was.
     Again(Session<O>),
-    /// It was the last: what the service leaves.
-    Closed(Remains),
-    /// It was the last, and memory ran out: the service and all its callers, of caller 0 first.
-    Kept(Kept<O>),
+    /// It was the last: what the service leaves, and the account of what the sessions handed in.
+    Closed(Remains, Account<O>),
+    /// It was the last, and memory ran out: the service and all its callers, of caller 0 first, and that account.
+    Kept(Kept<O>, Account<O>),
     /// It was the last, and a caller of the service is missing: what it has is to be closed again.
     Missing(Rest<O>),
     /// It was the last and has all callers, and a share of the service is elsewhere: what it has is to be closed again.
@@ -39,15 +42,15 @@ pub enum Closing<O: Object> {
 
 impl<O: Object> Session<O> {
     /// Closes the session. Its caller is handed in, in whatever state it is. The session that is closed last takes all callers of the
-    /// service out, and closes it.
+    /// service out, and closes it with them as they were handed in: no caller makes a step of its own in between.
     ///
     /// Each result of it, `closing`, as the library for C takes it. From `crates/githoppu_c/src/content.rt`:
     /// ```rattle
     /// match closing {
     ///     Closing::Others => (Content::Gone, OTHERS),
     ///     Closing::Again(session) => (Content::Documents(session), AGAIN),
-    ///     Closing::Closed(remains) => (Content::ClosedDocuments(remains), DONE),
-    ///     Closing::Kept(kept) => (Content::KeptDocuments(kept), NO_MEMORY),
+    ///     Closing::Closed(remains, _) => (Content::ClosedDocuments(remains), DONE),
+    ///     Closing::Kept(kept, _) => (Content::KeptDocuments(kept), NO_MEMORY),
     ///     Closing::Missing(rest) => (Content::RestDocuments(rest), LOST),
     ///     Closing::Shared(rest) => (Content::RestDocuments(rest), AGAIN),
     /// }
@@ -106,8 +109,8 @@ impl<O: Object> Session<O> {
 
 /// Gathers the callers that are still in the queue, and closes the service where these are all.
 pub fn close_rest<O: Object>(alloc: Global, rest: Rest<O>) -> Closing<O>
-    requires { (r : Running O) × IsSessionRestOf r rest }
-    ensures { (r : Running O) → IsSessionRestOf r rest → ClosesTo O.line_count O.lawful O.step O.only_reads r result }
+    requires { (r : Running O) × (given : List handed_type.Handed) × IsSessionRestOf r given rest }
+    ensures { (r : Running O) (given : List handed_type.Handed) → IsSessionRestOf r given rest → ClosesTo O.line_count O.lawful O.step O.only_reads r (arc_value rest.exit.handover) given result }
 {
     let Rest { service, exit } = rest;
     let Exit {
@@ -133,7 +136,7 @@ pub fn close_rest<O: Object>(alloc: Global, rest: Rest<O>) -> Closing<O>
     match Arc::try_unwrap(service) {
         Ok(service) => {
             let callers = in_order(&service, gathered, out);
-            close_all(alloc, Kept { service, callers })
+            close_all(alloc, Kept { service, callers }, Account { pass })
         }
         Err(service) => {
             let exit = Exit {
@@ -150,21 +153,21 @@ pub fn close_rest<O: Object>(alloc: Global, rest: Rest<O>) -> Closing<O>
     }
 }
 
-/// Closes a service with all its callers.
-fn close_all<O: Object>(alloc: Global, kept: Kept<O>) -> Closing<O>
+/// Closes a service with all its callers, which have this account.
+fn close_all<O: Object>(alloc: Global, kept: Kept<O>, account: Account<O>) -> Closing<O>
     requires { AreSeats kept.service (seats_of kept.callers.items) }
-    ensures { ClosesTo O.line_count O.lawful O.step O.only_reads kept.service result }
+    ensures { (handover : Handover O) (given : List handed_type.Handed) → AreAccounted handover given account kept.callers.items → ClosesTo O.line_count O.lawful O.step O.only_reads kept.service handover given result }
 {
     match close_kept(alloc, kept) {
-        Ok(remains) => Closing::Closed(remains),
-        Err(kept) => Closing::Kept(kept),
+        Ok(remains) => Closing::Closed(remains, account),
+        Err(kept) => Closing::Kept(kept, account),
     }
 }
 
 /// Closes a service that was not closed since memory ran out. `Err` means that it ran out again, and hands all back as it was.
 pub fn close_kept<O: Object>(alloc: Global, kept: Kept<O>) -> Result<Remains, Kept<O>>
     requires { AreSeats kept.service (seats_of kept.callers.items) }
-    ensures { MatchResult result (IsClosedOf O.line_count O.lawful O.step O.only_reads kept.service) (λ back. back ≡ kept) }
+    ensures { MatchResult result (IsClosedWith O.line_count O.lawful O.step O.only_reads kept.service (seats_of kept.callers.items)) (λ back. back ≡ kept) }
 {
     let Kept { service, callers } = kept;
     let _ = service.lines();

@@ -30,6 +30,12 @@ pub struct Rest<O: Object> {
     pub(crate) exit: Exit<O>,
 }
 
+/// The account of the sessions of a service: the pass of their queue that took all callers out. By the rule of the queue it knows each as it was handed in.
+#[derive(Drop)]
+pub struct Account<O: Object> {
+    pub(crate) pass: Pass<HandedIn<O>, Knows<O>>,
+}
+
 impl<O: Object> Exit<O> {
     /// One more way out of a service of this many callers, for the first caller that the pass is still to hand in.
     pub(crate) fn another(

@@ -1,7 +1,8 @@
 //! The last session gathers all callers of the service.
 
-ghost use Rattle.std.specs.Prelude.{◌≤◌, vec_capacity};
+ghost use Rattle.std.specs.Prelude.{◌≤◌, List, vec_capacity};
 ghost use Rattle.cx_rule.specs.Running.{Running};
+ghost use Rattle.cx_service.specs.declared.close.Handed as handed_type;
 ghost use Rattle.c_sessions.specs.Handing.{HasTaken};
 
 use crate::handover::Handover;
@@ -20,9 +21,9 @@ pub(crate) fn gather<O: Object>(
     share: Option<Arc<Service<O>, Global>>,
     gathered: Vec<Handed>,
 ) -> (Option<Arc<Service<O>, Global>>, Vec<Handed>)
-    requires taken { (r : Running O) × HasTaken r handover.now pass.old share gathered.items }
+    requires taken { (r : Running O) × (given : List handed_type.Handed) × HasTaken r given handover.now pass.old share gathered.items }
     requires room { handover.now.callers ≤ vec_capacity gathered }
-    ensures taken { (r : Running O) → HasTaken r handover.now pass.old share gathered.items → HasTaken r handover.now pass.new result.0 result.1.items }
+    ensures taken { (r : Running O) (given : List handed_type.Handed) → HasTaken r given handover.now pass.old share gathered.items → HasTaken r given handover.now pass.new result.0 result.1.items }
     ensures room { handover.now.callers ≤ vec_capacity result.1 }
 {
     let mut share = share;

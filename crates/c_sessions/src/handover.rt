@@ -1,13 +1,12 @@
 //! Where the callers of a service lie that are handed in, until the last one comes.
 
-ghost use Rattle.std.specs.Prelude.{◌≡◌, ◌+◌, ◌<◌, ℕ, List, IfOk, MatchOption, Some, drop, take};
+ghost use Rattle.std.specs.Prelude.{◌≡◌, ◌<◌, IfOk, MatchOption, Some, drop, take};
 ghost use Rattle.std.specs.Arc.{arc_value};
 ghost use Rattle.std.specs.List.{range_with_len};
 ghost use Rattle.crossbeam_queue.specs.Passes.{view, IsPassOf};
 ghost use Rattle.cx_rule.specs.Running.{Running};
-ghost use Rattle.seat_pool.specs.Pooling.{total_weight};
 ghost use Rattle.c_sessions.specs.Handing.{HandsInTo, IsPassOpen, IsPassIn};
-ghost use Rattle.c_sessions.specs.Rule.{IsHandedInAt, callers_known, numbers_in, pass_weighs, pass_with_taken};
+ghost use Rattle.c_sessions.specs.Rule.{IsHandedInAt, TellsAll, numbers_in, pass_with_taken};
 
 use crate::rule::{Gives, HandedIn, Knows, Line, Opens, Parts, Starts, Takes};
 use crossbeam_queue::Pass;
@@ -120,11 +119,12 @@ impl<O: Object> Handover<O> {
         None
     }
 
-    /// What the rule tells of the callers: those that are with the pass and those elsewhere are all of the service, each once.
+    /// What the rule tells of the callers: those that are with the pass and those elsewhere are all of the service, each once; and those that were taken out are
+    /// those that were handed in.
     pub(crate) fn learn(&self, pass: &mut Pass<HandedIn<O>, Knows<O>>)
         requires { IsPassOf self.now.line pass.old × (r : Running O) × ((view pass.old).home ≡ Some r) }
         ensures same { IsPassOf self.now.line pass.new × (view pass.new ≡ view pass.old) }
-        ensures all { (elsewhere : List ℕ) × ((h : ℕ → ℕ) → pass_weighs h (view pass.old) + total_weight h elsewhere ≡ total_weight h (range_with_len 0 (callers_known (view pass.old).home))) }
+        ensures all { TellsAll (view pass.old) }
     {
         self.line.learn_as::<Takes>(pass);
     }

@@ -17,16 +17,18 @@ pub struct HandedIn<O: Object> {
 }
 
 /// What a pass knows: the service of which it put a share into the new queue, the service once it is known, the numbers of the callers that it is to
-/// hand in, and of those that it took out. No value of it is made.
+/// hand in, those that it handed in, and those that it took out, each as it was in that step. No value of it is made.
 pub struct Knows<O: Object> {
     pub offered: Option<Service<O>>,
     pub home: Option<Service<O>>,
     pub due: LinkedList<u32>,
-    pub taken: LinkedList<u32>,
+    pub given: LinkedList<Handed>,
+    pub taken: LinkedList<Handed>,
 }
 
 /// The rule: what lies in the queue are callers of one service, each with its share of it, every pass knows which service that is, and each caller of
-/// the service is there once: a pass is to hand it in, it lies in the queue, or one pass took it out.
+/// the service is there once: a pass is to hand it in, it lies in the queue, or one pass took it out. What was taken out is what was handed in, with all that a
+/// caller made and was answered.
 pub struct OfOneService;
 
 impl<O: Object> Protocol<HandedIn<O>, Knows<O>> for OfOneService {
@@ -79,7 +81,7 @@ impl<O: Object> Outcome<HandedIn<O>, Knows<O>> for Gives {
     ghost use Rattle.std.specs.Prelude.{◌≡◌};
     ghost use Rattle.c_sessions.specs.Rule.{pass_with_given};
 
-    ghost then = { λ v x w. w ≡ pass_with_given v };
+    ghost then = { λ v x w. w ≡ pass_with_given v x };
 }
 
 /// A caller is taken out.

@@ -1,14 +1,16 @@
 -- The calls of clients over the history of a closed service.
 use Rattle.std.proofs.Common.{◌≡◌, ◌≤◌, ◌+◌, ⊎_elim, ℕ, zero, suc, List, [], ◌∷◌, map, sym, refl, ap, ◌∙◌, subst, arith, Option, Some, None, slice_get}
-use Rattle.std.specs.Prelude.{All, Contains}
+use Rattle.std.specs.Prelude.{All}
 use Rattle.std.specs.List.{AllZip}
 use Rattle.std.specs.Option.{option_map}
 use Rattle.std.proofs.lemmas.Bool.{cases_eq}
-use Rattle.std.proofs.lemmas.List.Elements.{All-cons, All-nil, All-weaker, Contains-get_or}
-use Rattle.std.proofs.lemmas.Option.{get_or_from_slice_get, none-some, same_Some, slice_get-map, slice_get_within}
+use Rattle.std.proofs.lemmas.List.Elements.{All-cons, All-nil, All-weaker}
+use Rattle.std.proofs.lemmas.Option.{none-some, same_Some, slice_get-map, slice_get_within}
 use Rattle.core_replica.proofs.Places.{durable_within}
 use Rattle.core_replica.proofs.ReplyLaws.{reply_own}
 use Rattle.core_runs.proofs.Keeps.{bounds_of}
+use Rattle.core_runs.specs.RealTime.{Operation}
+use Rattle.core_runs.specs.RealTime.Operation.{Update, Read}
 use Rattle.cx_core.proofs.MergeLemmas.{own_mine, own_other}
 use Rattle.cx_core.specs.Merge.{IsLinked, own_of}
 use Rattle.cx_core.specs.RootEvents.{reply_after}
@@ -22,6 +24,7 @@ use Rattle.cx_core.specs.declared.local.SeenRead.{SeenRead}
 use Rattle.cx_rule.specs.Running.{Running}
 use Rattle.cx_rule.specs.Seats.{Seated}
 use Rattle.cx_rule.specs.declared.rule.Known.{Known}
+use Rattle.cx_service.specs.ClosedOrder.{IsLinearizedBy}
 use Rattle.cx_service.specs.Closes.{seat_of, seats_of}
 use Rattle.cx_service.specs.declared.close.Handed.{Handed}
 use Rattle.cx_table.specs.Remains.{Leaves, locals_of}
@@ -29,7 +32,7 @@ use Rattle.cx_table.specs.declared.remains.Remains.{Remains}
 use Rattle.seat_pool.specs.Gathering.{AreCallsTold, handed_calls, handed_reads, lent_shown, lent_told, one_at}
 use Rattle.seat_pool.specs.Pooling.{calls_from, calls_of, total_weight}
 use Rattle.seat_pool.specs.declared.hand.Told.{Told}
-use Rattle.client_pool.specs.Answers.{AreAnswered, IsCallOf, IsCallersCall, IsCallersEntry, IsCallersRead, IsEntryOf, IsReadOf}
+use Rattle.client_pool.specs.Answers.{AreAnswered, IsCallOf, IsCallersCall, IsCallersEntry, IsCallersRead, IsEntryOf, IsReadOf, StandsIn}
 use Rattle.client_pool.specs.Clients.{AreInTurn, HasCalls, entries_called, reads_called}
 use Rattle.client_pool.specs.Pools.{lents_of}
 use Rattle.client_pool.specs.declared.call.Call.{Call}
@@ -37,9 +40,6 @@ use Rattle.client_pool.specs.declared.call.Call.TheVariants.{Entry, Look}
 use Rattle.client_pool.specs.declared.client.Client.{Client}
 use Rattle.client_pool.proofs.Tickets.{once}
 use Rattle.client_pool.proofs.Weights.{found, read_is, read_self, same_read, same_told, told_is, told_self}
-
-contains_at : {X : Type 0} (xs : List X) (i : ℕ) (x : X) → slice_get xs i ≡ Some x → Contains xs x
-contains_at xs i x at = subst (Contains xs) (get_or_from_slice_get xs i x x at) (Contains-get_or xs i x (slice_get_within xs i x at))
 
 -- a call of a caller has the entry and the answer at its place in the caller's lists
 call_item : (n : ℕ) (own : List Linked) (answers : List Answer) (i : ℕ) (t : Told) → slice_get (calls_from n own answers) i ≡ Some t
@@ -110,8 +110,9 @@ module _ {O : Type 0} (r : Running O) (instance : Instance) (handed : List Hande
         record {
           local = s;
           of_caller = ap (slice_get remains.trail.locals) (item.0 ∙ number) ∙ b.ends;
-          own = contains_at s.own j t.entry item.1;
-          answered = contains_at s.answered j t.answer item.2;
+          index = j;
+          own = item.1;
+          answered = item.2;
         },
       )
 
@@ -122,7 +123,7 @@ module _ {O : Type 0} (r : Running O) (instance : Instance) (handed : List Hande
       let is = (leaves.state.answers.each i l b.there).reads j x (ap (λ (y : Local). slice_get y.seen_reads j) b.is ∙ there) in
       let within = durable_within instance history leaves.words leaves.whole leaves.state.shape.some (bounds_of instance (record { words = leaves.words; locals = leaves.whole }) leaves.state) in (
         record { from = is.from; to = omega (arith, within, is.durable); reply = is.reply },
-        record { caller = i; local = (seat_of g).known.local; of_caller = b.ends; seen = contains_at (seat_of g).known.local.seen_reads j x there },
+        record { caller = i; local = (seat_of g).known.local; of_caller = b.ends; index = j; seen = there },
       )
 
   -- a call is the history's, and a caller's
@@ -155,6 +156,28 @@ module _ {O : Type 0} (r : Running O) (instance : Instance) (handed : List Hande
       All-cons (All Stands) cs calls
       (one_client cs (λ h. (let most = entries h in omega (arith, most))) (λ h. (let most = reads h in omega (arith, most))))
       (all_clients calls (λ h. (let most = entries h in omega (arith, most))) (λ h. (let most = reads h in omega (arith, most))))
+
+-- the calls of callers stand in the one order of the closing, as the operations that they are
+module _ {O : Type 0} (r : Running O) (instance : Instance) (handed : List Handed) (remains : Remains) (leaves : Leaves r instance (seats_of handed) remains) (order : IsLinearizedBy leaves) where
+  abbrev operations : List Operation
+  operations = order.one_order.order
+
+  -- the local state behind one of the trail
+  whole_of : (caller : ℕ) (l : Local) → slice_get remains.trail.locals caller ≡ Some l → (w : Local) × (slice_get leaves.whole caller ≡ Some w) × (shown w ≡ l)
+  whole_of caller l at = some_of (slice_get leaves.whole caller) l (sym (slice_get-map shown leaves.whole caller) ∙ ap (λ (ls : List Local). slice_get ls caller) (leaves.shows ∙ sym leaves.locals) ∙ at)
+
+  pub stands_in : (call : Call) → IsCallersCall remains.trail.locals call → StandsIn remains.trail.locals operations call
+  stands_in (Entry told) is =
+      let w = whole_of told.caller is.local is.of_caller in
+      let own : slice_get w.0.own is.index ≡ Some told.entry = ap (λ (x : Local). slice_get x.own is.index) w.2 ∙ is.own in
+      (is, order.one_order.is.each (Update told.caller is.index) (w.0, w.1, slice_get_within w.0.own is.index told.entry own))
+  stands_in (Look read) is =
+      let w = whole_of is.caller is.local is.of_caller in
+      let seen : slice_get w.0.seen_reads is.index ≡ Some read = ap (λ (x : Local). slice_get x.seen_reads is.index) w.2 ∙ is.seen in
+      (is, order.one_order.is.each (Read is.caller is.index) (w.0, w.1, slice_get_within w.0.seen_reads is.index read seen))
+
+  pub all_stand_in : (calls : List (List Call)) → All (All (IsCallersCall remains.trail.locals)) calls → All (All (StandsIn remains.trail.locals operations)) calls
+  all_stand_in calls all = All-weaker (All (IsCallersCall remains.trail.locals)) (All (StandsIn remains.trail.locals operations)) (λ cs all. All-weaker (IsCallersCall remains.trail.locals) (StandsIn remains.trail.locals operations) (λ call is. stands_in call is) cs all) calls all
 
 -- what clients were told are the entries of their calls, and what they were shown has their reads
 module _ {O : Type 0} (r : Running O) where

@@ -1,5 +1,8 @@
 -- What the calls of clients are over the history of their service.
-use Rattle.std.specs.Prelude.{◌≡◌, ◌+◌, ◌<◌, ◌≤◌, ℕ, List, All, Contains, Some, length, slice_get}
+use Rattle.std.specs.Prelude.{◌≡◌, ◌+◌, ◌<◌, ◌≤◌, ℕ, List, All, Some, length, slice_get}
+use Rattle.core_order.specs.TotalOrder.{IsIn}
+use Rattle.core_runs.specs.RealTime.{Operation}
+use Rattle.core_runs.specs.RealTime.Operation.{Update, Read}
 use Rattle.cx_core.specs.Merge.{IsLinked}
 use Rattle.cx_core.specs.RootEvents.{reply_after}
 use Rattle.cx_core.specs.State.{Instance}
@@ -30,22 +33,33 @@ abbrev pub IsCallOf : Instance → List HistoryEntry → Call → Type 0
 IsCallOf instance history (Entry told) = IsEntryOf instance history told
 IsCallOf instance history (Look read) = IsReadOf instance history read
 
--- the entry and its answer stand in the lists of the caller that is named, and the read in those of some caller
+-- the entry and its answer stand in the lists of the caller that is named, both at this index, and the read in those of some caller
 pub record IsCallersEntry (locals : List Local) (told : Told) : Type 0 where
   pub local : Local
   pub of_caller : slice_get locals told.caller ≡ Some local
-  pub own : Contains local.own told.entry
-  pub answered : Contains local.answered told.answer
+  pub index : ℕ
+  pub own : slice_get local.own index ≡ Some told.entry
+  pub answered : slice_get local.answered index ≡ Some told.answer
 
 pub record IsCallersRead (locals : List Local) (read : SeenRead) : Type 0 where
   pub caller : ℕ
   pub local : Local
   pub of_caller : slice_get locals caller ≡ Some local
-  pub seen : Contains local.seen_reads read
+  pub index : ℕ
+  pub seen : slice_get local.seen_reads index ≡ Some read
 
 abbrev pub IsCallersCall : List Local → Call → Type 0
 IsCallersCall locals (Entry told) = IsCallersEntry locals told
 IsCallersCall locals (Look read) = IsCallersRead locals read
+
+-- the operation that a call is: of which caller, and which one there
+abbrev pub operation_of : (locals : List Local) (call : Call) → IsCallersCall locals call → Operation
+operation_of locals (Entry told) is = Update told.caller is.index
+operation_of locals (Look read) is = Read is.caller is.index
+
+-- a call of a caller stands in an order of all operations, as that operation
+abbrev pub StandsIn : List Local → List Operation → Call → Type 0
+StandsIn locals order call = (is : IsCallersCall locals call) × IsIn order (operation_of locals call is)
 
 -- how many of a client's calls are answered as the entry at a ticket
 abbrev pub answers_at : ℕ → List Call → ℕ

@@ -17,7 +17,7 @@ use Rattle.seat_pool.specs.Pooling.{IsHomeOf, all_parts}
 use Rattle.seat_pool.specs.declared.hand.Hand.{Hand}
 use Rattle.seat_pool.specs.declared.lent.Lent.{Lent}
 use Rattle.cx_service.specs.ClosedOrder.{IsLinearizedBy}
-use Rattle.client_pool.specs.Answers.{AreAnswered, AreWhole}
+use Rattle.client_pool.specs.Answers.{AreAnswered, AreWhole, StandsIn}
 use Rattle.client_pool.specs.Clients.{HasCalls, IsClientOf}
 use Rattle.client_pool.specs.Lending.{is_live, limits_of}
 use Rattle.client_pool.specs.declared.call.Call.{Call}
@@ -110,6 +110,8 @@ pub record IsClosed {O : Type 0} (r : Running O) (instance : Instance) (clients 
   pub order : IsLinearizedBy leaves
   pub told : AreCallsTold r (lents_of clients) handed
   pub answered : (calls : List (List Call)) → AllZip (HasCalls r) clients calls → AreAnswered instance remains.trail.history remains.trail.locals calls
+  -- each of these calls is an operation of a caller, which stands in the one order of all
+  pub ordered : (calls : List (List Call)) → AllZip (HasCalls r) clients calls → All (All (StandsIn remains.trail.locals order.one_order.order)) calls
   pub whole : All (λ (c : Client). is_live c.lent.kept ≡ true) clients → (calls : List (List Call)) → AllZip (HasCalls r) clients calls → AreWhole r.base.place remains.trail.history calls
   pub fronts : (i : ℕ) (client : Client) (now : Seated) → slice_get clients i ≡ Some client → client.lent.kept ≡ Some (Idle now) → now.known.local.front ≤ r.base.place + length remains.trail.history
 

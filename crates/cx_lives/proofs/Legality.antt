@@ -2,12 +2,13 @@
 use Rattle.std.proofs.Common.{◌≡◌, ◌↔◌, ◌+◌, ℕ, true, List, sym, ap, subst, ◌∙◌, refl, arith}
 use Rattle.std.specs.Prelude.{All}
 use Rattle.cx_base.specs.declared.object.Object.{Ghosts}
+use Rattle.cx_core.specs.Base.{LawfulBase}
+use Rattle.cx_core.specs.Crash.{IsKept}
 use Rattle.cx_core.specs.State.{Instance}
 use Rattle.cx_core.specs.declared.entry.Base.{Base}
 use Rattle.cx_core.specs.declared.entry.Entry.{Entry}
 use Rattle.cx_core.specs.declared.local.Local.{Local}
-use Rattle.cx_rule.specs.Running.{Running, instance_at}
-use Rattle.cx_table.specs.Remains.{Leaves}
+use Rattle.cx_rule.specs.Running.{Running}
 use Rattle.cx_table.specs.declared.remains.Remains.{Remains}
 use Rattle.life_records.specs.Ended.{IsEnded}
 use Rattle.life_records.specs.Told.{IsTold}
@@ -18,10 +19,10 @@ use Rattle.life_records.specs.Lives.{IsPrefixKept, IsKeptStop, IsLegal}
 use Rattle.life_records.specs.Records.{JournalLine, Life, LifeRecord, Meaning}
 use Rattle.cx_lives.specs.Crash.{HasCrashed}
 use Rattle.cx_lives.specs.Life.{HasRun, IsServiceOf}
-use Rattle.cx_lives.specs.Lives.{HasLivedOver, HasLost, IsLinearized, IsToldBy, LeavesImage, table_of}
+use Rattle.cx_lives.specs.Lives.{HasLivedOver, HasLost, IsLifeAmong, IsLinearized, IsToldBy, LeavesImage}
 use Rattle.cx_lives.specs.declared.crash.Crashed.{Crashed}
-use Rattle.cx_service.specs.ClosedOrder.{IsClosedLinearizable, IsLinearizedBy}
 use Rattle.typed_object.specs.Meaning.{HasMeaning}
+use Rattle.cx_lives.proofs.Crashing.{closed_table, crashed_life, recovered_life}
 use Rattle.cx_lives.proofs.Recovering.{keeps_to}
 use Rattle.cx_lives.proofs.Entries.{few_entries}
 
@@ -84,61 +85,47 @@ module _ {O Op Reply Store : Type 0} {o : Ghosts O} {m : Meaning Op Reply Store}
     values = lost.values;
   }
 
-  -- its steps, said over its trail
-  steps_same : instance_at service o.step o.only_reads ≡ object_instance (o.step object) (o.only_reads object) life.clients remains.trail.base
-  steps_same = λ i. record { callers = is.callers_are i; base = sym ran.leaves.base i; step = o.step (is.same i); reads = o.only_reads (is.same i) }
-
-  -- the table that was closed, said over its trail
-  closed_table : IsClosedLinearizable (table_of life.clients (o.line_count object) remains.trail) (object_instance (o.step object) (o.only_reads object) life.clients remains.trail.base) ran.seats remains
-  closed_table =
-      let l = ran.leaves in
-      let of_table : Running (Unit {0}) = record { table = service.table; callers = service.callers; lines = service.lines; base = service.base; object = tt } in
-      let same : of_table ≡ table_of life.clients (o.line_count object) remains.trail = λ i. record { table = sym l.of i; callers = is.callers_are i; lines = is.lines_are i; base = sym l.base i; object = tt } in
-      let leaves : Leaves of_table (instance_at service o.step o.only_reads) ran.seats remains = record {
-        callers = l.callers;
-        lines = l.lines;
-        first = l.first;
-        published = l.published;
-        of = l.of;
-        base = l.base;
-        locals = l.locals;
-        words = l.words;
-        whole = l.whole;
-        shows = l.shows;
-        state = l.state;
-        reached = l.reached;
-        history = l.history;
-        merged = l.merged;
-        chain = l.chain;
-        volatile = l.volatile;
-        durable = l.durable;
-        dirty = l.dirty;
-        notes = l.notes;
-        times = l.times;
-        images = l.images;
-      } in
-      let order : IsLinearizedBy leaves = record { linearizable = ran.order.linearizable; history = ran.order.history; calls = ran.order.calls; images = ran.order.images; one_order = ran.order.one_order } in
-      subst (λ (x : Running (Unit {0})). IsClosedLinearizable x (object_instance (o.step object) (o.only_reads object) life.clients remains.trail.base) ran.seats remains) same
-      (subst (λ (x : Instance). IsClosedLinearizable of_table x ran.seats remains) steps_same (record { leaves = leaves; order = order }))
-
   module _ (opening : List ℕ) (means : HasMeaning (o.lawful object) opening (o.step object) (o.only_reads object) m) where
-    abbrev linearized : IsLinearized m (o.line_count object) (o.lawful object) life remains.trail
-    linearized = record { opening = opening; step = o.step object; reads = o.only_reads object; means = means; seats = ran.seats; remains = remains; closed = closed_table; trail_is = refl }
+    abbrev linearized : IsLinearized m (o.line_count object) (o.lawful object) (o.step object) (o.only_reads object) life.clients remains.trail
+    linearized = record { opening = opening; means = means; seats = ran.seats; remains = remains; closed = closed_table o.step o.only_reads is ran.leaves ran.order; trail_is = refl }
 
-    abbrev told_by : IsToldBy m (o.line_count object) (o.lawful object) life remains.trail flagged
+    abbrev told_by : IsToldBy m (o.line_count object) (o.lawful object) (o.step object) (o.only_reads object) life remains.trail flagged
     told_by = record {
       is_told = subst (λ (b : Base). IsTold m.encoding life b.place remains.trail.history remains.trail.locals flagged) (sym ran.leaves.base) (retold service.base.place remains.trail.history remains.trail.locals ran.is_told);
       kept = lost.flags.kept_is ∙ keeps_to lost.ends (ran.leaves.callers ∙ is.callers_are) flagged_from;
       order = linearized;
     }
 
-    leaves_image : LeavesImage linearized crashed.image
+    abbrev leaves_image : LeavesImage linearized life.choice crashed.image
     leaves_image = record { readable = crash.readable; whole = crash.whole; left = crash.left }
 
-  pub lived : (opening : List ℕ) → HasMeaning (o.lawful object) opening (o.step object) (o.only_reads object) m → IsEnded life flagged → HasReplies m base.place begun.store life flagged
+    -- the base, what was kept and the instance, said over its trail
+    trail_base : remains.trail.base ≡ base
+    trail_base = ran.leaves.base ∙ is.from
+
+    kept_there : IsKept (object_instance (o.step object) (o.only_reads object) life.clients remains.trail.base) crash.keeps.law.history crash.keeps.s crashed.next
+    kept_there =
+        let same : inst ≡ object_instance (o.step object) (o.only_reads object) life.clients remains.trail.base =
+        λ i. record { callers = (ran.leaves.callers ∙ is.callers_are) i; base = sym trail_base i; step = o.step object; reads = o.only_reads object } in
+        subst (λ (x : Instance). IsKept x crash.keeps.law.history crash.keeps.s crashed.next) same crash.keeps.kept
+
+    among : LawfulBase (o.line_count object) (o.lawful object) base → IsLifeAmong m (o.line_count object) (o.version_number object) (o.lawful object) (o.step object) (o.only_reads object) begun base life flagged remains.trail crashed.image crashed.next
+    among lawful_base =
+        let there = subst (LawfulBase (o.line_count object) (o.lawful object)) (sym trail_base) lawful_base in
+        record {
+          told = told_by;
+          began = trail_base;
+          based = subst (λ (b : Base). IsBaseOf m b begun) (sym trail_base) based;
+          left = leaves_image;
+          recovered = crash.recovered;
+          crashed = crashed_life linearized life.choice crashed.image leaves_image there;
+          next_is = recovered_life linearized life.choice crashed.image leaves_image there (o.version_number object) crashed.next crash.keeps.s crash.keeps.law.history crash.recovered kept_there crash.keeps.history;
+        }
+
+  pub lived : (opening : List ℕ) → HasMeaning (o.lawful object) opening (o.step object) (o.only_reads object) m → LawfulBase (o.line_count object) (o.lawful object) base → IsEnded life flagged → HasReplies m base.place begun.store life flagged
       → GoesOn m (o.line_count object) (o.lawful object) base.place begun.store life flagged crashed.next → IsBaseOf m crashed.next (begun_after m begun life flagged.journal flagged.kept)
       → HasLivedOver o object m life begun base (record { told = flagged; trail = remains.trail; image = crashed.image; next = crashed.next })
-  lived opening means ended has goes begins =
+  lived opening means lawful_base ended has goes begins =
       let has' : HasReplies m begun.place begun.store life flagged = subst (λ (p : ℕ). HasReplies m p begun.store life flagged) based.at_place has in
       let goes' : GoesOn m (o.line_count object) (o.lawful object) begun.place begun.store life flagged crashed.next = subst (λ (p : ℕ). GoesOn m (o.line_count object) (o.lawful object) p begun.store life flagged crashed.next) based.at_place goes in
       let from : flagged.from ≡ begun.place = flagged_from ∙ based.at_place in
@@ -151,10 +138,7 @@ module _ {O Op Reply Store : Type 0} {o : Ghosts O} {m : Meaning Op Reply Store}
           legal = legal_of m (o.line_count object) (o.lawful object) begun.place begun.store life told flagged crashed.next from begun_from ended has' goes';
           kept = kept_of m (o.line_count object) (o.lawful object) begun.place begun.store life told flagged crashed.next from begun_from ended has' goes' lost.flags.same.journal crashed.kept lost.flags.kept_is lost.flags.stops;
         };
-        told = told_by opening means;
-        began = ran.leaves.base ∙ is.from;
-        left = leaves_image opening means;
-        recovered = crash.recovered;
+        among = among opening means lawful_base;
         next = record { lawful = goes.lawful; is = begins };
         few = omega (arith, goes.at_place, goes.prefix, few_entries life flagged.journal ended.interleaved);
       }

@@ -3,10 +3,12 @@ use Rattle.std.specs.Prelude.{◌≡◌, ◌+◌, ◌-◌, ◌%◌, ◌^◌, ◌
 use Rattle.cx_base.specs.Codes.{root_place_of}
 use Rattle.cx_base.specs.OldFormat.{no_old_format}
 use Rattle.cx_base.specs.declared.object.Object.{Ghosts}
+use Rattle.core_order.specs.CrashedLives.{AllStand, AreCrashedLives, EndsAs, IsCrashedLife, LifeRun, kept_history, next_base}
 use Rattle.cx_core.specs.Base.{LawfulBase}
 use Rattle.cx_core.specs.declared.entry.Base.{Base}
 use Rattle.cx_core.specs.declared.entry.Image.{Image}
 use Rattle.cx_rule.specs.Ending.{Ending}
+use Rattle.cx_rule.specs.Rule.{opening_limited}
 use Rattle.cx_rule.specs.Running.{Running}
 use Rattle.cx_rule.specs.Seats.{Seated}
 use Rattle.cx_table.specs.declared.remains.Remains.{Remains}
@@ -21,6 +23,7 @@ use Rattle.life_records.specs.Scripts.{command_count}
 use Rattle.life_records.specs.Records.{Life, LifeRecord, Meaning}
 use Rattle.recovery.specs.Crashes.{IsLeftOf, AreRemainsWhole}
 use Rattle.recovery.specs.Images.{IsReadable}
+use Rattle.recovery.specs.Kept.{crash_of}
 use Rattle.recovery.specs.Recovery.{IsRecovered}
 use Rattle.typed_object.specs.Meaning.{HasMeaning}
 use Rattle.cx_service.specs.ClosedOrder.{IsClosedLinearizable}
@@ -33,25 +36,25 @@ use Rattle.cx_lives.specs.declared.lives.Ran.{Ran}
 abbrev pub table_of : ℕ → ℕ → Ending → Running (Unit {0})
 table_of callers lines trail = record { table = trail.table; callers = callers; lines = lines; base = trail.base; object = tt }
 
--- The history of a trail is a linearization of what its callers did. The table with this trail was closed: its callers, who are the life's clients, ended with
--- the trail's local states, and its steps mean what the operations mean. By the order of all the steps that led to this closing it is what a linearizable
+-- The history of a trail is a linearization of what its callers did, who are this many. The table with this trail was closed: its callers ended with the trail's
+-- local states, and its steps, which are these, mean what the operations mean. By the order of all the steps that led to this closing it is what a linearizable
 -- object leaves.
-pub record IsLinearized {Op Reply Store : Type 0} (m : Meaning Op Reply Store) (lines : ℕ) (is_lawful : List ℕ → Type 0) (life : Life Op) (trail : Ending) : Type 0 where
+pub record IsLinearized {Op Reply Store : Type 0} (m : Meaning Op Reply Store) (lines : ℕ) (is_lawful : List ℕ → Type 0) (step : List ℕ → List ℕ → List ℕ × List ℕ) (reads : List ℕ → Bool)
+    (callers : ℕ) (trail : Ending) : Type 0 where
   pub opening : List ℕ
-  pub step : List ℕ → List ℕ → List ℕ × List ℕ
-  pub reads : List ℕ → Bool
   pub means : HasMeaning is_lawful opening step reads m
   pub seats : List Seated
   pub remains : Remains
-  pub closed : IsClosedLinearizable (table_of life.clients lines trail) (object_instance step reads life.clients trail.base) seats remains
+  pub closed : IsClosedLinearizable (table_of callers lines trail) (object_instance step reads callers trail.base) seats remains
   pub trail_is : remains.trail ≡ trail
 
--- A record of a life is witnessed by the execution log of its service, whose history is a linearization of the clients' commands. The life's choice takes
+-- A record of a life is witnessed by the execution log of its service, whose callers are the clients, and whose history is a linearization of their commands. The life's choice takes
 -- the code whose place ends what was kept, from the codes with which the service ended, in rising order.
-pub record IsToldBy {Op Reply Store : Type 0} (m : Meaning Op Reply Store) (lines : ℕ) (is_lawful : List ℕ → Type 0) (life : Life Op) (trail : Ending) (told : LifeRecord Reply) : Type 0 where
+pub record IsToldBy {Op Reply Store : Type 0} (m : Meaning Op Reply Store) (lines : ℕ) (is_lawful : List ℕ → Type 0) (step : List ℕ → List ℕ → List ℕ × List ℕ) (reads : List ℕ → Bool)
+    (life : Life Op) (trail : Ending) (told : LifeRecord Reply) : Type 0 where
   pub is_told : IsTold m.encoding life trail.base.place trail.history trail.locals told
   pub kept : told.kept ≡ root_place_of life.clients (slice_index trail.chain (life.choice % length trail.chain)) - told.from
-  pub order : IsLinearized m lines is_lawful life trail
+  pub order : IsLinearized m lines is_lawful step reads life.clients trail
 
 -- a base from which a service of the object may start, that is what a life begins with
 pub record BeginsLife {Op Reply Store : Type 0} (m : Meaning Op Reply Store) (lines : ℕ) (is_lawful : List ℕ → Type 0) (begun : Begun Store) (base : Base) : Type 0 where
@@ -88,27 +91,49 @@ pub record HasLost {O Op Reply Store : Type 0} (o : Ghosts O) (m : Meaning Op Re
   pub flags : HasFlags told crashed.kept crashed.items flagged
   pub values : HasReplyValues m flagged
 
--- An image that may be read for an object of this many lines. By the life's choice the crash left it of the table of this trail, which was closed so.
-pub record LeavesImage {Op Reply Store : Type 0} {m : Meaning Op Reply Store} {lines : ℕ} {is_lawful : List ℕ → Type 0} {life : Life Op} {trail : Ending} (by : IsLinearized m lines is_lawful life trail) (image : Image) : Type 0 where
+-- An image that may be read for an object of this many lines. By the choice a crash left it of the table of this trail, which was closed so.
+pub record LeavesImage {Op Reply Store : Type 0} {m : Meaning Op Reply Store} {lines : ℕ} {is_lawful : List ℕ → Type 0} {step : List ℕ → List ℕ → List ℕ × List ℕ} {reads : List ℕ → Bool} {callers : ℕ} {trail : Ending}
+    (by : IsLinearized m lines is_lawful step reads callers trail) (choice : ℕ) (image : Image) : Type 0 where
   pub readable : IsReadable lines image
   pub whole : AreRemainsWhole by.remains
-  pub left : IsLeftOf by.remains life.choice image
+  pub left : IsLeftOf by.remains choice image
 
--- The result of one life that begins so: a record of a legal life, witnessed by the execution log of its service, which began with this base; and
--- an image from which the next life's base is recovered.
-pub record HasLived {Op Reply Store : Type 0} (m : Meaning Op Reply Store) (lines version : ℕ) (is_lawful : List ℕ → Type 0) (life : Life Op) (begun : Begun Store) (base : Base)
-    (ran : Ran Reply) : Type 0 where
+-- The run that such a table made: all callers' steps, from the opening to the words and the local states that were closed, and this image of them.
+abbrev pub life_run : {Op Reply Store : Type 0} {m : Meaning Op Reply Store} {lines : ℕ} {is_lawful : List ℕ → Type 0} {step : List ℕ → List ℕ → List ℕ × List ℕ} {reads : List ℕ → Bool} {callers : ℕ} {trail : Ending}
+    → IsLinearized m lines is_lawful step reads callers trail → Image → LifeRun
+life_run {step = step} {reads = reads} {callers = callers} {trail = trail} by image = record {
+  callers = callers;
+  from = opening_limited (object_instance step reads callers trail.base) by.closed.leaves.reached.limits;
+  events = by.closed.leaves.reached.events;
+  to = record { words = by.closed.leaves.words; locals = by.closed.leaves.whole };
+  image = crash_of image;
+}
+
+-- One life among others. A record of it is witnessed by the execution log of its service, which began with this base, that is with what the lives before it
+-- kept. The life's crash left this image of what that service was when it was closed, and from this very image the base was recovered that a next life begins
+-- with: what the core's definitions recover of the crash image of that run.
+pub record IsLifeAmong {Op Reply Store : Type 0} (m : Meaning Op Reply Store) (lines version : ℕ) (is_lawful : List ℕ → Type 0) (step : List ℕ → List ℕ → List ℕ × List ℕ) (reads : List ℕ → Bool)
+    (begun : Begun Store) (base : Base) (life : Life Op) (record_of : LifeRecord Reply) (trail : Ending) (image : Image) (next : Base) : Type 0 where
+  pub told : IsToldBy m lines is_lawful step reads life trail record_of
+  pub began : trail.base ≡ base
+  pub based : IsBaseOf m trail.base begun
+  pub left : LeavesImage told.order life.choice image
+  pub recovered : IsRecovered version is_lawful no_old_format image next
+  pub crashed : IsCrashedLife step reads trail.base (life_run told.order image)
+  pub next_is : next ≡ next_base step reads trail.base (life_run told.order image)
+
+-- The result of one life that begins so: a record of a legal life, one among others that began with this base; and the next life's base, which is recovered from
+-- what its crash left.
+pub record HasLived {Op Reply Store : Type 0} (m : Meaning Op Reply Store) (lines version : ℕ) (is_lawful : List ℕ → Type 0) (step : List ℕ → List ℕ → List ℕ × List ℕ) (reads : List ℕ → Bool)
+    (life : Life Op) (begun : Begun Store) (base : Base) (ran : Ran Reply) : Type 0 where
   pub legal : IsLegalLife m begun.place begun.store life ran.told
-  pub told : IsToldBy m lines is_lawful life ran.trail ran.told
-  pub began : ran.trail.base ≡ base
-  pub left : LeavesImage told.order ran.image
-  pub recovered : IsRecovered version is_lawful no_old_format ran.image ran.next
+  pub among : IsLifeAmong m lines version is_lawful step reads begun base life ran.told ran.trail ran.image ran.next
   pub next : BeginsLife m lines is_lawful (begun_after m begun life ran.told.journal ran.told.kept) ran.next
   pub few : ran.next.place ≤ base.place + length life.commands
 
--- the same over an object, whose lines, version and lawful words they are
+-- the same over an object, whose lines, version, lawful words and steps they are
 abbrev pub HasLivedOver : {O Op Reply Store : Type 0} → Ghosts O → O → Meaning Op Reply Store → Life Op → Begun Store → Base → Ran Reply → Type 0
-HasLivedOver o object m = HasLived m (o.line_count object) (o.version_number object) (o.lawful object)
+HasLivedOver o object m = HasLived m (o.line_count object) (o.version_number object) (o.lawful object) (o.step object) (o.only_reads object)
 
 -- what the lives behind these records begin with
 abbrev pub begun_by : {Op Reply Store : Type 0} → Meaning Op Reply Store → Begun Store → List (Life Op) → List (LifeRecord Reply) → Begun Store
@@ -116,20 +141,54 @@ begun_by m begun [] records = begun
 begun_by m begun (life ∷ lives) [] = begun
 begun_by m begun (life ∷ lives) (told ∷ records) = begun_by m (begun_after m begun life told.journal told.kept) lives records
 
--- There is a trail for each life and its record, which it tells. Its service began with what the lives before it kept.
-abbrev pub AreToldFrom : {Op Reply Store : Type 0} → Meaning Op Reply Store → ℕ → (List ℕ → Type 0) → Begun Store → List (Life Op) → List (LifeRecord Reply) → List Ending → Type 0
-AreToldFrom m lines is_lawful begun [] [] [] = Unit {0}
-AreToldFrom m lines is_lawful begun (life ∷ lives) (told ∷ records) (trail ∷ trails) =
-    IsToldBy m lines is_lawful life trail told × IsBaseOf m trail.base begun ×
-    AreToldFrom m lines is_lawful (begun_after m begun life told.journal told.kept) lives records trails
-AreToldFrom m lines is_lawful begun [] [] (trail ∷ trails) = ⊥
-AreToldFrom m lines is_lawful begun [] (told ∷ records) trails = ⊥
-AreToldFrom m lines is_lawful begun (life ∷ lives) [] trails = ⊥
-AreToldFrom m lines is_lawful begun (life ∷ lives) (told ∷ records) [] = ⊥
+-- what the crash at the end of a life left, and the base that was recovered from it
+pub record LifeEnd : Type 0 where
+  pub image : Image
+  pub next : Base
 
--- the records are told by these trails, from the first life on
-abbrev pub AreTold : {Op Reply Store : Type 0} → Meaning Op Reply Store → ℕ → (List ℕ → Type 0) → List (Life Op) → List (LifeRecord Reply) → List Ending → Type 0
-AreTold m lines is_lawful lives records trails = AreToldFrom m lines is_lawful (nothing_begun m) lives records trails
+-- There is a trail for each life and its record, which it tells. Its service began with the base that was recovered from the image that the crash left of the one
+-- before, the first with this base.
+abbrev pub AreToldFrom : {Op Reply Store : Type 0} → Meaning Op Reply Store → ℕ → ℕ → (List ℕ → Type 0) → (List ℕ → List ℕ → List ℕ × List ℕ) → (List ℕ → Bool) → Begun Store → Base
+    → List (Life Op) → List (LifeRecord Reply) → List Ending → List LifeEnd → Type 0
+AreToldFrom m lines version is_lawful step reads begun base [] [] [] [] = Unit {0}
+AreToldFrom m lines version is_lawful step reads begun base (life ∷ lives) (told ∷ records) (trail ∷ trails) (end_ ∷ ends) =
+    IsLifeAmong m lines version is_lawful step reads begun base life told trail end_.image end_.next
+    × AreToldFrom m lines version is_lawful step reads (begun_after m begun life told.journal told.kept) end_.next lives records trails ends
+AreToldFrom m lines version is_lawful step reads begun base _ _ _ _ = ⊥
+
+-- the runs of their services, each with what the crash left of it
+abbrev pub runs_of : {Op Reply Store : Type 0} (m : Meaning Op Reply Store) (lines version : ℕ) (is_lawful : List ℕ → Type 0) (step : List ℕ → List ℕ → List ℕ × List ℕ) (reads : List ℕ → Bool) (begun : Begun Store) (base : Base)
+    (lives : List (Life Op)) (records : List (LifeRecord Reply)) (trails : List Ending) (ends : List LifeEnd) → AreToldFrom m lines version is_lawful step reads begun base lives records trails ends → List LifeRun
+runs_of m lines version is_lawful step reads begun base (life ∷ lives) (told ∷ records) (trail ∷ trails) (end_ ∷ ends) are =
+    life_run are.0.told.order end_.image ∷ runs_of m lines version is_lawful step reads (begun_after m begun life told.journal told.kept) end_.next lives records trails ends are.1
+runs_of m lines version is_lawful step reads begun base _ _ _ _ are = []
+
+-- Runs, together, are one durable object. Each began with what is recovered of what a crash left of the one before, the first with this base. What the crashes
+-- kept of their histories makes one history, by which each answer that any of them gave is the object's, and none that was answered is lost. A further one would
+-- begin with the object after the whole of it.
+pub record AreOneObject (lines : ℕ) (is_lawful : List ℕ → Type 0) (step : List ℕ → List ℕ → List ℕ × List ℕ) (reads : List ℕ → Bool) (first : Base) (runs : List LifeRun) : Type 0 where
+  pub crashed : AreCrashedLives step reads first runs
+  pub stand : AllStand step reads first (kept_history step reads first runs) first runs
+  pub ends : EndsAs lines is_lawful step reads first runs
+
+-- The one witness of lives, their records and their trails: how each life ended, with a first base that begins with nothing. The runs that it names are one
+-- durable object. Where there is no life it says nothing of a base.
+pub record AreTold {Op Reply Store : Type 0} (m : Meaning Op Reply Store) (lines version : ℕ) (is_lawful : List ℕ → Type 0) (step : List ℕ → List ℕ → List ℕ × List ℕ) (reads : List ℕ → Bool)
+    (lives : List (Life Op)) (records : List (LifeRecord Reply)) (trails : List Ending) : Type 0 where
+  pub first : Base
+  pub begins : 0 < length lives → BeginsLife m lines is_lawful (nothing_begun m) first × (first.place ≡ 0)
+  pub ends : List LifeEnd
+  pub each : AreToldFrom m lines version is_lawful step reads (nothing_begun m) first lives records trails ends
+  pub one : 0 < length lives → AreOneObject lines is_lawful step reads first (runs_of m lines version is_lawful step reads (nothing_begun m) first lives records trails ends each)
+
+-- what the last of these crashes left, and what was recovered from it
+abbrev pub last_image : Option Image → List LifeEnd → Option Image
+last_image so_far [] = so_far
+last_image so_far (end_ ∷ ends) = last_image (Some end_.image) ends
+
+abbrev pub last_next : Option Base → List LifeEnd → Option Base
+last_next so_far [] = so_far
+last_next so_far (end_ ∷ ends) = last_next (Some end_.next) ends
 
 -- the base of a next life: the last one's, and of a first life one that begins with nothing
 abbrev pub IsNextBase : {Op Reply Store : Type 0} → Meaning Op Reply Store → ℕ → (List ℕ → Type 0) → Option Base → Base → Type 0
@@ -143,29 +202,16 @@ HaveEnded m lines version is_lawful begun lives (Some image) (Some base) =
     (0 < length lives) × IsRecovered version is_lawful no_old_format image base × BeginsLife m lines is_lawful begun base × (base.place ≤ command_count lives)
 HaveEnded m lines version is_lawful begun lives _ _ = ⊥
 
--- the crash that ended the last of these lives left the image, by the last of these trails
-pub record LastLeaves {Op Reply Store : Type 0} (m : Meaning Op Reply Store) (lines : ℕ) (is_lawful : List ℕ → Type 0) (lives : List (Life Op)) (trails : List Ending) (image : Image) : Type 0 where
-  pub before : List (Life Op)
-  pub life : Life Op
-  pub lives_are : lives ≡ before ++ life ∷ []
-  pub trails_before : List Ending
-  pub trail : Ending
-  pub trails_are : trails ≡ trails_before ++ trail ∷ []
-  pub by : IsLinearized m lines is_lawful life trail
-  pub leaves : LeavesImage by image
-
--- where lives were run, the image is what the last one left
-abbrev pub HaveLeft : {Op Reply Store : Type 0} → Meaning Op Reply Store → ℕ → (List ℕ → Type 0) → List (Life Op) → List Ending → Option Image → Type 0
-HaveLeft m lines is_lawful lives trails None = lives ≡ []
-HaveLeft m lines is_lawful lives trails (Some image) = LastLeaves m lines is_lawful lives trails image
-
--- The result of lives: their records are of legal lives, and witnessed by the execution logs of the services that ran them.
-pub record HaveLived {Op Reply Store : Type 0} (m : Meaning Op Reply Store) (lines version : ℕ) (is_lawful : List ℕ → Type 0) (lives : List (Life Op)) (lived : Lived Reply) : Type 0 where
+-- The result of lives: their records are of legal lives, and witnessed by the execution logs of the services that ran them. By that witness the image is what
+-- the last crash left, and the base what was recovered from it.
+pub record HaveLived {Op Reply Store : Type 0} (m : Meaning Op Reply Store) (lines version : ℕ) (is_lawful : List ℕ → Type 0) (step : List ℕ → List ℕ → List ℕ × List ℕ) (reads : List ℕ → Bool)
+    (lives : List (Life Op)) (lived : Lived Reply) : Type 0 where
   pub legal : AreLivesFrom m 0 m.opening lives lived.records
-  pub told : AreTold m lines is_lawful lives lived.records lived.trails
+  pub told : AreTold m lines version is_lawful step reads lives lived.records lived.trails
+  pub image_is : lived.image ≡ last_image None told.ends
+  pub base_is : lived.base ≡ last_next None told.ends
   pub ends : HaveEnded m lines version is_lawful (begun_by m (nothing_begun m) lives lived.records) lives lived.image lived.base
-  pub left : HaveLeft m lines is_lawful lives lived.trails lived.image
 
--- the same over an object, whose lines, version and lawful words they are
+-- the same over an object, whose lines, version, lawful words and steps they are
 abbrev pub HaveLivedOver : {O Op Reply Store : Type 0} → Ghosts O → O → Meaning Op Reply Store → List (Life Op) → Lived Reply → Type 0
-HaveLivedOver o object m = HaveLived m (o.line_count object) (o.version_number object) (o.lawful object)
+HaveLivedOver o object m = HaveLived m (o.line_count object) (o.version_number object) (o.lawful object) (o.step object) (o.only_reads object)

@@ -18,7 +18,7 @@ use cx_core::Base;
 use cx_table::Trail;
 use life_records::{
     BorrowedLife, LifeRecord, Script, flag_stops, fresh_bases_begin_with_nothing,
-    operations_are_values, replies_are_values,
+    operations_are_values, replies_are_values, steps_are_meant,
 };
 use recovery::{Image, reopen_image};
 use std::alloc::{AllocError, Global};
@@ -117,6 +117,8 @@ pub fn run_next_life<O: TypedObject + Sync, R: Threads + Wait + Sync, G: Gate + 
         image,
         next,
     } = run_one(rt, alloc, object, &base, life, gate)?;
+    // by its laws the lives so far are one object with this one
+    steps_are_meant(object);
     records.push(told)?;
     trails.push(trail)?;
     Ok(Lived {

@@ -10,13 +10,14 @@ use Rattle.doc_model.specs.Revisions.{RevisedStore}
 use Rattle.doc_model.specs.declared.operations.Op.{Op}
 use Rattle.doc_model.specs.declared.operations.Reply.{Reply}
 use Rattle.doc_store.specs.DocumentMeaning.{document_meaning}
+use Rattle.doc_store.specs.ExactStep.{IsImageOfStore, reads_in, store_step}
 use Rattle.life_records.specs.Limits.{IsLifeInLimits}
 use Rattle.life_records.specs.Lives.{NameCommands}
 use Rattle.life_records.specs.Records.{Life, LifeRecord, Meaning, Script}
 use Rattle.life_records.specs.Scripts.{command_count}
 use Rattle.life_records.proofs.Naming.{names_of_lives}
 use Rattle.pool_lives.specs.PoolRuns.{HasPooled, IsLifeOfPool}
-use Rattle.doc_commands.specs.PoolTexts.{AreOfPool, MayPool, RunsPool}
+use Rattle.doc_commands.specs.PoolTexts.{AreOfDocumentPool, MayPool, RunsPool}
 
 pub one_life : (lives : List (Life Op)) (life : Life Op) → length lives ≤ 1 → slice_get lives 0 ≡ Some life → lives ≡ life ∷ []
 one_life [] life few at = absurd (none-some life at)
@@ -30,14 +31,14 @@ may_run seats script life may one = record {
   few = (let few = may.limits.commands in let same : command_count script.lives ≡ command_count (life ∷ []) = ap command_count one in omega (arith, few, same));
 }
 
-pub runs : (seats : ℕ) (script : Script Op) (life : Life Op) (told : LifeRecord Reply) (remains : Remains) → script.lives ≡ life ∷ [] → HasPooled (document_meaning script.lines) life seats told remains → RunsPool seats script told remains
+pub runs : (seats : ℕ) (script : Script Op) (life : Life Op) (told : LifeRecord Reply) (remains : Remains) → script.lives ≡ life ∷ [] → HasPooled (document_meaning script.lines) script.lines (IsImageOfStore script.lines) (store_step script.lines) reads_in life seats told remains → RunsPool seats script told remains
 runs seats script life told remains one pooled = record {
-  are = subst (λ lives. AreOfPool (document_meaning script.lines) seats lives (told ∷ []) (remains.trail ∷ [])) (sym one) (pooled.legal, pooled.tells, pooled.began);
+  are = subst (λ lives. AreOfDocumentPool script.lines seats lives (told ∷ []) (remains.trail ∷ [])) (sym one) (pooled.legal, pooled.tells, pooled.began);
   callers = pooled.callers;
 }
 
 -- the lines of such records name commands of the script
-pub named : (m : Meaning Op Reply RevisedStore) (seats : ℕ) (lives : List (Life Op)) (records : List (LifeRecord Reply)) (trails : List Ending) → AreOfPool m seats lives records trails → NameCommands lives records
-named m seats [] [] [] are = tt
-named m seats (life ∷ []) (told ∷ []) (trail ∷ []) are = names_of_lives m 0 m.opening (life ∷ []) (told ∷ []) (are.0.legal, tt)
-named m seats _ _ _ are = absurd are
+pub named : (lines seats : ℕ) (lives : List (Life Op)) (records : List (LifeRecord Reply)) (trails : List Ending) → AreOfDocumentPool lines seats lives records trails → NameCommands lives records
+named lines seats [] [] [] are = tt
+named lines seats (life ∷ []) (told ∷ []) (trail ∷ []) are = (let m = document_meaning lines in names_of_lives m 0 m.opening (life ∷ []) (told ∷ []) (are.0.legal, tt))
+named lines seats _ _ _ are = absurd are

@@ -1,11 +1,12 @@
 -- The record of a script of a pool, and the text that tells of it.
-use Rattle.std.specs.Prelude.{◌≡◌, ◌≤◌, ℕ, List, [], ◌∷◌}
+use Rattle.std.specs.Prelude.{◌≡◌, ◌≤◌, ℕ, Bool, List, [], ◌∷◌}
 use Rattle.cx_rule.specs.Ending.{Ending}
 use Rattle.cx_table.specs.declared.remains.Remains.{Remains}
 use Rattle.doc_model.specs.Meaning.{IsOp}
 use Rattle.doc_model.specs.declared.operations.Op.{Op}
 use Rattle.doc_model.specs.declared.operations.Reply.{Reply}
 use Rattle.doc_store.specs.DocumentMeaning.{document_meaning}
+use Rattle.doc_store.specs.ExactStep.{IsImageOfStore, reads_in, store_step}
 use Rattle.doc_text.specs.Grammar.{pool_commands}
 use Rattle.doc_text.specs.Report.{document_report_of}
 use Rattle.life_records.specs.Begins.{IsBaseOf, nothing_begun}
@@ -21,21 +22,25 @@ pub record MayPool (seats : ℕ) (script : Script Op) : Type 0 where
   pub limits : KeepsLimits IsOp 64 script
   pub within : IsScriptWithin pool_commands.limits script
 
--- The record is one of a pool life of the script's one life. It is witnessed by the execution log of the service of that many callers that ran it, which
--- began with nothing. A script without a life has no record, and no log.
-abbrev pub AreOfPool : {Op Reply Store : Type 0} → Meaning Op Reply Store → ℕ → List (Life Op) → List (LifeRecord Reply) → List Ending → Type 0
-AreOfPool m seats [] [] [] = Unit {0}
-AreOfPool m seats (life ∷ []) (told ∷ []) (trail ∷ []) =
-    IsPoolLife m life told × IsPoolTold m.encoding life seats trail told × IsBaseOf m trail.base (nothing_begun m)
-AreOfPool m seats lives records trails = ⊥
+-- The record is one of a pool life of the script's one life. It is witnessed by the execution log of the service of that many callers that ran it, whose history is
+-- a linearization, and which began with nothing. A script without a life has no record, and no log.
+abbrev pub AreOfPool : {Op Reply Store : Type 0} → Meaning Op Reply Store → ℕ → (List ℕ → Type 0) → (List ℕ → List ℕ → List ℕ × List ℕ) → (List ℕ → Bool) → ℕ → List (Life Op) → List (LifeRecord Reply) → List Ending → Type 0
+AreOfPool m lines is_lawful step reads seats [] [] [] = Unit {0}
+AreOfPool m lines is_lawful step reads seats (life ∷ []) (told ∷ []) (trail ∷ []) =
+    IsPoolLife m life told × IsPoolTold m lines is_lawful step reads life seats trail told × IsBaseOf m trail.base (nothing_begun m)
+AreOfPool m lines is_lawful step reads seats lives records trails = ⊥
+
+-- the same over the document store in this many lines
+abbrev pub AreOfDocumentPool : ℕ → ℕ → List (Life Op) → List (LifeRecord Reply) → List Ending → Type 0
+AreOfDocumentPool lines = AreOfPool (document_meaning lines) lines (IsImageOfStore lines) (store_step lines) reads_in
 
 -- so it is of the record of a script's one life, and of what its service left
 pub record RunsPool (seats : ℕ) (script : Script Op) (told : LifeRecord Reply) (remains : Remains) : Type 0 where
-  pub are : AreOfPool (document_meaning script.lines) seats script.lives (told ∷ []) (remains.trail ∷ [])
+  pub are : AreOfDocumentPool script.lines seats script.lives (told ∷ []) (remains.trail ∷ [])
   pub callers : remains.callers ≡ seats
 
 -- The text is the report of such records.
 pub record IsPoolReport (seats : ℕ) (script : Script Op) (trails : List Ending) (text : List ℕ) : Type 0 where
   pub records : List (LifeRecord Reply)
-  pub are : AreOfPool (document_meaning script.lines) seats script.lives records trails
+  pub are : AreOfDocumentPool script.lines seats script.lives records trails
   pub report : text ≡ document_report_of script records

@@ -3,12 +3,12 @@ use Rattle.std.specs.Prelude.{◌≡◌, ℕ, List, [], ◌∷◌, Option, Some,
 use Rattle.cx_core.specs.declared.entry.Base.{Base}
 use Rattle.cx_core.specs.declared.entry.Image.{Image}
 use Rattle.cx_rule.specs.Ending.{Ending}
-use Rattle.cx_lives.specs.Lives.{AreTold, HaveEnded, HaveLeft, begun_by}
+use Rattle.cx_lives.specs.Lives.{AreTold, HaveEnded, begun_by, last_image, last_next}
 use Rattle.doc_model.specs.Revisions.{RevisedStore, empty_store}
 use Rattle.doc_model.specs.declared.operations.Op.{Op}
 use Rattle.doc_model.specs.declared.operations.Reply.{Reply}
 use Rattle.doc_store.specs.DocumentMeaning.{document_meaning}
-use Rattle.doc_store.specs.ExactStep.{IsImageOfStore}
+use Rattle.doc_store.specs.ExactStep.{IsImageOfStore, reads_in, store_step}
 use Rattle.image_text.specs.Printing.{text_of}
 use Rattle.life_records.specs.Begins.{nothing_begun}
 use Rattle.life_records.specs.Records.{Life, LifeRecord, Script}
@@ -17,10 +17,11 @@ use Rattle.doc_text.specs.Generated.{generated_life, generated_script}
 use Rattle.doc_text.specs.Report.{document_report_of}
 use Rattle.doc_text.specs.Summary.{summary_text}
 
--- The records are of legal lives of the script. Each is witnessed by the execution log of the service that ran it.
+-- The records are of legal lives of the script. By one witness they are told by the execution logs of the services that ran them, each of which began with what
+-- recovery made of what a crash left of the one before: together they are one durable object.
 pub record AreRecords (script : Script Op) (trails : List Ending) (records : List (LifeRecord Reply)) : Type 0 where
   pub lives : AreLegalLives (document_meaning script.lines) script records
-  pub told : AreTold (document_meaning script.lines) script.lines (IsImageOfStore script.lines) script.lives records trails
+  pub told : AreTold (document_meaning script.lines) script.lines 2 (IsImageOfStore script.lines) (store_step script.lines) reads_in script.lives records trails
 
 -- The text is the report of such records.
 pub record IsReport (script : Script Op) (trails : List Ending) (text : List ℕ) : Type 0 where
@@ -33,14 +34,15 @@ abbrev pub text_left : Option Image → List ℕ
 text_left None = []
 text_left (Some image) = text_of image
 
--- The text is that of the image that the crash at the end of the last life left, of the table that was closed with that life's trail.
--- What is recovered from it is the base with which a next life would begin behind such records. Where there is no life there is no text.
+-- The text is that of the image that the crash at the end of the last life left, by the witness of such records. What is recovered from it is the base with
+-- which a next life would begin behind them. Where there is no life there is no text.
 pub record IsLastImage (script : Script Op) (trails : List Ending) (text : List ℕ) : Type 0 where
   pub records : List (LifeRecord Reply)
   pub are : AreRecords script trails records
   pub image : Option Image
   pub base : Option Base
-  pub left : HaveLeft (document_meaning script.lines) script.lines (IsImageOfStore script.lines) script.lives trails image
+  pub left : image ≡ last_image None are.told.ends
+  pub goes_on : base ≡ last_next None are.told.ends
   pub ends : HaveEnded (document_meaning script.lines) script.lines 2 (IsImageOfStore script.lines)
       (begun_by (document_meaning script.lines) (nothing_begun (document_meaning script.lines)) script.lives records) script.lives image base
   pub text_is : text ≡ text_left image

@@ -4,7 +4,7 @@ ghost use Rattle.std.specs.Prelude.{IfOk};
 ghost use Rattle.cx_lives.specs.Lives.{HaveLived};
 ghost use Rattle.doc_model.specs.Meaning.{IsOp};
 ghost use Rattle.doc_store.specs.DocumentMeaning.{document_meaning};
-ghost use Rattle.doc_store.specs.ExactStep.{IsImageOfStore};
+ghost use Rattle.doc_store.specs.ExactStep.{IsImageOfStore, reads_in, store_step};
 ghost use Rattle.life_records.specs.Limits.{KeepsLimits};
 
 use cx_base::Gate;
@@ -25,7 +25,7 @@ pub fn run_lives<R: Threads + Wait + Sync, G: Gate + Sync>(
     gate: &G,
 ) -> Result<Lived<Reply>, AllocError>
     requires { KeepsLimits IsOp 8 script.now }
-    ensures { IfOk result (HaveLived (document_meaning script.now.lines) script.now.lines 2 (IsImageOfStore script.now.lines) script.now.lives) }
+    ensures { IfOk result (HaveLived (document_meaning script.now.lines) script.now.lines 2 (IsImageOfStore script.now.lines) (store_step script.now.lines) reads_in script.now.lives) }
 {
     if script.lives.is_empty() {
         return Ok(Lived::new(alloc));

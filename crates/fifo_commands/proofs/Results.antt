@@ -3,9 +3,10 @@ use Rattle.std.proofs.Common.{◌≡◌, ◌==◌, ◌+◌, ◌<◌, ℕ, zero, 
 use Rattle.std.specs.List.{cons_option, filter, slice_get}
 use Rattle.std.specs.Prelude.{All}
 use Rattle.std.proofs.lemmas.Option.{none-some, same_Some}
+use Rattle.cx_core.specs.declared.entry.Base.{Base}
 use Rattle.cx_rule.specs.Ending.{Ending}
 use Rattle.cx_lives.proofs.Lists.{all_at}
-use Rattle.cx_lives.specs.Lives.{AreToldFrom}
+use Rattle.cx_lives.specs.Lives.{AreToldFrom, LifeEnd}
 use Rattle.life_records.specs.Begins.{Begun, begun_after, nothing_begun, results_after, with_result, words_to}
 use Rattle.life_records.specs.Lives.{ops_of, store_after_all, store_at}
 use Rattle.life_records.specs.Records.{JournalLine, Life}
@@ -14,7 +15,7 @@ use Rattle.fifo_object.specs.Queue.{Queue, reply_to}
 use Rattle.fifo_object.specs.Words.{reply_words}
 use Rattle.fifo_object.specs.declared.operations.FifoOp.{FifoOp}
 use Rattle.fifo_object.specs.declared.operations.FifoReply.{FifoReply}
-use Rattle.fifo_object.specs.Fifo.{IsFifo}
+use Rattle.fifo_object.specs.Fifo.{IsFifo, fifo_reads, fifo_step}
 use Rattle.fifo_object.specs.FifoMeaning.{fifo_meaning}
 use Rattle.fifo_commands.specs.FifoLives.{AreFifoLivesFrom, CommandHasReply, IsFifoLife, queue_at, uncut}
 use Rattle.fifo_commands.specs.Leaving.{with_no_stops}
@@ -102,25 +103,26 @@ result_more client before told =
     ap₂ result (sym (length-append (kept_of client before) own)) (last_more (replicate 144 0) (kept_of client before) own)
     ∙ ap (λ ls. result (length ls) (last_words (replicate 144 0) ls)) (sym (kept_more client before told))
 
-results_from : (lines place : ℕ) (queue : Queue) (before : List FifoRecord) (begun : Begun Queue) (lives : List FifoLife) (records : List FifoRecord) (trails : List Ending) →
-    AreFifoLivesFrom lines place queue lives records → AreToldFrom (fifo_meaning lines) lines (IsFifo lines) begun (map uncut lives) (map with_no_stops records) trails →
+results_from : (lines place : ℕ) (queue : Queue) (before : List FifoRecord) (begun : Begun Queue) (base : Base) (lives : List FifoLife) (records : List FifoRecord) (trails : List Ending) (ends : List LifeEnd) →
+    AreFifoLivesFrom lines place queue lives records → AreToldFrom (fifo_meaning lines) lines 16 (IsFifo lines) (fifo_step lines) fifo_reads begun base (map uncut lives) (map with_no_stops records) trails ends →
     begun.store ≡ queue → ((client : ℕ) → begun.results client ≡ result_of client before) → (i : ℕ) (trail : Ending) → slice_get trails i ≡ Some trail → HasResultsOf (before ++ take i records) trail.base
-results_from lines place queue before begun [] [] [] are told same results i trail at = absurd (none-some trail at)
-results_from lines place queue before begun [] [] (first ∷ trails) are told same results i trail at = absurd told
-results_from lines place queue before begun [] (one ∷ records) trails are told same results i trail at = absurd are
-results_from lines place queue before begun (life ∷ lives) [] trails are told same results i trail at = absurd are
-results_from lines place queue before begun (life ∷ lives) (one ∷ records) [] are told same results i trail at = absurd told
-results_from lines place queue before begun (life ∷ lives) (one ∷ records) (first ∷ trails) are told same results zero trail at =
-    let is = told.1 in
+results_from lines place queue before begun base [] [] [] ends are told same results i trail at = absurd (none-some trail at)
+results_from lines place queue before begun base [] [] (first ∷ trails) ends are told same results i trail at = absurd told
+results_from lines place queue before begun base [] (one ∷ records) trails ends are told same results i trail at = absurd are
+results_from lines place queue before begun base (life ∷ lives) [] trails ends are told same results i trail at = absurd are
+results_from lines place queue before begun base (life ∷ lives) (one ∷ records) [] ends are told same results i trail at = absurd told
+results_from lines place queue before begun base (life ∷ lives) (one ∷ records) (first ∷ trails) [] are told same results i trail at = absurd told
+results_from lines place queue before begun base (life ∷ lives) (one ∷ records) (first ∷ trails) (end_ ∷ ends) are told same results zero trail at =
+    let is = told.0.based in
     subst (λ (t : Ending). HasResultsOf (before ++ []) t.base) (same_Some first trail at)
     (subst (λ rs. HasResultsOf rs first.base) (sym (append-nil before)) (record {
       numbers = λ client below. is.numbers client below ∙ ap (λ (r : ℕ × List ℕ). r.0) (results client);
       replies = λ client below. is.replies client below ∙ ap (λ (r : ℕ × List ℕ). r.1) (results client);
     }))
-results_from lines place queue before begun (life ∷ lives) (one ∷ records) (first ∷ trails) are told same results (suc i) trail at =
+results_from lines place queue before begun base (life ∷ lives) (one ∷ records) (first ∷ trails) (end_ ∷ ends) are told same results (suc i) trail at =
     let m = fifo_meaning lines in
     subst (λ rs. HasResultsOf rs trail.base) (append_assoc before (one ∷ []) (take i records))
-    (results_from lines (place + one.kept) (queue_at lines queue life one.journal one.kept) (before ++ one ∷ []) (begun_after m begun (uncut life) one.journal one.kept) lives records trails are.1 told.2
+    (results_from lines (place + one.kept) (queue_at lines queue life one.journal one.kept) (before ++ one ∷ []) (begun_after m begun (uncut life) one.journal one.kept) end_.next lives records trails ends are.1 told.1
     (ap (λ s. store_at m s (uncut life) one.journal one.kept) same ∙ after_is lines queue (ops_of (uncut life) (take one.kept one.journal)))
     (λ client. results_are lines begun.store (uncut life) one.kept one.journal begun.results client (each_reply lines place begun.store queue life one same are.0)
     ∙ ap (λ (r : ℕ × List ℕ). with_more r (mine client (take one.kept one.journal))) (results client)
@@ -129,4 +131,4 @@ results_from lines place queue before begun (life ∷ lives) (one ∷ records) (
 
 pub have_results : (lines : ℕ) (lives : List FifoLife) (lived : FifoLived) → HaveFifoLived lines lives lived → (i : ℕ) (trail : Ending) → slice_get lived.trails i ≡ Some trail → HasResultsOf (take i lived.records) trail.base
 have_results lines lives lived have i trail at =
-    results_from lines 0 [] [] (nothing_begun (fifo_meaning lines)) lives lived.records lived.trails have.legal have.told refl (λ client. refl) i trail at
+    results_from lines 0 [] [] (nothing_begun (fifo_meaning lines)) have.told.first lives lived.records lived.trails have.told.ends have.legal have.told.each refl (λ client. refl) i trail at

@@ -10,7 +10,7 @@ use Rattle.life_records.specs.Records.{FullLine, LifeRecord, StopLine}
 use Rattle.life_records.specs.Scripts.{command_count}
 use Rattle.fifo_object.specs.Queue.{Queue}
 use Rattle.fifo_object.specs.declared.operations.FifoReply.{FifoReply}
-use Rattle.fifo_object.specs.Fifo.{IsFifo}
+use Rattle.fifo_object.specs.Fifo.{IsFifo, fifo_reads, fifo_step}
 use Rattle.fifo_object.specs.FifoMeaning.{fifo_meaning}
 use Rattle.fifo_commands.specs.FifoLives.{AreFifoLivesFrom, uncut}
 use Rattle.fifo_commands.specs.Leaving.{with_no_stops, without_cuts}
@@ -54,14 +54,14 @@ same_records lines place queue (life ∷ lives) [] are = absurd are
 same_records lines place queue (life ∷ lives) (told ∷ records) are =
     ap₂ (λ t ts. t ∷ ts) (same_record lines place queue life told are.0) (same_records lines (place + told.kept) _ lives records are.1)
 
-pub lived_is : (lines : ℕ) (lives : List FifoLife) (lived : Lived FifoReply) (left : FifoLived) → HaveLived (fifo_meaning lines) lines 16 (IsFifo lines) (map uncut lives) lived →
+pub lived_is : (lines : ℕ) (lives : List FifoLife) (lived : Lived FifoReply) (left : FifoLived) → HaveLived (fifo_meaning lines) lines 16 (IsFifo lines) (fifo_step lines) fifo_reads (map uncut lives) lived →
     left.records ≡ map without_cuts lived.records → left.trails ≡ lived.trails → HaveFifoLived lines lives left
 lived_is lines lives lived left have records trails = record {
   legal = subst (λ rs. AreFifoLivesFrom lines 0 [] lives rs) (sym records) (lives_from lines 0 [] lives lived.records have.legal);
   told =
-      subst (λ ts. AreTold (fifo_meaning lines) lines (IsFifo lines) (map uncut lives) (map with_no_stops left.records) ts) (sym trails)
-      (subst (λ rs. AreTold (fifo_meaning lines) lines (IsFifo lines) (map uncut lives) (map with_no_stops rs) lived.trails) (sym records)
-      (subst (λ rs. AreTold (fifo_meaning lines) lines (IsFifo lines) (map uncut lives) rs lived.trails) (sym (same_records lines 0 [] lives lived.records have.legal)) have.told));
+      subst (λ ts. AreTold (fifo_meaning lines) lines 16 (IsFifo lines) (fifo_step lines) fifo_reads (map uncut lives) (map with_no_stops left.records) ts) (sym trails)
+      (subst (λ rs. AreTold (fifo_meaning lines) lines 16 (IsFifo lines) (fifo_step lines) fifo_reads (map uncut lives) (map with_no_stops rs) lived.trails) (sym records)
+      (subst (λ rs. AreTold (fifo_meaning lines) lines 16 (IsFifo lines) (fifo_step lines) fifo_reads (map uncut lives) rs lived.trails) (sym (same_records lines 0 [] lives lived.records have.legal)) have.told));
 }
 
 -- ---- a life more of a script

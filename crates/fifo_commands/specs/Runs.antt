@@ -6,7 +6,7 @@ use Rattle.fifo_commands.specs.Leaving.{with_no_stops}
 use Rattle.fifo_commands.specs.declared.record.FifoLife.{FifoLife}
 use Rattle.fifo_commands.specs.declared.record.FifoScript.{FifoScript}
 use Rattle.fifo_object.specs.Queue.{IsOp}
-use Rattle.fifo_object.specs.Fifo.{IsFifo}
+use Rattle.fifo_object.specs.Fifo.{IsFifo, fifo_reads, fifo_step}
 use Rattle.fifo_object.specs.FifoMeaning.{fifo_meaning}
 use Rattle.life_records.specs.Limits.{IsLifeInLimits}
 use Rattle.life_records.specs.Scripts.{command_count}
@@ -24,4 +24,4 @@ pub record KeepsFifoLimits (script : FifoScript) : Type 0 where
 -- in which no client was stopped or ran out of free cells.
 pub record HaveFifoLived (lines : ℕ) (lives : List FifoLife) (lived : FifoLived) : Type 0 where
   pub legal : AreFifoLives lines lives lived.records
-  pub told : AreTold (fifo_meaning lines) lines (IsFifo lines) (map uncut lives) (map with_no_stops lived.records) lived.trails
+  pub told : AreTold (fifo_meaning lines) lines 16 (IsFifo lines) (fifo_step lines) fifo_reads (map uncut lives) (map with_no_stops lived.records) lived.trails

@@ -2,7 +2,7 @@
 use Rattle.std.specs.Prelude.{◌≡◌, ℕ, List, map}
 use Rattle.cx_rule.specs.Ending.{Ending}
 use Rattle.cx_lives.specs.Lives.{AreTold}
-use Rattle.fifo_object.specs.Fifo.{IsFifo}
+use Rattle.fifo_object.specs.Fifo.{IsFifo, fifo_reads, fifo_step}
 use Rattle.fifo_object.specs.FifoMeaning.{fifo_meaning}
 use Rattle.fifo_commands.specs.FifoLives.{AreFifoLives, uncut}
 use Rattle.fifo_commands.specs.Leaving.{with_no_stops}
@@ -15,5 +15,5 @@ use Rattle.fifo_commands.specs.Report.{queue_report_of}
 pub record IsFifoReport (script : FifoScript) (trails : List Ending) (text : List ℕ) : Type 0 where
   pub records : List FifoRecord
   pub lives : AreFifoLives script.lines script.lives records
-  pub told : AreTold (fifo_meaning script.lines) script.lines (IsFifo script.lines) (map uncut script.lives) (map with_no_stops records) trails
+  pub told : AreTold (fifo_meaning script.lines) script.lines 16 (IsFifo script.lines) (fifo_step script.lines) fifo_reads (map uncut script.lives) (map with_no_stops records) trails
   pub report : text ≡ queue_report_of script records

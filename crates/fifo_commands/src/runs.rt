@@ -6,7 +6,7 @@ ghost use Rattle.fifo_commands.specs.FifoLives.{uncut};
 ghost use Rattle.fifo_commands.specs.Leaving.{without_cuts};
 ghost use Rattle.fifo_object.specs.Queue.{IsOp};
 ghost use Rattle.fifo_object.specs.declared.operations.FifoOp.{FifoOp as queue_op};
-ghost use Rattle.fifo_object.specs.Fifo.{IsFifo};
+ghost use Rattle.fifo_object.specs.Fifo.{IsFifo, fifo_reads, fifo_step};
 ghost use Rattle.fifo_object.specs.FifoMeaning.{fifo_meaning};
 ghost use Rattle.fifo_commands.specs.Runs.{HaveFifoLived, KeepsFifoLimits};
 ghost use Rattle.life_records.specs.Limits.{IsLifeInLimits};
@@ -69,7 +69,7 @@ fn run_all<R: Threads + Wait + Sync, G: Gate + Sync>(
     requires few { fifo.now.lines ≤ 16384 }
     requires commands { command_count (map uncut lives.now) ≤ 100000 }
     requires each { All (λ life. IsLifeInLimits IsOp 8 (uncut life)) lives.now }
-    ensures { IfOk result (HaveLived (fifo_meaning fifo.now.lines) fifo.now.lines 16 (IsFifo fifo.now.lines) (map uncut lives.now)) }
+    ensures { IfOk result (HaveLived (fifo_meaning fifo.now.lines) fifo.now.lines 16 (IsFifo fifo.now.lines) (fifo_step fifo.now.lines) fifo_reads (map uncut lives.now)) }
 {
     let mut lived = Lived::new(alloc);
     for life in lives {
@@ -91,8 +91,8 @@ fn run_one<R: Threads + Wait + Sync, G: Gate + Sync>(
     requires enough { 64 ≤ fifo.now.lines }
     requires few { fifo.now.lines ≤ 16384 }
     requires life { IsLifeInLimits IsOp 8 (uncut life.now) }
-    requires lived { (lives : List (Life queue_op)) × HaveLived (fifo_meaning fifo.now.lines) fifo.now.lines 16 (IsFifo fifo.now.lines) lives lived × (command_count lives + length life.now.commands ≤ 100000) }
-    ensures { (lives : List (Life queue_op)) → HaveLived (fifo_meaning fifo.now.lines) fifo.now.lines 16 (IsFifo fifo.now.lines) lives lived → IfOk result (HaveLived (fifo_meaning fifo.now.lines) fifo.now.lines 16 (IsFifo fifo.now.lines) (lives ++ uncut life.now ∷ [])) }
+    requires lived { (lives : List (Life queue_op)) × HaveLived (fifo_meaning fifo.now.lines) fifo.now.lines 16 (IsFifo fifo.now.lines) (fifo_step fifo.now.lines) fifo_reads lives lived × (command_count lives + length life.now.commands ≤ 100000) }
+    ensures { (lives : List (Life queue_op)) → HaveLived (fifo_meaning fifo.now.lines) fifo.now.lines 16 (IsFifo fifo.now.lines) (fifo_step fifo.now.lines) fifo_reads lives lived → IfOk result (HaveLived (fifo_meaning fifo.now.lines) fifo.now.lines 16 (IsFifo fifo.now.lines) (fifo_step fifo.now.lines) fifo_reads (lives ++ uncut life.now ∷ [])) }
 {
     let lent = BorrowedLife::of(life.clients, life.choice, &[], life.commands.as_slice());
     run_next_life(rt, alloc, fifo, lived, &lent, gate)

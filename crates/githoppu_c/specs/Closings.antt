@@ -1,5 +1,8 @@
 -- What C is answered where it closes a session, and where it asks for an image.
 use Rattle.std.specs.Prelude.{◌≡◌, ◌≢◌, ◌⊎◌, ◌+◌, ℕ, ℤ, pos, List, length}
+use Rattle.std.specs.Arc.{arc_value}
+use Rattle.cx_service.specs.Closes.{seats_of}
+use Rattle.cx_service.specs.declared.close.Handed.{Handed}
 use Rattle.cx_table.specs.declared.remains.Remains.{Remains}
 use Rattle.recovery.specs.Images.{image_size}
 use Rattle.c_images.specs.Words.{AreRemainsWritten}
@@ -10,23 +13,23 @@ use Rattle.c_sessions.specs.declared.close.Closing.TheVariants.{Again, Closed, K
 use Rattle.doc_store.specs.declared.store.DocStore.{DocStore}
 use Rattle.fifo_object.specs.declared.fifo.Fifo.{Fifo}
 use Rattle.githoppu_c.specs.Codes.{closing_code}
-use Rattle.githoppu_c.specs.Objects.{ClosesQueue, ClosesQueueTo, ClosesStore, ClosesStoreTo, IsClosedQueue, IsClosedStore}
+use Rattle.githoppu_c.specs.Objects.{ClosesQueue, ClosesQueueTo, ClosesStore, ClosesStoreTo, IsClosedQueueWith, IsClosedStoreWith}
 use Rattle.githoppu_c.specs.declared.content.Content.{Content}
 use Rattle.githoppu_c.specs.declared.content.Content.TheVariants.{Documents, Queue, KeptDocuments, KeptQueue, RestDocuments, RestQueue, ClosedDocuments, ClosedQueue, Gone}
 
 -- what C holds afterwards
 abbrev pub content_left : Closing DocStore → Content
 content_left (Again session) = Documents session
-content_left (Closed remains) = ClosedDocuments remains
-content_left (Kept kept) = KeptDocuments kept
+content_left (Closed remains account) = ClosedDocuments remains
+content_left (Kept kept account) = KeptDocuments kept
 content_left (Missing rest) = RestDocuments rest
 content_left (Shared rest) = RestDocuments rest
 content_left closing = Gone
 
 abbrev pub queue_left : Closing Fifo → Content
 queue_left (Again session) = Queue session
-queue_left (Closed remains) = ClosedQueue remains
-queue_left (Kept kept) = KeptQueue kept
+queue_left (Closed remains account) = ClosedQueue remains
+queue_left (Kept kept account) = KeptQueue kept
 queue_left (Missing rest) = RestQueue rest
 queue_left (Shared rest) = RestQueue rest
 queue_left closing = Gone
@@ -43,10 +46,10 @@ ClosesRest {O = O} closes left after code = (closing : Closing O) × closes clos
 abbrev pub ClosesAs : Content → Content → ℤ → Type 0
 ClosesAs (Documents session) after code = (closing : Closing DocStore) × ClosesStore session closing × (after ≡ content_left closing) × (code ≡ closing_code closing)
 ClosesAs (Queue session) after code = (closing : Closing Fifo) × ClosesQueue session closing × (after ≡ queue_left closing) × (code ≡ closing_code closing)
-ClosesAs (KeptDocuments kept) after code = ClosesKept (IsClosedStore kept.service) ClosedDocuments (KeptDocuments kept) after code
-ClosesAs (KeptQueue kept) after code = ClosesKept (IsClosedQueue kept.service) ClosedQueue (KeptQueue kept) after code
-ClosesAs (RestDocuments rest) after code = ClosesRest (λ closing. (r : Running DocStore) → IsSessionRestOf r rest → ClosesStoreTo r closing) content_left after code
-ClosesAs (RestQueue rest) after code = ClosesRest (λ closing. (r : Running Fifo) → IsSessionRestOf r rest → ClosesQueueTo r closing) queue_left after code
+ClosesAs (KeptDocuments kept) after code = ClosesKept (IsClosedStoreWith kept.service (seats_of kept.callers.items)) ClosedDocuments (KeptDocuments kept) after code
+ClosesAs (KeptQueue kept) after code = ClosesKept (IsClosedQueueWith kept.service (seats_of kept.callers.items)) ClosedQueue (KeptQueue kept) after code
+ClosesAs (RestDocuments rest) after code = ClosesRest (λ closing. (r : Running DocStore) (given : List Handed) → IsSessionRestOf r given rest → ClosesStoreTo r (arc_value rest.exit.handover) given closing) content_left after code
+ClosesAs (RestQueue rest) after code = ClosesRest (λ closing. (r : Running Fifo) (given : List Handed) → IsSessionRestOf r given rest → ClosesQueueTo r (arc_value rest.exit.handover) given closing) queue_left after code
 ClosesAs before after code = (after ≡ before) × (code ≡ pos 6)
 
 -- how many words an image has of what a closed service left

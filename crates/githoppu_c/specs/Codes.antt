@@ -23,9 +23,9 @@ code_of OutOfTurn = pos 6
 
 -- the number of the result of closing a session
 abbrev pub closing_code : {O : Type 0} → Closing O → ℤ
-closing_code (Closed remains) = pos 0
+closing_code (Closed remains account) = pos 0
 closing_code (ClosingAgain session) = pos 2
-closing_code (Kept kept) = pos 8
+closing_code (Kept kept account) = pos 8
 closing_code Others = pos 11
 closing_code (Missing rest) = pos 12
 closing_code (Shared rest) = pos 2

@@ -7,6 +7,7 @@ use Rattle.doc_store.specs.ExactStep.{reads_in}
 use Rattle.fifo_object.specs.Fifo.{fifo_reads}
 use Rattle.cx_rule.specs.Running.{Running}
 use Rattle.cx_service.specs.Closes.{seats_of}
+use Rattle.cx_service.specs.declared.close.Handed.{Handed}
 use Rattle.cx_table.specs.Remains.{AreSeats}
 use Rattle.doc_store.specs.declared.store.DocStore.{DocStore}
 use Rattle.fifo_object.specs.declared.fifo.Fifo.{Fifo}
@@ -26,8 +27,8 @@ IsCallable (Documents session) = IsSessionReady session × KeepsDocumentReplies 
 IsCallable (Queue session) = IsSessionReady session × KeepsQueueReplies (arc_value session.service)
 IsCallable (KeptDocuments kept) = AreSeats kept.service (seats_of kept.callers.items) × KeepsDocumentReplies kept.service
 IsCallable (KeptQueue kept) = AreSeats kept.service (seats_of kept.callers.items) × KeepsQueueReplies kept.service
-IsCallable (RestDocuments rest) = (r : Running DocStore) × IsSessionRestOf r rest × KeepsDocumentReplies r
-IsCallable (RestQueue rest) = (r : Running Fifo) × IsSessionRestOf r rest × KeepsQueueReplies r
+IsCallable (RestDocuments rest) = (r : Running DocStore) × (given : List Handed) × IsSessionRestOf r given rest × KeepsDocumentReplies r
+IsCallable (RestQueue rest) = (r : Running Fifo) × (given : List Handed) × IsSessionRestOf r given rest × KeepsQueueReplies r
 IsCallable (ClosedDocuments remains) = (r : Running DocStore) × IsClosedStore r remains × KeepsDocumentReplies r
 IsCallable (ClosedQueue remains) = (r : Running Fifo) × IsClosedQueue r remains × KeepsQueueReplies r
 IsCallable Gone = Unit {0}

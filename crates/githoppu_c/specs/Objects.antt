@@ -3,14 +3,17 @@ use Rattle.std.specs.Prelude.{◌≡◌, ◌⊎◌, ℕ, ℤ, pos, List}
 use Rattle.cx_base.specs.OldFormat.{no_old_format}
 use Rattle.cx_core.specs.declared.entry.Base.{Base}
 use Rattle.cx_rule.specs.Running.{IsRunning, Running}
+use Rattle.cx_rule.specs.Seats.{Seated}
+use Rattle.cx_service.specs.declared.close.Handed.{Handed}
 use Rattle.cx_table.specs.declared.remains.Remains.{Remains}
 use Rattle.c_images.specs.Replies.{HoldsReplies, IsDocumentReply, IsQueueReply}
 use Rattle.c_images.specs.Words.{IsTakenUp, IsWordsFault, lines_in}
 use Rattle.c_images.specs.declared.reader.WordsFault.{WordsFault}
 use Rattle.c_images.specs.declared.reader.WordsFault.TheVariants.{Image}
 use Rattle.recovery.specs.declared.recovered_base.ImageFault.TheVariants.{Body}
-use Rattle.c_sessions.specs.Closings.{Closes, ClosesTo, IsClosedOf}
+use Rattle.c_sessions.specs.Closings.{Closes, ClosesTo, IsClosedOf, IsClosedWith}
 use Rattle.c_sessions.specs.declared.close.Closing.{Closing}
+use Rattle.c_sessions.specs.declared.handover.Handover.{Handover}
 use Rattle.c_sessions.specs.declared.session.Session.{Session}
 use Rattle.doc_store.specs.declared.store.DocStore.{DocStore}
 use Rattle.doc_store.specs.ExactStep.{IsImageOfStore, first_format, reads_in, store_step}
@@ -31,6 +34,13 @@ IsClosedStore = IsClosedOf (λ (s : DocStore). s.lines) (λ s. IsImageOfStore s.
 abbrev pub IsClosedQueue : Running Fifo → Remains → Type 0
 IsClosedQueue = IsClosedOf (λ (f : Fifo). f.lines) (λ f. IsFifo f.lines) (λ f. fifo_step f.lines) (λ _. fifo_reads)
 
+-- the same with these seats of its callers
+abbrev pub IsClosedStoreWith : Running DocStore → List Seated → Remains → Type 0
+IsClosedStoreWith = IsClosedWith (λ (s : DocStore). s.lines) (λ s. IsImageOfStore s.lines) (λ s. store_step s.lines) (λ _. reads_in)
+
+abbrev pub IsClosedQueueWith : Running Fifo → List Seated → Remains → Type 0
+IsClosedQueueWith = IsClosedWith (λ (f : Fifo). f.lines) (λ f. IsFifo f.lines) (λ f. fifo_step f.lines) (λ _. fifo_reads)
+
 -- the result of closing a session of either
 abbrev pub ClosesStore : Session DocStore → Closing DocStore → Type 0
 ClosesStore = Closes (λ (s : DocStore). s.lines) (λ s. IsImageOfStore s.lines) (λ s. store_step s.lines) (λ _. reads_in)
@@ -39,10 +49,10 @@ abbrev pub ClosesQueue : Session Fifo → Closing Fifo → Type 0
 ClosesQueue = Closes (λ (f : Fifo). f.lines) (λ f. IsFifo f.lines) (λ f. fifo_step f.lines) (λ _. fifo_reads)
 
 -- and what closing the rest of either did
-abbrev pub ClosesStoreTo : Running DocStore → Closing DocStore → Type 0
+abbrev pub ClosesStoreTo : Running DocStore → Handover DocStore → List Handed → Closing DocStore → Type 0
 ClosesStoreTo = ClosesTo (λ (s : DocStore). s.lines) (λ s. IsImageOfStore s.lines) (λ s. store_step s.lines) (λ _. reads_in)
 
-abbrev pub ClosesQueueTo : Running Fifo → Closing Fifo → Type 0
+abbrev pub ClosesQueueTo : Running Fifo → Handover Fifo → List Handed → Closing Fifo → Type 0
 ClosesQueueTo = ClosesTo (λ (f : Fifo). f.lines) (λ f. IsFifo f.lines) (λ f. fifo_step f.lines) (λ _. fifo_reads)
 
 -- a service was opened with results that keep replies of a store, or of a queue

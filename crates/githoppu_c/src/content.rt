@@ -167,8 +167,8 @@ fn store_closed(closing: Closing<DocStore>) -> (Content, i32)
     match closing {
         Closing::Others => (Content::Gone, OTHERS),
         Closing::Again(session) => (Content::Documents(session), AGAIN),
-        Closing::Closed(remains) => (Content::ClosedDocuments(remains), DONE),
-        Closing::Kept(kept) => (Content::KeptDocuments(kept), NO_MEMORY),
+        Closing::Closed(remains, _) => (Content::ClosedDocuments(remains), DONE),
+        Closing::Kept(kept, _) => (Content::KeptDocuments(kept), NO_MEMORY),
         Closing::Missing(rest) => (Content::RestDocuments(rest), LOST),
         Closing::Shared(rest) => (Content::RestDocuments(rest), AGAIN),
     }
@@ -181,8 +181,8 @@ fn queue_closed(closing: Closing<Fifo>) -> (Content, i32)
     match closing {
         Closing::Others => (Content::Gone, OTHERS),
         Closing::Again(session) => (Content::Queue(session), AGAIN),
-        Closing::Closed(remains) => (Content::ClosedQueue(remains), DONE),
-        Closing::Kept(kept) => (Content::KeptQueue(kept), NO_MEMORY),
+        Closing::Closed(remains, _) => (Content::ClosedQueue(remains), DONE),
+        Closing::Kept(kept, _) => (Content::KeptQueue(kept), NO_MEMORY),
         Closing::Missing(rest) => (Content::RestQueue(rest), LOST),
         Closing::Shared(rest) => (Content::RestQueue(rest), AGAIN),
     }

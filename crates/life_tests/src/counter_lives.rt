@@ -2,7 +2,7 @@
 
 ghost use Rattle.std.specs.Prelude.{◌≡◌, ◌⊎◌, ◌+◌, ◌<◌, ◌≤◌, ◌^◌, ℕ, List, [], ◌∷◌, ◌++◌, All, IfOk, length, vec_len};
 ghost use Rattle.bounded_counters.specs.CounterMeaning.{IsOp, counter_meaning};
-ghost use Rattle.bounded_counters.specs.Counters.{IsCounters};
+ghost use Rattle.bounded_counters.specs.Counters.{IsCounters, counters_read_only, counters_step};
 ghost use Rattle.bounded_counters.specs.declared.operations.Op.{Op as counter_op};
 ghost use Rattle.life_records.specs.Limits.{IsLifeInLimits, KeepsLimits};
 ghost use Rattle.life_records.specs.Scripts.{command_count};
@@ -54,7 +54,7 @@ fn counter_lives<R: Threads + Wait + Sync>(
     requires enough { 64 ≤ counters.now.lines }
     requires few { counters.now.lines ≤ 16384 }
     requires limits { KeepsLimits IsOp 8 script.now }
-    ensures { IfOk result (HaveLived (counter_meaning counters.now.lines counters.now.bound) counters.now.lines 1 (IsCounters counters.now.lines counters.now.bound) script.now.lives) }
+    ensures { IfOk result (HaveLived (counter_meaning counters.now.lines counters.now.bound) counters.now.lines 1 (IsCounters counters.now.lines counters.now.bound) (counters_step counters.now.bound) counters_read_only script.now.lives) }
 {
     run_lives(rt, alloc, counters, script, &OpenGate)
 }
@@ -70,8 +70,8 @@ fn with_life<R: Threads + Wait + Sync>(
     requires enough { 64 ≤ counters.now.lines }
     requires few { counters.now.lines ≤ 16384 }
     requires commands { All (λ c. (c.client ≡ 0) × IsOp c.op) commands.now }
-    requires lived { (lives : List (any_life counter_op)) × HaveLived (counter_meaning counters.now.lines counters.now.bound) counters.now.lines 1 (IsCounters counters.now.lines counters.now.bound) lives lived × (command_count lives + length commands.now ≤ 100000) }
-    ensures { (lives : List (any_life counter_op)) → HaveLived (counter_meaning counters.now.lines counters.now.bound) counters.now.lines 1 (IsCounters counters.now.lines counters.now.bound) lives lived → IfOk result (HaveLived (counter_meaning counters.now.lines counters.now.bound) counters.now.lines 1 (IsCounters counters.now.lines counters.now.bound) (lives ++ record { clients = 1; choice = 0; cuts = []; commands = commands.now } ∷ [])) }
+    requires lived { (lives : List (any_life counter_op)) × HaveLived (counter_meaning counters.now.lines counters.now.bound) counters.now.lines 1 (IsCounters counters.now.lines counters.now.bound) (counters_step counters.now.bound) counters_read_only lives lived × (command_count lives + length commands.now ≤ 100000) }
+    ensures { (lives : List (any_life counter_op)) → HaveLived (counter_meaning counters.now.lines counters.now.bound) counters.now.lines 1 (IsCounters counters.now.lines counters.now.bound) (counters_step counters.now.bound) counters_read_only lives lived → IfOk result (HaveLived (counter_meaning counters.now.lines counters.now.bound) counters.now.lines 1 (IsCounters counters.now.lines counters.now.bound) (counters_step counters.now.bound) counters_read_only (lives ++ record { clients = 1; choice = 0; cuts = []; commands = commands.now } ∷ [])) }
 {
     let life = BorrowedLife::of(1, 0, &[], commands);
     run_next_life(rt, alloc, counters, lived, &life, &OpenGate)

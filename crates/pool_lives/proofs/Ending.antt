@@ -1,11 +1,12 @@
 -- A life of a pool that ended in a crash is a pool life, told by its trail.
-use Rattle.std.proofs.Common.{◌≡◌, ◌∙◌, ℕ, List, ap, arith, length, subst, sym}
+use Rattle.std.proofs.Common.{◌≡◌, ◌∙◌, ℕ, List, ap, arith, length, refl, subst, sym}
 use Rattle.std.proofs.lemmas.List.{length-map}
 use Rattle.cx_base.specs.declared.object.Object.{Ghosts}
 use Rattle.cx_core.specs.Shown.{shown}
 use Rattle.cx_core.specs.State.{Instance}
 use Rattle.cx_core.specs.declared.entry.Base.{Base}
 use Rattle.cx_core.specs.declared.entry.Entry.{Entry}
+use Rattle.cx_lives.proofs.Crashing.{closed_table}
 use Rattle.cx_lives.proofs.Recovering.{keeps_to}
 use Rattle.cx_lives.specs.Crash.{EndsInCrash, HasCrashed}
 use Rattle.cx_lives.specs.Life.{IsServiceOf}
@@ -19,8 +20,9 @@ use Rattle.life_records.specs.Lives.{IsLegalLife}
 use Rattle.life_records.specs.Records.{Life, LifeRecord, Meaning}
 use Rattle.pool_lives.specs.PoolLives.{AreToldIn}
 use Rattle.pool_lives.specs.Recorded.{HaveTickets, IsPoolRecorded}
-use Rattle.pool_lives.specs.PoolRuns.{HasPooled, IsLifeOfPool}
+use Rattle.pool_lives.specs.PoolRuns.{HasPooledOver, IsLifeOfPool}
 use Rattle.pool_lives.specs.Running.{HasMet}
+use Rattle.typed_object.specs.Meaning.{HasMeaning}
 
 -- the record with what was kept
 abbrev pub with_kept : {Reply : Type 0} → LifeRecord Reply → ℕ → ℕ → LifeRecord Reply
@@ -81,14 +83,15 @@ module _ {O Op Reply Store : Type 0} {o : Ghosts O} {m : Meaning Op Reply Store}
       let count = leaves.state.shape.count in
       omega (arith, ap length leaves.locals, ap length leaves.shows, length-map leaves.whole shown, count, is.callers_are)
 
-  pub pooled : IsLegalLife m base.place m.opening life flagged → AreToldIn m.encoding life base.place crash.keeps.law.history remains.trail.locals flagged → HasPooled m life seats flagged remains
-  pooled legal tells = record {
+  pub pooled : IsLegalLife m base.place m.opening life flagged → AreToldIn m.encoding life base.place crash.keeps.law.history remains.trail.locals flagged → (opening : List ℕ) → HasMeaning (o.lawful object) opening (o.step object) (o.only_reads object) m → HasPooledOver o object m life seats flagged remains
+  pooled legal tells opening means = record {
     legal = record { legal = subst (λ (p : ℕ). IsLegalLife m p m.opening life flagged) based.at_place legal; stops = met.stops; fulls = met.fulls };
     tells = record {
       callers = callers_are;
       is_told =
           subst (λ (p : ℕ). AreToldIn m.encoding life p remains.trail.history remains.trail.locals flagged) (sym (ap (λ (b : Base). b.place) met.leaves.base ∙ at_base))
           (subst (λ (h : List Entry). AreToldIn m.encoding life base.place h remains.trail.locals flagged) crash.keeps.history tells);
+      order = record { opening = opening; means = means; seats = met.seats; remains = remains; closed = closed_table o.step o.only_reads is met.leaves met.order; trail_is = refl };
       kept = keeps_to ends (met.leaves.callers ∙ is.callers_are) (met.from ∙ at_base);
     };
     callers = met.leaves.callers ∙ is.callers_are;

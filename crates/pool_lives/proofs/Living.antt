@@ -53,6 +53,7 @@ module _ {O Op Reply Store : Type 0} (m : Meaning Op Reply Store) (steps : O →
       record {
         seats = seats_of closed.handed;
         leaves = closed.leaves;
+        order = closed.order;
         clients = locals_from 0 calls;
         count = locals_long 0 calls ∙ AllZip-long (HasCalls r) g.clients.items calls gathered.has ∙ all;
         entries = es;

@@ -2,8 +2,8 @@
 use Rattle.std.proofs.Common.{◌≡◌, ◌∙◌, ◌+◌, ◌-◌, ◌<◌, ◌≤◌, inl, inr, ℕ, zero, suc, List, [], ◌∷◌, None, Some, ap, arith, filter, length, map, refl, slice_get, subst, sym}
 use Rattle.std.specs.Prelude.{All, Contains}
 use Rattle.std.specs.Option.{option_map}
-use Rattle.std.proofs.lemmas.List.Elements.{All-cons, All-contains, All-head, All-nil, All-tail}
-use Rattle.std.proofs.lemmas.Option.{none-some, same_Some, slice_get-map}
+use Rattle.std.proofs.lemmas.List.Elements.{All-cons, All-contains, All-head, All-nil, All-tail, Contains-get_or}
+use Rattle.std.proofs.lemmas.Option.{get_or_from_slice_get, none-some, same_Some, slice_get-map, slice_get_within}
 use Rattle.cx_core.specs.State.{Instance}
 use Rattle.cx_core.specs.declared.entry.Entry.{Entry as HistoryEntry}
 use Rattle.cx_core.specs.declared.local.Local.{Local}
@@ -26,13 +26,16 @@ use Rattle.pool_lives.specs.Ghosts.{answer_of, as_own, local_of, locals_from, se
 use Rattle.seat_pool.specs.Gathering.{one_at}
 use Rattle.seat_pool.specs.declared.hand.Told.{Told}
 
+contains_at : {X : Type 0} (xs : List X) (i : ℕ) (x : X) → slice_get xs i ≡ Some x → Contains xs x
+contains_at xs i x at = subst (Contains xs) (get_or_from_slice_get xs i x x at) (Contains-get_or xs i x (slice_get_within xs i x at))
+
 -- what a client was answered is of callers
 module _ (instance : Instance) (history : List HistoryEntry) (locals : List Local) (client : ℕ) where
   entries_are : (calls : List Call) → All (IsCallersCall locals) calls → All (IsEntryOfSomeCaller locals) (map (as_own client) (entries_called calls))
   entries_are [] all = All-nil (IsEntryOfSomeCaller locals)
   entries_are (Entry told ∷ calls) all =
       let is = All-head (IsCallersCall locals) (Entry told) calls all in
-      All-cons (IsEntryOfSomeCaller locals) (as_own client told) (map (as_own client) (entries_called calls)) (record { caller = told.caller; local = is.local; of_caller = is.of_caller; entry = told.entry; there = is.own; ticket = refl; op = refl })
+      All-cons (IsEntryOfSomeCaller locals) (as_own client told) (map (as_own client) (entries_called calls)) (record { caller = told.caller; local = is.local; of_caller = is.of_caller; entry = told.entry; there = contains_at is.local.own is.index told.entry is.own; ticket = refl; op = refl })
       (entries_are calls (All-tail (IsCallersCall locals) (Entry told) calls all))
   entries_are (Look read ∷ calls) all = entries_are calls (All-tail (IsCallersCall locals) (Look read) calls all)
 
@@ -41,7 +44,7 @@ module _ (instance : Instance) (history : List HistoryEntry) (locals : List Loca
   answers_are (Entry told ∷ calls) each all =
       let is = All-head (IsCallersCall locals) (Entry told) calls all in
       let call = All-head (IsCallOf instance history) (Entry told) calls each in
-      All-cons (IsCallersAnswer locals) (answer_of told) (map answer_of (entries_called calls)) (record { caller = told.caller; local = is.local; of_caller = is.of_caller; there = is.answered; entry = told.entry; linked = is.own; at = call.ticket })
+      All-cons (IsCallersAnswer locals) (answer_of told) (map answer_of (entries_called calls)) (record { caller = told.caller; local = is.local; of_caller = is.of_caller; there = contains_at is.local.answered is.index told.answer is.answered; entry = told.entry; linked = contains_at is.local.own is.index told.entry is.own; at = call.ticket })
       (answers_are calls (All-tail (IsCallOf instance history) (Entry told) calls each) (All-tail (IsCallersCall locals) (Entry told) calls all))
   answers_are (Look read ∷ calls) each all = answers_are calls (All-tail (IsCallOf instance history) (Look read) calls each) (All-tail (IsCallersCall locals) (Look read) calls all)
 
@@ -51,7 +54,7 @@ module _ (instance : Instance) (history : List HistoryEntry) (locals : List Loca
   reads_are before (Look read ∷ calls) all =
       let is = All-head (IsCallersCall locals) (Look read) calls all in
       let x : SeenRead = record { place = read.place; op = read.op; reply = read.reply; before = before } in
-      All-cons (IsReadOfSomeCaller locals) x (seen_from before calls) (record { caller = is.caller; local = is.local; of_caller = is.of_caller; read = read; there = is.seen; place = refl; op = refl; reply = refl })
+      All-cons (IsReadOfSomeCaller locals) x (seen_from before calls) (record { caller = is.caller; local = is.local; of_caller = is.of_caller; read = read; there = contains_at is.local.seen_reads is.index read is.seen; place = refl; op = refl; reply = refl })
       (reads_are before calls (All-tail (IsCallersCall locals) (Look read) calls all))
 
   are_callers : (calls : List Call) → All (IsCallOf instance history) calls → All (IsCallersCall locals) calls → AreOfCallers locals (local_of client calls)

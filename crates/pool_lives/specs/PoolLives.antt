@@ -1,9 +1,10 @@
 -- A life whose clients share the callers of a service.
-use Rattle.std.specs.Prelude.{◌≡◌, ◌+◌, ◌-◌, ◌%◌, ℕ, List, [], All, Contains, IfSome, Some, length, slice_get, slice_index}
+use Rattle.std.specs.Prelude.{◌≡◌, ◌+◌, ◌-◌, ◌%◌, ℕ, Bool, List, [], All, Contains, IfSome, Some, length, slice_get, slice_index}
 use Rattle.cx_base.specs.Codes.{root_place_of}
 use Rattle.cx_core.specs.declared.entry.Entry.{Entry}
 use Rattle.cx_core.specs.declared.local.Local.{Local}
 use Rattle.cx_core.specs.declared.local.SeenRead.{SeenRead}
+use Rattle.cx_lives.specs.Lives.{IsLinearized}
 use Rattle.cx_rule.specs.Ending.{Ending}
 use Rattle.life_records.specs.Lives.{IsLegalLife}
 use Rattle.life_records.specs.Records.{Encoding, JournalLine, Life, LifeRecord, Meaning, ReadLine}
@@ -40,9 +41,11 @@ pub record AreToldIn {Op Reply : Type 0} (encoding : Encoding Op Reply) (life : 
       (line.ticket ≡ place + i) × IsPoolEntry encoding life locals entry line
   pub reads : All (IsPoolRead encoding life locals) told.reads
 
--- A record is witnessed by the execution log of a service of this many callers. The life's choice takes the code whose place ends what was kept, from the
--- codes with which the service ended.
-pub record IsPoolTold {Op Reply : Type 0} (encoding : Encoding Op Reply) (life : Life Op) (seats : ℕ) (trail : Ending) (told : LifeRecord Reply) : Type 0 where
+-- A record is witnessed by the execution log of a service of this many callers, whose history is a linearization of what these did. The life's choice takes the
+-- code whose place ends what was kept, from the codes with which the service ended.
+pub record IsPoolTold {Op Reply Store : Type 0} (m : Meaning Op Reply Store) (lines : ℕ) (is_lawful : List ℕ → Type 0) (step : List ℕ → List ℕ → List ℕ × List ℕ) (reads : List ℕ → Bool)
+    (life : Life Op) (seats : ℕ) (trail : Ending) (told : LifeRecord Reply) : Type 0 where
   pub callers : length trail.locals ≡ seats
-  pub is_told : AreToldIn encoding life trail.base.place trail.history trail.locals told
+  pub is_told : AreToldIn m.encoding life trail.base.place trail.history trail.locals told
+  pub order : IsLinearized m lines is_lawful step reads seats trail
   pub kept : told.kept ≡ root_place_of seats (slice_index trail.chain (life.choice % length trail.chain)) - told.from

@@ -1,5 +1,6 @@
 -- The result of a life of a pool that is run.
-use Rattle.std.specs.Prelude.{◌≡◌, ◌≤◌, ℕ, true, [], length}
+use Rattle.std.specs.Prelude.{◌≡◌, ◌≤◌, ℕ, Bool, true, List, [], length}
+use Rattle.cx_base.specs.declared.object.Object.{Ghosts}
 use Rattle.cx_table.specs.declared.remains.Remains.{Remains}
 use Rattle.life_records.specs.Begins.{IsBaseOf, nothing_begun}
 use Rattle.life_records.specs.Limits.{IsLifeInLimits}
@@ -18,8 +19,13 @@ pub record IsProbe {Op Reply Store : Type 0} (m : Meaning Op Reply Store) (op : 
   pub reads : m.is_reading op ≡ true
 
 -- The record is one of a pool life, witnessed by the execution log of what a service of this many callers leaves, which began with nothing.
-pub record HasPooled {Op Reply Store : Type 0} (m : Meaning Op Reply Store) (life : Life Op) (seats : ℕ) (told : LifeRecord Reply) (remains : Remains) : Type 0 where
+pub record HasPooled {Op Reply Store : Type 0} (m : Meaning Op Reply Store) (lines : ℕ) (is_lawful : List ℕ → Type 0) (step : List ℕ → List ℕ → List ℕ × List ℕ) (reads : List ℕ → Bool)
+    (life : Life Op) (seats : ℕ) (told : LifeRecord Reply) (remains : Remains) : Type 0 where
   pub legal : IsPoolLife m life told
-  pub tells : IsPoolTold m.encoding life seats remains.trail told
+  pub tells : IsPoolTold m lines is_lawful step reads life seats remains.trail told
   pub callers : remains.callers ≡ seats
   pub began : IsBaseOf m remains.trail.base (nothing_begun m)
+
+-- the same over an object, whose lines, lawful words and steps they are
+abbrev pub HasPooledOver : {O Op Reply Store : Type 0} → Ghosts O → O → Meaning Op Reply Store → Life Op → ℕ → LifeRecord Reply → Remains → Type 0
+HasPooledOver o object m = HasPooled m (o.line_count object) (o.lawful object) (o.step object) (o.only_reads object)

@@ -2,7 +2,7 @@
 
 ghost use Rattle.std.specs.Prelude.{IfOk};
 ghost use Rattle.cx_service.specs.Starts.{AreFewCallers, AreFewLines};
-ghost use Rattle.pool_lives.specs.PoolRuns.{HasPooled, IsLifeOfPool, IsProbe};
+ghost use Rattle.pool_lives.specs.PoolRuns.{HasPooledOver, IsLifeOfPool, IsProbe};
 
 use crate::laws::told_pools_have_lived;
 use crate::life::live;
@@ -37,7 +37,7 @@ pub fn run_pool<O: TypedObject + Sync, R: Threads + Wait + Sync, G: Gate + Sync>
     requires life { IsLifeOfPool (O.meaning object.now) life.now }
     requires probe { IsProbe (O.meaning object.now) probe.now }
     requires seats { AreFewCallers seats }
-    ensures { IfOk result (λ r. HasPooled (O.meaning object.now) life.now seats r.0 r.1) }
+    ensures { IfOk result (λ r. HasPooledOver O.Object object.now (O.meaning object.now) life.now seats r.0 r.1) }
 {
     let base = first_base(alloc, object)?;
     let (service, callers) = start(alloc, object, seats, &base)?;

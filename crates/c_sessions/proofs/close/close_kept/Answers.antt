@@ -1,6 +1,5 @@
 use Rattle.std.proofs.Common.{◌≡◌, IfErr, IfOk, MatchResult, Ok, Err, Result, subst}
 use Rattle.cx_core.specs.Base.{LawfulBase}
-use Rattle.cx_service.specs.Closes.{seats_of}
 use Rattle.c_sessions.proofs.close.close_kept.Goals as goal
 
 -- what holds of either result, from what holds of each
@@ -14,7 +13,6 @@ returns g c =
     matched c.close.result _ _ _ _ c.close.ensures.remains c.close.ensures.kept
     (λ r closed. record {
       opened = record { lines = running.lines; enough = running.enough; small = running.small; base = subst (λ n. LawfulBase n (g.O.Object.lawful c.args.kept.service.object) c.args.kept.service.base) running.lines running.base };
-      seats = seats_of c.args.kept.callers.items;
       all = c.requires;
       leaves = closed.leaves;
       order = closed.order;

@@ -5,12 +5,12 @@ use Rattle.c_sessions.proofs.gather.gather.Goals as goal
 
 pub take-requires : goal.take-requires
 take-requires g c =
-    let has = c.loop-pass.invariant.taken c.requires.taken.0 c.requires.taken.1 in
+    let has = c.loop-pass.invariant.taken c.requires.taken.0 c.requires.taken.1 c.requires.taken.2 in
     (has.of, c.requires.taken.0, ap (λ (v : Knows _). v.home) has.is)
 
 pub loop-pass-preserved : goal.loop-pass-preserved
 loop-pass-preserved g c = record {
-  taken = λ r was. has_more r c.args.handover.now c.loop-pass.pass c.take.new.pass c.loop-pass.share c.loop-pass.gathered.items c.push_reserved.new.self.items c.in-Some.field-0 c.in-Some-handed.handed c.in-Some-handed.is
-      (c.loop-pass.invariant.taken r was) c.in-Some.ensures.pass c.in-Some.ensures.taken.0 c.in-Some.ensures.taken.1 c.push_reserved.ensures.items;
+  taken = λ r given was. has_more r given c.args.handover.now c.loop-pass.pass c.take.new.pass c.loop-pass.share c.loop-pass.gathered.items c.push_reserved.new.self.items c.in-Some.field-0 c.in-Some-handed.handed c.in-Some-handed.is
+      (c.loop-pass.invariant.taken r given was) c.in-Some.ensures.pass c.in-Some.ensures.taken.0 c.in-Some.ensures.taken.1 c.push_reserved.ensures.items;
   room = (let room = c.loop-pass.invariant.room in let same = c.push_reserved.ensures.capacity in omega (arith, room, same));
 }

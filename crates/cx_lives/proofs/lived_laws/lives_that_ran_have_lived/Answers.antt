@@ -13,7 +13,7 @@ returns g c = λ life begun service told flagged remains crashed based is ran lo
     (c.told_lives_have_ended.ensures m.encoding life service.base.place remains.trail.history remains.trail.locals told ran.works ran.is_told) in
     let rec_in = recorded based is ran lost retold in
     let kept = kept_in lost.ends flagged lost.flags.kept_is lost.flags.items_are in
-    lived based is ran lost retold (g.O.Object.opening c.args.object.now) (g.met.O.TypedObject.has_meaning c.args.object.now) ended
+    lived based is ran lost retold (g.O.Object.opening c.args.object.now) (g.met.O.TypedObject.has_meaning c.args.object.now) c.requires ended
     (c.replies_are_the_stores.ensures remains.callers keeps.s begun.store life flagged keeps.law rec_in)
     (c.kept_lives_go_on.ensures remains.callers keeps.s begun.store life flagged next keeps.law rec_in kept)
     (c.kept_bases_begin_the_next_life.ensures remains.callers keeps.s begun life flagged next keeps.law based rec_in kept))

@@ -6,7 +6,8 @@ returns g c = record {
   are = record { lives = c.in_ok-lived.ensures.legal; told = c.in_ok-lived.ensures.told };
   image = c.in_ok-lived.lived.image;
   base = c.in_ok-lived.lived.base;
-  left = c.in_ok-lived.ensures.left;
+  left = c.in_ok-lived.ensures.image_is;
+  goes_on = c.in_ok-lived.ensures.base_is;
   ends = c.in_ok-lived.ensures.ends;
   text_is = c.in_ok-text.ensures;
 }

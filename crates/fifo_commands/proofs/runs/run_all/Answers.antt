@@ -4,7 +4,7 @@ use Rattle.life_records.specs.Records.{Life}
 use Rattle.life_records.specs.Scripts.{command_count}
 use Rattle.fifo_commands.specs.FifoLives.{uncut}
 use Rattle.fifo_object.specs.declared.operations.FifoOp.{FifoOp}
-use Rattle.fifo_object.specs.Fifo.{IsFifo}
+use Rattle.fifo_object.specs.Fifo.{IsFifo, fifo_reads, fifo_step}
 use Rattle.fifo_object.specs.FifoMeaning.{fifo_meaning}
 use Rattle.fifo_commands.proofs.RunLives.{one_more, room_for}
 use Rattle.fifo_commands.proofs.runs.run_all.Goals as goal
@@ -14,7 +14,7 @@ run_one-requires-clause-lived g c =
     let lives = c.args.lives.now in
     let lines = c.args.fifo.now.lines in
     let i = c.loop-life.life-index in
-    let asks : (x : List (Life FifoOp)) × HaveLived (fifo_meaning lines) lines 16 (IsFifo lines) x c.loop-life.lived × (command_count x + length c.life-item.result.commands ≤ 100000) = (
+    let asks : (x : List (Life FifoOp)) × HaveLived (fifo_meaning lines) lines 16 (IsFifo lines) (fifo_step lines) fifo_reads x c.loop-life.lived × (command_count x + length c.life-item.result.commands ≤ 100000) = (
       take i (map uncut lives),
       c.loop-life.invariant,
       room_for lives i c.life-item.result c.loop-life-test.true c.life-item.is c.requires.commands,
@@ -26,5 +26,5 @@ loop-life-preserved g c =
     let lives = c.args.lives.now in
     let lines = c.args.fifo.now.lines in
     let i = c.loop-life.life-index in
-    subst (λ ls. HaveLived (fifo_meaning lines) lines 16 (IsFifo lines) ls c.in_ok-next.next) (one_more lives i c.life-item.result c.loop-life-test.true c.life-item.is)
+    subst (λ ls. HaveLived (fifo_meaning lines) lines 16 (IsFifo lines) (fifo_step lines) fifo_reads ls c.in_ok-next.next) (one_more lives i c.life-item.result c.loop-life-test.true c.life-item.is)
     (c.in_ok-next.ensures (take i (map uncut lives)) c.loop-life.invariant)

@@ -7,11 +7,11 @@ use Rattle.githoppu_c.proofs.again.queues_are_taken_up_again.Goals as goal
 pub returns : goal.returns
 returns c = λ table r choice words closed keeps written.
     let lines = table.object.lines in
-    let enough = closed.opened.enough in
-    let of = closed.opened.lines in
+    let enough = closed.is.opened.enough in
+    let of = closed.is.opened.lines in
     let some : 2 ≤ lines = omega (arith, enough, of) in
-    let whole = c.closed_tables_are_whole.ensures.whole table closed.seats r closed.opened closed.leaves in
-    queue_again words lines (written.head.lines_are ∙ closed.leaves.lines ∙ of) (IsKeptQueue table closed.seats r choice)
+    let whole = c.closed_tables_are_whole.ensures.whole table closed.seats r closed.is.opened closed.is.leaves in
+    queue_again words lines (written.head.lines_are ∙ closed.is.leaves.lines ∙ of) (IsKeptQueue table closed.seats r choice)
     (c.written_images_are_taken_up.ensures.headed r 2 choice words (inr refl) whole written)
-    (λ answer. c.written_images_are_taken_up.ensures.taken_up table closed.seats r 2 choice words answer closed.opened closed.leaves written)
-    (λ base took. c.written_images_keep_replies.ensures.queues table closed.seats r 2 choice words base closed.opened closed.leaves written took (queues_give_replies lines some) keeps)
+    (λ answer. c.written_images_are_taken_up.ensures.taken_up table closed.seats r 2 choice words answer closed.is.opened closed.is.leaves written)
+    (λ base took. c.written_images_keep_replies.ensures.queues table closed.seats r 2 choice words base closed.is.opened closed.is.leaves written took (queues_give_replies lines some) keeps)

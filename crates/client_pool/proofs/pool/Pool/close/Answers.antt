@@ -2,7 +2,7 @@ use Rattle.std.proofs.Common.{refl, subst}
 use Rattle.seat_pool.specs.Gathering.{AreCallsTold}
 use Rattle.client_pool.specs.declared.client.Client.{Client}
 use Rattle.cx_rule.specs.Running.{instance_at}
-use Rattle.client_pool.proofs.History.{are_answered}
+use Rattle.client_pool.proofs.History.{all_stand_in, are_answered}
 use Rattle.client_pool.proofs.Closing.{all_of, lents_are}
 use Rattle.client_pool.proofs.Whole.{are_whole, front_within}
 use Rattle.cx_service.specs.Closes.{seats_of}
@@ -21,13 +21,16 @@ returns-in-Ok-clause-remains g c =
     let r = c.args.self.service in
     let clients = c.args.clients.items in
     let instance = instance_at r g.O.Object.step g.O.Object.only_reads in
-    let answered = are_answered r instance closed.0 c.in-Ok.remains clients refl closed.1 told in
+    let leaves = closed.1 in
+    let order = c.closed_tables_are_linearizable.ensures r (seats_of closed.0) c.in-Ok.remains c.lines-lines.ensures.running leaves in
+    let answered = are_answered r instance closed.0 c.in-Ok.remains clients refl leaves told in
     record {
       handed = closed.0;
-      leaves = closed.1;
-      order = c.closed_tables_are_linearizable.ensures r (seats_of closed.0) c.in-Ok.remains c.lines-lines.ensures.running closed.1;
+      leaves = leaves;
+      order = order;
       told = told;
       answered = answered;
-      whole = λ live calls are. are_whole r c.in-Ok.remains.trail.history closed.0 clients closed.1.merged told live calls are (answered calls are).once;
-      fronts = front_within r instance closed.0 c.in-Ok.remains clients refl closed.1 told;
+      ordered = λ calls are. all_stand_in r instance closed.0 c.in-Ok.remains leaves order calls (answered calls are).callers;
+      whole = λ live calls are. are_whole r c.in-Ok.remains.trail.history closed.0 clients leaves.merged told live calls are (answered calls are).once;
+      fronts = front_within r instance closed.0 c.in-Ok.remains clients refl leaves told;
     }

@@ -1,0 +1,174 @@
+-- A run of four steps by which a read is answered.
+use Rattle.std.proofs.Common.{◌≡◌, ◌∙◌, ◌+◌, ◌*◌, ◌<◌, ◌==◌, inl, inr, ℕ, zero, suc, Bool, true, false, List, [], ◌∷◌, Some, length, set, slice_index, ap, refl, sym, subst, arith}
+use Rattle.std.proofs.lemmas.Bool.{eq-eqb, lt-ltb}
+use Rattle.std.proofs.lemmas.List.{get_or-set_other, get_or-set_same}
+use Rattle.std.proofs.lemmas.Nat.{mod_below}
+use Rattle.std.proofs.lemmas.Option.{slice_get_within}
+use Rattle.std.specs.List.{Contains, slice_get}
+use Rattle.std.specs.Prelude.{IsTrue, if◌then◌else◌}
+use Rattle.core_reach.specs.Reaching.{ReachesRead}
+use Rattle.core_runs.proofs.Keeps.{run_kept}
+use Rattle.cx_base.specs.Codes.{root_place_of, root_replica_of}
+use Rattle.cx_base.specs.Memory.{Words}
+use Rattle.cx_core.proofs.ListLemmas.{slice_get-set_same}
+use Rattle.cx_core.proofs.Sums.{on_most, on_same, total_most, total_parts}
+use Rattle.cx_core.specs.Events.{Guard, Makes, local_after, words_after}
+use Rattle.cx_core.specs.Free.{HoldsNone}
+use Rattle.cx_core.specs.Lawful.{Lawful}
+use Rattle.cx_core.specs.LawfulLocks.{pin, total}
+use Rattle.cx_core.specs.LawfulRegions.{vol_word}
+use Rattle.cx_core.specs.Layout.{cur_at, lock_at}
+use Rattle.cx_core.specs.LockEvents.{exclusive_mark, passing, shared_by}
+use Rattle.cx_core.specs.Merge.{scene_of}
+use Rattle.cx_core.specs.RegionEvents.{loaded_by}
+use Rattle.cx_core.specs.Rights.{claims, downgraded_on, holds, is_on, shared_on, won_on}
+use Rattle.cx_core.specs.RootEvents.{loaded_cur, raised_by}
+use Rattle.cx_core.specs.State.{Instance, State}
+use Rattle.cx_core.specs.declared.kinds.Event.{Event}
+use Rattle.cx_core.specs.declared.kinds.Kind.{Kind}
+use Rattle.cx_core.specs.declared.kinds.Kind.TheVariants.{LoadCur, LoadWord, Raise, TryShared}
+use Rattle.cx_core.specs.declared.local.Local.{Local}
+
+module _ (instance : Instance) (caller : ℕ) where
+  -- one step of the caller
+  abbrev event : Kind → Event
+  event kind = record { caller = caller; kind = kind }
+
+  abbrev made : State → Local → Kind → State
+  made s l kind = record { words = words_after instance kind l s.words; locals = set s.locals caller (local_after instance (scene_of instance s) kind l) }
+
+  makes : (s : State) (l : Local) (kind : Kind) → slice_get s.locals caller ≡ Some l → Guard instance (scene_of instance s) kind l → Makes instance (event kind) s (made s l kind)
+  makes s l kind at guard = record { local = l; of_caller = at; guard = guard; words = refl; locals = refl }
+
+  there : (s : State) (l : Local) (kind : Kind) → slice_get s.locals caller ≡ Some l → slice_get (made s l kind).locals caller ≡ Some (local_after instance (scene_of instance s) kind l)
+  there s l kind at = slice_get-set_same s.locals caller (local_after instance (scene_of instance s) kind l) (slice_get_within s.locals caller l at)
+
+  keeps : (s : State) (l : Local) (kind : Kind) → Lawful instance s → Makes instance (event kind) s (made s l kind) → Lawful instance (made s l kind)
+  keeps s l kind law makes_it = run_kept instance s (event kind ∷ []) (made s l kind) law (made s l kind, makes_it, refl)
+
+  -- a replica that is pinned is not held exclusively: its lock word has no exclusive mark
+  pinned_free : (s : State) → Lawful instance s → (r : ℕ) → r < 2 * instance.callers → pin instance.callers r (slice_index s.words cur_at) ≡ 1 → slice_index s.words (lock_at instance.callers r) < exclusive_mark
+  pinned_free s law r small pinned =
+      let word = law.locks.each r small in
+      let parts = total_parts instance.callers r s.locals in
+      let claimed = total_most (claims instance.callers r) 3 s.locals (λ l. omega (arith, on_most r (shared_on l), on_most r (downgraded_on l), on_most r (won_on instance.callers l))) in
+      let passed = total_most (λ l. is_on r l.passer) 1 s.locals (λ l. on_most r l.passer) in
+      let none : total (holds r) s.locals ≡ 0 = none_held (total (holds r) s.locals) word.alone in
+      omega (arith, word.counted, parts, claimed, passed, none, pinned, law.shape.few, law.shape.count)
+    where
+      none_held : (n : ℕ) → (0 < n → total (claims instance.callers r) s.locals + pin instance.callers r (slice_index s.words cur_at) ≡ 0) → n ≡ 0
+      none_held zero alone = refl
+      none_held (suc n) alone = (let all = alone (omega arith) in omega (arith, all, pinned))
+
+module _ (instance : Instance) (s : State) (caller : ℕ) (l : Local) (op : List ℕ) (law : Lawful instance s) (at : slice_get s.locals caller ≡ Some l) (none : HoldsNone l) (some : 0 < length instance.base.words) (reads : IsTrue (instance.reads op)) (op_words : Words 144 op) where
+  abbrev callers : ℕ
+  callers = instance.callers
+
+  abbrev region : ℕ
+  region = length instance.base.words
+
+  abbrev cur : ℕ
+  cur = slice_index s.words cur_at
+
+  abbrev r : ℕ
+  r = root_replica_of callers cur
+
+  small : r < 2 * callers
+  small = mod_below cur (2 * callers) (omega (arith, law.shape.some))
+
+  -- CUR is loaded
+  abbrev l1 : Local
+  l1 = loaded_cur callers l cur
+
+  abbrev s1 : State
+  s1 = made instance caller s l LoadCur
+
+  makes1 : Makes instance (event instance caller LoadCur) s s1
+  makes1 = makes instance caller s l LoadCur at tt
+
+  law1 : Lawful instance s1
+  law1 = keeps instance caller s l LoadCur law makes1
+
+  cur1 : slice_index s1.words cur_at ≡ cur
+  cur1 = get_or-set_same s.words cur_at cur 0 (omega (arith, law.shape.long))
+
+  -- its replica is taken shared
+  abbrev word : ℕ
+  word = slice_index s1.words (lock_at callers r)
+
+  free : word < exclusive_mark
+  free = pinned_free instance caller s1 law1 r small (ap (pin callers r) cur1 ∙ on_same r r refl)
+
+  abbrev s2 : State
+  s2 = made instance caller s1 l1 (TryShared r)
+
+  abbrev l2 : Local
+  l2 = shared_by r l1 word
+
+  can_try : Guard instance (scene_of instance s1) (TryShared r) l1
+  can_try = rw (none.exclusive, none.shared, none.passer, none.downgraded, none.won) (small, cc, cc, omega arith, refl)
+
+  makes2 : Makes instance (event instance caller (TryShared r)) s1 s2
+  makes2 = makes instance caller s1 l1 (TryShared r) (there instance caller s l LoadCur at) can_try
+
+  law2 : Lawful instance s2
+  law2 = keeps instance caller s1 l1 (TryShared r) law1 makes2
+
+  there2 : slice_get s2.locals caller ≡ Some l2
+  there2 = there instance caller s1 l1 (TryShared r) (there instance caller s l LoadCur at) ∙ ap (λ b. Some (if b then shared_by r l1 word else passing callers r l1 word)) (lt-ltb word exclusive_mark free)
+
+  cur2 : slice_index s2.words cur_at ≡ cur
+  cur2 = get_or-set_other s1.words (lock_at callers r) cur_at _ 0 (λ e. absurd (omega (arith, e))) ∙ cur1
+
+  -- the place there is that of the code
+  abbrev s3 : State
+  s3 = made instance caller s2 l2 (LoadWord r 0 false)
+
+  abbrev found : ℕ
+  found = vol_word instance s2.words r 0
+
+  abbrev l3 : Local
+  l3 = loaded_by r 0 false l2 found
+
+  placed : found ≡ root_place_of callers cur
+  placed = subst (λ c. vol_word instance s2.words (root_replica_of callers c) 0 ≡ root_place_of callers c) cur2 law2.root.current
+
+  makes3 : Makes instance (event instance caller (LoadWord r 0 false)) s2 s3
+  makes3 = makes instance caller s2 l2 (LoadWord r 0 false) there2 ((small, some, inr refl), λ no. cc)
+
+  there3 : slice_get s3.locals caller ≡ Some l3
+  there3 = there instance caller s2 l2 (LoadWord r 0 false) there2
+
+  -- DUR is raised by it, which answers the read
+  abbrev kind4 : Kind
+  kind4 = Raise cur (Some op)
+
+  abbrev s4 : State
+  s4 = made instance caller s3 l3 kind4
+
+  abbrev here : ℕ × ℕ
+  here = (0, found)
+
+  abbrev wanted : ℕ × ℕ
+  wanted = (0, root_place_of callers cur)
+
+  same_pair : here ≡ wanted
+  same_pair = λ i. (0, placed i)
+
+  shows : (b : Bool) → b ≡ true → Contains {X = ℕ × ℕ} (if b then here ∷ [] else []) wanted
+  shows b is = subst (λ c. Contains {X = ℕ × ℕ} (if c then here ∷ [] else []) wanted) (sym is) (subst (λ w. Contains {X = ℕ × ℕ} (here ∷ []) w) same_pair (0, omega arith, refl))
+
+  makes4 : Makes instance (event instance caller kind4) s3 s4
+  makes4 = makes instance caller s3 l3 kind4 there3 (inl refl, (reads, refl, refl, (refl, shows (r == r) (eq-eqb r r refl)), op_words))
+
+  pub reaches_read : ReachesRead instance s caller l op
+  reaches_read = record {
+    events = event instance caller LoadCur ∷ event instance caller (TryShared r) ∷ event instance caller (LoadWord r 0 false) ∷ event instance caller kind4 ∷ [];
+    to = s4;
+    ran = (s1, makes1, (s2, makes2, (s3, makes3, (s4, makes4, refl))));
+    after = raised_by instance (scene_of instance s3) cur (Some op) l3;
+    of_caller = there instance caller s3 l3 kind4 there3;
+    read = _;
+    op_is = refl;
+    reads = refl;
+  }

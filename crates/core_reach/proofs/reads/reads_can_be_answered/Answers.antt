@@ -1,0 +1,5 @@
+use Rattle.core_reach.proofs.Reading.{reaches_read}
+use Rattle.core_reach.proofs.reads.reads_can_be_answered.Goals as goal
+
+pub returns : goal.returns
+returns c = reaches_read
