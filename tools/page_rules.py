@@ -19,7 +19,7 @@ LENGTHS = {
     GLOSSARY: 80,
     "docs/PERFORMANCE.md": 260,
     "docs/REFERENCE.md": 195,
-    THEOREMS: 320,
+    THEOREMS: 340,
     "docs/TABLE_WORDS.md": 290,
     "docs/TUTORIAL.md": 265,
     "docs/WRONG_BODIES.md": 136,
