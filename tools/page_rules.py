@@ -17,7 +17,7 @@ LENGTHS = {
     "docs/FAQ.md": 80,
     "docs/FORMATS.md": 395,
     GLOSSARY: 80,
-    "docs/PERFORMANCE.md": 260,
+    "docs/PERFORMANCE.md": 290,
     "docs/REFERENCE.md": 195,
     THEOREMS: 340,
     "docs/TABLE_WORDS.md": 290,
