@@ -14,7 +14,7 @@ LENGTHS = {
     "docs/ARCHITECTURE.md": 180,
     "docs/C_AND_RUST.md": 300,
     "docs/DECISIONS.md": 120,
-    "docs/FAQ.md": 80,
+    "docs/FAQ.md": 82,
     "docs/FORMATS.md": 395,
     GLOSSARY: 80,
     "docs/PERFORMANCE.md": 290,
