@@ -19,10 +19,10 @@ LENGTHS = {
     GLOSSARY: 80,
     "docs/PERFORMANCE.md": 290,
     "docs/REFERENCE.md": 195,
-    THEOREMS: 340,
+    THEOREMS: 345,
     "docs/TABLE_WORDS.md": 290,
     "docs/TUTORIAL.md": 265,
-    "docs/WRONG_BODIES.md": 136,
+    "docs/WRONG_BODIES.md": 145,
     "tools/README.md": 120,
 }
 # the widest line of README, and of every other page
