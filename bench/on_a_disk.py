@@ -24,10 +24,10 @@ ROOT = Path(__file__).resolve().parent.parent
 THREADS = (1, 4, 8, 32, 64)
 SYSTEMS = ("store", "gathered", "sqlite", "mutex", "rocksdb")
 HEADS = {
-    "store": "on a disk",
-    "gathered": "the same, `gather_us` 300",
-    "sqlite": "SQLite, a connection each",
-    "mutex": "SQLite, one mutex",
+    "store": "ours",
+    "gathered": "ours, gathered",
+    "sqlite": "SQLite, connections",
+    "mutex": "SQLite, mutex",
     "rocksdb": "RocksDB",
 }
 MIXES = (90, 99)
@@ -79,7 +79,7 @@ def shown(values, places=0):
     if len(values) == 1:
         return f"{values[0]:,.{places}f}"
     low, middle, high = statistics.quantiles(values, n=4, method="inclusive")
-    return f"{middle:,.{places}f} ({low:,.{places}f} to {high:,.{places}f})"
+    return f"{middle:,.{places}f} ({low:,.{places}f}-{high:,.{places}f})"
 
 
 def ratio(ours, theirs):
@@ -120,8 +120,8 @@ def main():
     folder = words.folder / "measured"
     program, systems = build(words.prefix, words.folder)
     print(f"{os.cpu_count()} processors, load {load()} before. Medians of {words.rounds} rounds of {words.milliseconds} ms in turn, quartiles in brackets.\n")
-    print("Updates a second, each synced before it is answered; the ratios are of the rounds, of the better of our two to the better of SQLite's two, "
-          "and to RocksDB.\n")
+    print("Updates a second, each synced before it is answered. Gathered: gather_us is 300. SQLite alone by a connection each, and by one under a mutex. The\n"
+          "ratios are of the rounds, of the better of our two to the better of SQLite's two, and to RocksDB.\n")
     rows = []
     for threads in THREADS:
         words.threads, words.reads = threads, 0
@@ -143,7 +143,7 @@ def main():
     table(["Reads in 100"] + [HEADS[name] for name in systems] + ["to SQLite"], rows)
     told = [numbers(program, "checkpoints", 4, 4 * words.milliseconds, folder=folder) for _ in range(words.rounds)]
     print("The longest update of four threads, in milliseconds: " + shown([one["without"] / 1000 for one in told], 1) + " without checkpoints, "
-          + shown([one["with"] / 1000 for one in told], 1) + " with one every 50 ms, " + shown([(one["with"] - one["without"]) / 1000 for one in told], 1)
+          + shown([one["with"] / 1000 for one in told], 1) + " with one every 50 ms,\n" + shown([(one["with"] - one["without"]) / 1000 for one in told], 1)
           + " more in the same round; a checkpoint took " + shown([one["whole"] / 1000 for one in told], 1) + ".\n")
     told = [numbers(program, "recovery", RECOVERED, folder=folder) for _ in range(3)]
     print(f"Opening a log of {RECOVERED:,} updates: " + shown([one["processor"] / 1e6 for one in told], 1) + " s of processor time, "

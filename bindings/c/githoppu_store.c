@@ -141,9 +141,10 @@ static int system_fault(struct database *db, int status, const char *call, const
 
 static int status_of(int code, int error, enum moment moment) {
     int here = moment == OPENING ? GITHOPPU_STORE_NOT_OPENED : moment == WRITING ? GITHOPPU_STORE_NOT_WRITTEN : GITHOPPU_STORE_FAILED;
+    /* the last page of a COMMIT is the one that counts, and it was not written where the disk or a quota is full */
+    int full = moment == OPENING ? GITHOPPU_STORE_NOT_OPENED : GITHOPPU_STORE_NOT_WRITTEN;
     switch (code & 255) {
-    case SQLITE_FULL: /* the last page of a COMMIT is the one that counts, and was not written */
-        return moment == OPENING ? GITHOPPU_STORE_NOT_OPENED : GITHOPPU_STORE_NOT_WRITTEN;
+    case SQLITE_FULL: return full;
     case SQLITE_CANTOPEN:
     case SQLITE_PERM:
     case SQLITE_AUTH:
@@ -154,8 +155,8 @@ static int status_of(int code, int error, enum moment moment) {
     case SQLITE_BUSY:
     case SQLITE_LOCKED: return moment == OPENING ? GITHOPPU_STORE_BUSY : GITHOPPU_STORE_FAILED;
     case SQLITE_IOERR:
-        if (code == SQLITE_IOERR_WRITE && (error == ENOSPC || error == EDQUOT))
-            return here;
+        if (code == SQLITE_IOERR_WRITE && error == EDQUOT)
+            return full;
         return moment == OPENING ? GITHOPPU_STORE_NOT_OPENED : GITHOPPU_STORE_FAILED;
     default: return moment == OPENING ? GITHOPPU_STORE_DAMAGED : GITHOPPU_STORE_FAILED; /* tables that are not ours any more, say */
     }
@@ -409,8 +410,9 @@ static int open_database(struct database *db, const char *path, int existing, in
     }
     if (path_of(db)[0] == 0)
         return because(db, GITHOPPU_STORE_NOT_OPENED, "open of \"%s\": this names no file", path);
-    status = run(db, "open", "PRAGMA locking_mode=EXCLUSIVE; PRAGMA trusted_schema=OFF; PRAGMA cell_size_check=ON; PRAGMA secure_delete=OFF;"
-                     "PRAGMA temp_store=MEMORY; PRAGMA fullfsync=ON; PRAGMA checkpoint_fullfsync=ON; PRAGMA synchronous=FULL");
+    status = run(db, "open",
+                 "PRAGMA locking_mode=EXCLUSIVE; PRAGMA trusted_schema=OFF; PRAGMA cell_size_check=ON; PRAGMA secure_delete=OFF;"
+                 "PRAGMA temp_store=MEMORY; PRAGMA fullfsync=ON; PRAGMA checkpoint_fullfsync=ON; PRAGMA synchronous=FULL");
     if (status == GITHOPPU_DONE)
         status = identify(db, fresh);
     if (status == GITHOPPU_STORE_FORMAT && is_saved(path))
@@ -431,11 +433,12 @@ static int open_database(struct database *db, const char *path, int existing, in
 /* Makes the tables of a new store in one transaction, with the image that it begins with, or none. */
 static int create(struct database *db, const struct image *image, uint64_t logged) {
     char meta[256];
-    int status = run(db, "CREATE TABLE", "BEGIN IMMEDIATE;"
-                         "CREATE TABLE meta(format INTEGER, object INTEGER, lines INTEGER, logged INTEGER, crc INTEGER);"
-                         "CREATE TABLE log(place INTEGER PRIMARY KEY, client INTEGER, operation BLOB, crc INTEGER);"
-                         "CREATE TABLE checkpoint(place INTEGER PRIMARY KEY, image BLOB, crc INTEGER);"
-                         "CREATE TABLE outcome(client INTEGER PRIMARY KEY, number INTEGER, reply BLOB, crc INTEGER)");
+    int status = run(db, "CREATE TABLE",
+                     "BEGIN IMMEDIATE;"
+                     "CREATE TABLE meta(format INTEGER, object INTEGER, lines INTEGER, logged INTEGER, crc INTEGER);"
+                     "CREATE TABLE log(place INTEGER PRIMARY KEY, client INTEGER, operation BLOB, crc INTEGER);"
+                     "CREATE TABLE checkpoint(place INTEGER PRIMARY KEY, image BLOB, crc INTEGER);"
+                     "CREATE TABLE outcome(client INTEGER PRIMARY KEY, number INTEGER, reply BLOB, crc INTEGER)");
     snprintf(meta, sizeof meta, "INSERT INTO meta VALUES(%d, %lld, %lld, %lld, %lld); PRAGMA application_id=%d; PRAGMA user_version=%d", FORMAT,
              (long long)db->object, (long long)db->lines, (long long)logged, (long long)checksum_of_meta(db, logged), APPLICATION, FORMAT);
     if (status == GITHOPPU_DONE)

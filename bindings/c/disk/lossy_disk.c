@@ -60,7 +60,7 @@ static struct file *file_of[FILES], *all_files;
 static int is_folder[FILES];
 static uint64_t state;
 static long calls_left = -1, room_left = -1;
-static int sync_fails;
+static int sync_fails, write_fails, write_error;
 
 static void die(const char *what) {
     fprintf(stderr, "lossy_disk: %s: %s\n", what, strerror(errno));
@@ -317,6 +317,8 @@ static ssize_t pwrite_it(int file, const void *bytes, size_t length, off_t at) {
         length = (size_t)room_left;
     if (is_followed(file) && length == 0 && room_left == 0)
         errno = ENOSPC;
+    else if (is_followed(file) && write_fails > 0 && --write_fails == 0)
+        errno = write_error;
     else
         written = real_pwrite(file, bytes, length, at);
     if (is_followed(file) && written > 0) {
@@ -459,6 +461,13 @@ void lossy_power_fails(const char *into) {
 void lossy_full_after(long bytes) {
     pthread_mutex_lock(&lock);
     room_left = bytes;
+    pthread_mutex_unlock(&lock);
+}
+
+void lossy_fail_write(int nth, int error) {
+    pthread_mutex_lock(&lock);
+    write_fails = nth;
+    write_error = error;
     pthread_mutex_unlock(&lock);
 }
 

@@ -24,6 +24,9 @@ void lossy_power_fails(const char *into);
 /* After so many bytes more the disk is full; -1: never. */
 void lossy_full_after(long bytes);
 
+/* A write of a file fails with this error: the nth from now on, 0 for none. */
+void lossy_fail_write(int nth, int error);
+
 /* A sync of a file fails with EIO: the nth from now on, 0 for none. What it should have synced is lost to every later sync, as in Linux, which marks the
  * pages as clean. How many syncs are still to come before it, 0 where it was. */
 void lossy_fail_sync(int nth);

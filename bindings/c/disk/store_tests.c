@@ -7,6 +7,7 @@
 #include "githoppu_store.h"
 #include "lossy_disk.h"
 #include "test_folders.h"
+#include <errno.h>
 #include <limits.h>
 #include <pthread.h>
 #include <sqlite3.h>
@@ -17,6 +18,17 @@ enum { LINES = 256 };
 static char folder[1024], path[2048], other[2048];
 static githoppu_words reply;
 static char why[512];
+
+/* Allocations of the store and of the library: the one with this number fails. Those of SQLite and of libc are not counted. */
+static int allocation_fails;
+
+void *__real_malloc(size_t size);
+void *__real_calloc(size_t count, size_t size);
+void *__wrap_malloc(size_t size);
+void *__wrap_calloc(size_t count, size_t size);
+
+void *__wrap_malloc(size_t size) { return allocation_fails > 0 && --allocation_fails == 0 ? NULL : __real_malloc(size); }
+void *__wrap_calloc(size_t count, size_t size) { return allocation_fails > 0 && --allocation_fails == 0 ? NULL : __real_calloc(count, size); }
 
 /* A new folder for a test, and an empty store's path in it. */
 static void fresh(const char *name) {
@@ -551,7 +563,7 @@ static void refused_unchanged(int status, const char *says) {
 
 /* Another program that was killed: its database has a log. */
 static int leave_a_log(void) {
-    sqlite3 *db;
+    static sqlite3 *db;
     CHECK(sqlite3_open(path, &db) == SQLITE_OK);
     CHECK(sqlite3_exec(db, "PRAGMA journal_mode=WAL; INSERT INTO shop VALUES(4)", NULL, NULL, NULL) == SQLITE_OK);
     return 0;
@@ -790,6 +802,68 @@ static void failed_sync(void) {
     done_with("sync");
 }
 
+/* A write fails: of a full quota it may be tried again, and else the store is read-only. Each write of an update in turn. */
+static void failed_write(void) {
+    githoppu_store *s;
+    int nth, sold = 0;
+    fail_from_here("write");
+    for (nth = 1; nth <= 2; nth++) {
+        s = open_small();
+        sell(s, 1);
+        lossy_fail_write(nth, EDQUOT);
+        CHECK(githoppu_store_add(s, 0, "sold", 1, &reply) == GITHOPPU_STORE_NOT_WRITTEN && sold_in(s) == sold + 1);
+        sell(s, 1);
+        lossy_fail_write(nth, EIO);
+        CHECK(githoppu_store_add(s, 0, "sold", 1, &reply) == GITHOPPU_STORE_FAILED);
+        githoppu_store_why(s, why, sizeof why);
+        CHECK(strstr(why, "errno 5") != NULL && githoppu_store_add(s, 0, "sold", 1, &reply) == GITHOPPU_STORE_READ_ONLY);
+        CHECK(sold_in(s) == sold + 2 && githoppu_store_close(s) == GITHOPPU_STORE_READ_ONLY);
+        s = open_small();
+        sold += 2;
+        CHECK(sold_in(s) == sold);
+        close_it(s);
+    }
+    done_with("write");
+}
+
+/* There is no memory for one allocation, each in turn: a call says so and changes nothing, and what was answered is there. */
+static void no_memory(void) {
+    githoppu_store_options options = small();
+    githoppu_store_update *update;
+    githoppu_store *s;
+    githoppu_words op;
+    int nth, status, told = 0;
+    int64_t sold = 0;
+    fresh("memory");
+    close_it(open_small());
+    githoppu_document_op(&op, 3, "sold", "", 0, 1);
+    for (nth = 1; !allocation_fails; nth++) {
+        allocation_fails = nth;
+        status = githoppu_store_open(path, &options, &s);
+        CHECK(status == GITHOPPU_DONE || status == GITHOPPU_NO_MEMORY);
+        if (status == GITHOPPU_DONE) {
+            status = githoppu_store_submit(s, 0, &op, &update);
+            CHECK(status == GITHOPPU_DONE || (status == GITHOPPU_NO_MEMORY && update == NULL));
+            if (status == GITHOPPU_DONE)
+                CHECK(githoppu_store_wait(s, update, &reply) == GITHOPPU_DONE && githoppu_sum(&reply) == ++sold);
+            status |= githoppu_store_checkpoint(s);
+            CHECK(status == GITHOPPU_DONE || status == GITHOPPU_NO_MEMORY);
+            CHECK(githoppu_store_add(s, 0, "sold", 1, &reply) == GITHOPPU_DONE && githoppu_sum(&reply) == ++sold);
+            unlink(other);
+            status |= githoppu_store_copy(s, other);
+            CHECK(status == GITHOPPU_DONE || status == GITHOPPU_NO_MEMORY || (status & GITHOPPU_STORE_NOT_WRITTEN));
+        }
+        told += status != GITHOPPU_DONE;
+        CHECK(githoppu_store_close(s) == GITHOPPU_DONE);
+    }
+    allocation_fails = 0;
+    CHECK(told == nth - 2 && told > 8); /* each but the last, which no call came to */
+    s = open_small();
+    CHECK(sold_in(s) == sold);
+    close_it(s);
+    done_with("memory");
+}
+
 /* Each sync in turn, over a checkpoint of SQLite's own log: none that fails goes untold, and no update that was answered is lost. */
 static void no_sync_fails_untold(void) {
     enum { TRIED = 24 };
@@ -815,9 +889,10 @@ static void no_sync_fails_untold(void) {
 }
 
 int main(int count, char **words) {
-    static void (*const tests[])(void) = {documents,     queue,   reads_are_the_librarys, any_words, submitted,     many_threads, checkpoints,
-                                          copies,        own_object, texts,               bad_options, no_file,     no_permission, busy,
-                                          other_formats, damaged_rows, a_fork,            saved,     full_disk,     failed_sync,  no_sync_fails_untold};
+    static void (*const tests[])(void) = {
+        documents, queue, reads_are_the_librarys, any_words, submitted, many_threads, checkpoints, copies, own_object, texts, bad_options,
+        no_file, no_permission, busy, other_formats, damaged_rows, a_fork, saved, no_memory, full_disk, failed_write, failed_sync,
+        no_sync_fails_untold};
     char whole[PATH_MAX];
     size_t i;
     CHECK(count == 2);
