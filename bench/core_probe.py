@@ -3,6 +3,7 @@
 The loop and a run have to be on one processor, so a run of one thread is bound to the one where its `Core` was made. Of runs on more threads nothing is told:
 there the threads themselves keep the others of a core busy (`sessions.c` has the loop in each thread).
 """
+import bisect
 import ctypes
 import os
 import subprocess
@@ -30,14 +31,18 @@ def compiled():
 
 
 class Core:
-    """One processor, and the least time that a turn took there."""
+    """One processor, and the times that turns took there."""
 
     def __init__(self, functions=None):
         self.turn, self.mode = functions or compiled()
         self.all = os.sched_getaffinity(0)
         self.one = min(self.all)
         with self.bound():
-            self.least = min(self.turn() for _ in range(FIRST_TURNS))
+            self.turns = sorted(self.turn() for _ in range(FIRST_TURNS))
+
+    def least(self):
+        """The least time of a turn, but for one in 100: a processor's clock may slip."""
+        return self.turns[len(self.turns) // 100]
 
     @contextmanager
     def bound(self):
@@ -54,8 +59,9 @@ class Core:
             before = self.turn()
             made = work()
             after = self.turn()
-        self.least = min(self.least, before, after)
-        return made, self.mode(self.least, before, after)
+        for turn in (before, after):
+            bisect.insort(self.turns, turn)
+        return made, self.mode(self.least(), before, after)
 
     def alone(self, work, tries):
         """What a piece of work gives that had the core alone, or the last of so many tries; and whether it had."""

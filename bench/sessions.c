@@ -10,7 +10,8 @@
  *
  * With the word `core` the store alone is measured, by 1 and 4 threads, and by processor time: each thread makes its calls in slices, before and after
  * each of which the loop of core_probe.h tells whether the other hardware thread of its core is busy. Of each mode the median of its slices stands, and
- * in brackets their quartiles and how many they are; slices in which the mode changed are left out. Two libraries are compared by running both in turn. */
+ * in brackets their quartiles and how many they are; under 20 slices stand as a `-`. Slices in which the mode changed are left out. Two libraries are
+ * compared by running both in turn. Where other work keeps the processors busy, threads seldom run at once: then the rows of 4 are as those of 1. */
 #include "core_probe.h"
 #include "githoppu.h"
 #include <pthread.h>
@@ -210,50 +211,72 @@ static int by_time(const void *one, const void *other) {
     return (x > y) - (x < y);
 }
 
+enum { MOST_THREADS = 4, LEAST_SLICES = 20, SHARES = 4 };
+
+/* The slices of a row of `core`. */
+struct sliced {
+    int threads, reads;
+    struct slice slices[MOST_THREADS * SLICES];
+};
+
 /* Prints the median of a call over the slices of a mode, its quartiles, and how many slices they are. */
-static void print_mode(const struct slice *slices, int count, double least, enum core_mode mode) {
-    static double calls[4 * SLICES];
+static void print_mode(const struct sliced *row, double least, enum core_mode mode) {
+    static double calls[MOST_THREADS * SLICES];
     int found = 0;
-    for (int s = 0; s < count; s++)
-        if (core_mode(least, slices[s].before, slices[s].after) == mode)
-            calls[found++] = slices[s].call;
+    for (int s = 0; s < row->threads * SLICES; s++)
+        if (core_mode(least, row->slices[s].before, row->slices[s].after) == mode)
+            calls[found++] = row->slices[s].call;
     qsort(calls, (size_t)found, sizeof *calls, by_time);
-    if (found)
+    if (found >= LEAST_SLICES)
         printf(" %.0f (%.0f to %.0f, %d)", calls[found / 2], calls[found / 4], calls[found * 3 / 4], found);
     else
-        printf(" none");
+        printf(" - (%d)", found);
 }
 
-static void print_core(int threads, int reads) {
-    static struct slice slices[4 * SLICES];
-    githoppu_session *sessions[4];
+static void measure(struct sliced *row) {
+    githoppu_session *sessions[MOST_THREADS];
     githoppu_words reply;
     char key[16];
-    double least = 1e9;
-    if (githoppu_open(1024, sessions, (size_t)threads) != GITHOPPU_DONE)
+    if (githoppu_open(1024, sessions, (size_t)row->threads) != GITHOPPU_DONE)
         exit(1);
     for (int i = 0; i < KEYS; i++) {
         snprintf(key, sizeof key, "key%02d", i);
         if (githoppu_add(sessions, key, 0, &reply) != GITHOPPU_DONE)
             exit(1);
     }
-    seconds(sessions, threads, reads, STORE, slices);
-    githoppu_give_up(sessions, (size_t)threads);
-    for (int s = 0; s < threads * SLICES; s++)
-        if (slices[s].after < least)
-            least = slices[s].after;
-    printf("%d %d", threads, reads);
-    print_mode(slices, threads * SLICES, least, CORE_ALONE);
-    print_mode(slices, threads * SLICES, least, CORE_SHARED);
-    puts("");
+    seconds(sessions, row->threads, row->reads, STORE, row->slices);
+    githoppu_give_up(sessions, (size_t)row->threads);
+}
+
+/* The least turn of the loop, but for one in 100, over all rows: in some of them no core may have been alone, and a processor's clock may slip. */
+static double least_turn(const struct sliced *rows, int count) {
+    static double turns[2 * SHARES * MOST_THREADS * SLICES];
+    int found = 0;
+    for (int r = 0; r < count; r++)
+        for (int s = 0; s < rows[r].threads * SLICES; s++)
+            turns[found++] = rows[r].slices[s].after;
+    qsort(turns, (size_t)found, sizeof *turns, by_time);
+    return turns[found / 100];
 }
 
 static int core(void) {
-    static const int counts[] = { 1, 4 }, shares[] = { 0, 50, 90, 100 };
+    enum { ROWS = 2 * SHARES };
+    static const int shares[SHARES] = { 0, 50, 90, 100 };
+    static struct sliced rows[ROWS];
+    double least;
+    for (int r = 0; r < ROWS; r++) {
+        rows[r].threads = r < SHARES ? 1 : MOST_THREADS;
+        rows[r].reads = shares[r % SHARES];
+        measure(&rows[r]);
+    }
+    least = least_turn(rows, ROWS);
     puts("threads reads_of_100 ns_a_call_alone ns_a_call_where_the_other_thread_of_the_core_is_busy");
-    for (int c = 0; c < 2; c++)
-        for (int s = 0; s < 4; s++)
-            print_core(counts[c], shares[s]);
+    for (int r = 0; r < ROWS; r++) {
+        printf("%d %d", rows[r].threads, rows[r].reads);
+        print_mode(&rows[r], least, CORE_ALONE);
+        print_mode(&rows[r], least, CORE_SHARED);
+        puts("");
+    }
     return 0;
 }
 

@@ -82,10 +82,11 @@ class Cores(unittest.TestCase):
         for before, after, mode in ((1.0, 1.1, core_probe.ALONE), (1.6, 1.5, core_probe.SHARED), (1.0, 1.6, core_probe.MIXED), (1.3, 1.3, core_probe.MIXED)):
             self.assertEqual(("made", mode), self.core(before, after).told(lambda: "made"))
 
-    def test_a_quicker_turn_is_the_new_least(self):
-        core = self.core(0.5, 0.8, 0.5, 0.5)
-        self.assertEqual([core_probe.MIXED, core_probe.ALONE], [core.told(int)[1] for _ in range(2)])
-        self.assertEqual(0.5, core.least)
+    def test_quicker_turns_are_the_new_least_but_not_a_single_one(self):
+        core = self.core(0.5, 1.0, *[0.5] * 4)
+        self.assertEqual([core_probe.ALONE, core_probe.ALONE, core_probe.ALONE], [core.told(int)[1] for _ in range(3)])
+        self.assertEqual(0.5, core.least())
+        self.assertEqual(1.0, self.core().least())
 
     def test_a_run_is_made_until_the_core_is_its_own(self):
         made = iter(range(9))
