@@ -8,8 +8,6 @@
 
 #include <time.h>
 
-enum { PROBE_TURNS = 20000 };
-
 /* Nanoseconds of processor time of the calling thread. */
 static double thread_ns(void) {
     struct timespec now;
@@ -17,16 +15,16 @@ static double thread_ns(void) {
     return 1e9 * (double)now.tv_sec + (double)now.tv_nsec;
 }
 
-/* Nanoseconds of one turn of eight additions in registers. */
-static double core_probe(void) {
+/* Nanoseconds of one turn of eight additions in registers, over so many: 20,000 take 16 us at 2.5 GHz, of fewer the clock's own time shows. */
+static double core_probe(int turns) {
     unsigned long a = 0, b = 0, c = 0, d = 0, e = 0, f = 0, g = 0, h = 0;
     double from = thread_ns();
-    for (int turn = 0; turn < PROBE_TURNS; turn++) {
+    for (int turn = 0; turn < turns; turn++) {
         a++, b++, c++, d++, e++, f++, g++, h++;
         /* the compiler has to make each addition, in a register */
         __asm__ volatile("" : "+r"(a), "+r"(b), "+r"(c), "+r"(d), "+r"(e), "+r"(f), "+r"(g), "+r"(h));
     }
-    return (thread_ns() - from) / PROBE_TURNS;
+    return (thread_ns() - from) / turns;
 }
 
 /* What a loop before and one after some work say of the core meanwhile, by the least turn that was seen. */

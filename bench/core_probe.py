@@ -11,7 +11,7 @@ import tempfile
 from contextlib import contextmanager
 
 HERE = os.path.dirname(os.path.abspath(__file__))
-SOURCE = '#include "core_probe.h"\ndouble turn(void) { return core_probe(); }\nint mode(double least, double before, double after) { return core_mode(least, before, after); }\n'
+SOURCE = '#include "core_probe.h"\ndouble turn(void) { return core_probe(20000); }\nint mode(double least, double before, double after) { return core_mode(least, before, after); }\n'
 ALONE, SHARED, MIXED = "alone", "shared", "mixed"
 MODES = (ALONE, SHARED, MIXED)
 # loops before the first run, which find what a turn takes where the core is one's own

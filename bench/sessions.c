@@ -22,7 +22,7 @@
 #include <sqlite3.h>
 #endif
 
-enum { KEYS = 100, CALLS = 5000, ROUNDS = 5, SLICES = 1000, SLICE = 100 };
+enum { KEYS = 100, CALLS = 5000, ROUNDS = 5, SLICES = 1000, SLICE = 100, TURNS = 20000 };
 
 /* On what the calls are made. */
 enum place { STORE, MUTEX, SQLITE };
@@ -137,13 +137,13 @@ static void call(struct work *w, int i) {
 }
 
 static void run_slices(struct work *w) {
-    double turn = core_probe();
+    double turn = core_probe(TURNS);
     for (int s = 0; s < SLICES; s++) {
         double from = thread_ns();
         for (int i = 0; i < SLICE; i++)
             call(w, s * SLICE + i);
         w->slices[s] = (struct slice){ turn, 0, (thread_ns() - from) / SLICE };
-        turn = w->slices[s].after = core_probe();
+        turn = w->slices[s].after = core_probe(TURNS);
     }
 }
 
