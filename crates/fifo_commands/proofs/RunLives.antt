@@ -1,8 +1,9 @@
 -- Lives without cuts are lives of the queue.
 use Rattle.std.proofs.Common.{Result, Ok, Err, IfOk, ◌≡◌, ◌+◌, ◌<◌, ◌≤◌, ℕ, List, [], ◌∷◌, ◌++◌, get_or, length, map, take, refl, sym, ap, ap₂, subst, ◌∙◌, arith}
 use Rattle.std.proofs.lemmas.List.{get_or-map, length-map}
-use Rattle.cx_lives.proofs.Appending.{count_taken}
+use Rattle.cx_lives.proofs.Appending.{count_taken, none_lived}
 use Rattle.cx_lives.proofs.Taking.{take_next}
+use Rattle.cx_rule.specs.Ending.{Ending}
 use Rattle.cx_lives.specs.Lives.{AreTold, HaveLived}
 use Rattle.cx_lives.specs.declared.lives.Lived.{Lived}
 use Rattle.life_records.specs.Lives.{AreLivesFrom, IsLegalLife, ops_of}
@@ -15,6 +16,7 @@ use Rattle.fifo_object.specs.FifoMeaning.{fifo_meaning}
 use Rattle.fifo_commands.specs.FifoLives.{AreFifoLivesFrom, uncut}
 use Rattle.fifo_commands.specs.Leaving.{with_no_stops, without_cuts}
 use Rattle.fifo_commands.specs.declared.record.FifoLife.{FifoLife}
+use Rattle.fifo_commands.specs.declared.record.FifoRecord.{FifoRecord}
 use Rattle.fifo_commands.proofs.Plainly.{after_is, fifo_life, no_full, no_stop}
 use Rattle.fifo_commands.specs.Runs.{HaveFifoLived}
 use Rattle.fifo_commands.specs.declared.runs.FifoLived.{FifoLived}
@@ -63,6 +65,12 @@ lived_is lines lives lived left have records trails = record {
       (subst (λ rs. AreTold (fifo_meaning lines) lines 16 (IsFifo lines) (fifo_step lines) fifo_reads (map uncut lives) (map with_no_stops rs) lived.trails) (sym records)
       (subst (λ rs. AreTold (fifo_meaning lines) lines 16 (IsFifo lines) (fifo_step lines) fifo_reads (map uncut lives) rs lived.trails) (sym (same_records lines 0 [] lives lived.records have.legal)) have.told));
 }
+
+-- no lives
+pub none_lived_of : (lines : ℕ) (records : List FifoRecord) (trails : List Ending) → records ≡ [] → trails ≡ [] → HaveFifoLived lines [] (record { records = records; trails = trails })
+none_lived_of lines records trails none empty =
+    subst (λ rs. HaveFifoLived lines [] (record { records = rs; trails = trails })) (sym none) (subst (λ ts. HaveFifoLived lines [] (record { records = []; trails = ts })) (sym empty)
+    (record { legal = tt; told = (none_lived (fifo_meaning lines) lines 16 (IsFifo lines) (fifo_step lines) fifo_reads).told }))
 
 -- ---- a life more of a script
 

@@ -10,7 +10,9 @@ use crate::start::start;
 use cx_base::Gate;
 use cx_lives::{end_in_crash, first_base};
 use cx_table::Remains;
-use life_records::{BorrowedLife, LifeRecord, operations_are_values, replies_are_values};
+use life_records::{
+    BorrowedLife, LifeRecord, operations_are_values, replies_are_values, steps_are_meant,
+};
 use std::alloc::{AllocError, Global};
 use std::sync::Wait;
 use std::thread::Threads;
@@ -51,5 +53,6 @@ pub fn run_pool<O: TypedObject + Sync, R: Threads + Wait + Sync, G: Gate + Sync>
     operations_are_values(object, life);
     replies_are_values(object, &pooled);
     told_pools_have_lived(object, &base);
+    steps_are_meant(object);
     Ok((pooled, remains))
 }

@@ -1,4 +1,6 @@
-use Rattle.std.proofs.Common.{◌+◌, ◌≤◌, List, length, take, map, subst}
+use Rattle.std.proofs.Common.{◌≡◌, ◌+◌, ◌≤◌, List, [], arith, length, take, map, subst, sym}
+use Rattle.std.proofs.lemmas.List.{length-map, take_all}
+use Rattle.cx_lives.proofs.Appending.{none_lived}
 use Rattle.cx_lives.specs.Lives.{HaveLived}
 use Rattle.life_records.specs.Records.{Life}
 use Rattle.life_records.specs.Scripts.{command_count}
@@ -28,3 +30,17 @@ loop-life-preserved g c =
     let i = c.loop-life.life-index in
     subst (λ ls. HaveLived (fifo_meaning lines) lines 16 (IsFifo lines) (fifo_step lines) fifo_reads ls c.in_ok-next.next) (one_more lives i c.life-item.result c.loop-life-test.true c.life-item.is)
     (c.in_ok-next.ensures (take i (map uncut lives)) c.loop-life.invariant)
+
+pub loop-life-init : goal.loop-life-init
+loop-life-init g c =
+    let lines = c.args.fifo.now.lines in
+    subst (λ lived. HaveLived (fifo_meaning lines) lines 16 (IsFifo lines) (fifo_step lines) fifo_reads [] lived) (sym c.new-lived.ensures) (none_lived (fifo_meaning lines) lines 16 (IsFifo lines) (fifo_step lines) fifo_reads)
+
+pub returns : goal.returns
+returns g c =
+    let lives = c.args.lives.now in
+    let lines = c.args.fifo.now.lines in
+    let all : List (Life FifoOp) = map uncut lives in
+    let long : length all ≡ length lives = length-map lives uncut in
+    let over : length all ≤ c.loop-life.life-index = omega (arith, long, c.loop-life-test.false) in
+    subst (λ ls. HaveLived (fifo_meaning lines) lines 16 (IsFifo lines) (fifo_step lines) fifo_reads ls c.loop-life.lived) (take_all c.loop-life.life-index all over) c.loop-life.invariant

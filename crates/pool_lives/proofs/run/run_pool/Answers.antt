@@ -28,4 +28,4 @@ returns g c =
     let values = c.replies_are_values.ensures in
     let keeps = ends.crash.keeps in
     let lived = c.told_pools_have_lived.ensures remains.callers keeps.s m.opening c.args.life.now _ crashed.next keeps.law (recorded based c.requires.life is met ends op_values values) (kept_in ends _ refl refl) in
-    pooled based c.requires.life is met ends op_values values lived.0 lived.1 (g.O.Object.opening c.args.object.now) (g.met.O.TypedObject.has_meaning c.args.object.now)
+    pooled based c.requires.life is met ends op_values values lived.0 lived.1 (g.O.Object.opening c.args.object.now) c.steps_are_meant.ensures.means

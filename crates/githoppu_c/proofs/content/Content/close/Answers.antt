@@ -46,3 +46,13 @@ pub returns-in-RestQueue-clause-callable : goal.returns-in-RestQueue-clause-call
 returns-in-RestQueue-clause-callable c =
     let from = subst IsCallable c.in-RestQueue.is c.requires.callable in
     subst IsCallable (sym c.queue_closed-in-RestQueue.ensures.0) (queue_rest_callable from.0 (arc_value c.in-RestQueue.rest.exit.handover) from.1 c.close_rest-in-RestQueue.result from.3 (c.close_rest-in-RestQueue.ensures from.0 from.1 from.2))
+
+pub returns-in-RestDocuments-clause-closes : goal.returns-in-RestDocuments-clause-closes
+returns-in-RestDocuments-clause-closes c =
+    let made = c.store_closed-in-RestDocuments in
+    subst (λ (before : Content). ClosesAs before made.result.0 made.result.1) (sym c.in-RestDocuments.is) (c.close_rest.result, c.close_rest.ensures, made.ensures.0, made.ensures.1)
+
+pub returns-in-RestQueue-clause-closes : goal.returns-in-RestQueue-clause-closes
+returns-in-RestQueue-clause-closes c =
+    let made = c.queue_closed-in-RestQueue in
+    subst (λ (before : Content). ClosesAs before made.result.0 made.result.1) (sym c.in-RestQueue.is) (c.close_rest-in-RestQueue.result, c.close_rest-in-RestQueue.ensures, made.ensures.0, made.ensures.1)
