@@ -61,7 +61,8 @@ typedef struct githoppu_store_object {
     int32_t (*open)(const void *context, uint64_t lines, githoppu_session **sessions, size_t count);     /* as githoppu_open */
     int32_t (*recover)(const void *context, const uint64_t *words, size_t words_count, githoppu_session **sessions, size_t count); /* as githoppu_recover */
     int (*reads)(const void *context, const githoppu_words *op); /* whether the library takes an operation for a read: it is well-formed, and of a kind that
-                                                                    changes nothing. Where this is wrong, the store becomes read-only */
+                                                                    changes nothing. Where this is wrong the store becomes read-only, and a read
+                                                                    that was taken for an update is in the file, which is then DAMAGED */
     const void *context;
 } githoppu_store_object;
 
@@ -144,7 +145,7 @@ int githoppu_store_sync(githoppu_store *store);
 int githoppu_store_checkpoint(githoppu_store *store);
 
 /* A backup: writes the whole store to a new file, which can be opened as a store, and syncs it. Reads go on, updates wait. NOT_WRITTEN: there is no
- * such file, also where there was one of this name already. */
+ * such file, also where there was one of this name already. A copy that was killed may leave a file PATH.PID.new, which is none. */
 int githoppu_store_copy(githoppu_store *store, const char *path);
 
 /* How many updates of a client took effect, over all runs since the store was new, and the reply to the last of them. A malformed operation counts. So after

@@ -424,6 +424,77 @@ static void own_object(void) {
     done_with("object");
 }
 
+static int reads_nothing(const void *context, const githoppu_words *op) {
+    (void)context;
+    (void)op;
+    return 0;
+}
+
+/* An update that has another place in RAM than its row: here one that the library takes for a read. The store stops, and says so. */
+static void another_place(void) {
+    githoppu_store_object wrong = githoppu_store_documents;
+    githoppu_store_options options = small();
+    githoppu_words op;
+    githoppu_store *s;
+    fresh("place");
+    wrong.reads = reads_nothing;
+    options.object = &wrong;
+    s = open_at(path, &options);
+    sell(s, 2);
+    githoppu_document_op(&op, 4, "sold", "", 0, 0);
+    CHECK(githoppu_store_call(s, 0, &op, &reply) == GITHOPPU_STORE_FAILED);
+    githoppu_store_why(s, why, sizeof why);
+    CHECK(strstr(why, "place 2") != NULL && githoppu_store_add(s, 0, "sold", 1, &reply) == GITHOPPU_STORE_READ_ONLY);
+    CHECK(githoppu_store_checkpoint(s) == GITHOPPU_STORE_READ_ONLY && githoppu_store_close(s) == GITHOPPU_STORE_READ_ONLY);
+    CHECK(open_status(path, NULL) == GITHOPPU_STORE_DAMAGED && strstr(why, "place 2") != NULL);
+    done_with("place");
+}
+
+/* A store that has had nearly 2^40 updates, from an image whose place is set there: the last ones are done, the next is refused, and none is in the log. */
+static void worn(void) {
+    enum { UPDATES = 1234 };
+    const uint64_t most = UINT64_C(1) << 40, place = most - 2;
+    githoppu_store_options options;
+    githoppu_session *session, *again;
+    githoppu_store *s;
+    uint64_t *words, count, k, i;
+    int status = GITHOPPU_IMAGE_PLACE;
+    fresh("worn");
+    CHECK(githoppu_open(64, &session, 1) == GITHOPPU_DONE);
+    for (i = 0; i < UPDATES; i++)
+        CHECK(githoppu_add(&session, "sold", 2, &reply) == GITHOPPU_DONE);
+    CHECK(githoppu_checkpoint_size(&session, &count) == GITHOPPU_DONE);
+    words = (uint64_t *)malloc(8 * count);
+    CHECK(words != NULL && githoppu_checkpoint_into(&session, words, count) == GITHOPPU_DONE);
+    githoppu_give_up(&session, 1);
+    /* the root is the place times a number, and a rest; the place is a word of each region, too */
+    k = words[5] / UPDATES;
+    words[5] += (place - UPDATES) * k;
+    for (i = 8; i < count && status != GITHOPPU_DONE; i++)
+        if (words[i] == UPDATES) {
+            words[i] = place;
+            status = githoppu_recover(words, count, &again, 1);
+            words[i] = status == GITHOPPU_DONE || status == GITHOPPU_IMAGE_PLACE ? place : UPDATES;
+        }
+    CHECK(status == GITHOPPU_DONE);
+    githoppu_give_up(&again, 1);
+    CHECK(githoppu_save_words(other, words, count) == GITHOPPU_DONE);
+    free(words);
+    memset(&options, 0, sizeof options);
+    options.saved = other;
+    s = open_at(path, &options);
+    CHECK(githoppu_store_place(s) == place);
+    sell(s, 2);
+    CHECK(githoppu_store_place(s) == most && githoppu_store_add(s, 0, "sold", 1, &reply) == GITHOPPU_WORN);
+    CHECK(githoppu_store_checkpoint(s) == GITHOPPU_DONE && sold_in(s) == 2 * UPDATES + 2);
+    CHECK(githoppu_store_add(s, 0, "sold", 1, &reply) == GITHOPPU_WORN);
+    close_it(s);
+    s = open_at(path, NULL);
+    CHECK(githoppu_store_place(s) == most && sold_in(s) == 2 * UPDATES + 2 && githoppu_store_add(s, 0, "sold", 1, &reply) == GITHOPPU_WORN);
+    close_it(s);
+    done_with("worn");
+}
+
 static void texts(void) {
     int status;
     for (status = GITHOPPU_STORE_BUSY; status <= GITHOPPU_STORE_NO_CLIENT; status++)
@@ -890,7 +961,7 @@ static void no_sync_fails_untold(void) {
 
 int main(int count, char **words) {
     static void (*const tests[])(void) = {
-        documents, queue, reads_are_the_librarys, any_words, submitted, many_threads, checkpoints, copies, own_object, texts, bad_options,
+        documents, queue, reads_are_the_librarys, any_words, submitted, many_threads, checkpoints, copies, own_object, another_place, worn, texts, bad_options,
         no_file, no_permission, busy, other_formats, damaged_rows, a_fork, saved, no_memory, full_disk, failed_write, failed_sync,
         no_sync_fails_untold};
     char whole[PATH_MAX];
