@@ -15,18 +15,18 @@ use Rattle.program_code.specs.declared.spelling.FaultKind.TheVariants as fault
 abbrev pub is_known : register_type.Register → Bool
 is_known r = nat_le r.number 10
 
-abbrev pub is_written : register_type.Register → Bool
-is_written r = nat_le r.number 9
+abbrev pub is_writable : register_type.Register → Bool
+is_writable r = nat_le r.number 9
 
 abbrev pub is_operand : operand_type.Operand → Bool
 is_operand (Number n) = true
 is_operand (In r) = is_known r
 
 abbrev pub has_registers : instruction_type.Instruction → Bool
-has_registers (Compute kind width to by) = is_written to && is_operand by
-has_registers (Wide to number) = is_written to
+has_registers (Compute kind width to by) = is_writable to && is_operand by
+has_registers (Wide to number) = is_writable to
 has_registers (Jump test width left right target) = is_known left && is_operand right
-has_registers (Load u to base offset) = is_written to && is_known base
+has_registers (Load u to base offset) = is_writable to && is_known base
 has_registers (Store u base offset value) = is_known base && is_operand value
 has_registers (Call target) = true
 has_registers Exit = true
@@ -77,7 +77,7 @@ pub record DecodesTo (words : List ℕ) (place : ℕ) (code : List instruction_t
   pub each : (at : ℕ) → at < place → decoded words at ≡ Ok (slice_index_or code at Exit)
 
 -- the first instruction at fault
-pub record IsFirstOf (words : List ℕ) (f : fault_type.ProgramFault) : Type 0 where
+pub record IsFirstInstructionFault (words : List ℕ) (f : fault_type.ProgramFault) : Type 0 where
   pub within : f.at < length words
   pub faults : decoded words f.at ≡ Err f.kind
   pub before : (at : ℕ) → at < f.at → IsOk (decoded words at)
@@ -88,16 +88,16 @@ pub record Decodes (words : List ℕ) (count : ℕ) (code : List instruction_typ
   pub decodes : DecodesTo (take count words) count code
 
 -- NO PROGRAM: the number of instructions is out of range, or one is at fault, and none before it
-abbrev pub IsFaultOf : Bool → List ℕ → ℕ → fault_type.ProgramFault → Type 0
-IsFaultOf true words count f = IsFirstOf (take count words) f
-IsFaultOf false words count f = (f.kind ≡ fault.Length) × (f.at ≡ 0)
+abbrev pub IsFaultByLength : Bool → List ℕ → ℕ → fault_type.ProgramFault → Type 0
+IsFaultByLength true words count f = IsFirstInstructionFault (take count words) f
+IsFaultByLength false words count f = (f.kind ≡ fault.Length) × (f.at ≡ 0)
 
-abbrev pub IsFirstFault : List ℕ → ℕ → fault_type.ProgramFault → Type 0
-IsFirstFault words count f = IsFaultOf (has_length words count) words count f
+abbrev pub IsFirstProgramFault : List ℕ → ℕ → fault_type.ProgramFault → Type 0
+IsFirstProgramFault words count f = IsFaultByLength (has_length words count) words count f
 
 -- what a program has
-abbrev pub words_of : program_type.Program → List ℕ
-words_of program = program.words.items
+abbrev pub program_words : program_type.Program → List ℕ
+program_words program = program.words.items
 
-abbrev pub code_of : program_type.Program → List instruction_type.Instruction
-code_of program = program.code.items
+abbrev pub instructions_of : program_type.Program → List instruction_type.Instruction
+instructions_of program = program.code.items

@@ -24,8 +24,8 @@ Spelled = Result instruction_type.Instruction fault_type.FaultKind
 abbrev pub class_in : ℕ → ℕ
 class_in w = w % 8
 
-abbrev pub code_in : ℕ → ℕ
-code_in w = w / 2 ^ 4 % 16
+abbrev pub operation_code_in : ℕ → ℕ
+operation_code_in w = w / 2 ^ 4 % 16
 
 abbrev pub source_in : ℕ → ℕ
 source_in w = w / 2 ^ 3 % 2
@@ -45,22 +45,22 @@ from_in w = record { number = w / 2 ^ 12 % 16 }
 abbrev pub offset_in : ℕ → ℕ
 offset_in w = w / 2 ^ 16 % 2 ^ 16
 
-abbrev pub number_in : ℕ → ℕ
-number_in w = w / 2 ^ 32
+abbrev pub immediate_in : ℕ → ℕ
+immediate_in w = w / 2 ^ 32
 
 -- signed fields, extended to 64 bits
 abbrev pub signed_offset : ℕ → ℕ
 signed_offset w = if nat_le (2 ^ 15) (offset_in w) then offset_in w + (2 ^ 64 - 2 ^ 16) else offset_in w
 
 abbrev pub signed_number : ℕ → ℕ
-signed_number w = if nat_le (2 ^ 31) (number_in w) then number_in w + (2 ^ 64 - 2 ^ 32) else number_in w
+signed_number w = if nat_le (2 ^ 31) (immediate_in w) then immediate_in w + (2 ^ 64 - 2 ^ 32) else immediate_in w
 
 abbrev pub operand_in : ℕ → operand_type.Operand
 operand_in w = if source_in w == 0 then Number (signed_number w) else In (from_in w)
 
 -- the field that the operand leaves unused is zero
 abbrev pub has_one_operand : ℕ → Bool
-has_one_operand w = if source_in w == 0 then (from_in w).number == 0 else number_in w == 0
+has_one_operand w = if source_in w == 0 then (from_in w).number == 0 else immediate_in w == 0
 
 -- THE TABLES
 abbrev pub plain : ℕ → Option arith_type.Arith
@@ -105,14 +105,14 @@ abbrev pub wide : ℕ → ℕ → Spelled
 wide w next =
     if w % 2 ^ 8 == 0x18
     then (if (from_in w).number == 0
-    then (if offset_in w == 0 && next % 2 ^ 32 == 0 then Ok (Wide (to_in w) (number_in w + 2 ^ 32 * number_in next)) else Err fault.Unused)
+    then (if offset_in w == 0 && next % 2 ^ 32 == 0 then Ok (Wide (to_in w) (immediate_in w + 2 ^ 32 * immediate_in next)) else Err fault.Unused)
     else Err fault.Map)
     else (if mode_in w == 1 || mode_in w == 2 then Err fault.Packet else Err fault.Opcode)
 
 -- CLASS 1: loads
 abbrev pub loaded_as : ℕ → Option unit_type.Unit → Spelled
 loaded_as w None = Err fault.Opcode
-loaded_as w (Some u) = unused (number_in w == 0) (Load u (to_in w) (from_in w) (signed_offset w))
+loaded_as w (Some u) = unused (immediate_in w == 0) (Load u (to_in w) (from_in w) (signed_offset w))
 
 abbrev pub loaded : ℕ → Spelled
 loaded w =
@@ -129,7 +129,7 @@ stored_number w =
 abbrev pub stored_register : ℕ → Spelled
 stored_register w =
     if mode_in w == 3
-    then unused (number_in w == 0) (Store (unit_of (size_in w)) (to_in w) (signed_offset w) (In (from_in w)))
+    then unused (immediate_in w == 0) (Store (unit_of (size_in w)) (to_in w) (signed_offset w) (In (from_in w)))
     else (if mode_in w == 6 then Err fault.Atomic else Err fault.Opcode)
 
 -- CLASSES 4 AND 7: arithmetic of 32 and of 64 bits
@@ -141,30 +141,30 @@ moved w = if source_in w == 0 || (class_in w == 4 && offset_in w == 32) then Non
 
 abbrev pub operation : ℕ → Option arith_type.Arith
 operation w =
-    if offset_in w == 0 then plain (code_in w)
-    else (if offset_in w == 1 then signed (code_in w)
-    else (if code_in w == 11 then moved w else None))
+    if offset_in w == 0 then plain (operation_code_in w)
+    else (if offset_in w == 1 then signed (operation_code_in w)
+    else (if operation_code_in w == 11 then moved w else None))
 
 abbrev pub operated : ℕ → Option arith_type.Arith → Spelled
 operated w None = Err fault.Opcode
 operated w (Some kind) = unused (has_one_operand w) (Compute kind (width_of (class_in w)) (to_in w) (operand_in w))
 
-abbrev pub negated : ℕ → Spelled
-negated w =
+abbrev pub spelled_negation : ℕ → Spelled
+spelled_negation w =
     if source_in w == 0
-    then unused ((from_in w).number == 0 && (offset_in w == 0 && number_in w == 0)) (Compute arith.Neg (width_of (class_in w)) (to_in w) (Number 0))
+    then unused ((from_in w).number == 0 && (offset_in w == 0 && immediate_in w == 0)) (Compute arith.Neg (width_of (class_in w)) (to_in w) (Number 0))
     else Err fault.Opcode
 
 -- the orders of bytes: to little endian and to big endian in class 4, the other order in class 7
 abbrev pub order : ℕ → Option arith_type.Arith
-order w = if class_in w == 4 then (if source_in w == 0 then to_little (number_in w) else to_other (number_in w)) else (if source_in w == 0 then to_other (number_in w) else None)
+order w = if class_in w == 4 then (if source_in w == 0 then to_little (immediate_in w) else to_other (immediate_in w)) else (if source_in w == 0 then to_other (immediate_in w) else None)
 
 abbrev pub reordered : ℕ → Option arith_type.Arith → Spelled
 reordered w None = Err fault.Opcode
 reordered w (Some kind) = unused ((from_in w).number == 0 && offset_in w == 0) (Compute kind Whole (to_in w) (Number 0))
 
-abbrev pub computed : ℕ → Spelled
-computed w = if code_in w == 13 then reordered w (order w) else (if code_in w == 8 then negated w else operated w (operation w))
+abbrev pub spelled_arithmetic : ℕ → Spelled
+spelled_arithmetic w = if operation_code_in w == 13 then reordered w (order w) else (if operation_code_in w == 8 then spelled_negation w else operated w (operation w))
 
 -- CLASSES 5 AND 6: jumps by tests of 64 and of 32 bits, calls, the exit
 abbrev pub target : ℕ → ℕ → ℕ
@@ -182,25 +182,25 @@ abbrev pub jumps_always : ℕ → ℕ → Spelled
 jumps_always w at =
     if source_in w == 0
     then (if class_in w == 5
-    then unused (((to_in w).number == 0 && (from_in w).number == 0) && number_in w == 0) (always w (target at (signed_offset w)))
+    then unused (((to_in w).number == 0 && (from_in w).number == 0) && immediate_in w == 0) (always w (target at (signed_offset w)))
     else unused (((to_in w).number == 0 && (from_in w).number == 0) && offset_in w == 0) (always w (target at (signed_number w))))
     else Err fault.Opcode
 
 -- a call of a function of the program; the other calls are of helpers
-abbrev pub calls : ℕ → ℕ → Spelled
-calls w at =
+abbrev pub spelled_call : ℕ → ℕ → Spelled
+spelled_call w at =
     if source_in w == 0 && (from_in w).number == 1
     then unused ((to_in w).number == 0 && offset_in w == 0) (Call (target at (signed_number w)))
     else Err fault.Helper
 
-abbrev pub exits : ℕ → Spelled
-exits w = if w == 0x95 then Ok Exit else (if source_in w == 0 then Err fault.Unused else Err fault.Opcode)
+abbrev pub spelled_exit : ℕ → Spelled
+spelled_exit w = if w == 0x95 then Ok Exit else (if source_in w == 0 then Err fault.Unused else Err fault.Opcode)
 
 abbrev pub led : ℕ → ℕ → Spelled
 led w at =
-    if code_in w == 0 then jumps_always w at
-    else (if class_in w == 5 && code_in w == 8 then calls w at
-    else (if class_in w == 5 && code_in w == 9 then exits w else jumps w at (test_of (code_in w))))
+    if operation_code_in w == 0 then jumps_always w at
+    else (if class_in w == 5 && operation_code_in w == 8 then spelled_call w at
+    else (if class_in w == 5 && operation_code_in w == 9 then spelled_exit w else jumps w at (test_of (operation_code_in w))))
 
 -- THE INSTRUCTION of a word and the one after it, at a place
 abbrev pub spelled : ℕ → ℕ → ℕ → Spelled
@@ -209,4 +209,4 @@ spelled w next at =
     else (if class_in w == 1 then loaded w
     else (if class_in w == 2 then stored_number w
     else (if class_in w == 3 then stored_register w
-    else (if class_in w == 4 || class_in w == 7 then computed w else led w at))))
+    else (if class_in w == 4 || class_in w == 7 then spelled_arithmetic w else led w at))))

@@ -13,8 +13,8 @@ pub fn class_in(word: u64) -> u64
 }
 
 /// The code of an operation of arithmetic or of a jump.
-pub fn code_in(word: u64) -> u64
-    ensures { result ≡ spec.code_in word }
+pub fn operation_code_in(word: u64) -> u64
+    ensures { result ≡ spec.operation_code_in word }
 {
     (word >> 4) % 16
 }
@@ -66,8 +66,8 @@ pub fn offset_in(word: u64) -> u64
 }
 
 /// The number, as it stands there.
-pub fn number_in(word: u64) -> u64
-    ensures { result ≡ spec.number_in word }
+pub fn immediate_in(word: u64) -> u64
+    ensures { result ≡ spec.immediate_in word }
 {
     word >> 32
 }
@@ -88,7 +88,7 @@ pub fn signed_offset(word: u64) -> u64
 pub fn signed_number(word: u64) -> u64
     ensures { result ≡ spec.signed_number word }
 {
-    let a = number_in(word);
+    let a = immediate_in(word);
     if a >= 1 << 31 {
         a + 0xffff_ffff_0000_0000
     } else {
@@ -114,7 +114,7 @@ pub fn has_one_operand(word: u64) -> bool
     if source_in(word) == 0 {
         from_in(word).number == 0
     } else {
-        number_in(word) == 0
+        immediate_in(word) == 0
     }
 }
 

@@ -5,7 +5,7 @@
 //!
 //! - A word spells an instruction by the tables of the standard: `specs/Spelling.antt`. What is spelled has to keep the rules of `specs/Program.antt`: registers 0 to 10, of
 //!   which 10 is not written; jumps and calls that lead to an instruction; a last instruction that does not go on.
-//! - `Program::of` answers exactly: the instructions (`Decodes`), or the first fault (`IsFirstFault`).
+//! - `Program::of` answers exactly: the instructions (`Decodes`), or the first fault (`IsFirstProgramFault`).
 //!
 //! Calls of helpers, maps, atomic operations and packet access are refused, each by its name.
 #![tactic(auto)]

@@ -1,7 +1,7 @@
 //! Programs: words that were decoded and found to keep the rules.
 
 ghost use Rattle.std.specs.Prelude.{◌≡◌, ◌+◌, ◌<◌, ◌≤◌, ◌⊎◌, length, take, slice_index, MatchResult};
-ghost use Rattle.program_code.specs.Program.{Decodes, IsFirstFault, code_of, words_of};
+ghost use Rattle.program_code.specs.Program.{Decodes, IsFirstProgramFault, instructions_of, program_words};
 ghost use Rattle.program_code.specs.Program as spec;
 
 use crate::instruction::{Instruction, Operand, Register, Test};
@@ -28,8 +28,8 @@ pub struct Program {
 impl Program {
     /// The program of words: the first `instructions` of them are instructions, the others are constants. `Err` is the first fault, or says that memory ran out.
     pub fn of(alloc: Global, words: &[u64], instructions: usize) -> Result<Program, ProgramFault>
-        ensures made { MatchResult result (λ program. Decodes words.now instructions (code_of program)) (λ fault. (fault.kind ≡ FaultKind.Memory) ⊎ IsFirstFault words.now instructions fault) }
-        ensures kept { MatchResult result (λ program. words_of program ≡ words.now) (λ _. Unit {0}) }
+        ensures made { MatchResult result (λ program. Decodes words.now instructions (instructions_of program)) (λ fault. (fault.kind ≡ FaultKind.Memory) ⊎ IsFirstProgramFault words.now instructions fault) }
+        ensures kept { MatchResult result (λ program. program_words program ≡ words.now) (λ _. Unit {0}) }
     {
         if !has_length(words, instructions) {
             return Err(ProgramFault {
@@ -46,14 +46,14 @@ impl Program {
 
     /// Its words.
     pub fn words(&self) -> &[u64]
-        ensures { result.now ≡ words_of self.now }
+        ensures { result.now ≡ program_words self.now }
     {
         &self.words
     }
 
     /// Its instructions.
     pub fn code(&self) -> &[Instruction]
-        ensures { result.now ≡ code_of self.now }
+        ensures { result.now ≡ instructions_of self.now }
     {
         &self.code
     }
@@ -77,7 +77,7 @@ fn has_length(words: &[u64], count: usize) -> bool
 /// The instructions of all words.
 fn decoded_all(alloc: Global, words: &[u64]) -> Result<Vec<Instruction>, ProgramFault>
     requires { length words.now ≤ 65536 }
-    ensures { MatchResult result (λ code. spec.DecodesTo words.now (length words.now) code.items) (λ fault. (fault.kind ≡ FaultKind.Memory) ⊎ spec.IsFirstOf words.now fault) }
+    ensures { MatchResult result (λ code. spec.DecodesTo words.now (length words.now) code.items) (λ fault. (fault.kind ≡ FaultKind.Memory) ⊎ spec.IsFirstInstructionFault words.now fault) }
 {
     let mut code = Vec::new(alloc);
     for at in 0..words.len() {
@@ -142,8 +142,8 @@ fn is_known(register: Register) -> bool
     register.number <= 10
 }
 
-fn is_written(register: Register) -> bool
-    ensures { result ≡ spec.is_written register }
+fn is_writable(register: Register) -> bool
+    ensures { result ≡ spec.is_writable register }
 {
     register.number <= 9
 }
@@ -161,10 +161,10 @@ fn has_registers(instruction: Instruction) -> bool
     ensures { result ≡ spec.has_registers instruction }
 {
     match instruction {
-        Instruction::Compute { to, by, .. } => is_written(to) && is_operand(by),
-        Instruction::Wide { to, .. } => is_written(to),
+        Instruction::Compute { to, by, .. } => is_writable(to) && is_operand(by),
+        Instruction::Wide { to, .. } => is_writable(to),
         Instruction::Jump { left, right, .. } => is_known(left) && is_operand(right),
-        Instruction::Load { to, base, .. } => is_written(to) && is_known(base),
+        Instruction::Load { to, base, .. } => is_writable(to) && is_known(base),
         Instruction::Store { base, value, .. } => is_known(base) && is_operand(value),
         Instruction::Call { .. } | Instruction::Exit | Instruction::Rest => true,
     }

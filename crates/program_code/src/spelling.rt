@@ -4,9 +4,9 @@ ghost use Rattle.std.specs.Prelude.{◌≡◌, ◌+◌, ◌*◌, ◌/◌, ◌%�
 ghost use Rattle.program_code.specs.Spelling as spec;
 
 use crate::fields::{
-    class_in, code_in, extending, from_in, has_one_operand, mode_in, number_in, offset_in,
-    operand_in, plain, signed, signed_number, signed_offset, signed_unit, size_in, source_in,
-    test_of, to_in, to_little, to_other, unit_of,
+    class_in, extending, from_in, has_one_operand, immediate_in, mode_in, offset_in, operand_in,
+    operation_code_in, plain, signed, signed_number, signed_offset, signed_unit, size_in,
+    source_in, test_of, to_in, to_little, to_other, unit_of,
 };
 use crate::instruction::{Arith, Instruction, Operand, Test, Unit, Width};
 
@@ -46,7 +46,7 @@ pub fn spelled(word: u64, next: u64, at: u64) -> Result<Instruction, FaultKind>
         1 => loaded(word),
         2 => stored_number(word),
         3 => stored_register(word),
-        4 | 7 => computed(word),
+        4 | 7 => spelled_arithmetic(word),
         _ => led(word, at),
     }
 }
@@ -85,7 +85,7 @@ fn wide(word: u64, next: u64) -> Result<Instruction, FaultKind>
 }
 
 fn wide_number(word: u64, next: u64) -> u64
-    ensures { result ≡ spec.number_in word + 2 ^ 32 * spec.number_in next }
+    ensures { result ≡ spec.immediate_in word + 2 ^ 32 * spec.immediate_in next }
 {
     (word >> 32) + (1 << 32) * (next >> 32)
 }
@@ -112,7 +112,7 @@ fn loaded_as(word: u64, unit: Unit) -> Result<Instruction, FaultKind>
         base: from_in(word),
         offset: signed_offset(word),
     };
-    unused(number_in(word) == 0, load)
+    unused(immediate_in(word) == 0, load)
 }
 
 fn stored_number(word: u64) -> Result<Instruction, FaultKind>
@@ -141,7 +141,7 @@ fn stored_register(word: u64) -> Result<Instruction, FaultKind>
                 offset: signed_offset(word),
                 value: Operand::In(from_in(word)),
             };
-            unused(number_in(word) == 0, store)
+            unused(immediate_in(word) == 0, store)
         }
         6 => Err(FaultKind::Atomic),
         _ => Err(FaultKind::Opcode),
@@ -158,12 +158,12 @@ fn width_of(class: u64) -> Width
     }
 }
 
-fn computed(word: u64) -> Result<Instruction, FaultKind>
-    ensures { result ≡ spec.computed word }
+fn spelled_arithmetic(word: u64) -> Result<Instruction, FaultKind>
+    ensures { result ≡ spec.spelled_arithmetic word }
 {
-    match code_in(word) {
+    match operation_code_in(word) {
         13 => reordered(word),
-        8 => negated(word),
+        8 => spelled_negation(word),
         _ => operated(word),
     }
 }
@@ -181,7 +181,7 @@ fn moved(word: u64) -> Option<Arith>
 fn operation(word: u64) -> Option<Arith>
     ensures { result ≡ spec.operation word }
 {
-    let code = code_in(word);
+    let code = operation_code_in(word);
     match offset_in(word) {
         0 => plain(code),
         1 => signed(code),
@@ -206,8 +206,8 @@ fn operated(word: u64) -> Result<Instruction, FaultKind>
     }
 }
 
-fn negated(word: u64) -> Result<Instruction, FaultKind>
-    ensures { result ≡ spec.negated word }
+fn spelled_negation(word: u64) -> Result<Instruction, FaultKind>
+    ensures { result ≡ spec.spelled_negation word }
 {
     if source_in(word) != 0 {
         return Err(FaultKind::Opcode);
@@ -218,14 +218,14 @@ fn negated(word: u64) -> Result<Instruction, FaultKind>
         to: to_in(word),
         by: Operand::Number(0),
     };
-    let are_zero = from_in(word).number == 0 && (offset_in(word) == 0 && number_in(word) == 0);
+    let are_zero = from_in(word).number == 0 && (offset_in(word) == 0 && immediate_in(word) == 0);
     unused(are_zero, compute)
 }
 
 fn order(word: u64) -> Option<Arith>
     ensures { result ≡ spec.order word }
 {
-    let bits = number_in(word);
+    let bits = immediate_in(word);
     if class_in(word) == 4 {
         if source_in(word) == 0 {
             to_little(bits)
@@ -260,16 +260,16 @@ fn reordered(word: u64) -> Result<Instruction, FaultKind>
 fn led(word: u64, at: u64) -> Result<Instruction, FaultKind>
     ensures { result ≡ spec.led word at }
 {
-    let code = code_in(word);
+    let code = operation_code_in(word);
     let is_first = class_in(word) == 5;
     if code == 0 {
         return jumps_always(word, at);
     }
     if is_first && code == 8 {
-        return calls(word, at);
+        return spelled_call(word, at);
     }
     if is_first && code == 9 {
-        return exits(word);
+        return spelled_exit(word);
     }
     jumps(word, at)
 }
@@ -282,9 +282,9 @@ fn target(at: u64, by: u64) -> u64
 }
 
 fn jumps(word: u64, at: u64) -> Result<Instruction, FaultKind>
-    ensures { result ≡ spec.jumps word at (spec.test_of (spec.code_in word)) }
+    ensures { result ≡ spec.jumps word at (spec.test_of (spec.operation_code_in word)) }
 {
-    match test_of(code_in(word)) {
+    match test_of(operation_code_in(word)) {
         None => Err(FaultKind::Opcode),
         Some(test) => {
             let jump = Instruction::Jump {
@@ -320,15 +320,15 @@ fn jumps_always(word: u64, at: u64) -> Result<Instruction, FaultKind>
     let no_registers = to_in(word).number == 0 && from_in(word).number == 0;
     if class_in(word) == 5 {
         let jump = jump_always(word, target(at, signed_offset(word)));
-        unused(no_registers && number_in(word) == 0, jump)
+        unused(no_registers && immediate_in(word) == 0, jump)
     } else {
         let jump = jump_always(word, target(at, signed_number(word)));
         unused(no_registers && offset_in(word) == 0, jump)
     }
 }
 
-fn calls(word: u64, at: u64) -> Result<Instruction, FaultKind>
-    ensures { result ≡ spec.calls word at }
+fn spelled_call(word: u64, at: u64) -> Result<Instruction, FaultKind>
+    ensures { result ≡ spec.spelled_call word at }
 {
     if source_in(word) == 0 && from_in(word).number == 1 {
         let are_zero = to_in(word).number == 0 && offset_in(word) == 0;
@@ -338,8 +338,8 @@ fn calls(word: u64, at: u64) -> Result<Instruction, FaultKind>
     Err(FaultKind::Helper)
 }
 
-fn exits(word: u64) -> Result<Instruction, FaultKind>
-    ensures { result ≡ spec.exits word }
+fn spelled_exit(word: u64) -> Result<Instruction, FaultKind>
+    ensures { result ≡ spec.spelled_exit word }
 {
     if word == 0x95 {
         Ok(Instruction::Exit)

@@ -61,64 +61,64 @@ abbrev pub swapped_64 : ℕ → ℕ
 swapped_64 a = swapped_32 a * 2 ^ 32 + swapped_32 (a / 2 ^ 32)
 
 -- OF 64 BITS
-abbrev pub whole : Arith → ℕ → ℕ → ℕ
-whole arith.Add a b = (a + b) % 2 ^ 64
-whole arith.Sub a b = (a + (2 ^ 64 - b)) % 2 ^ 64
-whole arith.Mul a b = (a * b) % 2 ^ 64
-whole arith.Div a b = quotient a b
-whole arith.Or a b = bit_or a b
-whole arith.And a b = bit_and a b
-whole arith.ShiftLeft a b = (a * 2 ^ (b % 64)) % 2 ^ 64
-whole arith.ShiftRight a b = a / 2 ^ (b % 64)
-whole arith.Neg a b = negated a
-whole arith.Mod a b = remainder a b
-whole arith.Xor a b = bit_xor a b
-whole arith.Mov a b = b
-whole arith.ShiftSigned a b = shifted_signed a (b % 64)
-whole arith.SignedDiv a b = signed_quotient a b
-whole arith.SignedMod a b = signed_remainder a b
-whole arith.Signed8 a b = signed_8 (b % 2 ^ 8)
-whole arith.Signed16 a b = signed_16 (b % 2 ^ 16)
-whole arith.Signed32 a b = signed_32 (b % 2 ^ 32)
-whole arith.Low16 a b = a % 2 ^ 16
-whole arith.Low32 a b = a % 2 ^ 32
-whole arith.Low64 a b = a
-whole arith.Swap16 a b = swapped_16 a
-whole arith.Swap32 a b = swapped_32 a
-whole arith.Swap64 a b = swapped_64 a
+abbrev pub computed_whole : Arith → ℕ → ℕ → ℕ
+computed_whole arith.Add a b = (a + b) % 2 ^ 64
+computed_whole arith.Sub a b = (a + (2 ^ 64 - b)) % 2 ^ 64
+computed_whole arith.Mul a b = (a * b) % 2 ^ 64
+computed_whole arith.Div a b = quotient a b
+computed_whole arith.Or a b = bit_or a b
+computed_whole arith.And a b = bit_and a b
+computed_whole arith.ShiftLeft a b = (a * 2 ^ (b % 64)) % 2 ^ 64
+computed_whole arith.ShiftRight a b = a / 2 ^ (b % 64)
+computed_whole arith.Neg a b = negated a
+computed_whole arith.Mod a b = remainder a b
+computed_whole arith.Xor a b = bit_xor a b
+computed_whole arith.Mov a b = b
+computed_whole arith.ShiftSigned a b = shifted_signed a (b % 64)
+computed_whole arith.SignedDiv a b = signed_quotient a b
+computed_whole arith.SignedMod a b = signed_remainder a b
+computed_whole arith.Signed8 a b = signed_8 (b % 2 ^ 8)
+computed_whole arith.Signed16 a b = signed_16 (b % 2 ^ 16)
+computed_whole arith.Signed32 a b = signed_32 (b % 2 ^ 32)
+computed_whole arith.Low16 a b = a % 2 ^ 16
+computed_whole arith.Low32 a b = a % 2 ^ 32
+computed_whole arith.Low64 a b = a
+computed_whole arith.Swap16 a b = swapped_16 a
+computed_whole arith.Swap32 a b = swapped_32 a
+computed_whole arith.Swap64 a b = swapped_64 a
 
 -- OF 32 BITS: shifts go by fewer bits, signed division is of signed numbers of 32 bits, and the rest are the lower half of what the halves make
-abbrev pub half : Arith → ℕ → ℕ → ℕ
-half arith.ShiftLeft a b = low (a * 2 ^ (b % 32))
-half arith.ShiftRight a b = a / 2 ^ (b % 32)
-half arith.ShiftSigned a b = shifted_signed (a * 2 ^ 32) (b % 32) / 2 ^ 32
-half arith.SignedDiv a b = low (signed_quotient (signed_32 a) (signed_32 b))
-half arith.SignedMod a b = low (signed_remainder (signed_32 a) (signed_32 b))
-half kind a b = low (whole kind a b)
+abbrev pub computed_half : Arith → ℕ → ℕ → ℕ
+computed_half arith.ShiftLeft a b = low (a * 2 ^ (b % 32))
+computed_half arith.ShiftRight a b = a / 2 ^ (b % 32)
+computed_half arith.ShiftSigned a b = shifted_signed (a * 2 ^ 32) (b % 32) / 2 ^ 32
+computed_half arith.SignedDiv a b = low (signed_quotient (signed_32 a) (signed_32 b))
+computed_half arith.SignedMod a b = low (signed_remainder (signed_32 a) (signed_32 b))
+computed_half kind a b = low (computed_whole kind a b)
 
 abbrev pub computed : Arith → Width → ℕ → ℕ → ℕ
-computed kind Whole a b = whole kind a b
-computed kind Half a b = half kind (low a) (low b)
+computed kind Whole a b = computed_whole kind a b
+computed kind Half a b = computed_half kind (low a) (low b)
 
 -- TESTS. A signed number with 2^63 added has its place in the order.
 abbrev pub biased : ℕ → ℕ
 biased a = (a + 2 ^ 63) % 2 ^ 64
 
-abbrev pub holds_whole : Test → ℕ → ℕ → Bool
-holds_whole test.Always a b = true
-holds_whole test.Equal a b = a == b
-holds_whole test.Above a b = nat_lt b a
-holds_whole test.AtLeast a b = nat_le b a
-holds_whole test.AnyBit a b = if bit_and a b == 0 then false else true
-holds_whole test.Other a b = if a == b then false else true
-holds_whole test.SignedAbove a b = nat_lt (biased b) (biased a)
-holds_whole test.SignedAtLeast a b = nat_le (biased b) (biased a)
-holds_whole test.Below a b = nat_lt a b
-holds_whole test.AtMost a b = nat_le a b
-holds_whole test.SignedBelow a b = nat_lt (biased a) (biased b)
-holds_whole test.SignedAtMost a b = nat_le (biased a) (biased b)
+abbrev pub test_holds_whole : Test → ℕ → ℕ → Bool
+test_holds_whole test.Always a b = true
+test_holds_whole test.Equal a b = a == b
+test_holds_whole test.Above a b = nat_lt b a
+test_holds_whole test.AtLeast a b = nat_le b a
+test_holds_whole test.AnyBit a b = if bit_and a b == 0 then false else true
+test_holds_whole test.Other a b = if a == b then false else true
+test_holds_whole test.SignedAbove a b = nat_lt (biased b) (biased a)
+test_holds_whole test.SignedAtLeast a b = nat_le (biased b) (biased a)
+test_holds_whole test.Below a b = nat_lt a b
+test_holds_whole test.AtMost a b = nat_le a b
+test_holds_whole test.SignedBelow a b = nat_lt (biased a) (biased b)
+test_holds_whole test.SignedAtMost a b = nat_le (biased a) (biased b)
 
 -- of halves: moved up, they have the same order
-abbrev pub holds : Test → Width → ℕ → ℕ → Bool
-holds kind Whole a b = holds_whole kind a b
-holds kind Half a b = holds_whole kind (low a * 2 ^ 32) (low b * 2 ^ 32)
+abbrev pub test_holds : Test → Width → ℕ → ℕ → Bool
+test_holds kind Whole a b = test_holds_whole kind a b
+test_holds kind Half a b = test_holds_whole kind (low a * 2 ^ 32) (low b * 2 ^ 32)

@@ -26,7 +26,7 @@ pub fn computed(kind: Arith, width: Width, a: u64, b: u64) -> u64
 
 #[inline(always)]
 fn computed_whole(kind: Arith, a: u64, b: u64) -> u64
-    ensures { result ≡ spec.whole kind a b }
+    ensures { result ≡ spec.computed_whole kind a b }
 {
     match kind {
         Arith::Add => a.wrapping_add(b),
@@ -60,7 +60,7 @@ fn computed_whole(kind: Arith, a: u64, b: u64) -> u64
 fn computed_half(kind: Arith, a: u64, b: u64) -> u64
     requires left { a < 2 ^ 32 }
     requires right { b < 2 ^ 32 }
-    ensures { result ≡ spec.half kind a b }
+    ensures { result ≡ spec.computed_half kind a b }
 {
     match kind {
         Arith::ShiftLeft => low(a << (b % 32)),
@@ -197,18 +197,18 @@ fn swapped_64(a: u64) -> u64
 
 /// Whether a test holds.
 #[inline(always)]
-pub fn holds(test: Test, width: Width, a: u64, b: u64) -> bool
-    ensures { result ≡ spec.holds test width a b }
+pub fn test_holds(test: Test, width: Width, a: u64, b: u64) -> bool
+    ensures { result ≡ spec.test_holds test width a b }
 {
     match width {
-        Width::Whole => holds_whole(test, a, b),
-        Width::Half => holds_whole(test, low(a) << 32, low(b) << 32),
+        Width::Whole => test_holds_whole(test, a, b),
+        Width::Half => test_holds_whole(test, low(a) << 32, low(b) << 32),
     }
 }
 
 #[inline(always)]
-fn holds_whole(test: Test, a: u64, b: u64) -> bool
-    ensures { result ≡ spec.holds_whole test a b }
+fn test_holds_whole(test: Test, a: u64, b: u64) -> bool
+    ensures { result ≡ spec.test_holds_whole test a b }
 {
     match test {
         Test::Always => true,

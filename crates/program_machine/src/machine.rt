@@ -3,7 +3,7 @@
 ghost use Rattle.std.specs.Prelude.{◌≡◌, ◌+◌, ◌*◌, ◌<◌, ◌≤◌, ◌^◌, length};
 ghost use Rattle.program_machine.specs.Machine as spec;
 
-use crate::arithmetic::{computed, holds, signed_8, signed_16, signed_32};
+use crate::arithmetic::{computed, signed_8, signed_16, signed_32, test_holds};
 use program_code::{Instruction, Operand, Register, Unit};
 
 /// The words of a request, and of a reply.
@@ -30,7 +30,7 @@ pub enum RunFault {
 
 /// How a run ends: with a value, or with a fault of the instruction at a place.
 #[derive(Clone, Copy, Debug, PartialEq, Eq)]
-pub enum End {
+pub enum RunEnd {
     Returned(u64),
     Fault {
         kind: RunFault,
@@ -43,7 +43,7 @@ pub enum End {
 #[derive(Clone, Copy)]
 pub enum Wish {
     Goes,
-    Ends(End),
+    Ends(RunEnd),
     Loads {
         place: u64,
         unit: Unit,
@@ -60,7 +60,7 @@ pub enum Wish {
 
 /// Where an address is.
 #[derive(Clone, Copy)]
-pub enum Place {
+pub enum AddressPlace {
     Object(u64),
     Request(u64),
     Reply(u64),
@@ -82,17 +82,17 @@ pub struct Machine {
 
 /// Where an address is, for an object of `words` words and a program of `constants` words.
 #[inline(always)]
-pub fn place_of(address: u64, words: u64, constants: u64) -> Place
-    ensures { result ≡ spec.place_of address words constants }
+pub fn place_of_address(address: u64, words: u64, constants: u64) -> AddressPlace
+    ensures { result ≡ spec.place_of_address address words constants }
 {
     let index = address % (1 << 32) / 8;
     match address >> 32 {
-        1 if index + 8 < words => Place::Object(index + 8),
-        2 if index < 144 => Place::Request(index),
-        3 if index < 136 => Place::Reply(index + 8),
-        4 if index < 512 => Place::Stack(index),
-        5 if index < constants => Place::Constant(index),
-        _ => Place::Nowhere,
+        1 if index + 8 < words => AddressPlace::Object(index + 8),
+        2 if index < 144 => AddressPlace::Request(index),
+        3 if index < 136 => AddressPlace::Reply(index + 8),
+        4 if index < 512 => AddressPlace::Stack(index),
+        5 if index < constants => AddressPlace::Constant(index),
+        _ => AddressPlace::Nowhere,
     }
 }
 
@@ -185,7 +185,7 @@ impl Machine {
     fn fault(&self, kind: RunFault, address: u64) -> Wish
         ensures { result ≡ spec.fault self.now kind address }
     {
-        Wish::Ends(End::Fault {
+        Wish::Ends(RunEnd::Fault {
             kind,
             at: self.at,
             address,
@@ -207,8 +207,8 @@ impl Machine {
         if !is_aligned(unit, address) {
             return self.fault(RunFault::Alignment, address);
         }
-        let word = match place_of(address, words, constants.len() as u64) {
-            Place::Object(place) => {
+        let word = match place_of_address(address, words, constants.len() as u64) {
+            AddressPlace::Object(place) => {
                 return Wish::Loads {
                     place,
                     unit,
@@ -216,11 +216,11 @@ impl Machine {
                     to,
                 };
             }
-            Place::Request(at) => request[at as usize],
-            Place::Reply(at) => self.reply[at as usize],
-            Place::Stack(at) => self.stack[at as usize],
-            Place::Constant(at) => constants[at as usize],
-            Place::Nowhere => return self.fault(RunFault::Address, address),
+            AddressPlace::Request(at) => request[at as usize],
+            AddressPlace::Reply(at) => self.reply[at as usize],
+            AddressPlace::Stack(at) => self.stack[at as usize],
+            AddressPlace::Constant(at) => constants[at as usize],
+            AddressPlace::Nowhere => return self.fault(RunFault::Address, address),
         };
         self.write(to, part(unit, address, word));
         Wish::Goes
@@ -233,26 +233,26 @@ impl Machine {
         if !is_aligned(unit, address) {
             return self.fault(RunFault::Alignment, address);
         }
-        match place_of(address, words, 0) {
-            Place::Object(place) => Wish::Stores {
+        match place_of_address(address, words, 0) {
+            AddressPlace::Object(place) => Wish::Stores {
                 place,
                 unit,
                 address,
                 value,
             },
-            Place::Reply(at) => {
+            AddressPlace::Reply(at) => {
                 let at = at as usize;
                 self.reply[at] = with_part(unit, address, self.reply[at], value);
                 self.at = self.at.wrapping_add(1);
                 Wish::Goes
             }
-            Place::Stack(at) => {
+            AddressPlace::Stack(at) => {
                 let at = at as usize;
                 self.stack[at] = with_part(unit, address, self.stack[at], value);
                 self.at = self.at.wrapping_add(1);
                 Wish::Goes
             }
-            Place::Request(_) | Place::Constant(_) | Place::Nowhere => {
+            AddressPlace::Request(_) | AddressPlace::Constant(_) | AddressPlace::Nowhere => {
                 self.fault(RunFault::Address, address)
             }
         }
@@ -281,7 +281,7 @@ impl Machine {
         ensures { (result, self.new) ≡ spec.exits self.old }
     {
         if self.depth == 0 || self.depth > 7 {
-            return Wish::Ends(End::Returned(self.registers[0]));
+            return Wish::Ends(RunEnd::Returned(self.registers[0]));
         }
         self.depth -= 1;
         let base = 6 * self.depth as usize;
@@ -328,7 +328,7 @@ impl Machine {
                 right,
                 target,
             } => {
-                if holds(test, width, self.read(left), self.value(right)) {
+                if test_holds(test, width, self.read(left), self.value(right)) {
                     self.at = target;
                     return Wish::Goes;
                 }

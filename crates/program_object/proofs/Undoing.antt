@@ -4,12 +4,13 @@ use Rattle.std.proofs.lemmas.List.{get_or-set_same, get_or-set_other, set-set, s
 use Rattle.std.proofs.lemmas.Bool.{lt-ltb}
 use Rattle.std.proofs.Common.{◌≤◌, ◌||◌, nat_le, Bool, Option, None}
 use Rattle.std.proofs.lemmas.Bool.{le-ltb, lt-leb}
-use Rattle.program_machine.specs.Machine.{Machine, after, with_part}
+use Rattle.program_machine.specs.Machine.{Machine, following_place, with_part}
 use Rattle.program_code.specs.declared.instruction.Unit.{Unit}
+use Rattle.program_machine.specs.declared.machine.RunEnd.{RunEnd}
 use Rattle.program_machine.specs.declared.machine.RunFault.TheVariants as fault_kind
 use Rattle.program_machine.specs.declared.machine.Wish.{Wish}
 use Rattle.program_machine.specs.declared.machine.Wish.TheVariants.{Stores}
-use Rattle.program_object.specs.Run.{undone, put, Undo, End, State, Granted, fault, is_outside, pushed, state}
+use Rattle.program_object.specs.Run.{undone, put, Undo, RunState, Granted, end_by_fault, is_outside, store_noted, state}
 
 -- what stands behind the first places and words changes nothing
 undone_same : (size n : ℕ) (p q v w now : List ℕ) → ((i : ℕ) → i < n → slice_index p i ≡ slice_index q i) → ((i : ℕ) → i < n → slice_index v i ≡ slice_index w i) →
@@ -44,17 +45,17 @@ undone_more size n at v old p w before lp lw within is =
 chosen : {A : Type 0} (b : Bool) (x y : A) → b ≡ false → cond b x y ≡ y
 chosen b x y e = ap (λ b. cond b x y) e
 
-abbrev stored : Machine → Undo → ℕ → Unit → ℕ → ℕ → List ℕ → ℕ → Option End × State
-stored m undo place u address value before w = (None, record { machine = record m { at = after m.at }; stores = undo.count + 1; image = slice_set before place (with_part u address w value) })
+abbrev stored : Machine → Undo → ℕ → Unit → ℕ → ℕ → List ℕ → ℕ → Option RunEnd × RunState
+stored m undo place u address value before w = (None, record { machine = record m { at = following_place m.at }; stores = undo.count + 1; image = slice_set before place (with_part u address w value) })
 
 -- a store that was granted
 pub granted_store : (writes : Bool) (words place : ℕ) (u : Unit) (address value word : ℕ) (m : Machine) (undo : Undo) (before : List ℕ) →
     8 ≤ place → place < words → writes ≡ true → undo.count < 256 → length undo.places ≡ 256 → length undo.words ≡ 256 → slice_index before place ≡ word →
-    Granted writes words (Stores place u address value) m undo before None (record m { at = after m.at }) (pushed undo place word) (slice_set before place (with_part u address word value))
+    Granted writes words (Stores place u address value) m undo before None (record m { at = following_place m.at }) (store_noted undo place word) (slice_set before place (with_part u address word value))
 granted_store writes words place u address value word m undo before from below allowed few lp lw is = record {
   does =
       chosen (is_outside place words) _ _ (ap (λ b. b || nat_le words place) (le-ltb place 8 from) ∙ lt-leb words place below)
-      ∙ ap (λ b. cond b (cond (nat_le 256 undo.count) (fault m fault_kind.Stores address, state m undo before) (stored m undo place u address value before (slice_index before place))) (fault m fault_kind.ReadOnly address, state m undo before)) allowed
+      ∙ ap (λ b. cond b (cond (nat_le 256 undo.count) (end_by_fault m fault_kind.Stores address, state m undo before) (stored m undo place u address value before (slice_index before place))) (end_by_fault m fault_kind.ReadOnly address, state m undo before)) allowed
       ∙ chosen (nat_le 256 undo.count) _ _ (lt-leb 256 undo.count few)
       ∙ ap (stored m undo place u address value before) is;
   back = undone_more words undo.count place (with_part u address word value) word undo.places undo.words before (omega (arith, lp, few)) (omega (arith, lw, few)) below (sym is);
@@ -64,10 +65,10 @@ granted_store writes words place u address value word m undo before from below a
 -- and the same by what is known of the words after it
 pub granted_store_at : (writes : Bool) (words place : ℕ) (u : Unit) (address value word changed : ℕ) (w : Wish) (m : Machine) (undo undo' : Undo) (before now : List ℕ) →
     w ≡ Stores place u address value → 8 ≤ place → place < words → writes ≡ true → undo.count < 256 → length undo.places ≡ 256 → length undo.words ≡ 256 → slice_index before place ≡ word →
-    undo' ≡ pushed undo place word → now ≡ slice_set before place changed → changed ≡ with_part u address word value →
-    Granted writes words w m undo before None (record m { at = after m.at }) undo' now
+    undo' ≡ store_noted undo place word → now ≡ slice_set before place changed → changed ≡ with_part u address word value →
+    Granted writes words w m undo before None (record m { at = following_place m.at }) undo' now
 granted_store_at writes words place u address value word changed w m undo undo' before now iw from below allowed few lp lw is pu en ec =
-    subst (λ (x : Wish). Granted writes words x m undo before None (record m { at = after m.at }) undo' now) (sym iw)
-    (subst (λ (v : Undo). Granted writes words (Stores place u address value) m undo before None (record m { at = after m.at }) v now) (sym pu)
-    (subst (λ (n : List ℕ). Granted writes words (Stores place u address value) m undo before None (record m { at = after m.at }) (pushed undo place word) n) (sym (en ∙ ap (slice_set before place) ec))
+    subst (λ (x : Wish). Granted writes words x m undo before None (record m { at = following_place m.at }) undo' now) (sym iw)
+    (subst (λ (v : Undo). Granted writes words (Stores place u address value) m undo before None (record m { at = following_place m.at }) v now) (sym pu)
+    (subst (λ (n : List ℕ). Granted writes words (Stores place u address value) m undo before None (record m { at = following_place m.at }) (store_noted undo place word) n) (sym (en ∙ ap (slice_set before place) ec))
     (granted_store writes words place u address value word m undo before from below allowed few lp lw is)))

@@ -4,13 +4,14 @@ use Rattle.cx_base.specs.Memory.{Words}
 use Rattle.cx_base.specs.OldFormat.{OldFormat, no_old_format}
 use Rattle.program_machine.specs.Machine.{Machine}
 use Rattle.program_code.specs.declared.instruction.Instruction as instruction_type
-use Rattle.program_machine.specs.declared.machine.End.TheVariants.{Returned, Fault}
+use Rattle.program_machine.specs.declared.machine.RunEnd.{RunEnd}
+use Rattle.program_machine.specs.declared.machine.RunEnd.TheVariants.{Returned, Fault}
 use Rattle.program_machine.specs.declared.machine.RunFault as fault_type
 use Rattle.program_machine.specs.declared.machine.RunFault.TheVariants as fault_kind
-use Rattle.program_object.specs.Run.{End, State, run, setting}
+use Rattle.program_object.specs.Run.{RunState, run, setting}
 
 -- an image of this many lines and of the program with this fingerprint
-pub record IsImage (lines version : ℕ) (image : List ℕ) : Type 0 where
+pub record IsProgramImage (lines version : ℕ) (image : List ℕ) : Type 0 where
   pub words : Words (8 * lines) image
   pub version_is : slice_index image 0 ≡ version
 
@@ -49,14 +50,14 @@ unfoldable pub faulted : ℕ → ℕ → ℕ → List ℕ
 faulted number at address = number ∷ at % 2 ^ 64 ∷ address % 2 ^ 64 ∷ replicate 141 0
 
 -- after a run: a fault leaves the image as it was
-abbrev pub ended : List ℕ → End × State → List ℕ × List ℕ
-ended image (Returned value, s) = (s.image, returned value s.machine.reply)
-ended image (Fault kind at address, s) = (image, faulted (fault_number kind) at address)
+abbrev pub run_outcome : List ℕ → RunEnd × RunState → List ℕ × List ℕ
+run_outcome image (Returned value, s) = (s.image, returned value s.machine.reply)
+run_outcome image (Fault kind at address, s) = (image, faulted (fault_number kind) at address)
 
 -- ONE STEP of the object
 abbrev pub program_step : List instruction_type.Instruction → List ℕ → ℕ → ℕ → List ℕ → List ℕ → List ℕ × List ℕ
 program_step code constants lines fuel image op =
-    ended image (run fuel (setting code constants (8 * lines) op (not (reads op))) (record { machine = start lines 0; stores = 0; image = image }))
+    run_outcome image (run fuel (setting code constants (8 * lines) op (not (reads op))) (record { machine = start lines 0; stores = 0; image = image }))
 
 -- THE FORMAT BEFORE: that of the program with another fingerprint. The words are taken over as they are, and the first one names the program.
 abbrev pub is_other : Option ℕ → ℕ → Bool
@@ -65,8 +66,8 @@ is_other (Some old) version = not (old == version)
 
 abbrev pub old_of : ℕ → ℕ → Option ℕ → OldFormat
 old_of lines version None = no_old_format
-old_of lines version (Some old) = record { version = Some old; lawful = IsImage lines old; upgraded = λ image. slice_set image 0 version }
+old_of lines version (Some old) = record { version = Some old; lawful = IsProgramImage lines old; upgraded = λ image. slice_set image 0 version }
 
 -- whether the lines, the fuel and the fingerprint before fit: each word has an address, and the two fingerprints differ
-abbrev pub fits : ℕ → ℕ → ℕ → Option ℕ → Bool
-fits lines fuel version before = nat_le 1 lines && (nat_le lines (2 ^ 26) && (nat_le fuel (2 ^ 20) && is_other before version))
+abbrev pub numbers_fit : ℕ → ℕ → ℕ → Option ℕ → Bool
+numbers_fit lines fuel version before = nat_le 1 lines && (nat_le lines (2 ^ 26) && (nat_le fuel (2 ^ 20) && is_other before version))

@@ -1,27 +1,24 @@
 -- A run of a program over the words of an object.
 use Rattle.std.specs.Prelude.{◌≡◌, ◌+◌, ◌||◌, nat_lt, nat_le, ℕ, zero, suc, Bool, List, Option, None, Some, slice_get, slice_index, slice_set, IsFalse, if◌then◌else◌}
-use Rattle.program_machine.specs.Machine.{Machine, after, wrote, part, with_part, wish}
+use Rattle.program_machine.specs.Machine.{Machine, following_place, wrote, part, with_part, wish}
 use Rattle.program_code.specs.declared.instruction.Instruction as instruction_type
-use Rattle.program_machine.specs.declared.machine.End as end_type
-use Rattle.program_machine.specs.declared.machine.End.TheVariants.{Fault}
+use Rattle.program_machine.specs.declared.machine.RunEnd.{RunEnd}
+use Rattle.program_machine.specs.declared.machine.RunEnd.TheVariants.{Fault}
 use Rattle.program_machine.specs.declared.machine.RunFault as fault_type
 use Rattle.program_machine.specs.declared.machine.RunFault.TheVariants as fault_kind
 use Rattle.program_machine.specs.declared.machine.Wish as wish_type
 use Rattle.program_machine.specs.declared.machine.Wish.TheVariants.{Goes, Ends, Loads, Stores}
 use Rattle.program_object.specs.declared.undo.Undo as undo_type
 
-abbrev pub End : Type 0
-End = end_type.End
-
 abbrev pub Undo : Type 0
 Undo = undo_type.Undo
 
-abbrev pub fault : Machine → fault_type.RunFault → ℕ → Option End
-fault m kind address = Some (Fault kind m.at address)
+abbrev pub end_by_fault : Machine → fault_type.RunFault → ℕ → Option RunEnd
+end_by_fault m kind address = Some (Fault kind m.at address)
 
 -- a store more was made
-abbrev pub pushed : Undo → ℕ → ℕ → Undo
-pushed u place word = record { count = u.count + 1; places = slice_set u.places u.count place; words = slice_set u.words u.count word }
+abbrev pub store_noted : Undo → ℕ → ℕ → Undo
+store_noted u place word = record { count = u.count + 1; places = slice_set u.places u.count place; words = slice_set u.words u.count word }
 
 -- one word put back, where there is such a place
 abbrev pub put : ℕ → List ℕ → ℕ → ℕ → List ℕ
@@ -33,7 +30,7 @@ undone size zero places words now = now
 undone size (suc n) places words now = undone size n places words (put size now (slice_index places n) (slice_index words n))
 
 -- what a run has: its machine, how many stores it made, and the words of the object
-pub record State : Type 0 where
+pub record RunState : Type 0 where
   pub machine : Machine
   pub stores : ℕ
   pub image : List ℕ
@@ -43,20 +40,20 @@ abbrev pub is_outside : ℕ → ℕ → Bool
 is_outside place words = nat_lt place 8 || nat_le words place
 
 -- after a wish: whether the run ends, and what it then has
-abbrev pub granted : Bool → ℕ → wish_type.Wish → State → Option End × State
+abbrev pub granted : Bool → ℕ → wish_type.Wish → RunState → Option RunEnd × RunState
 granted writes words Goes s = (None, s)
 granted writes words (Ends end) s = (Some end, s)
 granted writes words (Loads place u address to) s =
-    if is_outside place words then (fault s.machine fault_kind.Address address, s)
+    if is_outside place words then (end_by_fault s.machine fault_kind.Address address, s)
     else (None, record { machine = wrote s.machine to (part u address (slice_index s.image place)); stores = s.stores; image = s.image })
 granted writes words (Stores place u address value) s =
-    if is_outside place words then (fault s.machine fault_kind.Address address, s)
-    else (if writes then (if nat_le 256 s.stores then (fault s.machine fault_kind.Stores address, s)
-    else (None, record { machine = record s.machine { at = after s.machine.at }; stores = s.stores + 1; image = slice_set s.image place (with_part u address (slice_index s.image place) value) }))
-    else (fault s.machine fault_kind.ReadOnly address, s))
+    if is_outside place words then (end_by_fault s.machine fault_kind.Address address, s)
+    else (if writes then (if nat_le 256 s.stores then (end_by_fault s.machine fault_kind.Stores address, s)
+    else (None, record { machine = record s.machine { at = following_place s.machine.at }; stores = s.stores + 1; image = slice_set s.image place (with_part u address (slice_index s.image place) value) }))
+    else (end_by_fault s.machine fault_kind.ReadOnly address, s))
 
 -- a wish was granted: what the run has then, and what undoing it leads to
-pub record Granted (writes : Bool) (words : ℕ) (w : wish_type.Wish) (m : Machine) (u : Undo) (before : List ℕ) (next : Option End) (m' : Machine) (u' : Undo) (now : List ℕ) : Type 0 where
+pub record Granted (writes : Bool) (words : ℕ) (w : wish_type.Wish) (m : Machine) (u : Undo) (before : List ℕ) (next : Option RunEnd) (m' : Machine) (u' : Undo) (now : List ℕ) : Type 0 where
   pub does : granted writes words w (record { machine = m; stores = u.count; image = before }) ≡ (next, record { machine = m'; stores = u'.count; image = now })
   pub back : undone words u'.count u'.places u'.words now ≡ undone words u.count u.places u.words before
   pub still : IsFalse writes → now ≡ before
@@ -72,37 +69,37 @@ pub record Setting : Type 0 where
 abbrev pub setting : List instruction_type.Instruction → List ℕ → ℕ → List ℕ → Bool → Setting
 setting code constants words request writes = record { code = code; constants = constants; words = words; request = request; writes = writes }
 
-abbrev pub wished : Setting → State → wish_type.Wish × Machine → Option End × State
+abbrev pub wished : Setting → RunState → wish_type.Wish × Machine → Option RunEnd × RunState
 wished p s w = granted p.writes p.words w.0 (record { machine = w.1; stores = s.stores; image = s.image })
 
-abbrev pub fetched : Setting → State → Option instruction_type.Instruction → Option End × State
-fetched p s None = (fault s.machine fault_kind.Place 0, s)
+abbrev pub fetched : Setting → RunState → Option instruction_type.Instruction → Option RunEnd × RunState
+fetched p s None = (end_by_fault s.machine fault_kind.Place 0, s)
 fetched p s (Some i) = wished p s (wish s.machine i p.request p.constants p.words)
 
 -- ONE STEP: whether the run ends, and what it then has
-abbrev pub step : Setting → State → Option End × State
+abbrev pub step : Setting → RunState → Option RunEnd × RunState
 step p s = fetched p s (slice_get p.code s.machine.at)
 
-abbrev pub go_on : (State → End × State) → Option End × State → End × State
+abbrev pub go_on : (RunState → RunEnd × RunState) → Option RunEnd × RunState → RunEnd × RunState
 go_on rest (None, s) = rest s
 go_on rest (Some end, s) = (end, s)
 
 -- A RUN, of at most this many instructions
-abbrev pub run : ℕ → Setting → State → End × State
+abbrev pub run : ℕ → Setting → RunState → RunEnd × RunState
 run zero p s = (Fault fault_kind.Fuel s.machine.at 0, s)
 run (suc fuel) p s = go_on (run fuel p) (step p s)
 
-abbrev pub state : Machine → Undo → List ℕ → State
+abbrev pub state : Machine → Undo → List ℕ → RunState
 state m u image = record { machine = m; stores = u.count; image = image }
 
 -- an instruction was done: what the run has then, and what undoing it leads to
-pub record Stepped (p : Setting) (m : Machine) (u : Undo) (before : List ℕ) (next : Option End) (m' : Machine) (u' : Undo) (now : List ℕ) : Type 0 where
+pub record Stepped (p : Setting) (m : Machine) (u : Undo) (before : List ℕ) (next : Option RunEnd) (m' : Machine) (u' : Undo) (now : List ℕ) : Type 0 where
   pub does : step p (state m u before) ≡ (next, state m' u' now)
   pub back : undone p.words u'.count u'.places u'.words now ≡ undone p.words u.count u.places u.words before
   pub still : IsFalse p.writes → now ≡ before
 
 -- and a whole run
-pub record Runs (p : Setting) (fuel : ℕ) (m : Machine) (u : Undo) (before : List ℕ) (end : End) (m' : Machine) (u' : Undo) (now : List ℕ) : Type 0 where
+pub record RunsToEnd (p : Setting) (fuel : ℕ) (m : Machine) (u : Undo) (before : List ℕ) (end : RunEnd) (m' : Machine) (u' : Undo) (now : List ℕ) : Type 0 where
   pub does : run fuel p (state m u before) ≡ (end, state m' u' now)
   pub back : undone p.words u'.count u'.places u'.words now ≡ undone p.words u.count u.places u.words before
   pub still : IsFalse p.writes → now ≡ before

@@ -1,7 +1,7 @@
 //! The object whose operations are runs of a program.
 
 ghost use Rattle.std.specs.Prelude.{◌≡◌, ◌*◌, ◌+◌, ◌^◌, ◌<◌, ◌≤◌, ◌↔◌, IsTrue, MatchOption, true, false, length};
-ghost use Rattle.program_code.specs.Program.{code_of, words_of};
+ghost use Rattle.program_code.specs.Program.{instructions_of, program_words};
 ghost use Rattle.program_object.specs.Fingerprint as prints;
 ghost use Rattle.program_object.specs.Meaning as spec;
 ghost use Rattle.program_object.specs.Laws as laws;
@@ -11,7 +11,7 @@ use crate::run::to_end;
 use crate::undo::{Undo, undo_all};
 use cx_base::{Halt, Memory, OP_WORDS, Object, OpWords};
 use program_code::Program;
-use program_machine::{End, Machine, RunFault};
+use program_machine::{Machine, RunEnd, RunFault};
 use std::alloc::{AllocError, Global};
 
 /// A program over an object of `lines` lines. Each operation takes at most `fuel` instructions.
@@ -32,11 +32,11 @@ impl ProgramObject {
     /// The object of a program, with 1 to 2^26 lines and a fuel of at most 2^20. Images of a program with the fingerprint `before` are taken over, where that is another one.
     /// `None` says that one of these numbers does not fit.
     pub fn of(program: Program, lines: u64, fuel: u64, before: Option<u64>) -> Option<ProgramObject>
-        ensures { let version = prints.fingerprint (words_of program) (length (code_of program)) fuel in MatchOption result (spec.fits lines fuel version before ≡ false)
+        ensures { let version = prints.fingerprint (program_words program) (length (instructions_of program)) fuel in MatchOption result (spec.numbers_fit lines fuel version before ≡ false)
             (λ o. (o.program ≡ program) × (o.lines ≡ lines) × (o.fuel ≡ fuel) × (o.before ≡ before) × (o.version ≡ version)) }
     {
         let version = fingerprint(program.words(), program.code().len() as u64, fuel);
-        if fits(lines, fuel, version, before) {
+        if numbers_fit(lines, fuel, version, before) {
             Some(ProgramObject {
                 lines,
                 version,
@@ -57,8 +57,8 @@ impl ProgramObject {
     }
 }
 
-fn fits(lines: u64, fuel: u64, version: u64, before: Option<u64>) -> bool
-    ensures { result ≡ spec.fits lines fuel version before }
+fn numbers_fit(lines: u64, fuel: u64, version: u64, before: Option<u64>) -> bool
+    ensures { result ≡ spec.numbers_fit lines fuel version before }
 {
     lines >= 1 && lines <= 1 << 26 && fuel <= 1 << 20 && is_other(before, version)
 }
@@ -76,7 +76,7 @@ fn is_other(before: Option<u64>, version: u64) -> bool
 fn is_image(words: &[u64], lines: u64, version: u64) -> bool
     requires some { 1 ≤ lines }
     requires few { lines ≤ 2 ^ 26 }
-    ensures { IsTrue result ↔ spec.IsImage lines version words.now }
+    ensures { IsTrue result ↔ spec.IsProgramImage lines version words.now }
 {
     words.len() as u64 == 8 * lines && words[0] == version
 }
@@ -156,27 +156,27 @@ impl Object for ProgramObject {
 
     ghost version_number = { λ o. o.version };
 
-    ghost lawful = { λ o. spec.IsImage o.lines o.version };
+    ghost lawful = { λ o. spec.IsProgramImage o.lines o.version };
 
     ghost opening = { λ o. spec.opening o.lines o.version };
 
-    ghost step = { λ o. spec.program_step (code_of o.program) (words_of o.program) o.lines o.fuel };
+    ghost step = { λ o. spec.program_step (instructions_of o.program) (program_words o.program) o.lines o.fuel };
 
     ghost only_reads = { λ _. spec.reads };
 
     ghost old_format = { λ o. spec.old_of o.lines o.version o.before };
 
-    ghost opens = { λ o. laws.opens o.lines o.version o.some o.small };
+    ghost opens = { λ o. laws.program_opens o.lines o.version o.some o.small };
 
-    ghost keeps = { λ o. laws.keeps (code_of o.program) (words_of o.program) o.lines o.version o.fuel };
+    ghost keeps = { λ o. laws.program_keeps (instructions_of o.program) (program_words o.program) o.lines o.version o.fuel };
 
-    ghost shape = { λ o. laws.shape o.lines o.version };
+    ghost shape = { λ o. laws.program_shape o.lines o.version };
 
-    ghost replies = { λ o. laws.replies (code_of o.program) (words_of o.program) o.lines o.version o.fuel };
+    ghost replies = { λ o. laws.program_replies (instructions_of o.program) (program_words o.program) o.lines o.version o.fuel };
 
-    ghost leaves = { λ o. laws.leaves (code_of o.program) (words_of o.program) o.lines o.version o.fuel };
+    ghost leaves = { λ o. laws.program_leaves (instructions_of o.program) (program_words o.program) o.lines o.version o.fuel };
 
-    ghost takes_over = { λ o. laws.takes_over o.lines o.version o.before o.some o.small o.other };
+    ghost takes_over = { λ o. laws.program_takes_over o.lines o.version o.before o.some o.small o.other };
 
     fn lines(&self) -> u64 {
         self.lines
@@ -219,8 +219,8 @@ impl Object for ProgramObject {
             &mut machine,
             &mut undo,
         )? {
-            End::Returned(value) => *reply = returned(value, &machine.reply),
-            End::Fault { kind, at, address } => {
+            RunEnd::Returned(value) => *reply = returned(value, &machine.reply),
+            RunEnd::Fault { kind, at, address } => {
                 undo_all(mem, words, &undo)?;
                 *reply = faulted(kind, at, address);
             }
@@ -248,8 +248,8 @@ impl Object for ProgramObject {
             &mut machine,
             &mut undo,
         )? {
-            End::Returned(value) => *reply = returned(value, &machine.reply),
-            End::Fault { kind, at, address } => *reply = faulted(kind, at, address),
+            RunEnd::Returned(value) => *reply = returned(value, &machine.reply),
+            RunEnd::Fault { kind, at, address } => *reply = faulted(kind, at, address),
         }
         Ok(())
     }

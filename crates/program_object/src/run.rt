@@ -8,7 +8,7 @@ ghost use Rattle.program_object.specs.Run as spec;
 use crate::undo::Undo;
 use cx_base::{Halt, Memory, OpWords};
 use program_code::Instruction;
-use program_machine::{End, Machine, RunFault, Wish, part, with_part};
+use program_machine::{Machine, RunEnd, RunFault, Wish, part, with_part};
 
 /// Gives an instruction what it wishes of the object's words, and says whether the run ends.
 #[inline(always)]
@@ -19,7 +19,7 @@ fn grant<M: Memory>(
     mem: &mut M,
     machine: &mut Machine,
     undo: &mut Undo,
-) -> Result<Option<End>, Halt>
+) -> Result<Option<RunEnd>, Halt>
     requires size { M.size mem.old ≡ words }
     requires writable { IsTrue writes → IsTrue (M.writable mem.old) }
     requires few { undo.old.count ≤ 256 }
@@ -37,7 +37,7 @@ fn grant<M: Memory>(
             to,
         } => {
             if place < 8 || place >= words {
-                return Ok(fault(machine, RunFault::Address, address));
+                return Ok(end_by_fault(machine, RunFault::Address, address));
             }
             let word = mem.load(place)?;
             machine.write(to, part(unit, address, word));
@@ -50,13 +50,13 @@ fn grant<M: Memory>(
             value,
         } => {
             if place < 8 || place >= words {
-                return Ok(fault(machine, RunFault::Address, address));
+                return Ok(end_by_fault(machine, RunFault::Address, address));
             }
             if !writes {
-                return Ok(fault(machine, RunFault::ReadOnly, address));
+                return Ok(end_by_fault(machine, RunFault::ReadOnly, address));
             }
             if undo.count >= 256 {
-                return Ok(fault(machine, RunFault::Stores, address));
+                return Ok(end_by_fault(machine, RunFault::Stores, address));
             }
             let word = mem.load(place)?;
             mem.store(place, with_part(unit, address, word, value))?;
@@ -68,10 +68,10 @@ fn grant<M: Memory>(
 }
 
 #[inline(always)]
-fn fault(machine: &Machine, kind: RunFault, address: u64) -> Option<End>
-    ensures { result ≡ spec.fault machine.now kind address }
+fn end_by_fault(machine: &Machine, kind: RunFault, address: u64) -> Option<RunEnd>
+    ensures { result ≡ spec.end_by_fault machine.now kind address }
 {
-    Some(End::Fault {
+    Some(RunEnd::Fault {
         kind,
         at: machine.at,
         address,
@@ -89,7 +89,7 @@ fn step<M: Memory>(
     mem: &mut M,
     machine: &mut Machine,
     undo: &mut Undo,
-) -> Result<Option<End>, Halt>
+) -> Result<Option<RunEnd>, Halt>
     requires size { M.size mem.old ≡ words }
     requires writable { IsTrue writes → IsTrue (M.writable mem.old) }
     requires few { undo.old.count ≤ 256 }
@@ -98,7 +98,7 @@ fn step<M: Memory>(
     ensures few { undo.new.count ≤ 256 }
 {
     if machine.at >= code.len() as u64 {
-        return Ok(fault(machine, RunFault::Place, 0));
+        return Ok(end_by_fault(machine, RunFault::Place, 0));
     }
     let instruction = code[machine.at as usize];
     let wish = machine.wish(instruction, request, constants, words);
@@ -116,11 +116,11 @@ pub fn to_end<M: Memory>(
     mem: &mut M,
     machine: &mut Machine,
     undo: &mut Undo,
-) -> Result<End, Halt>
+) -> Result<RunEnd, Halt>
     requires size { M.size mem.old ≡ words }
     requires writable { IsTrue writes → IsTrue (M.writable mem.old) }
     requires few { undo.old.count ≤ 256 }
-    ensures done { Changes M.Memory mem.old mem.new result (λ end before now. spec.Runs (spec.setting code.now constants.now words request.now writes) fuel machine.old undo.old before end machine.new undo.new now) }
+    ensures done { Changes M.Memory mem.old mem.new result (λ end before now. spec.RunsToEnd (spec.setting code.now constants.now words request.now writes) fuel machine.old undo.old before end machine.new undo.new now) }
     ensures kept { IsFalse writes → Becomes (M.stands mem.old) (M.stands mem.new) ◌≡◌ }
     ensures few { undo.new.count ≤ 256 }
 {
@@ -130,7 +130,7 @@ pub fn to_end<M: Memory>(
             Some(end) => return Ok(end),
         }
     }
-    Ok(End::Fault {
+    Ok(RunEnd::Fault {
         kind: RunFault::Fuel,
         at: machine.at,
         address: 0,

@@ -31,7 +31,7 @@ impl Undo {
     /// Notes a store more.
     pub fn push(&mut self, place: u64, word: u64)
         requires { self.old.count < 256 }
-        ensures pushed { self.new ≡ spec.pushed self.old place word }
+        ensures pushed { self.new ≡ spec.store_noted self.old place word }
         ensures places { length self.old.places ≡ 256 }
         ensures words { length self.old.words ≡ 256 }
     {
