@@ -1,8 +1,7 @@
 //! A read can be answered.
 
 ghost use Rattle.std.specs.Prelude.{◌≡◌, ◌<◌, ℕ, List, IsTrue, Some, length, slice_get};
-ghost use Rattle.core_reach.specs.Reaching.{ReachesRead};
-ghost use Rattle.cx_base.specs.Memory.{Words};
+ghost use Rattle.core_reach.specs.Reaching.{AreOpWords, ReachesRead};
 ghost use Rattle.cx_core.specs.Free.{HoldsNone};
 ghost use Rattle.cx_core.specs.Lawful.{Lawful};
 ghost use Rattle.cx_core.specs.State.{Instance, State};
@@ -11,5 +10,5 @@ ghost use Rattle.cx_core.specs.State.{Instance, State};
 /// loaded, its replica taken shared, the place there looked at, and DUR raised by the code found.
 pub fn reads_can_be_answered()
     ensures { (instance : Instance) (s : State) (caller : ℕ) (l : _) (op : List ℕ) → Lawful instance s → slice_get s.locals caller ≡ Some l → HoldsNone l →
-        0 < length instance.base.words → IsTrue (instance.reads op) → Words 144 op → ReachesRead instance s caller l op }
+        0 < length instance.base.words → IsTrue (instance.reads op) → AreOpWords op → ReachesRead instance s caller l op }
 {}

@@ -3,7 +3,8 @@ use Rattle.std.specs.Prelude.{◌≡◌, ℕ, List, [], ◌∷◌, Option, Some,
 use Rattle.cx_core.specs.declared.entry.Base.{Base}
 use Rattle.cx_core.specs.declared.entry.Image.{Image}
 use Rattle.cx_rule.specs.Ending.{Ending}
-use Rattle.cx_lives.specs.Lives.{AreTold, HaveEnded, begun_by, last_image, last_next}
+use Rattle.cx_lives.specs.declared.lives.Lived.{Lived}
+use Rattle.cx_lives.specs.Lives.{AreTold, HaveEnded, HaveLived, begun_by, last_image, last_next}
 use Rattle.doc_model.specs.Revisions.{RevisedStore, empty_store}
 use Rattle.doc_model.specs.declared.operations.Op.{Op}
 use Rattle.doc_model.specs.declared.operations.Reply.{Reply}
@@ -16,6 +17,10 @@ use Rattle.life_records.specs.Lives.{AreLegalLives, store_at}
 use Rattle.doc_text.specs.Generated.{generated_life, generated_script}
 use Rattle.doc_text.specs.Report.{document_report_of}
 use Rattle.doc_text.specs.Summary.{summary_text}
+
+-- lives of documents in this many lines, as `HaveLived` says it
+abbrev pub HaveStoresLived : ℕ → List (Life Op) → Lived Reply → Type 0
+HaveStoresLived lines = HaveLived (document_meaning lines) lines 2 (IsImageOfStore lines) (store_step lines) reads_in
 
 -- The records are of legal lives of the script. By one witness they are told by the execution logs of the services that ran them, each of which began with what
 -- recovery made of what a crash left of the one before: together they are one durable object.

@@ -3,15 +3,13 @@
 ghost use Rattle.std.specs.Prelude.{◌≡◌, [], ◌∷◌, IfOk};
 ghost use Rattle.cx_core.specs.Base.{LawfulBase};
 ghost use Rattle.cx_core.specs.Region.{object_part};
-ghost use Rattle.cx_lives.specs.Lives.{HaveLived};
 ghost use Rattle.doc_model.specs.Revisions.{RevisedStore};
-ghost use Rattle.doc_store.specs.DocumentMeaning.{document_meaning};
-ghost use Rattle.doc_store.specs.ExactStep.{IsImageOfStore, reads_in, store_step};
+ghost use Rattle.doc_store.specs.ExactStep.{IsImageOfStore};
 ghost use Rattle.doc_text.specs.Generated.{IsLoad, generated_life};
 ghost use Rattle.doc_text.specs.Summary.{summary_text};
 ghost use Rattle.index_checks.specs.Reading.{StandsForRevised};
 ghost use Rattle.life_records.specs.declared.record.LifeRecord as record_life;
-ghost use Rattle.doc_commands.specs.ScriptTexts.{IsSummary, store_left};
+ghost use Rattle.doc_commands.specs.ScriptTexts.{HaveStoresLived, IsSummary, store_left};
 
 use crate::lives::run_lives;
 use cx_base::{Gate, Items};
@@ -51,7 +49,7 @@ fn text_of_life(
     ops: u64,
     lived: &Lived<Reply>,
 ) -> Result<Vec<u8>, AllocError>
-    requires { HaveLived (document_meaning 1024) 1024 2 (IsImageOfStore 1024) (store_step 1024) reads_in (generated_life from clients ops ∷ []) lived.now }
+    requires { HaveStoresLived 1024 (generated_life from clients ops ∷ []) lived.now }
     ensures { (told : record_life.LifeRecord Reply) → lived.now.records ≡ told ∷ [] → IfOk result (λ text. text.items ≡ summary_text told (store_left 1024 (generated_life from clients ops) told).triples) }
 {
     let _ = (from, clients, ops);
