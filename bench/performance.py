@@ -53,6 +53,7 @@ FIRST_UPDATES = 500
 # how often a run of one caller is made until the core is its own
 TRIES = 8
 PICTURE = os.path.join("pictures", "performance.svg")
+FIGURES_HEAD = "## The figures"
 QUEUE_HEAD = "## A queue"
 
 
@@ -172,9 +173,10 @@ def steps_by_part(found, call, of, last):
 
 
 def figures_in(text):
-    """What the table of a page tells: of each setting the calls a second of each form, of all threads together."""
+    """What the table of a page tells: of each setting the calls a second of each form, of all threads together. Other sections have tables of their own."""
     found = {}
-    for line in text.split("\n"):
+    rows = text.partition(f"\n{FIGURES_HEAD}\n")[2].partition("\n## ")[0]
+    for line in (rows or text).split("\n"):
         cells = [cell.strip().split(" ")[0].replace(",", "") for cell in line.strip("|").split("|")]
         if len(cells) == 4 + len(FORMS) and cells[0].isdigit():
             ours = 1000 * float(cells[4])
@@ -247,7 +249,7 @@ def page(measured, options, where, left_out, found):
         "",
         "The picture is drawn from the table below: the others' calls are ours times their ratio. Its vertical scale is logarithmic: equal steps up are equal factors.",
         "",
-        "## The figures",
+        FIGURES_HEAD,
         "",
         f"{where}. Medians of {options.rounds} rounds of {options.ms} milliseconds, in which all run in turn (`bench/performance.py`; the others "
         "are `bench/peers`). Our service: thousands of calls a second, and in brackets the nanoseconds of processor time of a call. The others: "
