@@ -1,7 +1,8 @@
 /* Additions and reads by 1, 2 and 4 threads: on a store through the library, on a sorted table of keys and numbers under a mutex, and, with
  * -DWITH_SQLITE and -lsqlite3, on a table of keys and documents of SQLite in memory, by one connection that threads share, each with statements of its own.
  *
- *   cc -O2 -std=c11 -D_POSIX_C_SOURCE=200809L -Iinclude bench/sessions.c crates/githoppu_c/out/libgithoppu_c.a $KIT/c/liblibc_c.a -pthread -o /tmp/sessions
+ *   tools/install $PREFIX
+ *   cc -O2 -std=c11 -D_POSIX_C_SOURCE=200809L -I$PREFIX/include bench/sessions.c $PREFIX/lib/libgithoppu.a -pthread -o /tmp/sessions
  *   /tmp/sessions
  *
  * 100 keys; of 100 calls of a thread 0, 90 or 100 read. The least time of five runs stands. Neither table is durable. */
@@ -25,7 +26,7 @@ struct row {
 };
 
 struct work {
-    void *session;
+    githoppu_session *session;
     int number, reads;
     enum place place;
 };
@@ -45,7 +46,7 @@ static void under_mutex(const char *key, int reads, char *into) {
     pthread_mutex_unlock(&lock);
 }
 
-static void on_store(void **session, const char *key, int reads, char *into) {
+static void on_store(githoppu_session **session, const char *key, int reads, char *into) {
     githoppu_words reply;
     int status = reads ? githoppu_get(session, key, &reply) : githoppu_add(session, key, 1, &reply);
     if (status != GITHOPPU_DONE)
@@ -126,10 +127,10 @@ static void *run(void *at) {
         else
             under_mutex(key, reads, into);
     }
-    return w->session;
+    return NULL;
 }
 
-static double seconds(void **sessions, int threads, int reads, enum place place) {
+static double seconds(githoppu_session **sessions, int threads, int reads, enum place place) {
     pthread_t made[8];
     struct work works[8];
     struct timespec from, to;
@@ -140,10 +141,9 @@ static double seconds(void **sessions, int threads, int reads, enum place place)
             exit(1);
     }
     for (int i = 0; i < threads; i++) {
-        void *back;
-        pthread_join(made[i], &back);
+        pthread_join(made[i], NULL);
         if (sessions)
-            sessions[i] = back;
+            sessions[i] = works[i].session;
     }
     clock_gettime(CLOCK_MONOTONIC, &to);
     return (double)(to.tv_sec - from.tv_sec) + 1e-9 * (double)(to.tv_nsec - from.tv_nsec);
@@ -152,7 +152,7 @@ static double seconds(void **sessions, int threads, int reads, enum place place)
 static double least(int threads, int reads, enum place place) {
     double best = 1e9;
     for (int round = 0; round < ROUNDS; round++) {
-        void *sessions[8];
+        githoppu_session *sessions[8];
         githoppu_words reply;
         if (place == STORE && githoppu_open(1024, sessions, (size_t)threads) != GITHOPPU_DONE)
             exit(1);

@@ -2,11 +2,12 @@
  * failure) leaves of them; and recovery from an image. Nothing is durable by itself: persistent memory is simulated in RAM, and the data end with the
  * process unless an image of the store, closed or running, was written to a file (githoppu_file.h does that).
  *
- * Link the program with libgithoppu_c.a and with liblibc_c.a of the toolchain, in that order (docs/REFERENCE.md; `pkg-config githoppu` prints both).
+ * `tools/install PREFIX` puts out the library; a program is compiled and linked by `cc shop.c $(pkg-config --cflags --libs githoppu)`, by CMake's package
+ * githoppu, or with libgithoppu.a alone (docs/C_AND_RUST.md).
  *
  * THREE RULES, which the caller has to keep and no code checks:
- *   1. A session is a pointer that githoppu_open, githoppu_recover or a call of a session put out, and so is a closed store. Pass it to this library
- *      alone. After a call took it, pass on only the pointer that this call put into *out.
+ *   1. A session is a pointer that githoppu_open, githoppu_recover or a call of a session put out, and a closed store one that a closing put out. Pass it to
+ *      this library alone. After a call took it, pass on only the pointer that this call put into *out.
  *   2. One call at a time uses a session. It passes from one thread to another by a lock, the start or the end of a thread, or an atomic with
  *      sequential consistency. It goes to no signal handler, and to no forked child of a program with threads.
  *   3. What the arguments point to is the caller's for the whole call: an operation and a reply have 144 words each, an image and the slots for
@@ -20,8 +21,8 @@
  * THREADS. Different threads may use different sessions at once, and any thread may make any call under rule 2. The library starts no thread and
  * takes no lock. A call makes at most the given number of tries and answers AGAIN, FULL or PENDING where other sessions were in the way.
  *
- * LOOK AT BOTH, the status and the kind of the reply (word 0): a malformed operation, as one with an empty key, is answered DONE with a reply whose 144
- * words are all 0, so its kind is GITHOPPU_NO_OPERATION; nothing is changed.
+ * LOOK AT BOTH, the status and the kind of the reply (word 0): DONE says that there is an answer, and the kind which one it is, as NO_ROOM of a put. A
+ * malformed operation, as one with an empty key, changes nothing and is answered MALFORMED by the functions of this header, githoppu_put and those like it.
  */
 #ifndef GITHOPPU_H
 #define GITHOPPU_H
@@ -29,6 +30,7 @@
 #include <stddef.h>
 #include <stdint.h>
 #include <string.h>
+#include <time.h>
 
 #ifndef GITHOPPU_YIELD
 #if defined(__unix__) || defined(__APPLE__)
@@ -41,16 +43,16 @@
 
 /* The version of this header. GITHOPPU_VERSION is a million times the first number, a thousand times the second, and the third. */
 #define GITHOPPU_VERSION_MAJOR 0
-#define GITHOPPU_VERSION_MINOR 3
+#define GITHOPPU_VERSION_MINOR 4
 #define GITHOPPU_VERSION_PATCH 0
 #define GITHOPPU_VERSION (GITHOPPU_VERSION_MAJOR * 1000000 + GITHOPPU_VERSION_MINOR * 1000 + GITHOPPU_VERSION_PATCH)
-#define GITHOPPU_VERSION_TEXT "0.3.0"
+#define GITHOPPU_VERSION_TEXT "0.4.0"
 
 #ifdef __cplusplus
 extern "C" {
 #endif
 
-/* What a call answers. */
+/* What a call answers: the library's own functions, those of this header and those of githoppu_file.h. githoppu_status_text says each in words. */
 enum githoppu_status {
     GITHOPPU_DONE = 0,        /* it is answered, and the reply is written: look at its kind too */
     GITHOPPU_PENDING = 1,     /* the operation is in the log and will take effect, but is not acknowledged yet: call githoppu_finish until DONE, and make
@@ -67,15 +69,15 @@ enum githoppu_status {
     GITHOPPU_BAD_SIZE = 7,    /* the lines are not 64 to 16,384, the sessions not 1 to 8, a session's number not 0 to 7, or an image has another
                                  number of words than was passed: nothing is changed */
     GITHOPPU_NO_MEMORY = 8,   /* malloc gave no memory. What the call had taken is freed, and nothing else is changed */
-    GITHOPPU_NO_SESSION = 9,  /* of the functions in this header: the session's pointer is null */
+    GITHOPPU_NO_SESSION = 9,  /* of the functions in this header: the pointer to the session, or to the closed store, is null */
     GITHOPPU_TOO_LONG = 10,   /* of the functions in this header: a key above 64 bytes, a document above 1,024, or a text above 56 */
     GITHOPPU_OTHERS = 11,     /* of a closing: this session is closed, and other sessions of the store are not */
     GITHOPPU_LOST = 12,       /* of a closing: it was the last, and did not find all that were closed before. *out has those that it found: close that again.
                                  No run of the library is known to answer it */
     /* of a recovery and of githoppu_outcome: why the words are refused. The first check that fails is answered, in this order; that a result is a reply
        is checked last, after 20 */
-    GITHOPPU_NO_IMAGE = 13,      /* they are no image: fewer than 8 words, another name or format, a kind that is neither 1 nor 2, numbers of sessions or lines
-                                    that no store has, or a last head word that is not 0 */
+    GITHOPPU_NOT_AN_IMAGE = 13,  /* they are not an image: fewer than 8 words, another name or format, a kind that is neither 1 nor 2, numbers of sessions or
+                                    lines that no store has, or one of the last two words of the head is not 0 */
     GITHOPPU_OTHER_KIND = 14,    /* the image is of a queue where a store is asked for, or of a store where a queue is */
     GITHOPPU_IMAGE_SIZE = 15,    /* it has another number of words than its sessions and lines make */
     GITHOPPU_IMAGE_ROOT = 16,    /* the root's place is above 2^40 */
@@ -87,15 +89,47 @@ enum githoppu_status {
     /* of githoppu_check_version */
     GITHOPPU_OLD_HEADER = 21,    /* the library is newer than this header */
     GITHOPPU_OLD_LIBRARY = 22,   /* this header is newer than the library */
-    GITHOPPU_BEHIND = 23         /* of catching up: the current place is below the one asked for, so no session of this store was answered at it */
+    GITHOPPU_BEHIND = 23,        /* of catching up: the current place is below the one asked for, so no session of this store was answered at it */
+    GITHOPPU_MALFORMED = 24,     /* of the functions in this header that do an operation: a key, a document or a text has a byte that it must not have, or
+                                    is empty (githoppu_put, githoppu_push). It is answered: nothing is changed, the reply's kind is 0, and a write counts
+                                    as an update of the session (githoppu_outcome). githoppu_call and githoppu_finish answer DONE instead */
+    /* of the functions in githoppu_file.h. Where a call of the system failed, errno says why */
+    GITHOPPU_NOT_OPENED = 32,        /* of a load: the file cannot be opened, or it is no regular file (errno) */
+    GITHOPPU_NOT_READ = 33,          /* of a load: reading failed (errno) */
+    GITHOPPU_FILE_FOREIGN = 34,      /* of a load: no save of githoppu wrote the file */
+    GITHOPPU_FILE_LENGTH = 35,       /* of a load: the file is shorter or longer than it was saved */
+    GITHOPPU_FILE_CHANGED = 36,      /* of a load: a byte of the file was changed: the checksum is another */
+    GITHOPPU_FILE_FORMAT = 37,       /* of a load: a save of another version wrote the file, in a format that this one does not know */
+    GITHOPPU_NOT_MADE = 38,          /* of a save: the new file cannot be made in the folder of the path (errno) */
+    GITHOPPU_NOT_WRITTEN = 39,       /* of a save: writing failed, as on a full disk (errno) */
+    GITHOPPU_NOT_SYNCED = 40,        /* of a save: the new file cannot be synced (errno) */
+    GITHOPPU_NOT_RENAMED = 41,       /* of a save: the new file cannot be renamed to the path (errno) */
+    GITHOPPU_FOLDER_NOT_SYNCED = 42, /* of a save: the path has the new file, and its folder cannot be synced (errno): after a crash of the machine the path
+                                        may have the old file */
+    GITHOPPU_FILE_EMPTY = 43,        /* of a load: the file has no bytes */
+    GITHOPPU_NOT_REGULAR = 44        /* of a save: the path is a folder, a device, a pipe or a socket, and is left as it is (errno) */
 };
 
 /* ---- The library's own functions. The functions further below call these, and are easier to use. ---- */
 
-/* A session as an argument: one pointer, by value. The call puts it back into *out. */
-typedef struct githoppu_handle {
-    void *at;
-} githoppu_handle;
+/* A session of a store or a queue, and a closed store or queue: what they are is the library's. They are two types, so that a compiler tells them apart. */
+typedef struct githoppu_session githoppu_session;
+typedef struct githoppu_closed githoppu_closed;
+
+/* A session, or a closed store, as an argument: one pointer, by value. The call puts it back into *out. */
+typedef struct githoppu_session_handle {
+    githoppu_session *at;
+} githoppu_session_handle;
+
+typedef struct githoppu_closed_handle {
+    githoppu_closed *at;
+} githoppu_closed_handle;
+
+/* One of both: what a closing leaves, and what a drop takes. */
+typedef union githoppu_either {
+    githoppu_session *session;
+    githoppu_closed *closed;
+} githoppu_either;
 
 /* The version of the library, as GITHOPPU_VERSION is of the header. githoppu_check_version compares both. */
 uint64_t githoppu_version(void);
@@ -103,15 +137,15 @@ uint64_t githoppu_version(void);
 /* Opens an empty document store, or an empty queue, in the given number of lines of 64 bytes, with count sessions, which it puts into
  * sessions[0] to sessions[count - 1]. A document takes a line and one for each 56 bytes of its key and of its text; a text in a queue
  * takes one line; the first line is the object's own. DONE, BAD_SIZE, NO_MEMORY or AGAIN; where it is not DONE no slot is written. */
-int32_t githoppu_open(uint64_t lines, void **sessions, size_t count);
-int32_t githoppu_open_queue(uint64_t lines, void **sessions, size_t count);
+int32_t githoppu_open(uint64_t lines, githoppu_session **sessions, size_t count);
+int32_t githoppu_open_queue(uint64_t lines, githoppu_session **sessions, size_t count);
 
 /* Does an operation, with the given number of tries (0 counts as 1, and more than 2^20 as 2^20). DONE, PENDING, AGAIN, FULL, WORN, STOPPED or
  * OUT_OF_TURN. The reply is written where it is DONE. A malformed operation is DONE with a reply of 144 zeros, and changes nothing. */
-int32_t githoppu_call(githoppu_handle session, const uint64_t op[144], uint64_t reply[144], uint64_t tries, void **out);
+int32_t githoppu_call(githoppu_session_handle session, const uint64_t op[144], uint64_t reply[144], uint64_t tries, githoppu_session **out);
 
 /* Goes on with the pending operation, for the given number of turns. DONE, PENDING, STOPPED or OUT_OF_TURN. The reply is written where it is DONE. */
-int32_t githoppu_finish(githoppu_handle session, uint64_t reply[144], uint64_t tries, void **out);
+int32_t githoppu_finish(githoppu_session_handle session, uint64_t reply[144], uint64_t tries, githoppu_session **out);
 
 /* The place that tells another session of the store what this one has seen: behind the operation that it was answered last, of a read the place
  * that was read, or the greatest place that it caught up with; 0 before. DONE, or OUT_OF_TURN and 0 of a closed store. It goes to other threads by any
@@ -120,16 +154,16 @@ int32_t githoppu_finish(githoppu_handle session, uint64_t reply[144], uint64_t t
  * See_place has a session see a place that another one told. DONE: its later answers stand at or above the place, so they hold what the other
  * session was answered. BEHIND: the current place is below it, which is so of no place that a session of this store told. STOPPED, or OUT_OF_TURN while an
  * operation is pending. */
-int32_t githoppu_place_of(githoppu_handle session, uint64_t *place, void **out);
-int32_t githoppu_see_place(githoppu_handle session, uint64_t place, void **out);
+int32_t githoppu_place_of(githoppu_session_handle session, uint64_t *place, githoppu_session **out);
+int32_t githoppu_see_place(githoppu_session_handle session, uint64_t place, githoppu_session **out);
 
 /* Closes a session, in any state: its last operation may be pending. Sessions are closed in any order, by any threads; no closing waits for another.
- * DONE: it was the last, and *out is the closed store, of which githoppu_image writes an image. OTHERS: other sessions are open, and *out is null. AGAIN:
- * others were in the way, and *out is to be closed again: the session, or what the last one found. NO_MEMORY: it was the last, and *out is the store with
- * all its sessions; close that again, or drop it. LOST: it was the last and a session is missing among those that were closed; *out has the others: close
- * that again, or drop it. OUT_OF_TURN: it is a closed store, and *out is that. After a session was dropped, every other closing answers OTHERS, and the
- * last one drops the store. */
-int32_t githoppu_close(githoppu_handle session, void **out);
+ * DONE: it was the last, and out->closed is the closed store, of which githoppu_image writes an image. OTHERS: other sessions are open, and *out is null.
+ * After every other answer out->session is to be closed again, or dropped: AGAIN: others were in the way, and it is the session, or what the last one
+ * found. NO_MEMORY: it was the last, and it is the store with all its sessions. LOST: it was the last and a session is missing among those that were
+ * closed; it has the others. OUT_OF_TURN: what was passed is no session but a closed store, and *out is that. After a session was dropped, every other
+ * closing answers OTHERS, and the last one drops the store. */
+int32_t githoppu_close(githoppu_session_handle session, githoppu_either *out);
 
 /* Writes an image of a closed store or queue, what a crash at the moment of closing leaves, into the given words, and its number of words into *needed. DONE
  * where count is that number, and else BAD_SIZE, and no word is written (so ask once with count 0). Choice 0 leaves of each word its durable value, choice
@@ -140,7 +174,7 @@ int32_t githoppu_close(githoppu_handle session, void **out);
  * An image is 8 words (the name "githoppu" in bytes, the format 1, the kind 1 of a store or 2 of a queue, the sessions, the lines, the root, 0 and 0)
  * and those of all replicas: 128 * (146 + lines) bytes for each session, and 64. Its words have the machine's byte order. An image has no checksum: a
  * byte that is changed in a document, or in a replica that the root does not name, is not seen. A file of githoppu_file.h has one. */
-int32_t githoppu_image(githoppu_handle closed, uint64_t choice, uint64_t *words, size_t count, uint64_t *needed, void **out);
+int32_t githoppu_image(githoppu_closed_handle closed, uint64_t choice, uint64_t *words, size_t count, uint64_t *needed, githoppu_closed **out);
 
 /* Takes an image of a running store or queue, of whatever session, while the others go on: an image of one moment, in the format of githoppu_image with the
  * object of that moment as each replica, of which githoppu_recover opens a store and githoppu_outcome tells outcomes. It holds every update that any session
@@ -149,38 +183,38 @@ int32_t githoppu_image(githoppu_handle closed, uint64_t choice, uint64_t *words,
  * DONE where count is the number of words that an image has, which is put into *needed; with another count BAD_SIZE, and no word is written (so ask once
  * with count 0). AGAIN: other sessions were in the way in 16 tries; call again. STOPPED, or OUT_OF_TURN while an operation is pending; of what is no
  * session OUT_OF_TURN and *needed is 0. After AGAIN and STOPPED the words are no image. */
-int32_t githoppu_checkpoint(githoppu_handle session, uint64_t *words, size_t count, uint64_t *needed, void **out);
+int32_t githoppu_checkpoint(githoppu_session_handle session, uint64_t *words, size_t count, uint64_t *needed, githoppu_session **out);
 
 /* Opens a store, or a queue, from the words of an image, with count sessions, which may be more or fewer than the image is of: DONE, BAD_SIZE,
- * NO_MEMORY, AGAIN, or one of NO_IMAGE to IMAGE_NUMBERS. Where it is not DONE no slot is written. Every update that was acknowledged before is there. */
-int32_t githoppu_recover(const uint64_t *words, size_t words_count, void **sessions, size_t count);
-int32_t githoppu_recover_queue(const uint64_t *words, size_t words_count, void **sessions, size_t count);
+ * NO_MEMORY, AGAIN, or one of NOT_AN_IMAGE to IMAGE_NUMBERS. Where it is not DONE no slot is written. Every update that was acknowledged before is there. */
+int32_t githoppu_recover(const uint64_t *words, size_t words_count, githoppu_session **sessions, size_t count);
+int32_t githoppu_recover_queue(const uint64_t *words, size_t words_count, githoppu_session **sessions, size_t count);
 
 /* What became of the last update of a session, as the words of an image of a store or a queue say. Sessions are numbered from 0, in the order in which
  * githoppu_open or githoppu_recover put them out. DONE: *number counts the updates of that session that took effect, over all runs since the store was
  * opened empty, and reply is the reply to the last of them; where there was none, *number is 0 and so is each word of the reply. Reads are not counted;
  * malformed operations are. So a program that counts the updates that it submits knows after a crash whether the one that was not acknowledged took
  * effect: it did where *number is one more than the last acknowledged, and then its reply is here. What githoppu_recover opens from these words has the
- * updates that are counted here, and no others. BAD_SIZE, NO_MEMORY, NO_IMAGE, or one of IMAGE_SIZE to IMAGE_NUMBERS; where it is not DONE nothing is
+ * updates that are counted here, and no others. BAD_SIZE, NO_MEMORY, NOT_AN_IMAGE, or one of IMAGE_SIZE to IMAGE_NUMBERS; where it is not DONE nothing is
  * written. */
 int32_t githoppu_outcome(const uint64_t *words, size_t words_count, uint64_t session, uint64_t *number, uint64_t reply[144]);
 
 /* Drops a session, in any state, or a closed store. Dropping the last session frees the store or the queue. */
-void githoppu_drop(githoppu_handle session);
+void githoppu_drop(githoppu_either what);
 
 #ifdef __cplusplus
 }
 #endif
 
-/* Whether the header and the library that is linked are of one version: DONE, OLD_HEADER or OLD_LIBRARY. */
+/* Whether the header and the library that is linked are of one version, but for the third number, which changes no call: DONE, OLD_HEADER or OLD_LIBRARY. */
 static inline int githoppu_check_version(void) {
-    uint64_t library = githoppu_version();
-    if (library == GITHOPPU_VERSION)
+    uint64_t library = githoppu_version() / 1000, header = GITHOPPU_VERSION / 1000;
+    if (library == header)
         return GITHOPPU_DONE;
-    return library > GITHOPPU_VERSION ? GITHOPPU_OLD_HEADER : GITHOPPU_OLD_LIBRARY;
+    return library > header ? GITHOPPU_OLD_HEADER : GITHOPPU_OLD_LIBRARY;
 }
 
-/* What a status says, in one line. */
+/* What a status says, in one line: of each status of this library, those of files among them. */
 static inline const char *githoppu_status_text(int status) {
     switch (status) {
     case GITHOPPU_DONE: return "done";
@@ -192,11 +226,11 @@ static inline const char *githoppu_status_text(int status) {
     case GITHOPPU_OUT_OF_TURN: return "the session or the closed store does not take this call now";
     case GITHOPPU_BAD_SIZE: return "a number of lines, sessions or words is out of range";
     case GITHOPPU_NO_MEMORY: return "out of memory";
-    case GITHOPPU_NO_SESSION: return "the pointer to the session is null";
+    case GITHOPPU_NO_SESSION: return "the pointer to the session or to the closed store is null";
     case GITHOPPU_TOO_LONG: return "a key, a document or a text is too long";
     case GITHOPPU_OTHERS: return "the session is closed, and other sessions are not";
     case GITHOPPU_LOST: return "the last session did not find all that were closed before";
-    case GITHOPPU_NO_IMAGE: return "the words are no image";
+    case GITHOPPU_NOT_AN_IMAGE: return "the words are not an image";
     case GITHOPPU_OTHER_KIND: return "the image is of the other kind of object";
     case GITHOPPU_IMAGE_SIZE: return "the image has a wrong number of words";
     case GITHOPPU_IMAGE_ROOT: return "the image's root has a place above 2^40";
@@ -207,6 +241,20 @@ static inline const char *githoppu_status_text(int status) {
     case GITHOPPU_OLD_HEADER: return "the library is newer than the header";
     case GITHOPPU_OLD_LIBRARY: return "the header is newer than the library";
     case GITHOPPU_BEHIND: return "the current place is below the one asked for";
+    case GITHOPPU_MALFORMED: return "a key, a document or a text is empty or has a byte that it must not have";
+    case GITHOPPU_NOT_OPENED: return "the file cannot be opened";
+    case GITHOPPU_NOT_READ: return "the file cannot be read";
+    case GITHOPPU_FILE_FOREIGN: return "the file was not saved by githoppu";
+    case GITHOPPU_FILE_LENGTH: return "the file is shorter or longer than it was saved";
+    case GITHOPPU_FILE_CHANGED: return "a byte of the file was changed since it was saved";
+    case GITHOPPU_FILE_FORMAT: return "the file has a format that this version does not know";
+    case GITHOPPU_NOT_MADE: return "the new file cannot be made";
+    case GITHOPPU_NOT_WRITTEN: return "the new file cannot be written";
+    case GITHOPPU_NOT_SYNCED: return "the new file cannot be synced";
+    case GITHOPPU_NOT_RENAMED: return "the new file cannot be renamed";
+    case GITHOPPU_FOLDER_NOT_SYNCED: return "the folder of the new file cannot be synced";
+    case GITHOPPU_FILE_EMPTY: return "the file is empty";
+    case GITHOPPU_NOT_REGULAR: return "the path is a folder, a device, a pipe or a socket";
     default: return "no status of this version of the library";
     }
 }
@@ -283,10 +331,45 @@ static inline const char *githoppu_queue_reply_text(uint64_t kind) {
     }
 }
 
-/* How often githoppu_do calls before it returns the last answer. */
+/* How often a function of this header calls, and for how many milliseconds since the first refusal, before it returns the last answer: AGAIN, FULL or
+ * PENDING. Whichever is over first ends it. Define others before this header. */
 #ifndef GITHOPPU_ROUNDS
 #define GITHOPPU_ROUNDS 1048576
 #endif
+#ifndef GITHOPPU_PATIENCE_MS
+#define GITHOPPU_PATIENCE_MS 1000
+#endif
+
+/* Milliseconds since some moment, by a clock that is never set, in steps of GITHOPPU_CLOCK_STEP. Where <time.h> does not declare that clock, as with -std=c11
+ * and neither -pthread nor _POSIX_C_SOURCE, it is the time of day in whole seconds. */
+#ifdef CLOCK_MONOTONIC
+#define GITHOPPU_CLOCK_STEP 1
+static inline uint64_t githoppu_clock(void) {
+    struct timespec now;
+    return clock_gettime(CLOCK_MONOTONIC, &now) == 0 ? (uint64_t)now.tv_sec * 1000 + (uint64_t)now.tv_nsec / 1000000 : 0;
+}
+#else
+#define GITHOPPU_CLOCK_STEP 1000
+static inline uint64_t githoppu_clock(void) { return (uint64_t)time(NULL) * 1000; }
+#endif
+
+/* How patient a function has been: how many rounds were refused, and since when. */
+typedef struct githoppu_patience {
+    uint64_t since;
+    long rounds;
+} githoppu_patience;
+
+/* After a round that was refused: yields, and says whether another is to be made. */
+static inline int githoppu_goes_on(githoppu_patience *patience) {
+    uint64_t now = githoppu_clock();
+    if (patience->rounds == 0)
+        patience->since = now;
+    patience->rounds++;
+    if (patience->rounds >= GITHOPPU_ROUNDS || now - patience->since >= (uint64_t)(GITHOPPU_PATIENCE_MS) + GITHOPPU_CLOCK_STEP)
+        return 0;
+    GITHOPPU_YIELD();
+    return 1;
+}
 
 /* Packs bytes into words, on a machine of any byte order. */
 static inline void githoppu_pack(uint64_t *words, const char *bytes, size_t length) {
@@ -303,42 +386,47 @@ static inline void githoppu_unpack(char *into, const uint64_t *words, size_t len
     into[length] = 0;
 }
 
-/* Finishes a pending operation. What githoppu_finish answers, or NO_SESSION; PENDING only after GITHOPPU_ROUNDS rounds. */
-static inline int githoppu_end(void **session, githoppu_words *reply) {
-    int status = GITHOPPU_PENDING;
-    long round;
-    if (*session == NULL)
-        return GITHOPPU_NO_SESSION;
-    for (round = 0; round < GITHOPPU_ROUNDS && status == GITHOPPU_PENDING; round++) {
-        githoppu_handle handle;
+/* MALFORMED in place of DONE where the reply is that of a malformed operation. */
+static inline int githoppu_answered(int status, const githoppu_words *reply) {
+    return status == GITHOPPU_DONE && reply->word[0] == GITHOPPU_NO_OPERATION ? GITHOPPU_MALFORMED : status;
+}
+
+static inline int githoppu_end_within(githoppu_session **session, githoppu_words *reply, githoppu_patience *patience) {
+    int status;
+    do {
+        githoppu_session_handle handle;
         handle.at = *session;
         status = githoppu_finish(handle, reply->word, 16, session);
-        if (status == GITHOPPU_PENDING)
-            GITHOPPU_YIELD();
-    }
-    return status;
+    } while (status == GITHOPPU_PENDING && githoppu_goes_on(patience));
+    return githoppu_answered(status, reply);
 }
 
-/* Does an operation, and tries again until it is answered. What githoppu_call answers, or NO_SESSION; AGAIN, FULL and PENDING only after
- * GITHOPPU_ROUNDS rounds. After PENDING the operation is in the log: finish it by githoppu_end. */
-static inline int githoppu_do(void **session, const githoppu_words *op, githoppu_words *reply) {
-    int status = GITHOPPU_AGAIN;
-    long round;
+/* Finishes a pending operation. What githoppu_finish answers, MALFORMED or NO_SESSION; PENDING only after GITHOPPU_ROUNDS rounds or GITHOPPU_PATIENCE_MS
+ * milliseconds: call it again. */
+static inline int githoppu_end(githoppu_session **session, githoppu_words *reply) {
+    githoppu_patience patience = {0, 0};
+    return *session == NULL ? GITHOPPU_NO_SESSION : githoppu_end_within(session, reply, &patience);
+}
+
+/* Does an operation, and tries again until it is answered. What githoppu_call answers, MALFORMED or NO_SESSION; AGAIN, FULL and PENDING only after
+ * GITHOPPU_ROUNDS rounds or GITHOPPU_PATIENCE_MS milliseconds. After AGAIN and FULL the operation is not in the log, and can be done again. After PENDING it
+ * is in the log: finish it by githoppu_end. */
+static inline int githoppu_do(githoppu_session **session, const githoppu_words *op, githoppu_words *reply) {
+    githoppu_patience patience = {0, 0};
+    int status;
     if (*session == NULL)
         return GITHOPPU_NO_SESSION;
-    for (round = 0; round < GITHOPPU_ROUNDS && (status == GITHOPPU_AGAIN || status == GITHOPPU_FULL); round++) {
-        githoppu_handle handle;
+    do {
+        githoppu_session_handle handle;
         handle.at = *session;
         status = githoppu_call(handle, op->word, reply->word, 16, session);
-        if (status == GITHOPPU_AGAIN || status == GITHOPPU_FULL)
-            GITHOPPU_YIELD();
-    }
-    return status == GITHOPPU_PENDING ? githoppu_end(session, reply) : status;
+    } while ((status == GITHOPPU_AGAIN || status == GITHOPPU_FULL) && githoppu_goes_on(&patience));
+    return status == GITHOPPU_PENDING ? githoppu_end_within(session, reply, &patience) : githoppu_answered(status, reply);
 }
 
-/* The place that tells another session what this one has seen: 0 where the session is null, or a closed store. */
-static inline uint64_t githoppu_place(void **session) {
-    githoppu_handle handle;
+/* The place that tells another session what this one has seen: 0 where the session is null. */
+static inline uint64_t githoppu_place(githoppu_session **session) {
+    githoppu_session_handle handle;
     uint64_t place = 0;
     handle.at = *session;
     if (handle.at != NULL)
@@ -347,37 +435,36 @@ static inline uint64_t githoppu_place(void **session) {
 }
 
 /* Has a session see a place that another one told: what githoppu_see_place answers, or NO_SESSION. */
-static inline int githoppu_catch_up(void **session, uint64_t place) {
-    githoppu_handle handle;
+static inline int githoppu_catch_up(githoppu_session **session, uint64_t place) {
+    githoppu_session_handle handle;
     handle.at = *session;
     return handle.at == NULL ? GITHOPPU_NO_SESSION : githoppu_see_place(handle, place, session);
 }
 
-/* Closes a session, and tries again while others are in the way. What githoppu_close answers, or NO_SESSION; AGAIN only after GITHOPPU_ROUNDS rounds. At
- * DONE the closed store is at *closed, else nothing is written there. *session is null where the session is closed, and else what is to be closed again. */
-static inline int githoppu_close_one(void **session, void **closed) {
-    int status = GITHOPPU_AGAIN;
-    long round;
+/* Closes a session, and tries again while others are in the way. What githoppu_close answers, or NO_SESSION; AGAIN only after GITHOPPU_ROUNDS rounds or
+ * GITHOPPU_PATIENCE_MS milliseconds. At DONE the closed store is at *closed, else nothing is written there. *session is null where the session is closed,
+ * and else what is to be closed again. */
+static inline int githoppu_close_one(githoppu_session **session, githoppu_closed **closed) {
+    githoppu_patience patience = {0, 0};
+    githoppu_either left;
+    int status;
     if (*session == NULL)
         return GITHOPPU_NO_SESSION;
-    for (round = 0; round < GITHOPPU_ROUNDS && status == GITHOPPU_AGAIN; round++) {
-        githoppu_handle handle;
+    do {
+        githoppu_session_handle handle;
         handle.at = *session;
-        status = githoppu_close(handle, session);
-        if (status == GITHOPPU_AGAIN)
-            GITHOPPU_YIELD();
-    }
-    if (status == GITHOPPU_DONE) {
-        *closed = *session;
-        *session = NULL;
-    }
+        status = githoppu_close(handle, &left);
+        *session = status == GITHOPPU_DONE || status == GITHOPPU_OTHERS ? NULL : left.session;
+    } while (status == GITHOPPU_AGAIN && githoppu_goes_on(&patience));
+    if (status == GITHOPPU_DONE)
+        *closed = left.closed;
     return status;
 }
 
 /* Closes sessions in turn; a slot that is null is skipped. What the last closing answered, or NO_SESSION where all are null: DONE where that closed
  * the store, OTHERS where other sessions of it are open. It ends at the first answer that is not OTHERS; what is left in the slots is open. After
  * NO_MEMORY call it again. */
-static inline int githoppu_close_all(void **sessions, size_t count, void **closed) {
+static inline int githoppu_close_all(githoppu_session **sessions, size_t count, githoppu_closed **closed) {
     int status = GITHOPPU_NO_SESSION;
     size_t i;
     for (i = 0; i < count && (status == GITHOPPU_NO_SESSION || status == GITHOPPU_OTHERS); i++)
@@ -386,9 +473,9 @@ static inline int githoppu_close_all(void **sessions, size_t count, void **close
     return status;
 }
 
-/* How many words an image of a closed store has: DONE, OUT_OF_TURN where it is not closed, or NO_SESSION. */
-static inline int githoppu_image_size(void **closed, uint64_t *count) {
-    githoppu_handle handle;
+/* How many words an image of a closed store has: DONE, or NO_SESSION. */
+static inline int githoppu_image_size(githoppu_closed **closed, uint64_t *count) {
+    githoppu_closed_handle handle;
     uint64_t none = 0;
     int status;
     handle.at = *closed;
@@ -399,16 +486,16 @@ static inline int githoppu_image_size(void **closed, uint64_t *count) {
 }
 
 /* Writes an image of a closed store: what githoppu_image answers, or NO_SESSION. */
-static inline int githoppu_image_into(void **closed, uint64_t choice, uint64_t *words, size_t count) {
-    githoppu_handle handle;
+static inline int githoppu_image_into(githoppu_closed **closed, uint64_t choice, uint64_t *words, size_t count) {
+    githoppu_closed_handle handle;
     uint64_t needed;
     handle.at = *closed;
     return handle.at == NULL ? GITHOPPU_NO_SESSION : githoppu_image(handle, choice, words, count, &needed, closed);
 }
 
-/* How many words an image of the store of a running session has: DONE, OUT_OF_TURN where it is a closed store, or NO_SESSION. */
-static inline int githoppu_checkpoint_size(void **session, uint64_t *count) {
-    githoppu_handle handle;
+/* How many words an image of the store of a running session has: DONE, or NO_SESSION. */
+static inline int githoppu_checkpoint_size(githoppu_session **session, uint64_t *count) {
+    githoppu_session_handle handle;
     uint64_t none = 0;
     int status;
     handle.at = *session;
@@ -419,33 +506,40 @@ static inline int githoppu_checkpoint_size(void **session, uint64_t *count) {
 }
 
 /* Takes an image of a running store or queue, and tries again while others are in the way. What githoppu_checkpoint answers, or NO_SESSION; AGAIN only
- * after GITHOPPU_ROUNDS rounds. */
-static inline int githoppu_checkpoint_into(void **session, uint64_t *words, size_t count) {
-    int status = GITHOPPU_AGAIN;
-    long round;
+ * after GITHOPPU_ROUNDS rounds or GITHOPPU_PATIENCE_MS milliseconds. */
+static inline int githoppu_checkpoint_into(githoppu_session **session, uint64_t *words, size_t count) {
+    githoppu_patience patience = {0, 0};
+    int status;
     if (*session == NULL)
         return GITHOPPU_NO_SESSION;
-    for (round = 0; round < GITHOPPU_ROUNDS && status == GITHOPPU_AGAIN; round++) {
-        githoppu_handle handle;
+    do {
+        githoppu_session_handle handle;
         uint64_t needed;
         handle.at = *session;
         status = githoppu_checkpoint(handle, words, count, &needed, session);
-        if (status == GITHOPPU_AGAIN)
-            GITHOPPU_YIELD();
-    }
+    } while (status == GITHOPPU_AGAIN && githoppu_goes_on(&patience));
     return status;
 }
 
-/* Drops sessions of a store or a queue, or closed stores. Each slot is null afterwards; one that is null is skipped. */
-static inline void githoppu_give_up(void **sessions, size_t count) {
+/* Drops sessions of a store or a queue. Each slot is null afterwards; one that is null is skipped. */
+static inline void githoppu_give_up(githoppu_session **sessions, size_t count) {
     size_t i;
     for (i = 0; i < count; i++) {
-        githoppu_handle handle;
-        handle.at = sessions[i];
+        githoppu_either it;
+        it.session = sessions[i];
         sessions[i] = NULL;
-        if (handle.at != NULL)
-            githoppu_drop(handle);
+        if (it.session != NULL)
+            githoppu_drop(it);
     }
+}
+
+/* Drops a closed store or queue. The slot is null afterwards; one that is null is let be. */
+static inline void githoppu_give_up_closed(githoppu_closed **closed) {
+    githoppu_either it;
+    it.closed = *closed;
+    *closed = NULL;
+    if (it.closed != NULL)
+        githoppu_drop(it);
 }
 
 /* The words of an operation of documents. DONE or TOO_LONG. */
@@ -463,50 +557,54 @@ static inline int githoppu_document_op(githoppu_words *op, uint64_t kind, const 
     return GITHOPPU_DONE;
 }
 
-static inline int githoppu_document_call(void **session, uint64_t kind, const char *key, const char *document, size_t length, int64_t number,
+static inline int githoppu_document_call(githoppu_session **session, uint64_t kind, const char *key, const char *document, size_t length, int64_t number,
                                          githoppu_words *reply) {
     githoppu_words op;
     int status = githoppu_document_op(&op, kind, key, document, length, number);
     return status == GITHOPPU_DONE ? githoppu_do(session, &op, reply) : status;
 }
 
-/* Puts a document at a key: NEW, REPLACED or NO_ROOM in the reply. These, and what follows, answer as githoppu_do does, and TOO_LONG; keys end by a 0. */
-static inline int githoppu_put(void **session, const char *key, const char *document, size_t length, githoppu_words *reply) {
+/* Puts a document at a key: NEW, REPLACED or NO_ROOM in the reply. A key has 1 to 64 bytes, each a visible ASCII character (33 to 126: no space), and
+ * ends by a 0. A document has 1 to 1,024 bytes from 32 on: no control character, as a line feed or a tab, but any byte above, so UTF-8 too.
+ *
+ * These, and what follows, answer as githoppu_do does, and TOO_LONG: at DONE the reply says what was done; MALFORMED where a byte is none of these, or a
+ * key or document is empty, and nothing is changed. */
+static inline int githoppu_put(githoppu_session **session, const char *key, const char *document, size_t length, githoppu_words *reply) {
     return githoppu_document_call(session, 1, key, document, length, 0, reply);
 }
 
 /* Deletes the document of a key: DELETED or ABSENT. */
-static inline int githoppu_del(void **session, const char *key, githoppu_words *reply) {
+static inline int githoppu_del(githoppu_session **session, const char *key, githoppu_words *reply) {
     return githoppu_document_call(session, 2, key, "", 0, 0, reply);
 }
 
 /* Adds to the number that is the document of a key, and is 0 where there is none: SUM (githoppu_sum), NOT_NUMBER, OVERFLOW or NO_ROOM. */
-static inline int githoppu_add(void **session, const char *key, int64_t amount, githoppu_words *reply) {
+static inline int githoppu_add(githoppu_session **session, const char *key, int64_t amount, githoppu_words *reply) {
     return githoppu_document_call(session, 3, key, "", 0, amount, reply);
 }
 
 /* Reads the document of a key: DOC (githoppu_document) or ABSENT. */
-static inline int githoppu_get(void **session, const char *key, githoppu_words *reply) {
+static inline int githoppu_get(githoppu_session **session, const char *key, githoppu_words *reply) {
     return githoppu_document_call(session, 4, key, "", 0, 0, reply);
 }
 
 /* Reads the least key above one, or above none where that is "": KEY (githoppu_key) or ABSENT. */
-static inline int githoppu_next(void **session, const char *above, githoppu_words *reply) {
+static inline int githoppu_next(githoppu_session **session, const char *above, githoppu_words *reply) {
     return githoppu_document_call(session, 5, above, "", 0, 0, reply);
 }
 
 /* Reads how many documents there are: COUNT (githoppu_number). */
-static inline int githoppu_count(void **session, githoppu_words *reply) {
+static inline int githoppu_count(githoppu_session **session, githoppu_words *reply) {
     return githoppu_document_call(session, 6, "", "", 0, 0, reply);
 }
 
 /* Puts a document at a key where the key has this revision, 0 where it is missing: SET, STALE (githoppu_number of both) or NO_ROOM. */
-static inline int githoppu_putif(void **session, const char *key, const char *document, size_t length, uint64_t revision, githoppu_words *reply) {
+static inline int githoppu_putif(githoppu_session **session, const char *key, const char *document, size_t length, uint64_t revision, githoppu_words *reply) {
     return githoppu_document_call(session, 7, key, document, length, (int64_t)revision, reply);
 }
 
 /* Reads the revision of a key: REVISION (githoppu_number) or ABSENT. */
-static inline int githoppu_rev(void **session, const char *key, githoppu_words *reply) {
+static inline int githoppu_rev(githoppu_session **session, const char *key, githoppu_words *reply) {
     return githoppu_document_call(session, 8, key, "", 0, 0, reply);
 }
 
@@ -522,29 +620,29 @@ static inline int githoppu_queue_op(githoppu_words *op, uint64_t kind, const cha
     return GITHOPPU_DONE;
 }
 
-static inline int githoppu_queue_call(void **session, uint64_t kind, const char *text, githoppu_words *reply) {
+static inline int githoppu_queue_call(githoppu_session **session, uint64_t kind, const char *text, githoppu_words *reply) {
     githoppu_words op;
     int status = githoppu_queue_op(&op, kind, text);
     return status == GITHOPPU_DONE ? githoppu_do(session, &op, reply) : status;
 }
 
-/* Puts a text after the last one: PUSHED or QUEUE_FULL. */
-static inline int githoppu_push(void **session, const char *text, githoppu_words *reply) {
+/* Puts a text after the last one: PUSHED or QUEUE_FULL. A text has 1 to 56 bytes, each a visible ASCII character (33 to 126), and ends by a 0. */
+static inline int githoppu_push(githoppu_session **session, const char *text, githoppu_words *reply) {
     return githoppu_queue_call(session, 1, text, reply);
 }
 
 /* Takes the text at the front: TEXT (githoppu_text) or EMPTY. */
-static inline int githoppu_pop(void **session, githoppu_words *reply) {
+static inline int githoppu_pop(githoppu_session **session, githoppu_words *reply) {
     return githoppu_queue_call(session, 2, "", reply);
 }
 
 /* Reads the text at the front: TEXT or EMPTY. */
-static inline int githoppu_peek(void **session, githoppu_words *reply) {
+static inline int githoppu_peek(githoppu_session **session, githoppu_words *reply) {
     return githoppu_queue_call(session, 3, "", reply);
 }
 
 /* Reads how many texts there are: LENGTH (githoppu_length). */
-static inline int githoppu_len(void **session, githoppu_words *reply) {
+static inline int githoppu_len(githoppu_session **session, githoppu_words *reply) {
     return githoppu_queue_call(session, 4, "", reply);
 }
 

@@ -2,8 +2,16 @@
  * -std=c11 define _POSIX_C_SOURCE as 200809L before the first header.
  *
  * A save writes a new file beside the old one, syncs it, renames it over the old one, and syncs the folder. So after a crash of the machine the path
- * has the old file or the new one, each whole; a save that was interrupted may leave a file PATH.PID.N.new, which nobody reads. A load reads the file,
- * checks its checksum, and opens the store or the queue that it holds. Files are the same from C and from Rust, on machines of any byte order.
+ * has the old file or the new one, each whole. A load reads the file, checks its checksum, and opens the store or the queue that it holds. Files are the
+ * same from C and from Rust, on machines of any byte order.
+ *
+ * WHAT A SAVE REPLACES. Where the path is a symbolic link, the file that it leads to. The new file has the permission bits of the old one, and its owner and
+ * group where the process may give them; where it may not give the group, the group's bits are those of others. Where there is no old file, the bits are
+ * 0666 less the umask. A folder, a device, a pipe and a socket are refused and left. Access lists and extended attributes are not kept, and another hard
+ * link to the old file keeps that.
+ *
+ * The new file is .githoppu.N.new in the same folder, with the least N from 0 on that is free, and is locked (flock) until it is renamed. A save that was
+ * killed leaves it; the next save in this folder removes each that nobody locks.
  *
  * THE FILE: 64-bit words, each with its lowest byte first. Words 0 to 3 are the head: the name "githfile" in bytes, the format 1, the number of words of the
  * image, and the CRC-32C of the first 24 bytes. Then the words of the image, and last the CRC-32C of all bytes before it. (CRC-32C is the checksum
@@ -21,43 +29,12 @@
 #include <fcntl.h>
 #include <stdio.h>
 #include <stdlib.h>
+#include <sys/file.h>
 #include <sys/stat.h>
 #include <unistd.h>
 
-/* What the functions below answer beside the statuses of githoppu.h. Where a call of the system failed, errno says why. After a status of a save other
- * than FOLDER_NOT_SYNCED the path has the file that it had before. */
-enum githoppu_file_status {
-    GITHOPPU_NOT_OPENED = 32,       /* of a load: the file cannot be opened, or it is no regular file (errno) */
-    GITHOPPU_NOT_READ = 33,         /* of a load: reading failed (errno) */
-    GITHOPPU_NO_FILE = 34,          /* of a load: the file is none that a save wrote */
-    GITHOPPU_FILE_CUT = 35,         /* of a load: the file is shorter or longer than the save wrote it */
-    GITHOPPU_FILE_CHANGED = 36,     /* of a load: a byte of the file was changed: the checksum is another */
-    GITHOPPU_FILE_FORMAT = 37,      /* of a load: a save of another version wrote the file, in a format that this one does not know */
-    GITHOPPU_NOT_MADE = 38,         /* of a save: the new file cannot be made (errno) */
-    GITHOPPU_NOT_WRITTEN = 39,      /* of a save: writing failed, as on a full disk (errno) */
-    GITHOPPU_NOT_SYNCED = 40,       /* of a save: the new file cannot be synced or closed (errno) */
-    GITHOPPU_NOT_RENAMED = 41,      /* of a save: the new file cannot be renamed to the path (errno) */
-    GITHOPPU_FOLDER_NOT_SYNCED = 42 /* of a save: the path has the new file, and its folder cannot be synced (errno): after a crash of the machine the path
-                                       may have the old file */
-};
-
-/* What a status of githoppu.h or of this header says, in one line. */
-static inline const char *githoppu_file_text(int status) {
-    switch (status) {
-    case GITHOPPU_NOT_OPENED: return "the file cannot be opened";
-    case GITHOPPU_NOT_READ: return "the file cannot be read";
-    case GITHOPPU_NO_FILE: return "the file is none that githoppu wrote";
-    case GITHOPPU_FILE_CUT: return "the file is shorter or longer than it was written";
-    case GITHOPPU_FILE_CHANGED: return "a byte of the file was changed";
-    case GITHOPPU_FILE_FORMAT: return "the file has an unknown format";
-    case GITHOPPU_NOT_MADE: return "the new file cannot be made";
-    case GITHOPPU_NOT_WRITTEN: return "the new file cannot be written";
-    case GITHOPPU_NOT_SYNCED: return "the new file cannot be synced";
-    case GITHOPPU_NOT_RENAMED: return "the new file cannot be renamed";
-    case GITHOPPU_FOLDER_NOT_SYNCED: return "the folder of the new file cannot be synced";
-    default: return githoppu_status_text(status);
-    }
-}
+/* What the functions below answer stands in githoppu.h, from NOT_OPENED on, and githoppu_status_text says it in words. Where a call of the system failed, errno
+ * says why. After a status of a save other than FOLDER_NOT_SYNCED the path has the file that it had before. */
 
 /* ---- CRC-32C over bytes. ---- */
 
@@ -140,20 +117,23 @@ static inline int githoppu_head_is(const unsigned char *bytes) {
     return githoppu_crc_value(&crc) == githoppu_word_at(bytes + 24);
 }
 
-/* What is wrong with the bytes of a file: DONE where they are those that a save wrote, and the image's words begin at GITHOPPU_FILE_HEAD; else NO_FILE,
- * FILE_CUT, FILE_CHANGED or FILE_FORMAT. A file whose name alone was changed is FILE_CHANGED and not NO_FILE, since the head's checksum is right. */
+/* What is wrong with the bytes of a file: DONE where they are those that a save wrote, and the image's words begin at GITHOPPU_FILE_HEAD; else FILE_EMPTY,
+ * FILE_FOREIGN, FILE_LENGTH, FILE_CHANGED or FILE_FORMAT. A file whose name alone was changed is FILE_CHANGED and not FILE_FOREIGN, since the head's checksum
+ * is right. */
 static inline int githoppu_file_fault(const unsigned char *bytes, size_t length) {
     int named = memcmp(bytes, GITHOPPU_FILE_NAME, length < 8 ? length : 8) == 0;
+    if (length == 0)
+        return GITHOPPU_FILE_EMPTY;
     if (length < GITHOPPU_FILE_ENDS)
-        return named ? GITHOPPU_FILE_CUT : GITHOPPU_NO_FILE;
+        return named ? GITHOPPU_FILE_LENGTH : GITHOPPU_FILE_FOREIGN;
     if (!githoppu_head_is(bytes))
-        return named ? GITHOPPU_FILE_CHANGED : GITHOPPU_NO_FILE;
+        return named ? GITHOPPU_FILE_CHANGED : GITHOPPU_FILE_FOREIGN;
     if (!named)
         return GITHOPPU_FILE_CHANGED;
     if (githoppu_word_at(bytes + 8) != 1)
         return GITHOPPU_FILE_FORMAT;
     if (length % 8 != 0 || (length - GITHOPPU_FILE_ENDS) / 8 != githoppu_word_at(bytes + 16))
-        return GITHOPPU_FILE_CUT;
+        return GITHOPPU_FILE_LENGTH;
     if (githoppu_crc_of(bytes, length - 8) != githoppu_word_at(bytes + length - 8))
         return GITHOPPU_FILE_CHANGED;
     return GITHOPPU_DONE;
@@ -161,39 +141,101 @@ static inline int githoppu_file_fault(const unsigned char *bytes, size_t length)
 
 /* ---- Saving. ---- */
 
-/* Closes a file after a fault and removes it, with errno as the fault left it. */
-static inline int githoppu_not_saved(int file, const char *path, int status) {
-    int why = errno;
-    if (file >= 0)
-        close(file);
-    if (path != NULL)
-        unlink(path);
-    errno = why;
-    return status;
+/* Where a save goes to: a folder, which is open, and a name in it; the file that is replaced, where there is one; and the name of the new file. */
+typedef struct githoppu_target {
+    char *path;
+    const char *name;
+    int folder, replaces;
+    struct stat old;
+    char made[32];
+} githoppu_target;
+
+/* The most symbolic links that a save follows, the names that are looked at for what ended processes left, and the most new files of one folder at once. */
+enum { GITHOPPU_LINKS = 40, GITHOPPU_LEFT = 64, GITHOPPU_NEW_FILES = 1000 };
+
+/* The path that a symbolic link leads to, which the caller frees; null with errno, which is EINVAL of what is no link and ENOENT of what is not there. */
+static inline char *githoppu_link_target(const char *path) {
+    const char *slash = strrchr(path, '/');
+    size_t before = slash == NULL ? 0 : (size_t)(slash - path) + 1, room = 4096;
+    char *target = (char *)malloc(before + room + 1);
+    ssize_t length;
+    int why;
+    if (target == NULL) {
+        errno = ENOMEM;
+        return NULL;
+    }
+    length = readlink(path, target + before, room);
+    if (length < 0 || (size_t)length == room) {
+        why = length < 0 ? errno : ENAMETOOLONG;
+        free(target);
+        errno = why;
+        return NULL;
+    }
+    target[before + (size_t)length] = 0;
+    if (target[before] == '/')
+        memmove(target, target + before, (size_t)length + 1);
+    else
+        memcpy(target, path, before);
+    return target;
 }
 
-/* Syncs the folder of a path. 0, or -1 with errno. */
-static inline int githoppu_sync_folder(const char *path) {
-    const char *slash = strrchr(path, '/');
-    size_t length = slash == NULL ? 0 : slash == path ? 1 : (size_t)(slash - path);
-    char *folder = (char *)malloc(length + 2);
-    int file, failed;
-    if (folder == NULL) {
+/* The path behind all symbolic links at a path, which the caller frees; null with errno. */
+static inline char *githoppu_behind_links(const char *path) {
+    size_t length = strlen(path) + 1;
+    char *here = (char *)malloc(length), *next;
+    int links, why;
+    if (here == NULL) {
         errno = ENOMEM;
-        return -1;
+        return NULL;
     }
-    memcpy(folder, length == 0 ? "." : path, length == 0 ? 1 : length);
-    folder[length == 0 ? 1 : length] = 0;
-    file = open(folder, O_RDONLY);
-    free(folder);
-    if (file < 0)
-        return -1;
-    failed = fsync(file);
-    if (failed) {
-        githoppu_not_saved(file, NULL, 0);
-        return -1;
+    memcpy(here, path, length);
+    for (links = 0; (next = githoppu_link_target(here)) != NULL && links < GITHOPPU_LINKS; links++) {
+        free(here);
+        here = next;
     }
-    return close(file);
+    why = next == NULL ? errno : ELOOP;
+    if (why == EINVAL || why == ENOENT)
+        return here;
+    free(next);
+    free(here);
+    errno = why;
+    return NULL;
+}
+
+static inline void githoppu_leave(githoppu_target *target) {
+    int why = errno;
+    if (target->folder >= 0)
+        close(target->folder);
+    free(target->path);
+    errno = why;
+}
+
+/* Opens the folder of a path, and looks at what the path has. DONE; NO_MEMORY, NOT_MADE or NOT_REGULAR (errno). githoppu_leave ends it in any case. */
+static inline int githoppu_find_target(const char *path, githoppu_target *target) {
+    char *slash;
+    target->folder = -1;
+    target->replaces = 0;
+    target->path = githoppu_behind_links(path);
+    if (target->path == NULL)
+        return errno == ENOMEM ? GITHOPPU_NO_MEMORY : GITHOPPU_NOT_MADE;
+    slash = strrchr(target->path, '/');
+    target->name = slash == NULL ? target->path : slash + 1;
+    if (*target->name == 0) {
+        errno = slash == NULL ? ENOENT : EISDIR;
+        return slash == NULL ? GITHOPPU_NOT_MADE : GITHOPPU_NOT_REGULAR;
+    }
+    if (slash != NULL)
+        *slash = 0;
+    target->folder = open(slash == NULL ? "." : slash == target->path ? "/" : target->path, O_RDONLY | O_DIRECTORY | O_CLOEXEC);
+    if (target->folder < 0)
+        return GITHOPPU_NOT_MADE;
+    if (fstatat(target->folder, target->name, &target->old, AT_SYMLINK_NOFOLLOW) != 0)
+        return errno == ENOENT ? GITHOPPU_DONE : GITHOPPU_NOT_MADE;
+    target->replaces = 1;
+    if (S_ISREG(target->old.st_mode))
+        return GITHOPPU_DONE;
+    errno = S_ISDIR(target->old.st_mode) ? EISDIR : EINVAL;
+    return GITHOPPU_NOT_REGULAR;
 }
 
 static inline int githoppu_write_bytes(int file, const unsigned char *bytes, size_t length) {
@@ -209,65 +251,108 @@ static inline int githoppu_write_bytes(int file, const unsigned char *bytes, siz
     return 0;
 }
 
-/* Makes a new file beside a path, and writes its name into the room of strlen(path) + 64 bytes. The file, or -1 with errno. */
-static inline int githoppu_new_file(const char *path, char *name) {
-    int file, at;
-    for (at = 0; at < 1000; at++) {
-        sprintf(name, "%s.%ld.%d.new", path, (long)getpid(), at);
-        file = open(name, O_WRONLY | O_CREAT | O_EXCL, 0666);
-        if (file >= 0 || errno != EEXIST)
-            return file;
+/* Whether the new file of a target is this one, a regular one. */
+static inline int githoppu_is_made(const githoppu_target *target, int file) {
+    struct stat about, named;
+    return fstat(file, &about) == 0 && S_ISREG(about.st_mode) && fstatat(target->folder, target->made, &named, AT_SYMLINK_NOFOLLOW) == 0 &&
+           about.st_dev == named.st_dev && about.st_ino == named.st_ino;
+}
+
+/* Removes the new file of this name, where an ended process left it: nobody locks it. Who removes or renames a new file has it locked, so no other one can take
+ * its name in between. */
+static inline void githoppu_remove_left(const githoppu_target *target) {
+    int flags = O_NOFOLLOW | O_NONBLOCK | O_CLOEXEC, file = openat(target->folder, target->made, O_RDWR | flags);
+    if (file < 0 && errno == EACCES)
+        file = openat(target->folder, target->made, O_RDONLY | flags);
+    if (file < 0)
+        return;
+    if (flock(file, LOCK_EX | LOCK_NB) == 0 && githoppu_is_made(target, file))
+        unlinkat(target->folder, target->made, 0);
+    close(file);
+}
+
+/* Makes a new file, and locks it. The file, or -1 with errno. */
+static inline int githoppu_new_file(githoppu_target *target) {
+    int at, file, is_ours;
+    for (at = 0; at < GITHOPPU_LEFT; at++) {
+        sprintf(target->made, ".githoppu.%d.new", at);
+        githoppu_remove_left(target);
     }
+    for (at = 0; at < GITHOPPU_NEW_FILES; at++) {
+        sprintf(target->made, ".githoppu.%d.new", at);
+        file = openat(target->folder, target->made, O_WRONLY | O_CREAT | O_EXCL | O_CLOEXEC, target->replaces ? 0600 : 0666);
+        if (file < 0 && errno == EEXIST)
+            continue;
+        if (file < 0)
+            return -1;
+        /* another save can take it for one that was left, until it is locked; where the system locks no files, none is removed */
+        is_ours = (flock(file, LOCK_EX | LOCK_NB) == 0 || errno != EWOULDBLOCK) && githoppu_is_made(target, file);
+        if (is_ours)
+            return file;
+        close(file);
+    }
+    errno = EEXIST;
     return -1;
 }
 
-static inline int githoppu_save_bytes(const char *path, char *name, const unsigned char *bytes, size_t length) {
-    int file = githoppu_new_file(path, name);
-    if (file < 0)
-        return GITHOPPU_NOT_MADE;
-    if (githoppu_write_bytes(file, bytes, length) != 0)
-        return githoppu_not_saved(file, name, GITHOPPU_NOT_WRITTEN);
-    if (fsync(file) != 0)
-        return githoppu_not_saved(file, name, GITHOPPU_NOT_SYNCED);
-    if (close(file) != 0)
-        return githoppu_not_saved(-1, name, GITHOPPU_NOT_SYNCED);
-    if (rename(name, path) != 0)
-        return githoppu_not_saved(-1, name, GITHOPPU_NOT_RENAMED);
-    if (githoppu_sync_folder(path) != 0)
-        return GITHOPPU_FOLDER_NOT_SYNCED;
-    return GITHOPPU_DONE;
+/* Gives the new file the rights of the one that it replaces. 0, or -1 with errno. */
+static inline int githoppu_keep_rights(int file, const struct stat *old) {
+    mode_t mode = old->st_mode & 0777;
+    struct stat now;
+    if (fstat(file, &now) != 0)
+        return -1;
+    if ((now.st_uid != old->st_uid || now.st_gid != old->st_gid) && fchown(file, old->st_uid, old->st_gid) != 0 && now.st_gid != old->st_gid &&
+        fchown(file, (uid_t)-1, old->st_gid) != 0)
+        mode = (mode & 0707) | (mode & 07) << 3;
+    return (now.st_mode & 0777) == mode ? 0 : fchmod(file, mode);
 }
 
-/* Saves the words of an image. DONE, NO_MEMORY, or one of NOT_MADE to FOLDER_NOT_SYNCED. */
-static inline int githoppu_save_words(const char *path, const uint64_t *words, size_t count) {
-    unsigned char *bytes = githoppu_file_bytes(words, count);
-    char *name = (char *)malloc(strlen(path) + 64);
-    int why, status = GITHOPPU_NO_MEMORY;
-    if (bytes != NULL && name != NULL)
-        status = githoppu_save_bytes(path, name, bytes, 8 * count + GITHOPPU_FILE_ENDS);
-    why = errno;
-    free(bytes);
-    free(name);
+/* After a fault: closes and removes the new file, with errno as the fault left it. */
+static inline int githoppu_not_saved(const githoppu_target *target, int file, int status) {
+    int why = errno;
+    unlinkat(target->folder, target->made, 0);
+    close(file);
     errno = why;
     return status;
 }
 
-/* Saves a store or a queue: of a closed one its image by choice 0, what is durable of it, and of a running one what githoppu_checkpoint takes by this
- * session, while the others go on. What was passed is still there afterwards, at *from. DONE, NO_SESSION, OUT_OF_TURN while an operation of the session is
- * pending, AGAIN as of githoppu_checkpoint_into, NO_MEMORY, or one of NOT_MADE to FOLDER_NOT_SYNCED. */
-static inline int githoppu_save(const char *path, void **from) {
-    uint64_t count = 0, *words;
-    int why, running = 0, status = githoppu_image_size(from, &count);
-    if (status == GITHOPPU_OUT_OF_TURN) {
-        running = 1;
-        status = githoppu_checkpoint_size(from, &count);
+static inline int githoppu_save_bytes(githoppu_target *target, const unsigned char *bytes, size_t length) {
+    int file = githoppu_new_file(target);
+    if (file < 0)
+        return GITHOPPU_NOT_MADE;
+    if (githoppu_write_bytes(file, bytes, length) != 0 || (target->replaces && githoppu_keep_rights(file, &target->old) != 0))
+        return githoppu_not_saved(target, file, GITHOPPU_NOT_WRITTEN);
+    if (fsync(file) != 0)
+        return githoppu_not_saved(target, file, GITHOPPU_NOT_SYNCED);
+    if (renameat(target->folder, target->made, target->folder, target->name) != 0)
+        return githoppu_not_saved(target, file, GITHOPPU_NOT_RENAMED);
+    /* its bytes are synced: what a close says of them is no news. It stays open up to here for its lock */
+    close(file);
+    return fsync(target->folder) != 0 ? GITHOPPU_FOLDER_NOT_SYNCED : GITHOPPU_DONE;
+}
+
+/* Saves the words of an image. DONE, NO_MEMORY, NOT_REGULAR, or one of NOT_MADE to FOLDER_NOT_SYNCED. */
+static inline int githoppu_save_words(const char *path, const uint64_t *words, size_t count) {
+    githoppu_target target;
+    unsigned char *bytes;
+    int why, status = githoppu_find_target(path, &target);
+    if (status == GITHOPPU_DONE) {
+        bytes = githoppu_file_bytes(words, count);
+        status = bytes == NULL ? GITHOPPU_NO_MEMORY : githoppu_save_bytes(&target, bytes, 8 * count + GITHOPPU_FILE_ENDS);
+        why = errno;
+        free(bytes);
+        errno = why;
     }
-    if (status != GITHOPPU_DONE)
-        return status;
-    words = count > SIZE_MAX / 8 ? NULL : (uint64_t *)malloc((size_t)(8 * count));
-    if (words == NULL)
-        return GITHOPPU_NO_MEMORY;
-    status = running ? githoppu_checkpoint_into(from, words, (size_t)count) : githoppu_image_into(from, 0, words, (size_t)count);
+    githoppu_leave(&target);
+    return status;
+}
+
+/* Room for so many words, which the caller frees; null where there is no memory. */
+static inline uint64_t *githoppu_room(uint64_t count) { return count > SIZE_MAX / 8 ? NULL : (uint64_t *)malloc((size_t)(8 * count)); }
+
+/* Saves the words that a call wrote at this status, and frees them. */
+static inline int githoppu_save_taken(const char *path, uint64_t *words, uint64_t count, int status) {
+    int why;
     if (status == GITHOPPU_DONE)
         status = githoppu_save_words(path, words, (size_t)count);
     why = errno;
@@ -276,36 +361,67 @@ static inline int githoppu_save(const char *path, void **from) {
     return status;
 }
 
+/* Saves a running store or queue, while its other sessions go on: what githoppu_checkpoint takes by this session. DONE, NO_SESSION, OUT_OF_TURN while an
+ * operation of the session is pending, AGAIN as of githoppu_checkpoint_into, NO_MEMORY, NOT_REGULAR, or one of NOT_MADE to FOLDER_NOT_SYNCED. */
+static inline int githoppu_save(const char *path, githoppu_session **session) {
+    uint64_t count = 0, *words;
+    int status = githoppu_checkpoint_size(session, &count);
+    if (status != GITHOPPU_DONE)
+        return status;
+    words = githoppu_room(count);
+    return words == NULL ? GITHOPPU_NO_MEMORY : githoppu_save_taken(path, words, count, githoppu_checkpoint_into(session, words, (size_t)count));
+}
+
+/* Saves a closed store or queue, which stays: its image by choice 0, what is durable of it. DONE, NO_SESSION, NO_MEMORY, NOT_REGULAR, or one of NOT_MADE to
+ * FOLDER_NOT_SYNCED. */
+static inline int githoppu_save_closed(const char *path, githoppu_closed **closed) {
+    uint64_t count = 0, *words;
+    int status = githoppu_image_size(closed, &count);
+    if (status != GITHOPPU_DONE)
+        return status;
+    words = githoppu_room(count);
+    return words == NULL ? GITHOPPU_NO_MEMORY : githoppu_save_taken(path, words, count, githoppu_image_into(closed, 0, words, (size_t)count));
+}
+
 /* ---- Loading. ---- */
+
+/* Closes a file after a fault, with errno as the fault left it. */
+static inline int githoppu_not_loaded(int file, int status) {
+    int why = errno;
+    close(file);
+    errno = why;
+    return status;
+}
 
 /* Reads a whole file. DONE, and *bytes, which the caller frees, has *length bytes of room or more; NOT_OPENED, NOT_READ or NO_MEMORY. */
 static inline int githoppu_read_bytes(const char *path, unsigned char **bytes, size_t *length) {
     struct stat about;
     size_t room, have = 0;
     ssize_t some = 1;
-    int file = open(path, O_RDONLY);
+    /* a pipe without a writer would hold up the opening */
+    int file = open(path, O_RDONLY | O_NONBLOCK | O_NOCTTY | O_CLOEXEC);
     if (file < 0)
         return GITHOPPU_NOT_OPENED;
     if (fstat(file, &about) != 0)
-        return githoppu_not_saved(file, NULL, GITHOPPU_NOT_OPENED);
+        return githoppu_not_loaded(file, GITHOPPU_NOT_OPENED);
     if (!S_ISREG(about.st_mode)) {
         errno = S_ISDIR(about.st_mode) ? EISDIR : EINVAL;
-        return githoppu_not_saved(file, NULL, GITHOPPU_NOT_OPENED);
+        return githoppu_not_loaded(file, GITHOPPU_NOT_OPENED);
     }
     if ((uint64_t)about.st_size > SIZE_MAX - 1) {
         errno = EFBIG;
-        return githoppu_not_saved(file, NULL, GITHOPPU_NO_MEMORY);
+        return githoppu_not_loaded(file, GITHOPPU_NO_MEMORY);
     }
     room = (size_t)about.st_size + 1;
     *bytes = (unsigned char *)malloc(room);
     if (*bytes == NULL)
-        return githoppu_not_saved(file, NULL, GITHOPPU_NO_MEMORY);
+        return githoppu_not_loaded(file, GITHOPPU_NO_MEMORY);
     while (some != 0 && have < room) {
         some = read(file, *bytes + have, room - have < (size_t)1 << 30 ? room - have : (size_t)1 << 30);
         if (some < 0 && errno == EINTR)
             continue;
         if (some < 0) {
-            int status = githoppu_not_saved(file, NULL, GITHOPPU_NOT_READ);
+            int status = githoppu_not_loaded(file, GITHOPPU_NOT_READ);
             free(*bytes);
             return status;
         }
@@ -316,7 +432,7 @@ static inline int githoppu_read_bytes(const char *path, unsigned char **bytes, s
     return GITHOPPU_DONE;
 }
 
-/* Loads the words of an image, which the caller frees: DONE; NO_MEMORY, or one of NOT_OPENED to FILE_FORMAT, and then *words is null. */
+/* Loads the words of an image, which the caller frees: DONE; NO_MEMORY, FILE_EMPTY, or one of NOT_OPENED to FILE_FORMAT, and then *words is null. */
 static inline int githoppu_load_words(const char *path, uint64_t **words, size_t *count) {
     unsigned char *bytes = NULL;
     size_t i, length = 0;
@@ -339,7 +455,8 @@ static inline int githoppu_load_words(const char *path, uint64_t **words, size_t
     return status;
 }
 
-static inline int githoppu_load_by(int32_t (*recover)(const uint64_t *, size_t, void **, size_t), const char *path, void **sessions, size_t count) {
+static inline int githoppu_load_by(int32_t (*recover)(const uint64_t *, size_t, githoppu_session **, size_t), const char *path,
+                                   githoppu_session **sessions, size_t count) {
     uint64_t *words;
     size_t length;
     int status = githoppu_load_words(path, &words, &length);
@@ -350,13 +467,13 @@ static inline int githoppu_load_by(int32_t (*recover)(const uint64_t *, size_t, 
     return status;
 }
 
-/* Opens the store, or the queue, that a file holds, with count sessions, which it puts into the slots: DONE; one of NOT_OPENED to FILE_FORMAT, or what
- * githoppu_recover answers, and then no slot is written. */
-static inline int githoppu_load(const char *path, void **sessions, size_t count) {
+/* Opens the store, or the queue, that a file holds, with count sessions, which it puts into the slots: DONE; FILE_EMPTY, one of NOT_OPENED to FILE_FORMAT,
+ * or what githoppu_recover answers, and then no slot is written. */
+static inline int githoppu_load(const char *path, githoppu_session **sessions, size_t count) {
     return githoppu_load_by(githoppu_recover, path, sessions, count);
 }
 
-static inline int githoppu_load_queue(const char *path, void **sessions, size_t count) {
+static inline int githoppu_load_queue(const char *path, githoppu_session **sessions, size_t count) {
     return githoppu_load_by(githoppu_recover_queue, path, sessions, count);
 }
 

@@ -4,8 +4,8 @@
 
 It takes the program that tools/build takes, and has it built where there is none. The parts run side by side on all processors. They are the rows of
 the program; 300 random scripts, loads, images and traces for each word of the program, each compared with a plain program in Python; images that no
-run leaves; ends that fail, and memory and threads that are refused, where there is `cc`; and the programs and tests in C and Rust, where there are `cc` and `cargo`, over
-the library that tools/bindings takes. For each part a line says what was tried, how many passed, and in how many seconds.
+run leaves; ends that fail, and memory and threads that are refused, where there is `cc`; and the programs and tests in C, Rust and Python, where there are
+`cc` and `cargo`, over the library that tools/bindings takes. For each part a line says what was tried, how many passed, and in how many seconds.
 
 It takes under 3 minutes on four processors from a program that is built, a third of it for the library where that is not built. It proves nothing: `.ci/run`
 does, in 50 minutes on four processors.
@@ -38,6 +38,7 @@ ROWS = [
         f"test_tools.Program.{test}"
         for test in (
             "test_each_row",
+            "test_each_word_at_its_stack",
             "test_largest_input",
             "test_other_words_are_refused_unread",
             "test_a_load_writes_four_lines_and_reads_nothing",
@@ -183,9 +184,9 @@ def refusals():
 
 
 def bindings():
-    """The programs and tests in C and Rust; None where there is neither `cc` nor `cargo`."""
+    """The programs and tests in C, Rust and Python."""
     ran = subprocess.run([TOOLS / "bindings"], stdin=subprocess.DEVNULL, capture_output=True, text=True, errors="replace", check=False)
-    tried = re.findall(r"(?m)^bindings: (the exports|C and C\+\+|the Rust .*)$", ran.stderr)
+    tried = re.findall(r"(?m)^bindings: (the exports|C and C\+\+|the Rust .*|the Python tests|installed programs)$", ran.stderr)
     failed = re.findall(r"(?m)^bindings: failed: (.*)$", ran.stderr)
     if ran.returncode != 0:
         return max(len(tried), 1), [*failed, ran.stderr]
@@ -194,7 +195,7 @@ def bindings():
 
 # the longest first, so that none is left for the end
 PARTS = {
-    "programs and tests in C and Rust": bindings,
+    "programs and tests in C, Rust and Python": bindings,
     "images that no run leaves": hostile,
     "allocations and threads refused": refusals,
     "random scripts of documents (run)": scripts,

@@ -39,16 +39,19 @@ import random_lives
 import random_pools
 import random_queues
 import record_trace
+import stacks
 import stopped_clients
 import told
 from build_tests import Builds, Runs, Unproved
 from check_tests import QuickChecks
 from clause_tests import ClauseComparisons
 from document_tests import Documents, Examples, PageRules
+from dump_tests import Dumps
 from end_tests import Ends
 from help_tests import Helps
 from history_tests import Histories
 from image_tests import ImageExplanations, ProgramOnImages, ReadImages, usage
+from install_tests import Installs
 from name_tests import Names, SourceItems
 from number_tests import HouseNumbers
 from picture_tests import Pictures
@@ -582,6 +585,10 @@ class Program(unittest.TestCase):
                     self.assertIsNone(why_refused(script, written))
                     if name not in ONE_OF_MANY:
                         self.assertIn(written, reports)
+
+    def test_each_word_at_its_stack(self):
+        """At the stack that docs/FAQ.md states, each word ends well on the inputs that need most of it."""
+        self.assertIsNone(stacks.first_wrong(random_lives.PROGRAM, random_lives.PROGRAM == PROVED))
 
     def test_largest_input(self):
         rows = [(16_777_216, 0, b""), (16_777_217, 8, b"refused: input over 16777216 bytes\n")]

@@ -10,22 +10,22 @@ enum { TIMES = 10000 };
 static int ends[2];
 
 static void *write_all(void *at) {
-    void *session = at;
+    githoppu_session **session = at;
     githoppu_words reply;
     int i;
     for (i = 0; i < TIMES; i++) {
         uint64_t place;
-        if (githoppu_add(&session, "written", 1, &reply) != GITHOPPU_DONE)
+        if (githoppu_add(session, "written", 1, &reply) != GITHOPPU_DONE)
             abort();
-        place = githoppu_place(&session);
+        place = githoppu_place(session);
         if (write(ends[1], &place, sizeof place) != (ssize_t)sizeof place)
             abort();
     }
-    return session;
+    return NULL;
 }
 
 static void *read_all(void *at) {
-    void *session = at;
+    githoppu_session **session = at;
     githoppu_words reply;
     char text[1025];
     int i;
@@ -33,26 +33,26 @@ static void *read_all(void *at) {
         uint64_t place;
         if (read(ends[0], &place, sizeof place) != (ssize_t)sizeof place)
             abort();
-        if (githoppu_catch_up(&session, place) != GITHOPPU_DONE)
+        if (githoppu_catch_up(session, place) != GITHOPPU_DONE)
             abort();
-        if (githoppu_get(&session, "written", &reply) != GITHOPPU_DONE || reply.word[0] != GITHOPPU_DOC)
+        if (githoppu_get(session, "written", &reply) != GITHOPPU_DONE || reply.word[0] != GITHOPPU_DOC)
             abort();
         githoppu_document(&reply, text);
-        if (atoi(text) < i + 1 || githoppu_place(&session) < place)
+        if (atoi(text) < i + 1 || githoppu_place(session) < place)
             abort();
     }
-    return session;
+    return NULL;
 }
 
 int main(void) {
-    void *sessions[2];
+    githoppu_session *sessions[2];
     pthread_t threads[2];
     if (githoppu_open(64, sessions, 2) != GITHOPPU_DONE || pipe(ends) != 0)
         return 1;
-    if (pthread_create(&threads[0], NULL, write_all, sessions[0]) != 0 || pthread_create(&threads[1], NULL, read_all, sessions[1]) != 0)
+    if (pthread_create(&threads[0], NULL, write_all, &sessions[0]) != 0 || pthread_create(&threads[1], NULL, read_all, &sessions[1]) != 0)
         return 1;
-    pthread_join(threads[0], &sessions[0]);
-    pthread_join(threads[1], &sessions[1]);
+    pthread_join(threads[0], NULL);
+    pthread_join(threads[1], NULL);
     printf("each of %d writes was read by who was told of it\n", TIMES);
     githoppu_give_up(sessions, 2);
     return 0;

@@ -21,7 +21,7 @@ typedef struct call {
 } call;
 
 typedef struct caller {
-    void *session;
+    githoppu_session *session;
     call *calls;
     uint64_t seed;
     long count;
@@ -103,7 +103,7 @@ static void put_out(const caller *by, const call *made) {
 
 int main(int count, char **words) {
     caller callers[MOST_THREADS];
-    void *sessions[MOST_THREADS];
+    githoppu_session *sessions[MOST_THREADS];
     pthread_t threads[MOST_THREADS];
     int all = count == 4 ? atoi(words[1]) : 0, i;
     long calls = count == 4 ? atol(words[2]) : 0, k;

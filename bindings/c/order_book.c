@@ -9,7 +9,7 @@
 enum { TRADERS = 4, ORDERS = 500, PRICES = 11, LEAST = 95 };
 
 struct trader {
-    void *session;
+    githoppu_session *session;
     unsigned seed;
     long bought, sold, traded, again; /* what was ordered, what of it met another order at once, and how often another thread was first */
 };
@@ -93,7 +93,7 @@ static void *trade(void *at) {
 }
 
 int main(void) {
-    void *sessions[TRADERS];
+    githoppu_session *sessions[TRADERS];
     pthread_t threads[TRADERS];
     struct trader traders[TRADERS];
     githoppu_words reply;

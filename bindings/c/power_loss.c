@@ -13,7 +13,7 @@ static void must(int right, const char *what) {
 
 static void saved(int status) {
     if (status != GITHOPPU_DONE) {
-        fprintf(stderr, "power_loss: %s: %s\n", githoppu_file_text(status), strerror(errno));
+        fprintf(stderr, "power_loss: %s: %s\n", githoppu_status_text(status), strerror(errno));
         exit(1);
     }
 }
@@ -27,7 +27,8 @@ static void change(const char *path, long at, int bits) {
 }
 
 static void sell(const char *path) {
-    void *sessions[3], *closed = NULL;
+    githoppu_session *sessions[3];
+    githoppu_closed *closed = NULL;
     githoppu_words reply;
     must(githoppu_open(256, sessions, 3) == GITHOPPU_DONE, "no store");
     must(githoppu_put(&sessions[0], "fruit", "\"apple\"", 7, &reply) == GITHOPPU_DONE, "no put");
@@ -37,12 +38,12 @@ static void sell(const char *path) {
     must(githoppu_close_one(&sessions[1], &closed) == GITHOPPU_OTHERS, "no closing");
     must(githoppu_close_one(&sessions[2], &closed) == GITHOPPU_OTHERS, "no closing");
     must(githoppu_close_one(&sessions[0], &closed) == GITHOPPU_DONE, "no closing");
-    saved(githoppu_save(path, &closed));
-    githoppu_give_up(&closed, 1);
+    saved(githoppu_save_closed(path, &closed));
+    githoppu_give_up_closed(&closed);
 }
 
 static void go_on(const char *path) {
-    void *sessions[2];
+    githoppu_session *sessions[2];
     githoppu_words reply;
     char text[1025];
     must(githoppu_load(path, sessions, 2) == GITHOPPU_DONE, "no store");
@@ -72,7 +73,8 @@ static void outcomes(const char *path) {
 }
 
 static void queue_up(const char *path) {
-    void *sessions[2], *closed = NULL;
+    githoppu_session *sessions[2];
+    githoppu_closed *closed = NULL;
     githoppu_words reply;
     char text[57];
     int i;
@@ -83,8 +85,8 @@ static void queue_up(const char *path) {
     }
     must(githoppu_pop(&sessions[0], &reply) == GITHOPPU_DONE, "no pop");
     must(githoppu_close_all(sessions, 2, &closed) == GITHOPPU_DONE, "no closing");
-    saved(githoppu_save(path, &closed));
-    githoppu_give_up(&closed, 1);
+    saved(githoppu_save_closed(path, &closed));
+    githoppu_give_up_closed(&closed);
     must(githoppu_load_queue(path, sessions, 1) == GITHOPPU_DONE, "no queue");
     for (;;) {
         must(githoppu_pop(sessions, &reply) == GITHOPPU_DONE, "no pop");
@@ -98,13 +100,13 @@ static void queue_up(const char *path) {
 
 int main(int count, char **words) {
     char store[4096], queue[4096];
-    void *sessions[1];
+    githoppu_session *sessions[1];
     must(count == 2 && strlen(words[1]) < 4000, "power_loss PATH");
     sprintf(store, "%s.store", words[1]);
     sprintf(queue, "%s.queue", words[1]);
     sell(store);
     change(store, 20000, 1);
-    printf("a byte changed: %s\n", githoppu_file_text(githoppu_load(store, sessions, 1)));
+    printf("a byte changed: %s\n", githoppu_status_text(githoppu_load(store, sessions, 1)));
     change(store, 20000, 1);
     outcomes(store);
     go_on(store);

@@ -18,7 +18,7 @@ struct sales {
 };
 
 struct seller {
-    void *session;
+    githoppu_session *session;
     atomic_ullong *answered;
 };
 
@@ -29,7 +29,7 @@ static void must(int right, const char *what) {
     }
 }
 
-static void done(int status) { must(status == GITHOPPU_DONE, githoppu_file_text(status)); }
+static void done(int status) { must(status == GITHOPPU_DONE, githoppu_status_text(status)); }
 
 static void rest(long milliseconds) {
     struct timespec time = {milliseconds / 1000, milliseconds % 1000 * 1000000};
@@ -48,7 +48,7 @@ static void *sell(void *at) {
 }
 
 /* What the last sales were, by the file: their numbers, of which none is below what was answered before the file was saved. */
-static struct sales learned(const char *path, const struct sales *saved, void **sessions) {
+static struct sales learned(const char *path, const struct sales *saved, githoppu_session **sessions) {
     struct sales last;
     githoppu_words reply;
     uint64_t *words, sum = 0, all = 0;
@@ -77,7 +77,7 @@ static struct sales learned(const char *path, const struct sales *saved, void **
 
 /* Sells and saves until it is killed. After each save it tells the sales that were answered before it. */
 static void run(const char *path, const struct sales *saved, int tell) {
-    void *sessions[SELLERS + 1];
+    githoppu_session *sessions[SELLERS + 1];
     struct seller sellers[SELLERS];
     static atomic_ullong answered[SELLERS];
     struct sales last = {{0}};
@@ -104,7 +104,6 @@ static void run(const char *path, const struct sales *saved, int tell) {
 
 int main(int count, char **words) {
     struct sales saved = {{0}}, told;
-    char left[4096];
     int kills, status, ends[2];
     unsigned seed = 1, saves = 0;
     must(count == 2 && strlen(words[1]) < 4000, "saved_shop PATH");
@@ -124,13 +123,12 @@ int main(int count, char **words) {
         for (; read(ends[0], &told, sizeof told) == (ssize_t)sizeof told; saves++)
             saved = told;
         close(ends[0]);
-        /* what a save left that was cut off */
-        sprintf(left, "%s.%ld.0.new", words[1], (long)child);
-        unlink(left);
     }
     if (access(words[1], F_OK) == 0) {
-        void *sessions[SELLERS + 1];
+        githoppu_session *sessions[SELLERS + 1];
         learned(words[1], &saved, sessions);
+        /* a save that was killed left its new file; this one removes it */
+        done(githoppu_save(words[1], &sessions[SELLERS]));
         githoppu_give_up(sessions, SELLERS + 1);
     }
     must(saves > 0, "nothing was saved");

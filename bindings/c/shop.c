@@ -7,17 +7,17 @@
 enum { SELLERS = 4, SALES = 1000 };
 
 static void *sell(void *at) {
-    void *session = at;
+    githoppu_session **session = at;
     githoppu_words reply;
     int i;
     for (i = 0; i < SALES; i++)
-        if (githoppu_add(&session, "sold", 1, &reply) != GITHOPPU_DONE || reply.word[0] != GITHOPPU_SUM)
+        if (githoppu_add(session, "sold", 1, &reply) != GITHOPPU_DONE || reply.word[0] != GITHOPPU_SUM)
             abort();
-    return session;
+    return NULL;
 }
 
 int main(void) {
-    void *sessions[SELLERS];
+    githoppu_session *sessions[SELLERS];
     pthread_t threads[SELLERS];
     githoppu_words reply;
     char text[1025];
@@ -27,10 +27,10 @@ int main(void) {
     if (githoppu_put(&sessions[0], "fruit", "\"apple\"", 7, &reply) != GITHOPPU_DONE)
         return 1;
     for (i = 0; i < SELLERS; i++)
-        if (pthread_create(&threads[i], NULL, sell, sessions[i]) != 0)
+        if (pthread_create(&threads[i], NULL, sell, &sessions[i]) != 0)
             return 1;
     for (i = 0; i < SELLERS; i++)
-        pthread_join(threads[i], &sessions[i]);
+        pthread_join(threads[i], NULL);
     if (githoppu_get(&sessions[1], "sold", &reply) != GITHOPPU_DONE || reply.word[0] != GITHOPPU_DOC)
         return 1;
     githoppu_document(&reply, text);

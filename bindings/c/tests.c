@@ -18,6 +18,12 @@ static int adds = ADDS, texts = TEXTS;
         }                                                                 \
     } while (0)
 
+#define MALFORMED(call)                                   \
+    do {                                                  \
+        CHECK((call) == GITHOPPU_MALFORMED);              \
+        CHECK(reply.word[0] == GITHOPPU_NO_OPERATION);    \
+    } while (0)
+
 #define DO(call, kind)                                    \
     do {                                                  \
         CHECK((call) == GITHOPPU_DONE);                   \
@@ -28,15 +34,22 @@ static int adds = ADDS, texts = TEXTS;
 
 static long taken, given, refused_at;
 
+/* What the library tells as its version, where that is not 0. */
+static uint64_t told_version;
+
 #ifdef __cplusplus
 extern "C" {
 #endif
+uint64_t __real_githoppu_version(void);
+uint64_t __wrap_githoppu_version(void);
 void *__real_malloc(size_t size);
 void *__real_realloc(void *block, size_t size);
 void __real_free(void *block);
 void *__wrap_malloc(size_t size);
 void *__wrap_realloc(void *block, size_t size);
 void __wrap_free(void *block);
+
+uint64_t __wrap_githoppu_version(void) { return told_version != 0 ? told_version : __real_githoppu_version(); }
 
 void *__wrap_malloc(size_t size) {
     if (++taken == refused_at)
@@ -64,11 +77,17 @@ void __wrap_free(void *block) {
 
 /* ---- one session ---- */
 
+/* A value of a slot that no call put out. */
+static githoppu_session *not_a_session(githoppu_session **slots) { return (githoppu_session *)(void *)slots; }
+
+/* A closed store where a session is asked for, as a cast of the caller's can pass it: the library refuses it. */
+static githoppu_session *as_session(githoppu_closed *closed) { return (githoppu_session *)(void *)closed; }
+
 static void test_sizes(void) {
-    void *slots[9];
+    githoppu_session *slots[9];
     int i;
     for (i = 0; i < 9; i++)
-        slots[i] = &slots[i];
+        slots[i] = not_a_session(slots);
     CHECK(githoppu_open(63, slots, 1) == GITHOPPU_BAD_SIZE);
     CHECK(githoppu_open(16385, slots, 1) == GITHOPPU_BAD_SIZE);
     CHECK(githoppu_open(64, slots, 0) == GITHOPPU_BAD_SIZE);
@@ -77,12 +96,13 @@ static void test_sizes(void) {
     CHECK(githoppu_open_queue(63, slots, 1) == GITHOPPU_BAD_SIZE);
     CHECK(githoppu_open_queue(64, slots, 9) == GITHOPPU_BAD_SIZE);
     for (i = 0; i < 9; i++)
-        CHECK(slots[i] == (void *)&slots[i]);
+        CHECK(slots[i] == not_a_session(slots));
 }
 
 static void test_documents(void) {
-    void *s[1];
-    githoppu_words reply;
+    githoppu_session *s[1];
+    githoppu_words op, reply;
+    githoppu_session_handle handle;
     char text[1025], long_key[66];
     int i;
     CHECK(githoppu_open(64, s, 1) == GITHOPPU_DONE);
@@ -113,10 +133,22 @@ static void test_documents(void) {
         DO(githoppu_put(s, long_key, text, 1024, &reply), i < 2 ? GITHOPPU_NEW : GITHOPPU_NO_ROOM);
     }
     /* what is no operation */
-    DO(githoppu_put(s, "", "1", 1, &reply), GITHOPPU_NO_OPERATION);
-    DO(githoppu_put(s, "a key", "1", 1, &reply), GITHOPPU_NO_OPERATION);
-    DO(githoppu_put(s, "key", "", 0, &reply), GITHOPPU_NO_OPERATION);
-    DO(githoppu_put(s, "key", "\n", 1, &reply), GITHOPPU_NO_OPERATION);
+    MALFORMED(githoppu_put(s, "", "1", 1, &reply));
+    MALFORMED(githoppu_put(s, "a key", "1", 1, &reply));
+    MALFORMED(githoppu_put(s, "k\xC3\xA4se", "1", 1, &reply));
+    MALFORMED(githoppu_put(s, "key", "", 0, &reply));
+    MALFORMED(githoppu_put(s, "key", "\n", 1, &reply));
+    MALFORMED(githoppu_putif(s, "key", "a\tb", 3, 0, &reply));
+    MALFORMED(githoppu_get(s, "", &reply));
+    MALFORMED(githoppu_del(s, "a key", &reply));
+    MALFORMED(githoppu_add(s, "\x7F", 1, &reply));
+    MALFORMED(githoppu_rev(s, "", &reply));
+    MALFORMED(githoppu_next(s, "a key", &reply));
+    DO(githoppu_get(s, "key", &reply), GITHOPPU_ABSENT);
+    /* the library's own call answers DONE, and a finish likewise */
+    CHECK(githoppu_document_op(&op, 1, "a key", "1", 1, 0) == GITHOPPU_DONE);
+    handle.at = s[0];
+    DO(githoppu_call(handle, op.word, reply.word, 16, s), GITHOPPU_NO_OPERATION);
     memset(long_key, 'k', 65);
     long_key[65] = 0;
     CHECK(githoppu_get(s, long_key, &reply) == GITHOPPU_TOO_LONG);
@@ -125,7 +157,7 @@ static void test_documents(void) {
 }
 
 static void test_revisions(void) {
-    void *s[1];
+    githoppu_session *s[1];
     githoppu_words reply;
     CHECK(githoppu_open(64, s, 1) == GITHOPPU_DONE);
     DO(githoppu_rev(s, "fruit", &reply), GITHOPPU_ABSENT);
@@ -143,7 +175,7 @@ static void test_revisions(void) {
 }
 
 static void test_queue(void) {
-    void *s[2];
+    githoppu_session *s[2];
     githoppu_words reply;
     char text[58];
     int i;
@@ -161,7 +193,8 @@ static void test_queue(void) {
     DO(githoppu_pop(&s[0], &reply), GITHOPPU_TEXT);
     DO(githoppu_pop(&s[1], &reply), GITHOPPU_TEXT);
     CHECK(githoppu_text(&reply, text) == 6 && strcmp(text, "text-1") == 0);
-    DO(githoppu_push(&s[0], "", &reply), GITHOPPU_NO_QUEUE_OPERATION);
+    MALFORMED(githoppu_push(&s[0], "", &reply));
+    MALFORMED(githoppu_push(&s[0], "a text", &reply));
     memset(text, 't', 57);
     text[57] = 0;
     CHECK(githoppu_push(&s[0], text, &reply) == GITHOPPU_TOO_LONG);
@@ -171,8 +204,8 @@ static void test_queue(void) {
 }
 
 static void test_wrong_turns(void) {
-    void *s[1], *none = NULL;
-    githoppu_handle handle;
+    githoppu_session *s[1], *none = NULL;
+    githoppu_session_handle handle;
     githoppu_words op, reply;
     size_t i;
     CHECK(githoppu_open(64, s, 1) == GITHOPPU_DONE);
@@ -198,7 +231,8 @@ static void test_wrong_turns(void) {
 /* ---- threads ---- */
 
 struct worker {
-    void *session;
+    githoppu_session *session;
+    githoppu_closed *closed;
     int number, wrong;
     long pending;
     uint64_t answered;
@@ -210,7 +244,7 @@ static void add_once(struct worker *w) {
     int status;
     githoppu_document_op(&op, 3, "sold", "", 0, 1);
     for (;;) {
-        githoppu_handle handle;
+        githoppu_session_handle handle;
         handle.at = w->session;
         status = githoppu_call(handle, op.word, reply.word, 1, &w->session);
         if (status != GITHOPPU_AGAIN && status != GITHOPPU_FULL)
@@ -246,11 +280,12 @@ static void *add_and_read(void *at) {
     return NULL;
 }
 
-static void on_threads(struct worker *workers, void **sessions, void *(*work)(void *)) {
+static void on_threads(struct worker *workers, githoppu_session **sessions, void *(*work)(void *)) {
     pthread_t threads[THREADS];
     int i;
     for (i = 0; i < THREADS; i++) {
         workers[i].session = sessions[i];
+        workers[i].closed = NULL;
         workers[i].number = i;
         workers[i].wrong = 0;
         workers[i].pending = 0;
@@ -265,7 +300,7 @@ static void on_threads(struct worker *workers, void **sessions, void *(*work)(vo
 }
 
 static void test_adding_threads(void) {
-    void *sessions[THREADS];
+    githoppu_session *sessions[THREADS];
     struct worker workers[THREADS];
     githoppu_words reply;
     char text[1025];
@@ -310,7 +345,7 @@ static void *push_or_pop(void *at) {
 }
 
 static void test_queue_threads(void) {
-    void *sessions[THREADS];
+    githoppu_session *sessions[THREADS];
     struct worker workers[THREADS];
     githoppu_words reply;
     int i, k;
@@ -329,7 +364,7 @@ static void test_queue_threads(void) {
 enum { LINES = 64, REGION = 8 * (146 + LINES), HEAD = 8 };
 
 /* The image of a closed store of so many sessions, in words that the caller frees. */
-static uint64_t *image_of(void **closed, uint64_t choice, uint64_t *count) {
+static uint64_t *image_of(githoppu_closed **closed, uint64_t choice, uint64_t *count) {
     uint64_t *words;
     CHECK(githoppu_image_size(closed, count) == GITHOPPU_DONE);
     words = (uint64_t *)__real_malloc(*count * sizeof *words);
@@ -338,11 +373,12 @@ static uint64_t *image_of(void **closed, uint64_t choice, uint64_t *count) {
     return words;
 }
 
-static int recover_one(const uint64_t *words, uint64_t count, void **session) { return githoppu_recover(words, count, session, 1); }
+static int recover_one(const uint64_t *words, uint64_t count, githoppu_session **session) { return githoppu_recover(words, count, session, 1); }
 
 /* A store with some documents, closed; its sessions are closed in the order given. */
-static void *closed_store(const int *order, int count) {
-    void *s[8], *closed = NULL;
+static githoppu_closed *closed_store(const int *order, int count) {
+    githoppu_session *s[8];
+    githoppu_closed *closed = NULL;
     githoppu_words reply;
     int i;
     CHECK(githoppu_open(LINES, s, (size_t)count) == GITHOPPU_DONE);
@@ -360,7 +396,8 @@ static void test_closing_orders(void) {
     static const int orders[][3] = {{0, 1, 2}, {2, 1, 0}, {1, 2, 0}, {1, 0, 2}, {2, 0, 1}, {0, 2, 1}};
     size_t i;
     for (i = 0; i < sizeof orders / sizeof *orders; i++) {
-        void *closed = closed_store(orders[i], 3), *one[1];
+        githoppu_closed *closed = closed_store(orders[i], 3);
+        githoppu_session *one[1];
         githoppu_words reply;
         uint64_t count, *words, choice;
         char text[1025];
@@ -377,39 +414,48 @@ static void test_closing_orders(void) {
             githoppu_give_up(one, 1);
             __real_free(words);
         }
-        githoppu_give_up(&closed, 1);
+        githoppu_give_up_closed(&closed);
+        CHECK(closed == NULL);
     }
 }
 
 static void test_closing_turns(void) {
     static const int order[] = {0};
-    void *s[2], *t[1], *closed, *none = NULL;
-    githoppu_handle handle;
+    githoppu_session *s[2], *t[1], *lie, *none = NULL;
+    githoppu_closed *closed, *no_store = NULL;
+    githoppu_session_handle handle;
+    githoppu_closed_handle closed_handle;
+    githoppu_either left;
     githoppu_words reply;
     uint64_t needed = 1, word = 7;
     closed = closed_store(order, 1);
     /* what is closed takes no call, and is closed once */
-    CHECK(githoppu_get(&closed, "fruit", &reply) == GITHOPPU_OUT_OF_TURN);
-    CHECK(githoppu_end(&closed, &reply) == GITHOPPU_OUT_OF_TURN);
-    handle.at = closed;
-    CHECK(githoppu_close(handle, &closed) == GITHOPPU_OUT_OF_TURN && closed != NULL);
+    lie = as_session(closed);
+    CHECK(githoppu_get(&lie, "fruit", &reply) == GITHOPPU_OUT_OF_TURN);
+    CHECK(githoppu_end(&lie, &reply) == GITHOPPU_OUT_OF_TURN);
+    handle.at = lie;
+    CHECK(githoppu_close(handle, &left) == GITHOPPU_OUT_OF_TURN && left.closed != NULL);
     /* an image has as many words as it has */
-    handle.at = closed;
-    CHECK(githoppu_image(handle, 0, &word, 1, &needed, &closed) == GITHOPPU_BAD_SIZE);
+    closed_handle.at = left.closed;
+    CHECK(githoppu_image(closed_handle, 0, &word, 1, &needed, &closed) == GITHOPPU_BAD_SIZE);
     CHECK(needed == HEAD + 2 * REGION && word == 7);
-    githoppu_give_up(&closed, 1);
+    githoppu_give_up_closed(&closed);
+    githoppu_give_up_closed(&closed);
     /* a session has no image, and null is neither */
     CHECK(githoppu_open(LINES, s, 2) == GITHOPPU_DONE && githoppu_open(LINES, t, 1) == GITHOPPU_DONE);
-    CHECK(githoppu_image_size(&s[0], &needed) == GITHOPPU_OUT_OF_TURN && needed == 0);
+    closed = (githoppu_closed *)(void *)s[0];
+    CHECK(githoppu_image_size(&closed, &needed) == GITHOPPU_OUT_OF_TURN && needed == 0);
+    s[0] = as_session(closed);
     CHECK(githoppu_close_one(&none, &closed) == GITHOPPU_NO_SESSION && githoppu_close_all(&none, 1, &closed) == GITHOPPU_NO_SESSION);
-    CHECK(githoppu_image_size(&none, &needed) == GITHOPPU_NO_SESSION && githoppu_image_into(&none, 0, &word, 1) == GITHOPPU_NO_SESSION);
+    CHECK(githoppu_image_size(&no_store, &needed) == GITHOPPU_NO_SESSION && githoppu_image_into(&no_store, 0, &word, 1) == GITHOPPU_NO_SESSION);
+    CHECK(githoppu_checkpoint_size(&none, &needed) == GITHOPPU_NO_SESSION && githoppu_checkpoint_into(&none, &word, 1) == GITHOPPU_NO_SESSION);
     /* sessions of another store are of another store */
     closed = NULL;
     CHECK(githoppu_close_all(s, 1, &closed) == GITHOPPU_OTHERS && closed == NULL);
     CHECK(githoppu_close_all(t, 1, &closed) == GITHOPPU_DONE && closed != NULL);
-    githoppu_give_up(&closed, 1);
+    githoppu_give_up_closed(&closed);
     CHECK(githoppu_close_all(s, 2, &closed) == GITHOPPU_DONE && closed != NULL);
-    githoppu_give_up(&closed, 1);
+    githoppu_give_up_closed(&closed);
     /* a store of which a session was dropped is not closed */
     CHECK(githoppu_open(LINES, s, 2) == GITHOPPU_DONE);
     githoppu_give_up(s, 1);
@@ -419,31 +465,32 @@ static void test_closing_turns(void) {
 /* Each refusal of recovery by its number, of one word that was turned. */
 static void test_refusals(void) {
     static const int order[] = {1, 0};
-    void *closed = closed_store(order, 2), *one[1], *nine[9];
+    githoppu_closed *closed = closed_store(order, 2);
+    githoppu_session *one[1], *nine[9];
     uint64_t count, *words = image_of(&closed, 0, &count), root = words[5];
     uint64_t *region = words + HEAD + REGION * (root % 4), *other = words + HEAD + REGION * ((root + 1) % 4);
     struct {
         uint64_t *word, mask;
         int status;
     } turned[] = {
-        {words, 1, GITHOPPU_NO_IMAGE},                            /* the name */
-        {words + 1, 2, GITHOPPU_NO_IMAGE},                        /* the format */
+        {words, 1, GITHOPPU_NOT_AN_IMAGE},                            /* the name */
+        {words + 1, 2, GITHOPPU_NOT_AN_IMAGE},                        /* the format */
         {words + 2, 3, GITHOPPU_OTHER_KIND},                      /* the kind */
-        {words + 2, 2, GITHOPPU_NO_IMAGE},                        /* a kind that there is not */
-        {words + 2, 1, GITHOPPU_NO_IMAGE},                        /* no kind */
-        {words + 3, 2, GITHOPPU_NO_IMAGE},                        /* no sessions */
-        {words + 3, 8, GITHOPPU_NO_IMAGE},                        /* ten sessions */
+        {words + 2, 2, GITHOPPU_NOT_AN_IMAGE},                        /* a kind that there is not */
+        {words + 2, 1, GITHOPPU_NOT_AN_IMAGE},                        /* no kind */
+        {words + 3, 2, GITHOPPU_NOT_AN_IMAGE},                        /* no sessions */
+        {words + 3, 8, GITHOPPU_NOT_AN_IMAGE},                        /* ten sessions */
         {words + 3, 1, GITHOPPU_IMAGE_SIZE},                      /* three sessions */
         {words + 4, 1, GITHOPPU_IMAGE_SIZE},                      /* one line more */
-        {words + 4, 64, GITHOPPU_NO_IMAGE},                       /* no lines */
+        {words + 4, 64, GITHOPPU_NOT_AN_IMAGE},                       /* no lines */
         {words + 5, (uint64_t)1 << 63, GITHOPPU_IMAGE_ROOT},      /* the root */
         {region + 1168, 128, GITHOPPU_IMAGE_VERSION},             /* the object's version */
         {region, 64, GITHOPPU_IMAGE_PLACE},                       /* the place */
         {region + 3, 1, GITHOPPU_IMAGE_BODY},                     /* a word of the results that is 0 */
         {region + 1169, (uint64_t)1 << 40, GITHOPPU_IMAGE_BODY},  /* the index */
         {region + 8, (uint64_t)1 << 41, GITHOPPU_IMAGE_NUMBERS},  /* a result's number */
-        {words + 6, 1, GITHOPPU_NO_IMAGE},                        /* a last word of the head */
-        {words + 7, (uint64_t)1 << 63, GITHOPPU_NO_IMAGE},        /* the other */
+        {words + 6, 1, GITHOPPU_NOT_AN_IMAGE},                        /* a last word of the head */
+        {words + 7, (uint64_t)1 << 63, GITHOPPU_NOT_AN_IMAGE},        /* the other */
         {region + 9, 99 ^ GITHOPPU_SUM, GITHOPPU_IMAGE_BODY},     /* the kind of a kept reply */
         {region + 13, 1, GITHOPPU_IMAGE_BODY},                    /* a word of it that is 0 */
         {region + 152, UINT64_MAX, GITHOPPU_IMAGE_BODY},          /* its last word */
@@ -454,11 +501,11 @@ static void test_refusals(void) {
     githoppu_words reply;
     size_t i;
     for (i = 0; i < sizeof turned / sizeof *turned; i++) {
-        one[0] = one;
+        one[0] = not_a_session(one);
         *turned[i].word ^= turned[i].mask;
         CHECK(recover_one(words, count, one) == turned[i].status);
         *turned[i].word ^= turned[i].mask;
-        CHECK((one[0] == (void *)one) == (turned[i].status != GITHOPPU_DONE));
+        CHECK((one[0] == not_a_session(one)) == (turned[i].status != GITHOPPU_DONE));
         if (turned[i].status == GITHOPPU_DONE)
             githoppu_give_up(one, 1);
     }
@@ -470,36 +517,36 @@ static void test_refusals(void) {
     CHECK(githoppu_outcome(words, count, 0, &number, reply.word) == GITHOPPU_DONE && number == 2 && reply.word[0] == GITHOPPU_NO_OPERATION);
     memcpy(region + 9, kept, sizeof kept);
     CHECK(recover_one(words, count - 1, one) == GITHOPPU_IMAGE_SIZE);
-    CHECK(recover_one(words, 7, one) == GITHOPPU_NO_IMAGE && recover_one(words, 0, one) == GITHOPPU_NO_IMAGE);
+    CHECK(recover_one(words, 7, one) == GITHOPPU_NOT_AN_IMAGE && recover_one(words, 0, one) == GITHOPPU_NOT_AN_IMAGE);
     CHECK(githoppu_recover_queue(words, count, one, 1) == GITHOPPU_OTHER_KIND);
     CHECK(githoppu_recover(words, count, nine, 0) == GITHOPPU_BAD_SIZE && githoppu_recover(words, count, nine, 9) == GITHOPPU_BAD_SIZE);
     CHECK(githoppu_recover(words, count, nine, 8) == GITHOPPU_DONE);
     githoppu_give_up(nine, 8);
-    githoppu_give_up(&closed, 1);
+    githoppu_give_up_closed(&closed);
     __real_free(words);
 }
 
 /* A refusal of an outcome writes nothing, and is the number of the recovery's. */
 static void test_outcome_refusals(void) {
     static const int order[] = {0};
-    void *closed = closed_store(order, 1);
+    githoppu_closed *closed = closed_store(order, 1);
     uint64_t count, *words = image_of(&closed, 0, &count), number = 7;
     uint64_t *region = words + HEAD + REGION * (words[5] % 2);
     githoppu_words reply;
     reply.word[143] = 7;
     CHECK(githoppu_outcome(words, count, 8, &number, reply.word) == GITHOPPU_BAD_SIZE);
     CHECK(githoppu_outcome(words, count, UINT64_MAX, &number, reply.word) == GITHOPPU_BAD_SIZE);
-    CHECK(githoppu_outcome(words, 7, 0, &number, reply.word) == GITHOPPU_NO_IMAGE);
+    CHECK(githoppu_outcome(words, 7, 0, &number, reply.word) == GITHOPPU_NOT_AN_IMAGE);
     CHECK(githoppu_outcome(words, count - 1, 0, &number, reply.word) == GITHOPPU_IMAGE_SIZE);
     words[2] = 2;
     CHECK(githoppu_outcome(words, count, 0, &number, reply.word) == GITHOPPU_IMAGE_VERSION);
     words[2] = 3;
-    CHECK(githoppu_outcome(words, count, 0, &number, reply.word) == GITHOPPU_NO_IMAGE);
+    CHECK(githoppu_outcome(words, count, 0, &number, reply.word) == GITHOPPU_NOT_AN_IMAGE);
     words[2] = 1;
     region[9] = 99;
     CHECK(githoppu_outcome(words, count, 1, &number, reply.word) == GITHOPPU_IMAGE_BODY);
     CHECK(number == 7 && reply.word[143] == 7);
-    githoppu_give_up(&closed, 1);
+    githoppu_give_up_closed(&closed);
     __real_free(words);
 }
 
@@ -514,7 +561,8 @@ static int is_outcome(const uint64_t *words, uint64_t count, uint64_t session, u
 
 /* Updates are counted, malformed ones too and reads not; the numbers go on after a recovery, with other sessions. */
 static void test_outcomes(void) {
-    void *s[3], *closed;
+    githoppu_session *s[3];
+    githoppu_closed *closed;
     githoppu_words reply;
     uint64_t count, *words;
     int i;
@@ -523,10 +571,10 @@ static void test_outcomes(void) {
     DO(githoppu_get(&s[0], "fruit", &reply), GITHOPPU_DOC);
     DO(githoppu_add(&s[0], "fruit", 4, &reply), GITHOPPU_SUM);
     DO(githoppu_count(&s[0], &reply), GITHOPPU_COUNT);
-    DO(githoppu_put(&s[1], "", "1", 1, &reply), GITHOPPU_NO_OPERATION);
+    MALFORMED(githoppu_put(&s[1], "", "1", 1, &reply));
     CHECK(githoppu_close_all(s, 3, &closed) == GITHOPPU_DONE);
     words = image_of(&closed, 1, &count);
-    githoppu_give_up(&closed, 1);
+    githoppu_give_up_closed(&closed);
     CHECK(is_outcome(words, count, 0, 2, GITHOPPU_SUM));
     CHECK(is_outcome(words, count, 1, 1, GITHOPPU_NO_OPERATION));
     for (i = 2; i < 8; i++)
@@ -536,7 +584,7 @@ static void test_outcomes(void) {
     DO(githoppu_del(s, "fruit", &reply), GITHOPPU_DELETED);
     CHECK(githoppu_close_all(s, 1, &closed) == GITHOPPU_DONE);
     words = image_of(&closed, 0, &count);
-    githoppu_give_up(&closed, 1);
+    githoppu_give_up_closed(&closed);
     CHECK(is_outcome(words, count, 0, 3, GITHOPPU_DELETED));
     CHECK(is_outcome(words, count, 1, 1, GITHOPPU_NO_OPERATION));
     __real_free(words);
@@ -548,7 +596,7 @@ static void test_outcomes(void) {
     DO(githoppu_pop(&s[0], &reply), GITHOPPU_EMPTY);
     CHECK(githoppu_close_all(s, 2, &closed) == GITHOPPU_DONE);
     words = image_of(&closed, 0, &count);
-    githoppu_give_up(&closed, 1);
+    githoppu_give_up_closed(&closed);
     CHECK(is_outcome(words, count, 0, 2, GITHOPPU_EMPTY));
     CHECK(is_outcome(words, count, 1, 1, GITHOPPU_TEXT));
     __real_free(words);
@@ -558,11 +606,10 @@ static void test_outcomes(void) {
 static void *add_until_pending(void *at) {
     struct worker *w = (struct worker *)at;
     githoppu_words op, reply;
-    void *closed = NULL;
     int i, status;
     githoppu_document_op(&op, 3, "sold", "", 0, 1);
     for (i = 0; i < 200 && w->pending == 0;) {
-        githoppu_handle handle;
+        githoppu_session_handle handle;
         handle.at = w->session;
         status = githoppu_call(handle, op.word, reply.word, 1, &w->session);
         if (status == GITHOPPU_DONE)
@@ -573,10 +620,9 @@ static void *add_until_pending(void *at) {
             w->wrong = 6;
         i += status == GITHOPPU_DONE;
     }
-    status = githoppu_close_one(&w->session, &closed);
+    status = githoppu_close_one(&w->session, &w->closed);
     if (status != GITHOPPU_OTHERS && status != GITHOPPU_DONE)
         w->wrong = 7;
-    w->session = closed;
     return NULL;
 }
 
@@ -585,15 +631,16 @@ static void *add_until_pending(void *at) {
 static void test_outcomes_after_crashes(void) {
     int round, i;
     for (round = 0; round < (adds < ADDS ? 10 : 100); round++) {
-        void *sessions[THREADS], *one[1], *closed = NULL;
+        githoppu_session *sessions[THREADS], *one[1];
+        githoppu_closed *closed = NULL;
         struct worker workers[THREADS];
         githoppu_words reply;
         uint64_t count, *words, choice;
         CHECK(githoppu_open(LINES, sessions, THREADS) == GITHOPPU_DONE);
         on_threads(workers, sessions, add_until_pending);
         for (i = 0; i < THREADS; i++)
-            if (sessions[i] != NULL)
-                closed = sessions[i];
+            if (workers[i].closed != NULL)
+                closed = workers[i].closed;
         CHECK(closed != NULL);
         for (choice = 0; choice < 6; choice++) {
             uint64_t number, sum = 0;
@@ -610,29 +657,49 @@ static void test_outcomes_after_crashes(void) {
             githoppu_give_up(one, 1);
             __real_free(words);
         }
-        githoppu_give_up(&closed, 1);
+        githoppu_give_up_closed(&closed);
     }
+}
+
+/* Whether a number is no status. */
+static int is_none(int status) { return strcmp(githoppu_status_text(status), githoppu_status_text(-1)) == 0; }
+
+/* A library of another version is told, but for the third number. */
+static void test_versions(void) {
+    static const struct {
+        uint64_t version;
+        int status;
+    } told[] = {{4000, GITHOPPU_DONE}, {4001, GITHOPPU_DONE}, {4999, GITHOPPU_DONE}, {3999, GITHOPPU_OLD_LIBRARY}, {5000, GITHOPPU_OLD_HEADER},
+                {1004000, GITHOPPU_OLD_HEADER}, {1, GITHOPPU_OLD_LIBRARY}};
+    size_t i;
+    CHECK(githoppu_check_version() == GITHOPPU_DONE && githoppu_version() == GITHOPPU_VERSION);
+    CHECK(strcmp(GITHOPPU_VERSION_TEXT, "0.4.0") == 0 && GITHOPPU_VERSION == 4000);
+    for (i = 0; i < sizeof told / sizeof *told; i++) {
+        told_version = told[i].version;
+        CHECK(githoppu_check_version() == told[i].status);
+    }
+    told_version = 0;
 }
 
 /* Every status and every kind of reply has a text of its own, and what is none has another. */
 static void test_texts(void) {
     int i, k;
-    CHECK(githoppu_check_version() == GITHOPPU_DONE && githoppu_version() == GITHOPPU_VERSION);
-    CHECK(strcmp(GITHOPPU_VERSION_TEXT, "0.3.0") == 0 && GITHOPPU_VERSION == 3000);
-    for (i = GITHOPPU_DONE; i <= GITHOPPU_BEHIND + 1; i++)
-        for (k = GITHOPPU_DONE; k < i; k++)
-            CHECK(strcmp(githoppu_status_text(i), githoppu_status_text(k)) != 0);
+    for (i = 0; i < 100; i++)
+        for (k = 0; k < i; k++)
+            CHECK(strcmp(githoppu_status_text(i), githoppu_status_text(k)) != 0 || (is_none(i) && is_none(k)));
+    CHECK(!is_none(GITHOPPU_MALFORMED) && !is_none(GITHOPPU_NOT_OPENED) && !is_none(GITHOPPU_NOT_REGULAR));
     for (i = 0; i <= GITHOPPU_REVISION + 1; i++)
         for (k = 0; k < i; k++)
             CHECK(strcmp(githoppu_reply_text((uint64_t)i), githoppu_reply_text((uint64_t)k)) != 0);
     for (i = 0; i <= GITHOPPU_LENGTH + 1; i++)
         for (k = 0; k < i; k++)
             CHECK(strcmp(githoppu_queue_reply_text((uint64_t)i), githoppu_queue_reply_text((uint64_t)k)) != 0);
-    CHECK(githoppu_status_text(-1) == githoppu_status_text(99) && githoppu_reply_text(UINT64_MAX) == githoppu_reply_text(99));
+    CHECK(is_none(99) && githoppu_reply_text(UINT64_MAX) == githoppu_reply_text(99));
 }
 
 static void test_queue_image(void) {
-    void *s[2], *closed;
+    githoppu_session *s[2];
+    githoppu_closed *closed;
     githoppu_words reply;
     uint64_t count, *words;
     char text[57];
@@ -645,7 +712,7 @@ static void test_queue_image(void) {
     DO(githoppu_pop(&s[1], &reply), GITHOPPU_TEXT);
     CHECK(githoppu_close_all(s, 2, &closed) == GITHOPPU_DONE);
     words = image_of(&closed, 2, &count);
-    githoppu_give_up(&closed, 1);
+    githoppu_give_up_closed(&closed);
     CHECK(recover_one(words, count, s) == GITHOPPU_OTHER_KIND);
     CHECK(githoppu_recover_queue(words, count, s, 2) == GITHOPPU_DONE);
     __real_free(words);
@@ -662,13 +729,11 @@ static void test_queue_image(void) {
 
 static void *add_and_close(void *at) {
     struct worker *w = (struct worker *)at;
-    void *closed = NULL;
     int status;
     add_once(w);
-    status = githoppu_close_one(&w->session, &closed);
+    status = githoppu_close_one(&w->session, &w->closed);
     if (status != GITHOPPU_OTHERS && status != GITHOPPU_DONE)
         w->wrong = 5;
-    w->session = closed;
     return NULL;
 }
 
@@ -676,16 +741,17 @@ static void *add_and_close(void *at) {
 static void test_closing_threads(void) {
     int round, i;
     for (round = 0; round < (adds < ADDS ? 5 : 200); round++) {
-        void *sessions[THREADS], *one[1], *closed = NULL;
+        githoppu_session *sessions[THREADS], *one[1];
+        githoppu_closed *closed = NULL;
         struct worker workers[THREADS];
         githoppu_words reply;
         uint64_t count, *words;
         CHECK(githoppu_open(LINES, sessions, THREADS) == GITHOPPU_DONE);
         on_threads(workers, sessions, add_and_close);
         for (i = 0; i < THREADS; i++)
-            if (sessions[i] != NULL) {
+            if (workers[i].closed != NULL) {
                 CHECK(closed == NULL);
-                closed = sessions[i];
+                closed = workers[i].closed;
             }
         CHECK(closed != NULL);
         words = image_of(&closed, (uint64_t)round % 3, &count);
@@ -693,7 +759,7 @@ static void test_closing_threads(void) {
         DO(githoppu_add(one, "sold", 0, &reply), GITHOPPU_SUM);
         CHECK(githoppu_sum(&reply) == THREADS);
         githoppu_give_up(one, 1);
-        githoppu_give_up(&closed, 1);
+        githoppu_give_up_closed(&closed);
         __real_free(words);
     }
 }
@@ -701,7 +767,7 @@ static void test_closing_threads(void) {
 /* ---- places ---- */
 
 /* The place behind a further answer of a session: of an update it is above the place before it, and of a read not below. */
-static uint64_t place_after(void **session, int reads) {
+static uint64_t place_after(githoppu_session **session, int reads) {
     githoppu_words reply;
     if (reads)
         DO(githoppu_count(session, &reply), GITHOPPU_COUNT);
@@ -714,7 +780,7 @@ static uint64_t place_after(void **session, int reads) {
 static void test_places_in_turn(void) {
     int kinds, i;
     for (kinds = 0; kinds < 4; kinds++) {
-        void *s[2];
+        githoppu_session *s[2];
         uint64_t last = 0;
         CHECK(githoppu_open(LINES, s, 2) == GITHOPPU_DONE);
         CHECK(githoppu_place(&s[0]) == 0 && githoppu_place(&s[1]) == 0);
@@ -729,9 +795,10 @@ static void test_places_in_turn(void) {
 }
 
 static void test_catching_up(void) {
-    void *s[2], *closed, *none = NULL;
+    githoppu_session *s[2], *lie, *none = NULL;
+    githoppu_closed *closed;
     githoppu_words reply;
-    githoppu_handle handle;
+    githoppu_session_handle handle;
     uint64_t place, told = 7;
     CHECK(githoppu_open(LINES, s, 2) == GITHOPPU_DONE);
     /* the first place is everybody's, and none is above it */
@@ -747,23 +814,23 @@ static void test_catching_up(void) {
     /* null is no session, and what is closed neither */
     CHECK(githoppu_catch_up(&none, 0) == GITHOPPU_NO_SESSION && githoppu_place(&none) == 0);
     CHECK(githoppu_close_all(s, 2, &closed) == GITHOPPU_DONE);
-    handle.at = closed;
-    CHECK(githoppu_place_of(handle, &told, &closed) == GITHOPPU_OUT_OF_TURN && told == 0 && githoppu_place(&closed) == 0);
-    CHECK(githoppu_catch_up(&closed, 0) == GITHOPPU_OUT_OF_TURN);
-    githoppu_give_up(&closed, 1);
+    handle.at = as_session(closed);
+    CHECK(githoppu_place_of(handle, &told, &lie) == GITHOPPU_OUT_OF_TURN && told == 0 && githoppu_place(&lie) == 0);
+    CHECK(githoppu_catch_up(&lie, 0) == GITHOPPU_OUT_OF_TURN);
+    githoppu_give_up(&lie, 1);
 }
 
 /* ---- memory ---- */
 
 /* Refuses each block of an open in turn: NO_MEMORY, nothing is kept, and no slot is written. */
-static void test_refused(int32_t (*open)(uint64_t, void **, size_t), size_t count) {
-    void *slots[8];
+static void test_refused(int32_t (*open)(uint64_t, githoppu_session **, size_t), size_t count) {
+    githoppu_session *slots[8];
     long which, before;
     int status = GITHOPPU_NO_MEMORY;
     size_t i;
     for (which = 1; status == GITHOPPU_NO_MEMORY; which++) {
         for (i = 0; i < count; i++)
-            slots[i] = slots;
+            slots[i] = not_a_session(slots);
         before = taken - given;
         refused_at = taken + which;
         status = open(64, slots, count);
@@ -772,7 +839,7 @@ static void test_refused(int32_t (*open)(uint64_t, void **, size_t), size_t coun
             CHECK(taken >= refused_at && taken - given == before + 1);
             given++;
             for (i = 0; i < count; i++)
-                CHECK(slots[i] == (void *)slots);
+                CHECK(slots[i] == not_a_session(slots));
         }
         refused_at = 0;
     }
@@ -783,7 +850,7 @@ static void test_refused(int32_t (*open)(uint64_t, void **, size_t), size_t coun
 
 /* Calls take no memory. */
 static void test_calls_take_none(void) {
-    void *s[2];
+    githoppu_session *s[2];
     githoppu_words reply;
     long before;
     int i;
@@ -799,7 +866,8 @@ static void test_calls_take_none(void) {
 
 /* Refuses each block of the closing and of the recovery in turn. The closing is tried again with what is left. */
 static void test_closing_refused(void) {
-    void *s[2], *closed = NULL;
+    githoppu_session *s[2];
+    githoppu_closed *closed = NULL;
     githoppu_words reply;
     uint64_t count, *words;
     long which, before = taken - given;
@@ -820,15 +888,15 @@ static void test_closing_refused(void) {
     refused_at = 0;
     CHECK(status == GITHOPPU_DONE && which > 4 && s[0] == NULL);
     words = image_of(&closed, 0, &count);
-    githoppu_give_up(&closed, 1);
+    githoppu_give_up_closed(&closed);
     CHECK(taken - given == before);
     status = GITHOPPU_NO_MEMORY;
     for (which = 1; status == GITHOPPU_NO_MEMORY; which++) {
-        s[0] = s;
+        s[0] = not_a_session(s);
         refused_at = taken + which;
         status = recover_one(words, count, s);
         if (status == GITHOPPU_NO_MEMORY) {
-            CHECK(taken >= refused_at && taken - given == before + 1 && s[0] == (void *)s);
+            CHECK(taken >= refused_at && taken - given == before + 1 && s[0] == not_a_session(s));
             given++;
         }
     }
@@ -863,6 +931,7 @@ static void test_closing_refused(void) {
 int main(int count, char **words) {
     if (count > 1 && strcmp(words[1], "short") == 0)
         adds = texts = 300;
+    test_versions();
     test_texts();
     test_sizes();
     test_documents();

@@ -10,7 +10,7 @@ static int fail(const char *what, int status) {
 
 int main(void) {
     static const char *const fruit[] = {"quince", "apple", "pear", "fig", "plum"};
-    void *session[1];
+    githoppu_session *session[1];
     githoppu_words reply;
     char key[65] = "", document[1025];
     size_t i;

@@ -4,8 +4,8 @@
     fresh_checkout.py
 
 Clones this repository, as it is committed, into a new folder, and runs there, one after another: the two commands of README.md, which run the main job
-and the quick test; a load of 8,000 updates; the library without a proof, from nothing; and a C program that is linked with it as docs/REFERENCE.md has
-it. Of each it prints the seconds of the clock and of all processors, and how many seconds of the clock it may take on four processors that do
+and the quick test; a load of 8,000 updates; the library without a proof, from nothing; its install, and a C program that is linked with what that put
+out. Of each it prints the seconds of the clock and of all processors, and how many seconds of the clock it may take on four processors that do
 nothing else. More than that is told and is no failure, since other work makes it so.
 
 It takes 6 minutes on four processors. The gate does not run it.
@@ -31,7 +31,6 @@ import random_loads
 from report_text import Fault, read_report
 from script_text import read_script
 from told import asked_words
-from unproved import kit_of_rt
 
 SCRIPT = ROOT / "examples" / "two_lives.script"
 
@@ -69,9 +68,8 @@ def begin(folder):
     shutil.rmtree(folder / "crates" / "githoppu_c" / "out", ignore_errors=True)
     ran(folder, ["tools/build", "--library"], 240)
     if shutil.which("cc"):
-        archives = ["crates/githoppu_c/out/unproved/libgithoppu_c.a", str(kit_of_rt() / "c" / "liblibc_c.a")]
-        flags = ["-std=c11", "-D_POSIX_C_SOURCE=200809L", "-Iinclude"]
-        ran(folder, ["cc", *flags, "bindings/c/shop.c", *archives, "-pthread", "-o", "shop"], 10)
+        ran(folder, ["tools/install", "installed"], 10)
+        ran(folder, ["cc", "bindings/c/shop.c", "-Iinstalled/include", "installed/lib/libgithoppu.a", "-pthread", "-o", "shop"], 10)
         print(ran(folder, ["./shop"], 10).decode("utf-8", "replace"), end="")
 
 

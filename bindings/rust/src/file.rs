@@ -1,12 +1,12 @@
-//! Images in files: the same files as those of `include/githoppu_file.h`, which has their format.
+//! Images in files: the same files as those of `include/githoppu_file.h`, which has their format and what a save replaces, keeps and removes.
 
 use crate::Error;
-use std::ffi::OsString;
 use std::fmt;
-use std::fs::{self, File, OpenOptions};
+use std::fs::{self, File, Metadata, OpenOptions, Permissions};
 use std::io::{self, Read, Write};
+use std::os::fd::AsRawFd;
+use std::os::unix::fs::{fchown, MetadataExt, OpenOptionsExt, PermissionsExt};
 use std::path::{Path, PathBuf};
-use std::process;
 
 const NAME: &[u8; 8] = b"githfile";
 const FORMAT: u64 = 1;
@@ -19,15 +19,19 @@ pub enum FileError {
     NotOpened(io::Error),
     /// A load: reading failed.
     NotRead(io::Error),
-    /// A load: the file is none that a save wrote.
-    NoFile,
-    /// A load: the file is shorter or longer than the save wrote it.
-    Cut,
+    /// A load: the file has no bytes.
+    Empty,
+    /// A load: no save of githoppu wrote the file.
+    Foreign,
+    /// A load: the file is shorter or longer than it was saved.
+    Length,
     /// A load: a byte of the file was changed: the checksum is another.
     Changed,
     /// A load: a save of another version wrote the file, in a format that this one does not know.
     Format,
-    /// A save: the new file cannot be made.
+    /// A save: the path is a folder, a device, a pipe or a socket, and is left as it is.
+    NotRegular,
+    /// A save: the new file cannot be made in the folder of the path.
     NotMade(io::Error),
     /// A save: writing failed, as on a full disk.
     NotWritten(io::Error),
@@ -52,10 +56,12 @@ impl fmt::Display for FileError {
         match self {
             FileError::NotOpened(why) => write!(f, "the file cannot be opened: {why}"),
             FileError::NotRead(why) => write!(f, "the file cannot be read: {why}"),
-            FileError::NoFile => f.write_str("the file is none that githoppu wrote"),
-            FileError::Cut => f.write_str("the file is shorter or longer than it was written"),
-            FileError::Changed => f.write_str("a byte of the file was changed"),
-            FileError::Format => f.write_str("the file has an unknown format"),
+            FileError::Empty => f.write_str("the file is empty"),
+            FileError::Foreign => f.write_str("the file was not saved by githoppu"),
+            FileError::Length => f.write_str("the file is shorter or longer than it was saved"),
+            FileError::Changed => f.write_str("a byte of the file was changed since it was saved"),
+            FileError::Format => f.write_str("the file has a format that this version does not know"),
+            FileError::NotRegular => f.write_str("the path is a folder, a device, a pipe or a socket"),
             FileError::NotMade(why) => write!(f, "the new file cannot be made: {why}"),
             FileError::NotWritten(why) => write!(f, "the new file cannot be written: {why}"),
             FileError::NotSynced(why) => write!(f, "the new file cannot be synced: {why}"),
@@ -77,7 +83,7 @@ impl std::error::Error for FileError {
             | FileError::NotRenamed(why)
             | FileError::FolderNotSynced(why) => Some(why),
             FileError::Refused(error) => Some(error),
-            FileError::NoFile | FileError::Cut | FileError::Changed | FileError::Format => None,
+            FileError::Empty | FileError::Foreign | FileError::Length | FileError::Changed | FileError::Format | FileError::NotRegular => None,
         }
     }
 }
@@ -127,11 +133,14 @@ fn bytes_of(words: &[u64]) -> Vec<u8> {
 /// The words of an image, from the bytes of its file. A file whose name alone was changed is `Changed`, since the head's checksum is right.
 fn words_of(bytes: &[u8]) -> Result<Vec<u64>, FileError> {
     let named = bytes.iter().zip(NAME).all(|(byte, letter)| byte == letter);
+    if bytes.is_empty() {
+        return Err(FileError::Empty);
+    }
     if bytes.len() < HEAD + 8 {
-        return Err(if named { FileError::Cut } else { FileError::NoFile });
+        return Err(if named { FileError::Length } else { FileError::Foreign });
     }
     if checksum(NAME.iter().chain(&bytes[8..24])) != word_at(bytes, 24) {
-        return Err(if named { FileError::Changed } else { FileError::NoFile });
+        return Err(if named { FileError::Changed } else { FileError::Foreign });
     }
     if !named {
         return Err(FileError::Changed);
@@ -141,7 +150,7 @@ fn words_of(bytes: &[u8]) -> Result<Vec<u64>, FileError> {
     }
     let end = bytes.len() - 8;
     if bytes.len() % 8 != 0 || ((end - HEAD) / 8) as u64 != word_at(bytes, 16) {
-        return Err(FileError::Cut);
+        return Err(FileError::Length);
     }
     if checksum(&bytes[..end]) != word_at(bytes, end) {
         return Err(FileError::Changed);
@@ -149,49 +158,164 @@ fn words_of(bytes: &[u8]) -> Result<Vec<u64>, FileError> {
     Ok((HEAD..end).step_by(8).map(|at| word_at(bytes, at)).collect())
 }
 
-/// A new file beside a path.
-fn new_file(path: &Path) -> io::Result<(PathBuf, File)> {
-    let mut fault = io::Error::from(io::ErrorKind::AlreadyExists);
-    for at in 0..1000 {
-        let mut name = OsString::from(path);
-        name.push(format!(".{}.{at}.new", process::id()));
-        match OpenOptions::new().write(true).create_new(true).open(&name) {
-            Ok(file) => return Ok((name.into(), file)),
-            Err(why) if why.kind() == io::ErrorKind::AlreadyExists => fault = why,
+/// The most symbolic links that a save follows, the names that are looked at for what ended processes left, and the most new files of one folder at once.
+const LINKS: usize = 40;
+const LEFT: usize = 64;
+const NEW_FILES: usize = 1000;
+
+/// Flags of `open` of the system's: no wait for the other end of a pipe, and no symbolic link.
+const O_NONBLOCK: i32 = if cfg!(any(target_os = "linux", target_os = "android")) { 0o4000 } else { 4 };
+const O_NOFOLLOW: i32 = if cfg!(any(target_os = "linux", target_os = "android")) { 0o400000 } else { 0x100 };
+
+const LOCK_EX: i32 = 2;
+const LOCK_NB: i32 = 4;
+
+extern "C" {
+    fn flock(file: i32, how: i32) -> i32;
+}
+
+/// Locks a file that nobody has locked, until it is closed.
+fn lock(file: &File) -> io::Result<()> {
+    match unsafe { flock(file.as_raw_fd(), LOCK_EX | LOCK_NB) } {
+        0 => Ok(()),
+        _ => Err(io::Error::last_os_error()),
+    }
+}
+
+/// The path behind all symbolic links at a path.
+fn behind_links(path: &Path) -> io::Result<PathBuf> {
+    let mut here = path.to_path_buf();
+    for _ in 0..LINKS {
+        match fs::read_link(&here) {
+            Ok(target) => here = here.parent().unwrap_or(Path::new("")).join(target),
+            Err(why) if matches!(why.kind(), io::ErrorKind::InvalidInput | io::ErrorKind::NotFound) => return Ok(here),
             Err(why) => return Err(why),
         }
     }
-    Err(fault)
+    Err(io::Error::other("too many symbolic links"))
 }
 
-fn sync_folder(path: &Path) -> io::Result<()> {
-    let folder = match path.parent() {
-        Some(folder) if !folder.as_os_str().is_empty() => folder,
-        _ => Path::new("."),
+/// Where a save goes to: the path behind all links, its folder, and the file that is replaced, where there is one.
+struct Target {
+    path: PathBuf,
+    folder: PathBuf,
+    old: Option<Metadata>,
+}
+
+impl Target {
+    fn of(path: &Path) -> Result<Target, FileError> {
+        // a path that ends with a slash is a folder's
+        if path.as_os_str().as_encoded_bytes().ends_with(b"/") {
+            return Err(FileError::NotRegular);
+        }
+        let path = behind_links(path).map_err(FileError::NotMade)?;
+        let folder = match path.parent() {
+            Some(folder) if !folder.as_os_str().is_empty() => folder.to_path_buf(),
+            _ => PathBuf::from("."),
+        };
+        match fs::symlink_metadata(&path) {
+            Ok(old) if old.is_file() => Ok(Target { path, folder, old: Some(old) }),
+            Ok(_) => Err(FileError::NotRegular),
+            Err(why) if why.kind() == io::ErrorKind::NotFound && path.file_name().is_some() => Ok(Target { path, folder, old: None }),
+            Err(why) => Err(FileError::NotMade(why)),
+        }
+    }
+
+    /// The name of a new file.
+    fn new_name(&self, at: usize) -> PathBuf {
+        self.folder.join(format!(".githoppu.{at}.new"))
+    }
+
+    /// A new file, which is locked, and its name.
+    fn new_file(&self) -> io::Result<(PathBuf, File)> {
+        (0..LEFT).for_each(|at| remove_left(&self.new_name(at)));
+        let mode = if self.old.is_some() { 0o600 } else { 0o666 };
+        for at in 0..NEW_FILES {
+            let name = self.new_name(at);
+            let file = match OpenOptions::new().write(true).create_new(true).mode(mode).open(&name) {
+                Ok(file) => file,
+                Err(why) if why.kind() == io::ErrorKind::AlreadyExists => continue,
+                Err(why) => return Err(why),
+            };
+            // another save can take it for one that was left, until it is locked; where the system locks no files, none is removed
+            let is_taken = lock(&file).is_err_and(|why| why.kind() == io::ErrorKind::WouldBlock);
+            if !is_taken && is_named(&file, &name) {
+                return Ok((name, file));
+            }
+        }
+        Err(io::ErrorKind::AlreadyExists.into())
+    }
+
+    /// Gives the new file the rights of the one that it replaces. Who may not give it the group gives that no more than others have.
+    fn keep_rights(&self, file: &File) -> io::Result<()> {
+        let Some(old) = &self.old else { return Ok(()) };
+        let now = file.metadata()?;
+        let is_another = now.uid() != old.uid() || now.gid() != old.gid();
+        let is_owned = !is_another || fchown(file, Some(old.uid()), Some(old.gid())).is_ok();
+        let has_group = is_owned || now.gid() == old.gid() || fchown(file, None, Some(old.gid())).is_ok();
+        let mut mode = old.mode() & 0o777;
+        if !has_group {
+            mode = mode & 0o707 | (mode & 0o7) << 3;
+        }
+        match now.mode() & 0o777 == mode {
+            true => Ok(()),
+            false => file.set_permissions(Permissions::from_mode(mode)),
+        }
+    }
+
+    /// Writes a new file, syncs it, and renames it to the path. It stays open for its lock until then.
+    fn replace(&self, bytes: &[u8], name: &Path, file: &mut File) -> Result<(), FileError> {
+        file.write_all(bytes).and_then(|()| self.keep_rights(file)).map_err(FileError::NotWritten)?;
+        file.sync_all().map_err(FileError::NotSynced)?;
+        fs::rename(name, &self.path).map_err(FileError::NotRenamed)
+    }
+}
+
+/// Whether a name is that of this file, a regular one.
+fn is_named(file: &File, name: &Path) -> bool {
+    match (file.metadata(), fs::symlink_metadata(name)) {
+        (Ok(about), Ok(named)) => about.is_file() && about.dev() == named.dev() && about.ino() == named.ino(),
+        _ => false,
+    }
+}
+
+/// Removes the new file of this name, where an ended process left it: nobody locks it. Who removes or renames a new file has it locked, so no other one
+/// can take its name in between.
+fn remove_left(name: &Path) {
+    let mut how = OpenOptions::new();
+    how.read(true).custom_flags(O_NOFOLLOW | O_NONBLOCK);
+    let file = match how.clone().write(true).open(name) {
+        Err(why) if why.kind() == io::ErrorKind::PermissionDenied => how.open(name),
+        other => other,
     };
-    File::open(folder)?.sync_all()
+    if let Ok(file) = file {
+        if lock(&file).is_ok() && is_named(&file, name) {
+            // it stays for a later save where it cannot be removed
+            let _ = fs::remove_file(name);
+        }
+    }
 }
 
 /// Writes the words of an image to a new file, syncs it, renames it to the path, and syncs the folder.
 pub fn save(path: &Path, words: &[u64]) -> Result<(), FileError> {
+    let target = Target::of(path)?;
+    // a folder that cannot be opened cannot be synced in the end either
+    let folder = File::open(&target.folder).map_err(FileError::NotMade)?;
     let bytes = bytes_of(words);
-    let (name, mut file) = new_file(path).map_err(FileError::NotMade)?;
-    let written = file
-        .write_all(&bytes)
-        .map_err(FileError::NotWritten)
-        .and_then(|()| file.sync_all().map_err(FileError::NotSynced))
-        .and_then(|()| fs::rename(&name, path).map_err(FileError::NotRenamed));
-    if written.is_err() {
+    let (name, mut file) = target.new_file().map_err(FileError::NotMade)?;
+    let replaced = target.replace(&bytes, &name, &mut file);
+    if replaced.is_err() {
         // what is wrong is told; that the new file stays is not worth another fault
         let _ = fs::remove_file(&name);
     }
-    written?;
-    sync_folder(path).map_err(FileError::FolderNotSynced)
+    replaced?;
+    folder.sync_all().map_err(FileError::FolderNotSynced)
 }
 
 /// The words of the image in a file.
 pub fn load(path: &Path) -> Result<Vec<u64>, FileError> {
-    let mut file = File::open(path).map_err(FileError::NotOpened)?;
+    // a pipe without a writer would hold up the opening
+    let mut file = OpenOptions::new().read(true).custom_flags(O_NONBLOCK).open(path).map_err(FileError::NotOpened)?;
     let about = file.metadata().map_err(FileError::NotOpened)?;
     if !about.is_file() {
         return Err(FileError::NotOpened(io::Error::new(io::ErrorKind::InvalidInput, "it is no regular file")));

@@ -7,7 +7,7 @@
 //! Nothing is durable by itself: persistent memory is simulated in RAM, and the data end with the process unless the store was saved, closed or running.
 //!
 //! If a thread is stopped for good inside a writing call, each other session can make at most 16 more updates, and after that updates answer
-//! [`Error::Busy`]; reads go on.
+//! [`Error::Busy`] after [`PATIENCE`]; reads go on.
 //!
 //! ```
 //! let mut sessions = githoppu::Store::open(64, 2)?;
@@ -35,6 +35,7 @@ mod words;
 
 pub use file::FileError;
 pub use outcome::{Outcome, Reply};
+pub use session::PATIENCE;
 use session::{Ended, Pointer};
 use std::fmt;
 use std::ops::{Deref, DerefMut};
@@ -60,11 +61,10 @@ pub enum Error {
     /// A key above 64 bytes, a document above 1,024, or a text above 56.
     TooLong,
     /// A key is 1 to 64 visible ASCII characters, a document 1 to 1,024 bytes of which none is a control character, and a text of a queue 1 to 56
-    /// visible ASCII characters.
-    NoOperation,
-    /// Other sessions were in the way more than a million times, or, of an opening, the new sessions' queue did not take its first entry, which no run is
-    /// known to answer. So it is for good where a thread is stopped inside a writing call and this session has
-    /// made 16 updates since.
+    /// visible ASCII characters. Nothing is changed, but the operation counts as an update of the session (`Image::outcome`).
+    Malformed,
+    /// Other sessions were in the way for longer than `PATIENCE`, or, of an opening, the new sessions' queue did not take its first entry, which no run is
+    /// known to answer. So it is for good where a thread is stopped inside a writing call and this session has made 16 updates since.
     Busy,
     /// The store has had 2^40 operations, and takes no more.
     Worn,
@@ -76,8 +76,8 @@ pub enum Error {
     OutOfTurn,
     /// A closing: it was the last, and did not find all that were closed before. It keeps those that it found. No run of the library is known to answer it.
     Lost,
-    /// A recovery: the words are no image.
-    NoImage,
+    /// A recovery: the words are not an image.
+    NotAnImage,
     /// The image is of a queue where a store is asked for, or of a store where a queue is.
     OtherKind,
     /// The image has not as many words as its sessions and lines make.
@@ -106,7 +106,7 @@ impl Error {
             raw::BAD_SIZE => Error::BadSize,
             raw::NO_MEMORY => Error::NoMemory,
             raw::LOST => Error::Lost,
-            raw::NO_IMAGE => Error::NoImage,
+            raw::NOT_AN_IMAGE => Error::NotAnImage,
             raw::OTHER_KIND => Error::OtherKind,
             raw::IMAGE_SIZE => Error::ImageSize,
             raw::IMAGE_ROOT => Error::ImageRoot,
@@ -125,14 +125,14 @@ impl fmt::Display for Error {
             Error::BadSize => f.write_str("the lines are not 64 to 16384, or the sessions not 1 to 8"),
             Error::NoMemory => f.write_str("no memory"),
             Error::TooLong => f.write_str("a key, a document or a text is too long"),
-            Error::NoOperation => f.write_str("no operation has such a key, document or text"),
+            Error::Malformed => f.write_str("a key, a document or a text is empty or has a byte that it must not have"),
             Error::Busy => f.write_str("others were in the way"),
             Error::Worn => f.write_str("the store takes no further operation"),
             Error::Stopped => f.write_str("the session makes no further step"),
             Error::NoText => f.write_str("the document is no text"),
             Error::OutOfTurn => f.write_str("the session is to be closed again"),
             Error::Lost => f.write_str("the last session did not find all that were closed before"),
-            Error::NoImage => f.write_str("the words are no image"),
+            Error::NotAnImage => f.write_str("the words are not an image"),
             Error::OtherKind => f.write_str("the image is of another kind of object"),
             Error::ImageSize => f.write_str("the image has another number of words"),
             Error::ImageRoot => f.write_str("the root's place is above 2^40"),
@@ -199,7 +199,8 @@ impl Closed {
         self.0.image(choice).map(Image)
     }
 
-    /// Saves its image by choice 0 to a file: to a new one, which is synced and renamed to the path, and the folder is synced.
+    /// Saves its image by choice 0 to a file: to a new one, which is synced and renamed to the path, and the folder is synced. A symbolic link is followed, and
+    /// the rights of the file that is replaced are kept.
     pub fn save(&mut self, path: impl AsRef<Path>) -> Result<(), FileError> {
         self.image(0)?.save(path)
     }
@@ -281,7 +282,7 @@ impl Store {
 pub struct Session(Pointer);
 
 impl Session {
-    /// Puts a document at a key.
+    /// Puts a document at a key: 1 to 1,024 bytes without a control character at 1 to 64 visible ASCII characters.
     pub fn put(&mut self, key: &str, document: &str) -> Result<Put, Error> {
         let reply = self.0.ask(&document_op(1, key, document.as_bytes(), 0)?)?;
         match reply[0] {
@@ -423,7 +424,7 @@ impl Queue {
 pub struct QueueSession(Pointer);
 
 impl QueueSession {
-    /// Puts a text after the last one: whether there was room.
+    /// Puts a text of 1 to 56 visible ASCII characters after the last one: whether there was room.
     pub fn push(&mut self, text: &str) -> Result<bool, Error> {
         Ok(self.0.ask(&queue_op(1, text)?)?[0] == 1)
     }

@@ -7,7 +7,7 @@ use crate::words::text_in;
 #[derive(Clone, Debug, PartialEq, Eq)]
 pub struct Outcome {
     /// Its number among the session's updates of all runs since the store was opened empty, from 1 on. Reads are not counted; malformed operations, which
-    /// are answered `Error::NoOperation`, are.
+    /// are answered `Error::Malformed`, are.
     pub number: u64,
     /// The reply to it.
     pub reply: Reply,
@@ -17,7 +17,7 @@ pub struct Outcome {
 #[derive(Clone, Debug, PartialEq, Eq)]
 pub enum Reply {
     /// The operation was malformed; nothing was changed.
-    NoOperation,
+    Malformed,
     /// A put: the key had no document.
     New,
     /// A put: the key had one.
@@ -53,7 +53,7 @@ pub enum Reply {
 /// The reply that words have, of an object of this kind: 1 of documents, else of a queue.
 pub fn reply_in(kind: u64, words: &Words) -> Reply {
     match (kind, words[0]) {
-        (_, 0) => Reply::NoOperation,
+        (_, 0) => Reply::Malformed,
         (1, 1) => Reply::New,
         (1, 2) => Reply::Replaced,
         (1, 3) => Reply::Deleted,

@@ -5,12 +5,25 @@ use crate::Error;
 use std::ffi::c_void;
 use std::ptr;
 use std::thread;
+use std::time::{Duration, Instant};
 
 /// The tries of one call.
 const TRIES: u64 = 16;
 
-/// How often a call is begun again while others are in the way.
-const ROUNDS: u32 = 1 << 20;
+/// For how long a call is begun again while others are in the way.
+pub const PATIENCE: Duration = Duration::from_secs(1);
+
+/// How patient a call has been: since when it is refused.
+struct Patience(Option<Instant>);
+
+impl Patience {
+    /// After a refusal: yields, and says whether another try is to be made.
+    fn goes_on(&mut self) -> bool {
+        let since = *self.0.get_or_insert_with(Instant::now);
+        thread::yield_now();
+        since.elapsed() < PATIENCE
+    }
+}
 
 /// How sessions of a store or of a queue are opened.
 pub type Open = unsafe extern "C" fn(u64, *mut *mut c_void, usize) -> i32;
@@ -71,14 +84,13 @@ impl Pointer {
 
     /// Closes a session, and tries again while others are in the way.
     pub fn close(mut self) -> Ended {
-        let mut status = raw::AGAIN;
-        for _ in 0..ROUNDS {
-            status = unsafe { raw::githoppu_close(Handle(self.0), &mut self.0) };
-            if status != raw::AGAIN {
-                break;
+        let mut patience = Patience(None);
+        let status = loop {
+            let status = unsafe { raw::githoppu_close(Handle(self.0), &mut self.0) };
+            if status != raw::AGAIN || !patience.goes_on() {
+                break status;
             }
-            thread::yield_now();
-        }
+        };
         match status {
             raw::DONE => Ended::Closed(self),
             raw::OTHERS => Ended::Others,
@@ -106,35 +118,35 @@ impl Pointer {
     pub fn checkpoint(&mut self) -> Result<Vec<u64>, Error> {
         let mut words = Vec::new();
         let mut needed = 0;
-        for _ in 0..ROUNDS {
+        let mut patience = Patience(None);
+        loop {
             let status = unsafe { raw::githoppu_checkpoint(Handle(self.0), words.as_mut_ptr(), words.len(), &mut needed, &mut self.0) };
             match status {
                 raw::DONE => return Ok(words),
                 raw::BAD_SIZE => words.resize(needed as usize, 0),
-                raw::AGAIN => thread::yield_now(),
+                raw::AGAIN if patience.goes_on() => (),
                 status => return Err(Error::of(status)),
             }
         }
-        Err(Error::Busy)
     }
 
     /// Does an operation, and tries again until it is answered. A reply of kind 0 says that the words were no operation.
     pub fn ask(&mut self, op: &Words) -> Result<Words, Error> {
         let mut reply = [0; 144];
-        let mut status = raw::AGAIN;
-        for _ in 0..ROUNDS {
-            status = unsafe { raw::githoppu_call(Handle(self.0), op, &mut reply, TRIES, &mut self.0) };
-            if status != raw::AGAIN && status != raw::FULL {
-                break;
+        let mut patience = Patience(None);
+        let mut status = loop {
+            let status = unsafe { raw::githoppu_call(Handle(self.0), op, &mut reply, TRIES, &mut self.0) };
+            if status != raw::AGAIN && status != raw::FULL || !patience.goes_on() {
+                break status;
             }
-            thread::yield_now();
-        }
+        };
+        // it is in the log: it will be answered, and nothing else can be asked before
         while status == raw::PENDING {
             thread::yield_now();
             status = unsafe { raw::githoppu_finish(Handle(self.0), &mut reply, TRIES, &mut self.0) };
         }
         match status {
-            raw::DONE if reply[0] == 0 => Err(Error::NoOperation),
+            raw::DONE if reply[0] == 0 => Err(Error::Malformed),
             raw::DONE => Ok(reply),
             status => Err(Error::of(status)),
         }

@@ -42,9 +42,9 @@ fn documents_are_kept() {
     assert_eq!(s.put("a", &long), Ok(Put::New));
     assert_eq!(s.put("b", &long), Ok(Put::New));
     assert_eq!(s.put("c", &long), Ok(Put::NoRoom));
-    assert_eq!(s.put("", "1"), Err(Error::NoOperation));
-    assert_eq!(s.put("a key", "1"), Err(Error::NoOperation));
-    assert_eq!(s.put("key", "\n"), Err(Error::NoOperation));
+    assert_eq!(s.put("", "1"), Err(Error::Malformed));
+    assert_eq!(s.put("a key", "1"), Err(Error::Malformed));
+    assert_eq!(s.put("key", "\n"), Err(Error::Malformed));
     assert_eq!(s.get(&"k".repeat(65)), Err(Error::TooLong));
     assert_eq!(s.put("key", &"x".repeat(1025)), Err(Error::TooLong));
     assert_eq!(s.put("umlaut", "ü"), Ok(Put::New));
@@ -77,7 +77,7 @@ fn a_queue_is_first_in_first_out() {
     assert_eq!(s[1].peek(), Ok(Some("text-0".to_string())));
     assert_eq!(s[0].pop(), Ok(Some("text-0".to_string())));
     assert_eq!(s[1].pop(), Ok(Some("text-1".to_string())));
-    assert_eq!(s[0].push(""), Err(Error::NoOperation));
+    assert_eq!(s[0].push(""), Err(Error::Malformed));
     assert_eq!(s[0].push(&"t".repeat(57)), Err(Error::TooLong));
     assert_eq!(s[0].push(&"t".repeat(56)), Ok(true));
 }
@@ -178,7 +178,7 @@ fn each_refusal_has_its_error() {
     let words = closed_by_threads(Store::open(64, 2).unwrap()).image(0).unwrap();
     let region = 8 + 8 * (146 + 64) * (words[5] % 4) as usize;
     let turned = [
-        (0, 1, Error::NoImage),
+        (0, 1, Error::NotAnImage),
         (2, 3, Error::OtherKind),
         (3, 1, Error::ImageSize),
         (5, 1 << 63, Error::ImageRoot),
@@ -192,9 +192,9 @@ fn each_refusal_has_its_error() {
         words[at] ^= bits;
         assert_eq!(Store::recover(&words, 1).err(), Some(error));
     }
-    assert_eq!(Store::recover(&words[1..], 1).err(), Some(Error::NoImage));
+    assert_eq!(Store::recover(&words[1..], 1).err(), Some(Error::NotAnImage));
     assert_eq!(Store::recover(&words[..words.len() - 1], 1).err(), Some(Error::ImageSize));
-    assert_eq!(Store::recover(&[], 1).err(), Some(Error::NoImage));
+    assert_eq!(Store::recover(&[], 1).err(), Some(Error::NotAnImage));
     assert_eq!(Store::recover(&words, 0).err(), Some(Error::BadSize));
     assert_eq!(Store::recover(&words, 9).err(), Some(Error::BadSize));
     assert_eq!(Queue::recover(&words, 1).err(), Some(Error::OtherKind));

@@ -45,8 +45,8 @@ use std::{mem, ptr};
 /// The most tries of a call.
 const MOST: u64 = 1 << 20;
 
-/// The version of the library: a million times the first number, a thousand times the second, and the third. Here 0.3.0.
-const VERSION: u64 = 3000;
+/// The version of the library: a million times the first number, a thousand times the second, and the third. Here 0.4.0.
+const VERSION: u64 = 4000;
 
 /// As many tries as are asked for, but at least one and not too many.
 fn tries_of(asked: u64) -> Tries
@@ -248,7 +248,7 @@ pub extern "C" fn githoppu_outcome(
 /// The version of the library.
 #[unsafe(no_mangle)]
 pub extern "C" fn githoppu_version() -> u64
-    ensures { result ≡ 3000 }
+    ensures { result ≡ 4000 }
 {
     VERSION
 }
