@@ -6,11 +6,12 @@ It takes the library that tools/build --library takes: the proved one where that
 none. With --proved it takes no other than the proved one, which it makes of the libraries that the gate left (tools/build_library.py).
 Under PREFIX it puts:
 
-    include/*.h                      the headers
+    include/*.h                      the headers, githoppu_store.h of a store on a disk among them
     lib/libgithoppu.a                the archive, with all that it needs but the C library
     lib/libgithoppu.so               a link, by libgithoppu.so.X.Y, to the shared library libgithoppu.so.X.Y.Z
     lib/pkgconfig/githoppu.pc        for pkg-config
     lib/cmake/githoppu/              for find_package of CMake
+    share/githoppu/githoppu_store.c  the source of a store on a disk, for who compiles it into a program (it needs libsqlite3)
     share/githoppu/rust/             the crate `githoppu`, for a `path` in Cargo.toml
     share/githoppu/python/           the module `githoppu`, for PYTHONPATH
 
@@ -40,6 +41,7 @@ from unproved import NotBuilt
 ROOT = Path(__file__).resolve().parent.parent
 HEADERS = ROOT / "include"
 PACKAGE = ROOT / "bindings" / "package"
+C = ROOT / "bindings" / "c"
 RUST = ROOT / "bindings" / "rust"
 PYTHON = ROOT / "bindings" / "python"
 USAGE = "usage: tools/install [--proved] PREFIX"
@@ -157,6 +159,8 @@ def install(archive, built, prefix):
         room = Path(name)
         put_libraries(archive, version, series, room, prefix / "lib")
         put_sources(HEADERS, ["*.h"], room, prefix / "include")
+        put_sources(C, ["githoppu_store.h"], room, prefix / "include")
+        put_sources(C, ["githoppu_store.c"], room, prefix / "share" / "githoppu")
         put_text(room, filled("githoppu.pc", values), prefix / "lib" / "pkgconfig" / "githoppu.pc")
         for text in ("githoppuConfig.cmake", "githoppuConfigVersion.cmake"):
             put_text(room, filled(text, values), prefix / "lib" / "cmake" / "githoppu" / text)

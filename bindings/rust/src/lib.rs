@@ -4,7 +4,8 @@
 //! they take no lock. Dropping the last session drops the store. Closing the last one gives the closed store, of which an image can be taken or saved to a
 //! file, and from an image it is opened again.
 //!
-//! Nothing is durable by itself: persistent memory is simulated in RAM, and the data end with the process unless the store was saved, closed or running.
+//! Nothing is durable by itself: persistent memory is simulated in RAM, and the data end with the process unless the store was saved, closed or running, or is
+//! one on a disk (module `disk`, by the feature of that name).
 //!
 //! If a thread is stopped for good inside a writing call, each other session can make at most 16 more updates, and after that updates answer
 //! [`Error::Busy`] after [`PATIENCE`]; reads go on.
@@ -27,6 +28,8 @@
 //! # Ok::<(), githoppu::Error>(())
 //! ```
 
+#[cfg(feature = "disk")]
+pub mod disk;
 mod file;
 mod outcome;
 mod raw;
