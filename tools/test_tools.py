@@ -42,6 +42,7 @@ import record_trace
 import stacks
 import stopped_clients
 import told
+from bpf_tests import Interpreter, Programs
 from build_tests import Builds, Runs, Unproved
 from check_tests import QuickChecks
 from clause_tests import ClauseComparisons

@@ -7,7 +7,7 @@ from concurrent.futures import ThreadPoolExecutor
 from pathlib import Path
 
 ROOT = Path(__file__).resolve().parent.parent.parent
-IN_SHELLS = ("tools/run", "tools/build", "tools/check", "tools/bindings", "tools/install", "tools/dump")
+IN_SHELLS = ("tools/run", "tools/build", "tools/check", "tools/bindings", "tools/install", "tools/dump", "tools/program")
 TIME = re.compile(r"\btakes?\b.* (?:seconds?|minutes?|hours?)\b", re.DOTALL)
 
 

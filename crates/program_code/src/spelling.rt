@@ -1,0 +1,351 @@
+//! The instruction that a word spells.
+
+ghost use Rattle.std.specs.Prelude.{◌≡◌, ◌+◌, ◌*◌, ◌/◌, ◌%◌, ◌<◌, ◌^◌, Some};
+ghost use Rattle.program_code.specs.Spelling as spec;
+
+use crate::fields::{
+    class_in, code_in, extending, from_in, has_one_operand, mode_in, number_in, offset_in,
+    operand_in, plain, signed, signed_number, signed_offset, signed_unit, size_in, source_in,
+    test_of, to_in, to_little, to_other, unit_of,
+};
+use crate::instruction::{Arith, Instruction, Operand, Test, Unit, Width};
+
+/// Why words are no program.
+#[derive(Clone, Copy, Debug, PartialEq, Eq)]
+pub enum FaultKind {
+    /// There are no instructions, more than 65,536, or more than there are words.
+    Length,
+    /// An operation that is not known.
+    Opcode,
+    /// A field that the instruction does not use is not zero.
+    Unused,
+    /// A register above 10, or one above 9 that is written.
+    Register,
+    /// A jump or a call that leads to no instruction.
+    Target,
+    /// The last instruction goes on behind the end.
+    End,
+    /// A call of a helper, or by an address in a register: only functions of the program are called.
+    Helper,
+    /// An address of a map.
+    Map,
+    /// An atomic operation.
+    Atomic,
+    /// An access to a packet.
+    Packet,
+    /// Out of memory.
+    Memory,
+}
+
+/// A word and the one after it, as an instruction at a place. `Err` says why they are none.
+pub fn spelled(word: u64, next: u64, at: u64) -> Result<Instruction, FaultKind>
+    ensures { result ≡ spec.spelled word next at }
+{
+    match class_in(word) {
+        0 => wide(word, next),
+        1 => loaded(word),
+        2 => stored_number(word),
+        3 => stored_register(word),
+        4 | 7 => computed(word),
+        _ => led(word, at),
+    }
+}
+
+/// An instruction, where the fields that it does not use are zero.
+fn unused(are_zero: bool, instruction: Instruction) -> Result<Instruction, FaultKind>
+    ensures { result ≡ spec.unused are_zero instruction }
+{
+    if are_zero {
+        Ok(instruction)
+    } else {
+        Err(FaultKind::Unused)
+    }
+}
+
+fn wide(word: u64, next: u64) -> Result<Instruction, FaultKind>
+    ensures { result ≡ spec.wide word next }
+{
+    if word % (1 << 8) != 0x18 {
+        let mode = mode_in(word);
+        if mode == 1 || mode == 2 {
+            return Err(FaultKind::Packet);
+        }
+        return Err(FaultKind::Opcode);
+    }
+    if from_in(word).number != 0 {
+        return Err(FaultKind::Map);
+    }
+    if offset_in(word) == 0 && next % (1 << 32) == 0 {
+        return Ok(Instruction::Wide {
+            to: to_in(word),
+            number: wide_number(word, next),
+        });
+    }
+    Err(FaultKind::Unused)
+}
+
+fn wide_number(word: u64, next: u64) -> u64
+    ensures { result ≡ spec.number_in word + 2 ^ 32 * spec.number_in next }
+{
+    (word >> 32) + (1 << 32) * (next >> 32)
+}
+
+fn loaded(word: u64) -> Result<Instruction, FaultKind>
+    ensures { result ≡ spec.loaded word }
+{
+    match mode_in(word) {
+        3 => loaded_as(word, unit_of(size_in(word))),
+        4 => match signed_unit(size_in(word)) {
+            Some(unit) => loaded_as(word, unit),
+            None => Err(FaultKind::Opcode),
+        },
+        _ => Err(FaultKind::Opcode),
+    }
+}
+
+fn loaded_as(word: u64, unit: Unit) -> Result<Instruction, FaultKind>
+    ensures { result ≡ spec.loaded_as word (Some unit) }
+{
+    let load = Instruction::Load {
+        unit,
+        to: to_in(word),
+        base: from_in(word),
+        offset: signed_offset(word),
+    };
+    unused(number_in(word) == 0, load)
+}
+
+fn stored_number(word: u64) -> Result<Instruction, FaultKind>
+    ensures { result ≡ spec.stored_number word }
+{
+    if mode_in(word) != 3 {
+        return Err(FaultKind::Opcode);
+    }
+    let store = Instruction::Store {
+        unit: unit_of(size_in(word)),
+        base: to_in(word),
+        offset: signed_offset(word),
+        value: Operand::Number(signed_number(word)),
+    };
+    unused(from_in(word).number == 0, store)
+}
+
+fn stored_register(word: u64) -> Result<Instruction, FaultKind>
+    ensures { result ≡ spec.stored_register word }
+{
+    match mode_in(word) {
+        3 => {
+            let store = Instruction::Store {
+                unit: unit_of(size_in(word)),
+                base: to_in(word),
+                offset: signed_offset(word),
+                value: Operand::In(from_in(word)),
+            };
+            unused(number_in(word) == 0, store)
+        }
+        6 => Err(FaultKind::Atomic),
+        _ => Err(FaultKind::Opcode),
+    }
+}
+
+fn width_of(class: u64) -> Width
+    ensures { result ≡ spec.width_of class }
+{
+    if class == 4 || class == 6 {
+        Width::Half
+    } else {
+        Width::Whole
+    }
+}
+
+fn computed(word: u64) -> Result<Instruction, FaultKind>
+    ensures { result ≡ spec.computed word }
+{
+    match code_in(word) {
+        13 => reordered(word),
+        8 => negated(word),
+        _ => operated(word),
+    }
+}
+
+fn moved(word: u64) -> Option<Arith>
+    ensures { result ≡ spec.moved word }
+{
+    let offset = offset_in(word);
+    if source_in(word) == 0 || (class_in(word) == 4 && offset == 32) {
+        return None;
+    }
+    extending(offset)
+}
+
+fn operation(word: u64) -> Option<Arith>
+    ensures { result ≡ spec.operation word }
+{
+    let code = code_in(word);
+    match offset_in(word) {
+        0 => plain(code),
+        1 => signed(code),
+        _ => { if code == 11 { moved(word) } else { None } }
+    }
+}
+
+fn operated(word: u64) -> Result<Instruction, FaultKind>
+    ensures { result ≡ spec.operated word (spec.operation word) }
+{
+    match operation(word) {
+        None => Err(FaultKind::Opcode),
+        Some(kind) => {
+            let compute = Instruction::Compute {
+                kind,
+                width: width_of(class_in(word)),
+                to: to_in(word),
+                by: operand_in(word),
+            };
+            unused(has_one_operand(word), compute)
+        }
+    }
+}
+
+fn negated(word: u64) -> Result<Instruction, FaultKind>
+    ensures { result ≡ spec.negated word }
+{
+    if source_in(word) != 0 {
+        return Err(FaultKind::Opcode);
+    }
+    let compute = Instruction::Compute {
+        kind: Arith::Neg,
+        width: width_of(class_in(word)),
+        to: to_in(word),
+        by: Operand::Number(0),
+    };
+    let are_zero = from_in(word).number == 0 && (offset_in(word) == 0 && number_in(word) == 0);
+    unused(are_zero, compute)
+}
+
+fn order(word: u64) -> Option<Arith>
+    ensures { result ≡ spec.order word }
+{
+    let bits = number_in(word);
+    if class_in(word) == 4 {
+        if source_in(word) == 0 {
+            to_little(bits)
+        } else {
+            to_other(bits)
+        }
+    } else if source_in(word) == 0 {
+        to_other(bits)
+    } else {
+        None
+    }
+}
+
+fn reordered(word: u64) -> Result<Instruction, FaultKind>
+    ensures { result ≡ spec.reordered word (spec.order word) }
+{
+    match order(word) {
+        None => Err(FaultKind::Opcode),
+        Some(kind) => {
+            let compute = Instruction::Compute {
+                kind,
+                width: Width::Whole,
+                to: to_in(word),
+                by: Operand::Number(0),
+            };
+            let are_zero = from_in(word).number == 0 && offset_in(word) == 0;
+            unused(are_zero, compute)
+        }
+    }
+}
+
+fn led(word: u64, at: u64) -> Result<Instruction, FaultKind>
+    ensures { result ≡ spec.led word at }
+{
+    let code = code_in(word);
+    let is_first = class_in(word) == 5;
+    if code == 0 {
+        return jumps_always(word, at);
+    }
+    if is_first && code == 8 {
+        return calls(word, at);
+    }
+    if is_first && code == 9 {
+        return exits(word);
+    }
+    jumps(word, at)
+}
+
+/// The instruction that a jump or a call leads to.
+fn target(at: u64, by: u64) -> u64
+    ensures { result ≡ spec.target at by }
+{
+    at.wrapping_add(1).wrapping_add(by)
+}
+
+fn jumps(word: u64, at: u64) -> Result<Instruction, FaultKind>
+    ensures { result ≡ spec.jumps word at (spec.test_of (spec.code_in word)) }
+{
+    match test_of(code_in(word)) {
+        None => Err(FaultKind::Opcode),
+        Some(test) => {
+            let jump = Instruction::Jump {
+                test,
+                width: width_of(class_in(word)),
+                left: to_in(word),
+                right: operand_in(word),
+                target: target(at, signed_offset(word)),
+            };
+            unused(has_one_operand(word), jump)
+        }
+    }
+}
+
+fn jump_always(word: u64, target: u64) -> Instruction
+    ensures { result ≡ spec.always word target }
+{
+    Instruction::Jump {
+        test: Test::Always,
+        width: Width::Whole,
+        left: to_in(word),
+        right: Operand::Number(0),
+        target,
+    }
+}
+
+fn jumps_always(word: u64, at: u64) -> Result<Instruction, FaultKind>
+    ensures { result ≡ spec.jumps_always word at }
+{
+    if source_in(word) != 0 {
+        return Err(FaultKind::Opcode);
+    }
+    let no_registers = to_in(word).number == 0 && from_in(word).number == 0;
+    if class_in(word) == 5 {
+        let jump = jump_always(word, target(at, signed_offset(word)));
+        unused(no_registers && number_in(word) == 0, jump)
+    } else {
+        let jump = jump_always(word, target(at, signed_number(word)));
+        unused(no_registers && offset_in(word) == 0, jump)
+    }
+}
+
+fn calls(word: u64, at: u64) -> Result<Instruction, FaultKind>
+    ensures { result ≡ spec.calls word at }
+{
+    if source_in(word) == 0 && from_in(word).number == 1 {
+        let are_zero = to_in(word).number == 0 && offset_in(word) == 0;
+        let target = target(at, signed_number(word));
+        return unused(are_zero, Instruction::Call { target });
+    }
+    Err(FaultKind::Helper)
+}
+
+fn exits(word: u64) -> Result<Instruction, FaultKind>
+    ensures { result ≡ spec.exits word }
+{
+    if word == 0x95 {
+        Ok(Instruction::Exit)
+    } else if source_in(word) == 0 {
+        Err(FaultKind::Unused)
+    } else {
+        Err(FaultKind::Opcode)
+    }
+}

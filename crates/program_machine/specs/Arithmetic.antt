@@ -1,0 +1,124 @@
+-- What instructions compute (RFC 9669). A word is a number below 2^64, and its lower half one below 2^32.
+use Rattle.std.specs.Prelude.{◌==◌, ◌+◌, ◌-◌, ◌*◌, ◌/◌, ◌%◌, ◌^◌, nat_lt, nat_le, ℕ, Bool, true, false, bit_and, bit_or, bit_xor, if◌then◌else◌}
+use Rattle.program_code.specs.declared.instruction.Arith.{Arith}
+use Rattle.program_code.specs.declared.instruction.Arith.TheVariants as arith
+use Rattle.program_code.specs.declared.instruction.Test.{Test}
+use Rattle.program_code.specs.declared.instruction.Test.TheVariants as test
+use Rattle.program_code.specs.declared.instruction.Width.{Width}
+use Rattle.program_code.specs.declared.instruction.Width.TheVariants.{Whole, Half}
+
+abbrev pub low : ℕ → ℕ
+low a = a % 2 ^ 32
+
+-- SIGNED NUMBERS of 64 bits: those from 2^63 on are negative
+abbrev pub is_negative : ℕ → Bool
+is_negative a = nat_le (2 ^ 63) a
+
+abbrev pub negated : ℕ → ℕ
+negated a = (2 ^ 64 - a) % 2 ^ 64
+
+abbrev pub size_of : ℕ → ℕ
+size_of a = if is_negative a then 2 ^ 64 - a else a
+
+-- shifted to the right, with copies of the sign
+abbrev pub shifted_signed : ℕ → ℕ → ℕ
+shifted_signed a k = if is_negative a then 2 ^ 64 - 1 - (2 ^ 64 - 1 - a) / 2 ^ k else a / 2 ^ k
+
+-- a signed number of 8, 16 or 32 bits as one of 64
+abbrev pub signed_8 : ℕ → ℕ
+signed_8 a = if nat_le (2 ^ 7) a then a + (2 ^ 64 - 2 ^ 8) else a
+
+abbrev pub signed_16 : ℕ → ℕ
+signed_16 a = if nat_le (2 ^ 15) a then a + (2 ^ 64 - 2 ^ 16) else a
+
+abbrev pub signed_32 : ℕ → ℕ
+signed_32 a = if nat_le (2 ^ 31) a then a + (2 ^ 64 - 2 ^ 32) else a
+
+abbrev pub have_one_sign : ℕ → ℕ → Bool
+have_one_sign a b = if is_negative a then is_negative b else (if is_negative b then false else true)
+
+-- the quotient is rounded to zero, and the remainder has the sign of the number that is divided
+abbrev pub quotient : ℕ → ℕ → ℕ
+quotient a b = if b == 0 then 0 else a / b
+
+abbrev pub remainder : ℕ → ℕ → ℕ
+remainder a b = if b == 0 then a else a % b
+
+abbrev pub signed_quotient : ℕ → ℕ → ℕ
+signed_quotient a b = if have_one_sign a b then quotient (size_of a) (size_of b) else negated (quotient (size_of a) (size_of b))
+
+abbrev pub signed_remainder : ℕ → ℕ → ℕ
+signed_remainder a b = if is_negative a then negated (remainder (size_of a) (size_of b)) else remainder (size_of a) (size_of b)
+
+-- bytes in the other order
+abbrev pub swapped_16 : ℕ → ℕ
+swapped_16 a = a % 2 ^ 8 * 2 ^ 8 + a / 2 ^ 8 % 2 ^ 8
+
+abbrev pub swapped_32 : ℕ → ℕ
+swapped_32 a = swapped_16 a * 2 ^ 16 + swapped_16 (a / 2 ^ 16)
+
+abbrev pub swapped_64 : ℕ → ℕ
+swapped_64 a = swapped_32 a * 2 ^ 32 + swapped_32 (a / 2 ^ 32)
+
+-- OF 64 BITS
+abbrev pub whole : Arith → ℕ → ℕ → ℕ
+whole arith.Add a b = (a + b) % 2 ^ 64
+whole arith.Sub a b = (a + (2 ^ 64 - b)) % 2 ^ 64
+whole arith.Mul a b = (a * b) % 2 ^ 64
+whole arith.Div a b = quotient a b
+whole arith.Or a b = bit_or a b
+whole arith.And a b = bit_and a b
+whole arith.ShiftLeft a b = (a * 2 ^ (b % 64)) % 2 ^ 64
+whole arith.ShiftRight a b = a / 2 ^ (b % 64)
+whole arith.Neg a b = negated a
+whole arith.Mod a b = remainder a b
+whole arith.Xor a b = bit_xor a b
+whole arith.Mov a b = b
+whole arith.ShiftSigned a b = shifted_signed a (b % 64)
+whole arith.SignedDiv a b = signed_quotient a b
+whole arith.SignedMod a b = signed_remainder a b
+whole arith.Signed8 a b = signed_8 (b % 2 ^ 8)
+whole arith.Signed16 a b = signed_16 (b % 2 ^ 16)
+whole arith.Signed32 a b = signed_32 (b % 2 ^ 32)
+whole arith.Low16 a b = a % 2 ^ 16
+whole arith.Low32 a b = a % 2 ^ 32
+whole arith.Low64 a b = a
+whole arith.Swap16 a b = swapped_16 a
+whole arith.Swap32 a b = swapped_32 a
+whole arith.Swap64 a b = swapped_64 a
+
+-- OF 32 BITS: shifts go by fewer bits, signed division is of signed numbers of 32 bits, and the rest are the lower half of what the halves make
+abbrev pub half : Arith → ℕ → ℕ → ℕ
+half arith.ShiftLeft a b = low (a * 2 ^ (b % 32))
+half arith.ShiftRight a b = a / 2 ^ (b % 32)
+half arith.ShiftSigned a b = shifted_signed (a * 2 ^ 32) (b % 32) / 2 ^ 32
+half arith.SignedDiv a b = low (signed_quotient (signed_32 a) (signed_32 b))
+half arith.SignedMod a b = low (signed_remainder (signed_32 a) (signed_32 b))
+half kind a b = low (whole kind a b)
+
+abbrev pub computed : Arith → Width → ℕ → ℕ → ℕ
+computed kind Whole a b = whole kind a b
+computed kind Half a b = half kind (low a) (low b)
+
+-- TESTS. A signed number with 2^63 added has its place in the order.
+abbrev pub biased : ℕ → ℕ
+biased a = (a + 2 ^ 63) % 2 ^ 64
+
+abbrev pub holds_whole : Test → ℕ → ℕ → Bool
+holds_whole test.Always a b = true
+holds_whole test.Equal a b = a == b
+holds_whole test.Above a b = nat_lt b a
+holds_whole test.AtLeast a b = nat_le b a
+holds_whole test.AnyBit a b = if bit_and a b == 0 then false else true
+holds_whole test.Other a b = if a == b then false else true
+holds_whole test.SignedAbove a b = nat_lt (biased b) (biased a)
+holds_whole test.SignedAtLeast a b = nat_le (biased b) (biased a)
+holds_whole test.Below a b = nat_lt a b
+holds_whole test.AtMost a b = nat_le a b
+holds_whole test.SignedBelow a b = nat_lt (biased a) (biased b)
+holds_whole test.SignedAtMost a b = nat_le (biased a) (biased b)
+
+-- of halves: moved up, they have the same order
+abbrev pub holds : Test → Width → ℕ → ℕ → Bool
+holds kind Whole a b = holds_whole kind a b
+holds kind Half a b = holds_whole kind (low a * 2 ^ 32) (low b * 2 ^ 32)

@@ -1,0 +1,234 @@
+//! What instructions compute of words.
+
+ghost use Rattle.std.specs.Prelude.{◌≡◌, ◌+◌, ◌-◌, ◌*◌, ◌/◌, ◌%◌, ◌^◌, ◌<◌, ◌≤◌};
+ghost use Rattle.program_machine.specs.Arithmetic as spec;
+
+use program_code::{Arith, Test, Width};
+
+/// The lower 32 bits.
+#[inline(always)]
+fn low(a: u64) -> u64
+    ensures { result ≡ spec.low a }
+{
+    a % (1 << 32)
+}
+
+/// The result of an instruction of arithmetic.
+#[inline(always)]
+pub fn computed(kind: Arith, width: Width, a: u64, b: u64) -> u64
+    ensures { result ≡ spec.computed kind width a b }
+{
+    match width {
+        Width::Whole => computed_whole(kind, a, b),
+        Width::Half => computed_half(kind, low(a), low(b)),
+    }
+}
+
+#[inline(always)]
+fn computed_whole(kind: Arith, a: u64, b: u64) -> u64
+    ensures { result ≡ spec.whole kind a b }
+{
+    match kind {
+        Arith::Add => a.wrapping_add(b),
+        Arith::Sub => a.wrapping_sub(b),
+        Arith::Mul => a.wrapping_mul(b),
+        Arith::Div => quotient(a, b),
+        Arith::Or => a | b,
+        Arith::And => a & b,
+        Arith::ShiftLeft => a << (b % 64),
+        Arith::ShiftRight => a >> (b % 64),
+        Arith::Neg => negated(a),
+        Arith::Mod => remainder(a, b),
+        Arith::Xor => a ^ b,
+        Arith::Mov => b,
+        Arith::ShiftSigned => shifted_signed(a, b % 64),
+        Arith::SignedDiv => signed_quotient(a, b),
+        Arith::SignedMod => signed_remainder(a, b),
+        Arith::Signed8 => signed_8(b % (1 << 8)),
+        Arith::Signed16 => signed_16(b % (1 << 16)),
+        Arith::Signed32 => signed_32(b % (1 << 32)),
+        Arith::Low16 => a % (1 << 16),
+        Arith::Low32 => a % (1 << 32),
+        Arith::Low64 => a,
+        Arith::Swap16 => swapped_16(a),
+        Arith::Swap32 => swapped_32(a),
+        Arith::Swap64 => swapped_64(a),
+    }
+}
+
+#[inline(always)]
+fn computed_half(kind: Arith, a: u64, b: u64) -> u64
+    requires left { a < 2 ^ 32 }
+    requires right { b < 2 ^ 32 }
+    ensures { result ≡ spec.half kind a b }
+{
+    match kind {
+        Arith::ShiftLeft => low(a << (b % 32)),
+        Arith::ShiftRight => a >> (b % 32),
+        Arith::ShiftSigned => shifted_signed(a << 32, b % 32) >> 32,
+        Arith::SignedDiv => low(signed_quotient(signed_32(a), signed_32(b))),
+        Arith::SignedMod => low(signed_remainder(signed_32(a), signed_32(b))),
+        _ => low(computed_whole(kind, a, b)),
+    }
+}
+
+fn quotient(a: u64, b: u64) -> u64
+    ensures { result ≡ spec.quotient a b }
+{
+    if b == 0 { 0 } else { a / b }
+}
+
+fn remainder(a: u64, b: u64) -> u64
+    ensures { result ≡ spec.remainder a b }
+{
+    if b == 0 { a } else { a % b }
+}
+
+#[inline(always)]
+fn negated(a: u64) -> u64
+    ensures { result ≡ spec.negated a }
+{
+    0u64.wrapping_sub(a)
+}
+
+fn is_negative(a: u64) -> bool
+    ensures { result ≡ spec.is_negative a }
+{
+    a >= 1 << 63
+}
+
+fn size_of(a: u64) -> u64
+    ensures { result ≡ spec.size_of a }
+{
+    if a >= 1 << 63 { u64::MAX - a + 1 } else { a }
+}
+
+fn have_one_sign(a: u64, b: u64) -> bool
+    ensures { result ≡ spec.have_one_sign a b }
+{
+    if is_negative(a) {
+        is_negative(b)
+    } else {
+        !is_negative(b)
+    }
+}
+
+fn signed_quotient(a: u64, b: u64) -> u64
+    ensures { result ≡ spec.signed_quotient a b }
+{
+    let size = quotient(size_of(a), size_of(b));
+    if have_one_sign(a, b) {
+        size
+    } else {
+        negated(size)
+    }
+}
+
+fn signed_remainder(a: u64, b: u64) -> u64
+    ensures { result ≡ spec.signed_remainder a b }
+{
+    let size = remainder(size_of(a), size_of(b));
+    if is_negative(a) { negated(size) } else { size }
+}
+
+#[inline(always)]
+fn shifted_signed(a: u64, by: u64) -> u64
+    requires { by < 64 }
+    ensures { result ≡ spec.shifted_signed a by }
+{
+    if a >= 1 << 63 { !(!a >> by) } else { a >> by }
+}
+
+#[inline(always)]
+pub fn signed_8(a: u64) -> u64
+    requires { a < 2 ^ 8 }
+    ensures { result ≡ spec.signed_8 a }
+{
+    if a >= 1 << 7 {
+        a + 0xffff_ffff_ffff_ff00
+    } else {
+        a
+    }
+}
+
+#[inline(always)]
+pub fn signed_16(a: u64) -> u64
+    requires { a < 2 ^ 16 }
+    ensures { result ≡ spec.signed_16 a }
+{
+    if a >= 1 << 15 {
+        a + 0xffff_ffff_ffff_0000
+    } else {
+        a
+    }
+}
+
+#[inline(always)]
+pub fn signed_32(a: u64) -> u64
+    requires { a < 2 ^ 32 }
+    ensures { result ≡ spec.signed_32 a }
+{
+    if a >= 1 << 31 {
+        a + 0xffff_ffff_0000_0000
+    } else {
+        a
+    }
+}
+
+fn swapped_16(a: u64) -> u64
+    ensures value { result ≡ spec.swapped_16 a }
+    ensures few { result < 2 ^ 16 }
+{
+    a % (1 << 8) * (1 << 8) + (a >> 8) % (1 << 8)
+}
+
+fn swapped_32(a: u64) -> u64
+    ensures value { result ≡ spec.swapped_32 a }
+    ensures few { result < 2 ^ 32 }
+{
+    swapped_16(a) * (1 << 16) + swapped_16(a >> 16)
+}
+
+fn swapped_64(a: u64) -> u64
+    ensures { result ≡ spec.swapped_64 a }
+{
+    swapped_32(a) * (1 << 32) + swapped_32(a >> 32)
+}
+
+/// Whether a test holds.
+#[inline(always)]
+pub fn holds(test: Test, width: Width, a: u64, b: u64) -> bool
+    ensures { result ≡ spec.holds test width a b }
+{
+    match width {
+        Width::Whole => holds_whole(test, a, b),
+        Width::Half => holds_whole(test, low(a) << 32, low(b) << 32),
+    }
+}
+
+#[inline(always)]
+fn holds_whole(test: Test, a: u64, b: u64) -> bool
+    ensures { result ≡ spec.holds_whole test a b }
+{
+    match test {
+        Test::Always => true,
+        Test::Equal => a == b,
+        Test::Above => a > b,
+        Test::AtLeast => a >= b,
+        Test::AnyBit => a & b != 0,
+        Test::Other => a != b,
+        Test::SignedAbove => biased(a) > biased(b),
+        Test::SignedAtLeast => biased(a) >= biased(b),
+        Test::Below => a < b,
+        Test::AtMost => a <= b,
+        Test::SignedBelow => biased(a) < biased(b),
+        Test::SignedAtMost => biased(a) <= biased(b),
+    }
+}
+
+#[inline(always)]
+fn biased(a: u64) -> u64
+    ensures { result ≡ spec.biased a }
+{
+    a.wrapping_add(1 << 63)
+}

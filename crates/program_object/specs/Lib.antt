@@ -1,0 +1,4 @@
+pub mod Fingerprint
+pub mod Laws
+pub mod Meaning
+pub mod Run

@@ -1,0 +1,72 @@
+-- What an operation of a program's object means: a run of the program.
+use Rattle.std.specs.Prelude.{◌≡◌, ◌==◌, ◌-◌, ◌*◌, ◌%◌, ◌^◌, ◌&&◌, nat_le, not, ℕ, Bool, true, Option, None, Some, List, [], ◌∷◌, replicate, slice_index, slice_set}
+use Rattle.cx_base.specs.Memory.{Words}
+use Rattle.cx_base.specs.OldFormat.{OldFormat, no_old_format}
+use Rattle.program_machine.specs.Machine.{Machine}
+use Rattle.program_code.specs.declared.instruction.Instruction as instruction_type
+use Rattle.program_machine.specs.declared.machine.End.TheVariants.{Returned, Fault}
+use Rattle.program_machine.specs.declared.machine.RunFault as fault_type
+use Rattle.program_machine.specs.declared.machine.RunFault.TheVariants as fault_kind
+use Rattle.program_object.specs.Run.{End, State, run, setting}
+
+-- an image of this many lines and of the program with this fingerprint
+pub record IsImage (lines version : ℕ) (image : List ℕ) : Type 0 where
+  pub words : Words (8 * lines) image
+  pub version_is : slice_index image 0 ≡ version
+
+abbrev pub opening : ℕ → ℕ → List ℕ
+opening lines version = version ∷ replicate (8 * lines - 1) 0
+
+-- an operation only reads where the lowest bit of its first word is 1
+abbrev pub reads : List ℕ → Bool
+reads op = slice_index op 0 % 2 == 1
+
+-- no word of a reply or of the stack yet; registers 1 to 4 are the addresses of request, reply and object, and the object's bytes; register 10 is the end of the stack
+unfoldable pub start : ℕ → ℕ → Machine
+start lines zeros = record {
+  registers = 0 ∷ 8589934592 ∷ 12884901888 ∷ 4294967296 ∷ 64 * (lines - 1) ∷ 0 ∷ 0 ∷ 0 ∷ 0 ∷ 0 ∷ 17179873280 ∷ 0 ∷ 0 ∷ 0 ∷ 0 ∷ 0 ∷ [];
+  at = 0;
+  depth = 0;
+  frames = replicate 48 zeros;
+  stack = replicate 512 zeros;
+  reply = replicate 144 zeros;
+}
+
+abbrev pub fault_number : fault_type.RunFault → ℕ
+fault_number fault_kind.Address = 2
+fault_number fault_kind.Alignment = 3
+fault_number fault_kind.ReadOnly = 4
+fault_number fault_kind.Stores = 5
+fault_number fault_kind.Fuel = 6
+fault_number fault_kind.Depth = 7
+fault_number fault_kind.Place = 8
+
+-- the reply of a run that returned a value, and of one that a fault ended
+abbrev pub returned : ℕ → List ℕ → List ℕ
+returned value reply = slice_set (slice_set reply 0 1) 1 (value % 2 ^ 64)
+
+unfoldable pub faulted : ℕ → ℕ → ℕ → List ℕ
+faulted number at address = number ∷ at % 2 ^ 64 ∷ address % 2 ^ 64 ∷ replicate 141 0
+
+-- after a run: a fault leaves the image as it was
+abbrev pub ended : List ℕ → End × State → List ℕ × List ℕ
+ended image (Returned value, s) = (s.image, returned value s.machine.reply)
+ended image (Fault kind at address, s) = (image, faulted (fault_number kind) at address)
+
+-- ONE STEP of the object
+abbrev pub program_step : List instruction_type.Instruction → List ℕ → ℕ → ℕ → List ℕ → List ℕ → List ℕ × List ℕ
+program_step code constants lines fuel image op =
+    ended image (run fuel (setting code constants (8 * lines) op (not (reads op))) (record { machine = start lines 0; stores = 0; image = image }))
+
+-- THE FORMAT BEFORE: that of the program with another fingerprint. The words are taken over as they are, and the first one names the program.
+abbrev pub is_other : Option ℕ → ℕ → Bool
+is_other None version = true
+is_other (Some old) version = not (old == version)
+
+abbrev pub old_of : ℕ → ℕ → Option ℕ → OldFormat
+old_of lines version None = no_old_format
+old_of lines version (Some old) = record { version = Some old; lawful = IsImage lines old; upgraded = λ image. slice_set image 0 version }
+
+-- whether the lines, the fuel and the fingerprint before fit: each word has an address, and the two fingerprints differ
+abbrev pub fits : ℕ → ℕ → ℕ → Option ℕ → Bool
+fits lines fuel version before = nat_le 1 lines && (nat_le lines (2 ^ 26) && (nat_le fuel (2 ^ 20) && is_other before version))

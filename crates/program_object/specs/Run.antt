@@ -1,0 +1,114 @@
+-- A run of a program over the words of an object.
+use Rattle.std.specs.Prelude.{◌≡◌, ◌+◌, ◌||◌, nat_lt, nat_le, ℕ, zero, suc, Bool, List, Option, None, Some, slice_get, slice_index, slice_set, IsFalse, if◌then◌else◌}
+use Rattle.program_machine.specs.Machine.{Machine, after, wrote, part, with_part, wish}
+use Rattle.program_code.specs.declared.instruction.Instruction as instruction_type
+use Rattle.program_machine.specs.declared.machine.End as end_type
+use Rattle.program_machine.specs.declared.machine.End.TheVariants.{Fault}
+use Rattle.program_machine.specs.declared.machine.RunFault as fault_type
+use Rattle.program_machine.specs.declared.machine.RunFault.TheVariants as fault_kind
+use Rattle.program_machine.specs.declared.machine.Wish as wish_type
+use Rattle.program_machine.specs.declared.machine.Wish.TheVariants.{Goes, Ends, Loads, Stores}
+use Rattle.program_object.specs.declared.undo.Undo as undo_type
+
+abbrev pub End : Type 0
+End = end_type.End
+
+abbrev pub Undo : Type 0
+Undo = undo_type.Undo
+
+abbrev pub fault : Machine → fault_type.RunFault → ℕ → Option End
+fault m kind address = Some (Fault kind m.at address)
+
+-- a store more was made
+abbrev pub pushed : Undo → ℕ → ℕ → Undo
+pushed u place word = record { count = u.count + 1; places = slice_set u.places u.count place; words = slice_set u.words u.count word }
+
+-- one word put back, where there is such a place
+abbrev pub put : ℕ → List ℕ → ℕ → ℕ → List ℕ
+put size now at v = if nat_lt at size then slice_set now at v else now
+
+-- the first `n` stores put back, the last first
+abbrev pub undone : ℕ → ℕ → List ℕ → List ℕ → List ℕ → List ℕ
+undone size zero places words now = now
+undone size (suc n) places words now = undone size n places words (put size now (slice_index places n) (slice_index words n))
+
+-- what a run has: its machine, how many stores it made, and the words of the object
+pub record State : Type 0 where
+  pub machine : Machine
+  pub stores : ℕ
+  pub image : List ℕ
+
+-- no place of the object that a program sees: its first line, and what is behind it
+abbrev pub is_outside : ℕ → ℕ → Bool
+is_outside place words = nat_lt place 8 || nat_le words place
+
+-- after a wish: whether the run ends, and what it then has
+abbrev pub granted : Bool → ℕ → wish_type.Wish → State → Option End × State
+granted writes words Goes s = (None, s)
+granted writes words (Ends end) s = (Some end, s)
+granted writes words (Loads place u address to) s =
+    if is_outside place words then (fault s.machine fault_kind.Address address, s)
+    else (None, record { machine = wrote s.machine to (part u address (slice_index s.image place)); stores = s.stores; image = s.image })
+granted writes words (Stores place u address value) s =
+    if is_outside place words then (fault s.machine fault_kind.Address address, s)
+    else (if writes then (if nat_le 256 s.stores then (fault s.machine fault_kind.Stores address, s)
+    else (None, record { machine = record s.machine { at = after s.machine.at }; stores = s.stores + 1; image = slice_set s.image place (with_part u address (slice_index s.image place) value) }))
+    else (fault s.machine fault_kind.ReadOnly address, s))
+
+-- a wish was granted: what the run has then, and what undoing it leads to
+pub record Granted (writes : Bool) (words : ℕ) (w : wish_type.Wish) (m : Machine) (u : Undo) (before : List ℕ) (next : Option End) (m' : Machine) (u' : Undo) (now : List ℕ) : Type 0 where
+  pub does : granted writes words w (record { machine = m; stores = u.count; image = before }) ≡ (next, record { machine = m'; stores = u'.count; image = now })
+  pub back : undone words u'.count u'.places u'.words now ≡ undone words u.count u.places u.words before
+  pub still : IsFalse writes → now ≡ before
+
+-- what does not change in a run: the program, how many words the object has, the request, and whether stores are allowed
+pub record Setting : Type 0 where
+  pub code : List instruction_type.Instruction
+  pub constants : List ℕ
+  pub words : ℕ
+  pub request : List ℕ
+  pub writes : Bool
+
+abbrev pub setting : List instruction_type.Instruction → List ℕ → ℕ → List ℕ → Bool → Setting
+setting code constants words request writes = record { code = code; constants = constants; words = words; request = request; writes = writes }
+
+abbrev pub wished : Setting → State → wish_type.Wish × Machine → Option End × State
+wished p s w = granted p.writes p.words w.0 (record { machine = w.1; stores = s.stores; image = s.image })
+
+abbrev pub fetched : Setting → State → Option instruction_type.Instruction → Option End × State
+fetched p s None = (fault s.machine fault_kind.Place 0, s)
+fetched p s (Some i) = wished p s (wish s.machine i p.request p.constants p.words)
+
+-- ONE STEP: whether the run ends, and what it then has
+abbrev pub step : Setting → State → Option End × State
+step p s = fetched p s (slice_get p.code s.machine.at)
+
+abbrev pub go_on : (State → End × State) → Option End × State → End × State
+go_on rest (None, s) = rest s
+go_on rest (Some end, s) = (end, s)
+
+-- A RUN, of at most this many instructions
+abbrev pub run : ℕ → Setting → State → End × State
+run zero p s = (Fault fault_kind.Fuel s.machine.at 0, s)
+run (suc fuel) p s = go_on (run fuel p) (step p s)
+
+abbrev pub state : Machine → Undo → List ℕ → State
+state m u image = record { machine = m; stores = u.count; image = image }
+
+-- an instruction was done: what the run has then, and what undoing it leads to
+pub record Stepped (p : Setting) (m : Machine) (u : Undo) (before : List ℕ) (next : Option End) (m' : Machine) (u' : Undo) (now : List ℕ) : Type 0 where
+  pub does : step p (state m u before) ≡ (next, state m' u' now)
+  pub back : undone p.words u'.count u'.places u'.words now ≡ undone p.words u.count u.places u.words before
+  pub still : IsFalse p.writes → now ≡ before
+
+-- and a whole run
+pub record Runs (p : Setting) (fuel : ℕ) (m : Machine) (u : Undo) (before : List ℕ) (end : End) (m' : Machine) (u' : Undo) (now : List ℕ) : Type 0 where
+  pub does : run fuel p (state m u before) ≡ (end, state m' u' now)
+  pub back : undone p.words u'.count u'.places u'.words now ≡ undone p.words u.count u.places u.words before
+  pub still : IsFalse p.writes → now ≡ before
+
+-- so far: what is left of the run is what the whole run is
+pub record RunsOn (p : Setting) (fuel left : ℕ) (m : Machine) (u : Undo) (before : List ℕ) (m' : Machine) (u' : Undo) (now : List ℕ) : Type 0 where
+  pub does : run fuel p (state m u before) ≡ run left p (state m' u' now)
+  pub back : undone p.words u'.count u'.places u'.words now ≡ undone p.words u.count u.places u.words before
+  pub still : IsFalse p.writes → now ≡ before

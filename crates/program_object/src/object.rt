@@ -1,0 +1,278 @@
+//! The object whose operations are runs of a program.
+
+ghost use Rattle.std.specs.Prelude.{◌≡◌, ◌*◌, ◌+◌, ◌^◌, ◌<◌, ◌≤◌, ◌↔◌, IsTrue, MatchOption, true, false, length};
+ghost use Rattle.program_code.specs.Program.{code_of, words_of};
+ghost use Rattle.program_object.specs.Fingerprint as prints;
+ghost use Rattle.program_object.specs.Meaning as spec;
+ghost use Rattle.program_object.specs.Laws as laws;
+
+use crate::fingerprint::fingerprint;
+use crate::run::to_end;
+use crate::undo::{Undo, undo_all};
+use cx_base::{Halt, Memory, OP_WORDS, Object, OpWords};
+use program_code::Program;
+use program_machine::{End, Machine, RunFault};
+use std::alloc::{AllocError, Global};
+
+/// A program over an object of `lines` lines. Each operation takes at most `fuel` instructions.
+#[derive(Drop)]
+pub struct ProgramObject {
+    lines: u64,
+    version: u64,
+    fuel: u64,
+    before: Option<u64>,
+    program: Program,
+    ghost some: { 1 ≤ lines },
+    ghost few: { lines ≤ 2 ^ 26 },
+    ghost small: { version < 2 ^ 64 },
+    ghost other: { spec.is_other before version ≡ true },
+}
+
+impl ProgramObject {
+    /// The object of a program, with 1 to 2^26 lines and a fuel of at most 2^20. Images of a program with the fingerprint `before` are taken over, where that is another one.
+    /// `None` says that one of these numbers does not fit.
+    pub fn of(program: Program, lines: u64, fuel: u64, before: Option<u64>) -> Option<ProgramObject>
+        ensures { let version = prints.fingerprint (words_of program) (length (code_of program)) fuel in MatchOption result (spec.fits lines fuel version before ≡ false)
+            (λ o. (o.program ≡ program) × (o.lines ≡ lines) × (o.fuel ≡ fuel) × (o.before ≡ before) × (o.version ≡ version)) }
+    {
+        let version = fingerprint(program.words(), program.code().len() as u64, fuel);
+        if fits(lines, fuel, version, before) {
+            Some(ProgramObject {
+                lines,
+                version,
+                fuel,
+                before,
+                program,
+            })
+        } else {
+            None
+        }
+    }
+
+    /// The fingerprint that its images begin with.
+    pub fn fingerprint(&self) -> u64
+        ensures { result ≡ self.now.version }
+    {
+        self.version
+    }
+}
+
+fn fits(lines: u64, fuel: u64, version: u64, before: Option<u64>) -> bool
+    ensures { result ≡ spec.fits lines fuel version before }
+{
+    lines >= 1 && lines <= 1 << 26 && fuel <= 1 << 20 && is_other(before, version)
+}
+
+fn is_other(before: Option<u64>, version: u64) -> bool
+    ensures { result ≡ spec.is_other before version }
+{
+    match before {
+        None => true,
+        Some(old) => old != version,
+    }
+}
+
+/// Whether words are an image of this number of lines and of the program with this fingerprint.
+fn is_image(words: &[u64], lines: u64, version: u64) -> bool
+    requires some { 1 ≤ lines }
+    requires few { lines ≤ 2 ^ 26 }
+    ensures { IsTrue result ↔ spec.IsImage lines version words.now }
+{
+    words.len() as u64 == 8 * lines && words[0] == version
+}
+
+/// The machine as a run begins.
+#[tactic(auto, unfolding(crate::specs::Meaning::start))]
+fn started(lines: u64) -> Machine
+    requires some { 1 ≤ lines }
+    requires few { lines ≤ 2 ^ 26 }
+    ensures { result ≡ spec.start lines 0 }
+{
+    Machine {
+        registers: [
+            0,
+            2 << 32,
+            3 << 32,
+            1 << 32,
+            64 * (lines - 1),
+            0,
+            0,
+            0,
+            0,
+            0,
+            (4 << 32) + 4096,
+            0,
+            0,
+            0,
+            0,
+            0,
+        ],
+        at: 0,
+        depth: 0,
+        frames: [0; 48],
+        stack: [0; 512],
+        reply: [0; OP_WORDS],
+    }
+}
+
+fn fault_number(kind: RunFault) -> u64
+    ensures { result ≡ spec.fault_number kind }
+{
+    match kind {
+        RunFault::Address => 2,
+        RunFault::Alignment => 3,
+        RunFault::ReadOnly => 4,
+        RunFault::Stores => 5,
+        RunFault::Fuel => 6,
+        RunFault::Depth => 7,
+        RunFault::Place => 8,
+    }
+}
+
+/// The reply of a run that returned a value.
+fn returned(value: u64, reply: &OpWords) -> OpWords
+    ensures { result ≡ spec.returned value reply.now }
+{
+    let mut words = *reply;
+    words[0] = 1;
+    words[1] = value;
+    words
+}
+
+/// The reply of a run that a fault ended.
+#[tactic(auto, unfolding(crate::specs::Meaning::faulted))]
+fn faulted(kind: RunFault, at: u64, address: u64) -> OpWords
+    ensures { result ≡ spec.faulted (spec.fault_number kind) at address }
+{
+    let mut words = [0; OP_WORDS];
+    words[0] = fault_number(kind);
+    words[1] = at;
+    words[2] = address;
+    words
+}
+
+impl Object for ProgramObject {
+    ghost line_count = { λ o. o.lines };
+
+    ghost version_number = { λ o. o.version };
+
+    ghost lawful = { λ o. spec.IsImage o.lines o.version };
+
+    ghost opening = { λ o. spec.opening o.lines o.version };
+
+    ghost step = { λ o. spec.program_step (code_of o.program) (words_of o.program) o.lines o.fuel };
+
+    ghost only_reads = { λ _. spec.reads };
+
+    ghost old_format = { λ o. spec.old_of o.lines o.version o.before };
+
+    ghost opens = { λ o. laws.opens o.lines o.version o.some o.small };
+
+    ghost keeps = { λ o. laws.keeps (code_of o.program) (words_of o.program) o.lines o.version o.fuel };
+
+    ghost shape = { λ o. laws.shape o.lines o.version };
+
+    ghost replies = { λ o. laws.replies (code_of o.program) (words_of o.program) o.lines o.version o.fuel };
+
+    ghost leaves = { λ o. laws.leaves (code_of o.program) (words_of o.program) o.lines o.version o.fuel };
+
+    ghost takes_over = { λ o. laws.takes_over o.lines o.version o.before o.some o.small o.other };
+
+    fn lines(&self) -> u64 {
+        self.lines
+    }
+
+    fn version(&self) -> u64 {
+        self.version
+    }
+
+    fn format<M: Memory>(&self, mem: &mut M) -> Result<(), Halt> {
+        mem.store(0, self.version)?;
+        for at in 1..8 * self.lines {
+            mem.store(at, 0)?;
+        }
+        Ok(())
+    }
+
+    fn reads(&self, op: &OpWords) -> bool {
+        op[0] % 2 == 1
+    }
+
+    fn run_into<M: Memory>(
+        &self,
+        mem: &mut M,
+        op: &OpWords,
+        reply: &mut OpWords,
+    ) -> Result<(), Halt> {
+        let writes = !self.reads(op);
+        let words = 8 * self.lines;
+        let mut machine = started(self.lines);
+        let mut undo = Undo::none();
+        match to_end(
+            self.program.code(),
+            self.program.words(),
+            words,
+            op,
+            writes,
+            self.fuel,
+            mem,
+            &mut machine,
+            &mut undo,
+        )? {
+            End::Returned(value) => *reply = returned(value, &machine.reply),
+            End::Fault { kind, at, address } => {
+                undo_all(mem, words, &undo)?;
+                *reply = faulted(kind, at, address);
+            }
+        }
+        Ok(())
+    }
+
+    fn query_into<M: Memory>(
+        &self,
+        mem: &mut M,
+        op: &OpWords,
+        reply: &mut OpWords,
+    ) -> Result<(), Halt> {
+        let words = 8 * self.lines;
+        let mut machine = started(self.lines);
+        let mut undo = Undo::none();
+        match to_end(
+            self.program.code(),
+            self.program.words(),
+            words,
+            op,
+            false,
+            self.fuel,
+            mem,
+            &mut machine,
+            &mut undo,
+        )? {
+            End::Returned(value) => *reply = returned(value, &machine.reply),
+            End::Fault { kind, at, address } => *reply = faulted(kind, at, address),
+        }
+        Ok(())
+    }
+
+    fn check(&self, _alloc: Global, words: &[u64]) -> Result<bool, AllocError> {
+        Ok(is_image(words, self.lines, self.version))
+    }
+
+    fn old_version(&self) -> Option<u64> {
+        self.before
+    }
+
+    fn check_old(&self, _alloc: Global, words: &[u64]) -> Result<bool, AllocError> {
+        match self.before {
+            None => Ok(false),
+            Some(old) => Ok(is_image(words, self.lines, old)),
+        }
+    }
+
+    fn upgrade(&self, words: &mut [u64]) {
+        match self.before {
+            None => {}
+            Some(_) => words[0] = self.version,
+        }
+    }
+}

@@ -1,0 +1,150 @@
+"""Tests of the second interpreter of programs, of the linker, and of tools/program."""
+import itertools
+import shutil
+import struct
+import subprocess
+import tempfile
+import unittest
+from pathlib import Path
+
+import bpf_model
+
+TOOLS = Path(__file__).resolve().parent.parent
+ROOT = TOOLS.parent
+EXIT = 0x95
+# the text of the standard, in its words: what an opcode makes of two numbers; the offset is the third one
+VALUES = [
+    (0x0F, 0, 2**64 - 1, 2, 1),
+    (0x0C, 0, 2**64 - 1, 2, 1),
+    (0x0C, 0, 2**32 - 1, 1, 0),
+    (0x1F, 0, 1, 2, 2**64 - 1),
+    (0x1C, 0, 1, 2, 2**32 - 1),
+    (0x2F, 0, 2**63, 2, 0),
+    (0x3F, 0, 7, 0, 0),
+    (0x3C, 0, 7, 0, 0),
+    (0x3F, 1, 2**64 - 7, 2, 2**64 - 3),
+    (0x3F, 1, 2**63, 2**64 - 1, 2**63),
+    (0x3C, 1, 2**31, 2**32 - 1, 2**31),
+    (0x3F, 1, 2**64 - 7, 0, 0),
+    (0x9F, 0, 7, 0, 7),
+    (0x9C, 0, 2**40 + 7, 0, 7),
+    (0x9F, 1, 2**64 - 7, 2, 2**64 - 1),
+    (0x9F, 1, 7, 2**64 - 2, 1),
+    (0x9F, 1, 2**63, 2**64 - 1, 0),
+    (0x9C, 1, 2**32 - 13, 3, 2**32 - 1),
+    (0x6F, 0, 1, 64, 1),
+    (0x6F, 0, 1, 65, 2),
+    (0x6C, 0, 1, 32, 1),
+    (0x6C, 0, 2**31, 1, 0),
+    (0x7F, 0, 2**63, 127, 1),
+    (0x7C, 0, 2**32, 0, 0),
+    (0xCF, 0, 2**63, 63, 2**64 - 1),
+    (0xCC, 0, 2**31, 31, 2**32 - 1),
+    (0x87, 0, 1, 0, 2**64 - 1),
+    (0x84, 0, 1, 0, 2**32 - 1),
+    (0xBF, 8, 0, 0x80, 2**64 - 128),
+    (0xBF, 16, 0, 0x8000, 2**64 - 2**15),
+    (0xBF, 32, 0, 2**31, 2**64 - 2**31),
+    (0xBC, 8, 0, 0x80, 2**32 - 128),
+    (0xBC, 16, 0, 0x7FFF, 0x7FFF),
+]
+ORDERS = [
+    (0xD4, 16, 0x0123456789ABCDEF, 0xCDEF),
+    (0xD4, 32, 0x0123456789ABCDEF, 0x89ABCDEF),
+    (0xD4, 64, 0x0123456789ABCDEF, 0x0123456789ABCDEF),
+    (0xDC, 16, 0x0123456789ABCDEF, 0xEFCD),
+    (0xDC, 32, 0x0123456789ABCDEF, 0xEFCDAB89),
+    (0xDC, 64, 0x0123456789ABCDEF, 0xEFCDAB8967452301),
+    (0xD7, 16, 0x0123456789ABCDEF, 0xEFCD),
+    (0xD7, 32, 0x0123456789ABCDEF, 0xEFCDAB89),
+    (0xD7, 64, 0x0123456789ABCDEF, 0xEFCDAB8967452301),
+]
+# a jump's opcode and two numbers between which it is taken
+TAKEN = [
+    (0x1D, 5, 5, True), (0x1E, 2**32 + 5, 5, True), (0x5D, 5, 5, False), (0x2D, 2**63, 1, True), (0x6D, 2**63, 1, False), (0x66, 0, 0, False),
+    (0x6E, 2**31, 1, False), (0xAD, 1, 2**63, True), (0xCD, 1, 2**63, False), (0xCE, 2**31, 1, True), (0xBD, 5, 5, True), (0xDD, 5, 5, True),
+    (0x4D, 6, 1, False), (0x4D, 6, 2, True), (0x4E, 2**32, 2**32, False), (0x3D, 5, 5, True), (0x7D, 2**64 - 1, 0, False),
+]
+REFUSED = [
+    ("static uint64_t calls; GITHOPPU_RUN { return ++calls; }", ".bss has 8 bytes, a variable outside functions: keep it in the state"),
+    ("uint64_t other(void); GITHOPPU_RUN { return other(); }", "other is of another file"),
+    ("uint64_t run(void) { return 1; }", "there is no function githoppu_run"),
+    ("GITHOPPU_RUN { return (uint64_t)((double)request[1] * 2); }", "clang refuses it"),
+]
+
+
+def word(opcode, to=0, source=0, offset=0, number=0):
+    """A word of these fields."""
+    return struct.unpack("<Q", struct.pack("<BBhi", opcode, to | source << 4, offset, number))[0]
+
+
+def returned(one, first, second):
+    """What register 1 has after a word, or 7 where it jumped."""
+    program = bpf_model.Object(bpf_model.around(one, first, second), 9, 4, 100)
+    return program.call([2])[1]
+
+
+def tool(*words):
+    """Runs tools/program."""
+    return subprocess.run([TOOLS / "program", *words], text=True, capture_output=True, check=False)
+
+
+class Interpreter(unittest.TestCase):
+    def test_values_are_the_standards(self):
+        for opcode, offset, first, second, value in VALUES:
+            by_register = opcode not in (0x87, 0x84)
+            with self.subTest(opcode=hex(opcode), offset=offset):
+                self.assertEqual(value, returned(word(opcode, 1, 2 if by_register else 0, offset), first, second))
+        for opcode, bits, first, value in ORDERS:
+            with self.subTest(opcode=hex(opcode), bits=bits):
+                self.assertEqual(value, returned(word(opcode, 1, 0, 0, bits), first, 0))
+
+    def test_jumps_are_the_standards(self):
+        for opcode, first, second, is_taken in TAKEN:
+            by_register = opcode & 8
+            with self.subTest(opcode=hex(opcode), first=first, second=second):
+                got = returned(word(opcode, 1, 2 if by_register else 0, 2), first, second)
+                self.assertEqual(7 if is_taken else first, got)
+
+    def test_the_crates_answers_are_the_interpreters(self):
+        shown = (ROOT / "crates" / "object_tests" / "stdout").read_text(encoding="utf-8").splitlines()
+        wanted = list(itertools.chain(bpf_model.lines(every=23)))
+        self.assertEqual(len(wanted), len(shown))
+        for one, other in zip(wanted, shown):
+            if one is not None:
+                self.assertEqual(one, other)
+
+
+@unittest.skipUnless(shutil.which("clang") and shutil.which("cc"), "there is no clang")
+class Programs(unittest.TestCase):
+    def test_examples_run_as_they_do_natively(self):
+        for path in sorted((ROOT / "examples" / "programs").glob("*.c")):
+            with self.subTest(path.name):
+                done = tool(path, "--test", "--count", "300")
+                self.assertEqual((0, ""), (done.returncode, done.stderr))
+                self.assertIn("are the same natively and interpreted", done.stdout)
+
+    def test_what_is_no_program_is_refused_in_words(self):
+        for text, reason in REFUSED:
+            with self.subTest(reason), tempfile.TemporaryDirectory() as folder:
+                source = Path(folder) / "wrong.c"
+                source.write_text(f'#include "githoppu_program.h"\n{text}\n', encoding="utf-8")
+                done = tool(source)
+                self.assertEqual(1, done.returncode)
+                self.assertIn(reason, done.stderr)
+
+    def test_a_fault_names_its_line(self):
+        with tempfile.TemporaryDirectory() as folder:
+            source = Path(folder) / "wild.c"
+            source.write_text('#include "githoppu_program.h"\nGITHOPPU_RUN {\n    uint64_t *p = state;\n    p[request[1]] = 5;\n    return 1;\n}\n', encoding="utf-8")
+            done = tool(source, "--run", "2", "0")
+            self.assertEqual((0, ""), (done.returncode, done.stderr))
+            done = tool(source, "--run", "2", "1000000000000")
+            self.assertEqual(1, done.returncode)
+            self.assertIn("an address that is no place", done.stderr)
+            if shutil.which("llvm-objdump"):
+                self.assertIn("wild.c:4", done.stderr)
+
+
+if __name__ == "__main__":
+    unittest.main()
