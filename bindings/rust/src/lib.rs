@@ -141,7 +141,7 @@ impl fmt::Display for Error {
             Error::ImageRoot => f.write_str("the root's place is above 2^40"),
             Error::ImageVersion => f.write_str("the object's version is not known"),
             Error::ImagePlace => f.write_str("the replica's place is not the root's"),
-            Error::ImageBody => f.write_str("the replica is none that the library writes"),
+            Error::ImageBody => f.write_str("the image's results or contents are not valid"),
             Error::ImageNumbers => f.write_str("a result has a number above the place"),
             Error::Unknown(status) => write!(f, "the library answered {status}"),
         }
@@ -209,7 +209,7 @@ impl Closed {
     }
 }
 
-/// The words of an image. Any words can be made one; what is none is refused where it is recovered.
+/// The words of an image. Any words can be made one; words that are not an image are refused where they are recovered.
 #[derive(Clone, Debug, PartialEq, Eq)]
 pub struct Image(Vec<u64>);
 
