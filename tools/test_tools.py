@@ -55,6 +55,7 @@ from image_tests import ImageExplanations, ProgramOnImages, ReadImages, usage
 from install_tests import Installs
 from name_tests import Names, SourceItems
 from number_tests import HouseNumbers
+from page_code_tests import PageCode
 from picture_tests import Pictures
 from plain_core import Core
 from pool_tests import PoolTexts, ProgramOnPools, pool_rows

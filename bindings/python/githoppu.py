@@ -281,7 +281,7 @@ class Stale(Error):
 
 class FileFault(Error):
     """A save or a load of a file, by the status; where a call of the system failed, `__cause__` is what it said. After a status of a save other than
-    FOLDER_NOT_SYNCED the path has the file that it had before.
+    FOLDER_NOT_SYNCED the path is as it was.
 
     >>> Store.load("/no such file")
     Traceback (most recent call last):

@@ -12,7 +12,7 @@ const NAME: &[u8; 8] = b"githfile";
 const FORMAT: u64 = 1;
 const HEAD: usize = 32;
 
-/// Why a file is not saved or not loaded. After a fault of a save other than `FolderNotSynced` the path has the file that it had before.
+/// Why a file is not saved or not loaded. After a fault of a save other than `FolderNotSynced` the path is as it was.
 #[derive(Debug)]
 pub enum FileError {
     /// A load: the file cannot be opened, or it is no regular file.
