@@ -347,7 +347,7 @@ static inline int githoppu_save_words(const char *path, const uint64_t *words, s
     return status;
 }
 
-/* Room for so many words, which the caller frees; null where there is no memory. */
+/* Room for this number of words, which the caller frees; null where there is no memory. */
 static inline uint64_t *githoppu_room(uint64_t count) { return count > SIZE_MAX / 8 ? NULL : (uint64_t *)malloc((size_t)(8 * count)); }
 
 /* Saves the words that a call wrote at this status, and frees them. */

@@ -19,8 +19,8 @@ enum {
     MOST_READERS = 7,
     WORDS_BYTES = 1728,    /* the most that packed writes: a zero between any two bytes costs two */
     WHY = 512,
-    SUBMITTED = 1024,      /* with so many in the queue a submit waits for its own update */
-    WAL_PAGES = 1000,      /* SQLite's own log goes into the file when it has so many pages */
+    SUBMITTED = 1024,      /* with this number in the queue a submit waits for its own update */
+    WAL_PAGES = 1000,      /* SQLite's own log goes into the file when it has this number of pages */
     FORMAT = 1,
     APPLICATION = 0x47697468 /* "Gith", in the head of the file */
 };

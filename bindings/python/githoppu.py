@@ -996,7 +996,7 @@ class _Shared(Generic[S]):
 
     @classmethod
     def recover(cls: Type[T], image: Image, sessions: int = 1) -> T:
-        """Opens it from an image, with so many sessions, more or fewer than the image is of."""
+        """Opens it from an image, with this number of sessions, more or fewer than the image is of."""
         words, made = image._words(), cls.__new__(cls)
         made._sessions = cls._made(sessions, lambda slots: getattr(_library, cls._recover)(words, len(image), slots, sessions))
         return made

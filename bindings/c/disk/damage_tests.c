@@ -18,7 +18,7 @@ static unsigned char *file_bytes, *wal_bytes;
 static size_t file_length, wal_length;
 static int refused, same, older;
 
-/* What a store of so many updates has, as a number: all documents and outcomes. */
+/* What a store has after this number of updates, as one number: all documents and outcomes. */
 static uint64_t print_of(githoppu_store *s) {
     githoppu_words reply;
     uint64_t print = githoppu_store_place(s), number;

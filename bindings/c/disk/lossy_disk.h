@@ -21,7 +21,7 @@ void lossy_power_fails_after(long calls, const char *into);
 /* The power fails now. */
 void lossy_power_fails(const char *into);
 
-/* After so many bytes more the disk is full; -1: never. */
+/* The bytes after which the disk is full; -1: never. */
 void lossy_full_after(long bytes);
 
 /* A write of a file fails with this error: the nth from now on, 0 for none. */

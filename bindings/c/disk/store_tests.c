@@ -566,7 +566,7 @@ static void no_permission(void) {
     }
     CHECK(waitpid(child, &status, 0) == child && WIFEXITED(status));
     if (WEXITSTATUS(status) == 4)
-        fprintf(stderr, "store_tests: no permission was not tried: another user does not come to %s\n", all);
+        fprintf(stderr, "store_tests: no permission was not tried: another user cannot reach %s\n", all);
     else
         CHECK(WEXITSTATUS(status) == 0);
     CHECK(chmod(all, 0755) == 0 && chmod(path, 0000) == 0);

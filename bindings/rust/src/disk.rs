@@ -63,7 +63,7 @@ pub struct Options {
     /// How long a leader waits at most for the clients that were answered last and are not back yet, so that more updates share a sync, in whole
     /// microseconds. 300 are worth it from four clients on.
     pub gather: Duration,
-    /// A checkpoint is made after so many updates.
+    /// A checkpoint is made after this number of updates.
     pub checkpoint_every: u64,
     /// A file that was saved (`Session::save`), with whose state a new store begins. Of a store that is there it is not looked at.
     pub saved: Option<PathBuf>,
