@@ -1,1 +1,10 @@
+mod Images
+mod KnownCells
+mod Linking
+mod OpeningCells
+mod PuttingDown
 mod Reading
+mod Settling
+mod Steps
+mod Storing
+mod Updating

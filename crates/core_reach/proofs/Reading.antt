@@ -1,18 +1,19 @@
--- A run of four steps by which a read is answered.
-use Rattle.std.proofs.Common.{◌≡◌, ◌∙◌, ◌+◌, ◌*◌, ◌<◌, ◌==◌, inl, inr, ℕ, zero, suc, Bool, true, false, List, [], ◌∷◌, Some, length, set, slice_index, ap, refl, sym, subst, arith}
+-- A run by which a read is answered: four steps of a caller that holds no replica.
+use Rattle.std.proofs.Common.{◌≡◌, ◌∙◌, ◌+◌, ◌*◌, ◌<◌, ◌==◌, inl, inr, ℕ, zero, suc, Bool, true, false, List, [], ◌∷◌, ◌++◌, Some, length, slice_index, ap, refl, sym, subst, arith}
 use Rattle.std.proofs.lemmas.Bool.{eq-eqb, lt-ltb}
 use Rattle.std.proofs.lemmas.List.{get_or-set_other, get_or-set_same}
 use Rattle.std.proofs.lemmas.Nat.{mod_below}
-use Rattle.std.proofs.lemmas.Option.{slice_get_within}
 use Rattle.std.specs.List.{Contains, slice_get}
 use Rattle.std.specs.Prelude.{IsTrue, if◌then◌else◌}
-use Rattle.core_reach.specs.Reaching.{ReachesRead}
-use Rattle.core_runs.proofs.Keeps.{run_kept}
+use Rattle.core_reach.proofs.Settling.{settles}
+use Rattle.core_reach.proofs.Steps.{event, keeps, made, makes, run_on, there}
+use Rattle.core_reach.specs.Reaching.{ReachesRead, history_in}
 use Rattle.cx_base.specs.Codes.{root_place_of, root_replica_of}
 use Rattle.cx_base.specs.Memory.{Words}
-use Rattle.cx_core.proofs.ListLemmas.{slice_get-set_same}
+use Rattle.cx_core.proofs.Locals.{slice_get-last}
+use Rattle.cx_core.proofs.MergeLemmas.{history_is}
 use Rattle.cx_core.proofs.Sums.{on_most, on_same, total_most, total_parts}
-use Rattle.cx_core.specs.Events.{Guard, Makes, local_after, words_after}
+use Rattle.cx_core.specs.Events.{Guard, Makes}
 use Rattle.cx_core.specs.Free.{HoldsNone}
 use Rattle.cx_core.specs.Lawful.{Lawful}
 use Rattle.cx_core.specs.LawfulLocks.{pin, total}
@@ -22,30 +23,15 @@ use Rattle.cx_core.specs.LockEvents.{exclusive_mark, passing, shared_by}
 use Rattle.cx_core.specs.Merge.{scene_of}
 use Rattle.cx_core.specs.RegionEvents.{loaded_by}
 use Rattle.cx_core.specs.Rights.{claims, downgraded_on, holds, is_on, shared_on, won_on}
-use Rattle.cx_core.specs.RootEvents.{loaded_cur, raised_by}
+use Rattle.cx_core.specs.RootEvents.{answers_below, loaded_cur, raised_by, reply_after, unanswered}
 use Rattle.cx_core.specs.State.{Instance, State}
-use Rattle.cx_core.specs.declared.kinds.Event.{Event}
+use Rattle.cx_core.specs.declared.entry.Entry.{Entry}
 use Rattle.cx_core.specs.declared.kinds.Kind.{Kind}
 use Rattle.cx_core.specs.declared.kinds.Kind.TheVariants.{LoadCur, LoadWord, Raise, TryShared}
 use Rattle.cx_core.specs.declared.local.Local.{Local}
+use Rattle.cx_core.specs.declared.local.SeenRead.{SeenRead}
 
 module _ (instance : Instance) (caller : ℕ) where
-  -- one step of the caller
-  abbrev event : Kind → Event
-  event kind = record { caller = caller; kind = kind }
-
-  abbrev made : State → Local → Kind → State
-  made s l kind = record { words = words_after instance kind l s.words; locals = set s.locals caller (local_after instance (scene_of instance s) kind l) }
-
-  makes : (s : State) (l : Local) (kind : Kind) → slice_get s.locals caller ≡ Some l → Guard instance (scene_of instance s) kind l → Makes instance (event kind) s (made s l kind)
-  makes s l kind at guard = record { local = l; of_caller = at; guard = guard; words = refl; locals = refl }
-
-  there : (s : State) (l : Local) (kind : Kind) → slice_get s.locals caller ≡ Some l → slice_get (made s l kind).locals caller ≡ Some (local_after instance (scene_of instance s) kind l)
-  there s l kind at = slice_get-set_same s.locals caller (local_after instance (scene_of instance s) kind l) (slice_get_within s.locals caller l at)
-
-  keeps : (s : State) (l : Local) (kind : Kind) → Lawful instance s → Makes instance (event kind) s (made s l kind) → Lawful instance (made s l kind)
-  keeps s l kind law makes_it = run_kept instance s (event kind ∷ []) (made s l kind) law (made s l kind, makes_it, refl)
-
   -- a replica that is pinned is not held exclusively: its lock word has no exclusive mark
   pinned_free : (s : State) → Lawful instance s → (r : ℕ) → r < 2 * instance.callers → pin instance.callers r (slice_index s.words cur_at) ≡ 1 → slice_index s.words (lock_at instance.callers r) < exclusive_mark
   pinned_free s law r small pinned =
@@ -161,14 +147,52 @@ module _ (instance : Instance) (s : State) (caller : ℕ) (l : Local) (op : List
   makes4 : Makes instance (event instance caller kind4) s3 s4
   makes4 = makes instance caller s3 l3 kind4 there3 (inl refl, (reads, refl, refl, (refl, shows (r == r) (eq-eqb r r refl)), op_words))
 
-  pub reaches_read : ReachesRead instance s caller l op
-  reaches_read = record {
+  law4 : Lawful instance s4
+  law4 = keeps instance caller s3 l3 kind4 (keeps instance caller s2 l2 (LoadWord r 0 false) law2 makes3) makes4
+
+  abbrev l4 : Local
+  l4 = raised_by instance (scene_of instance s3) cur (Some op) l3
+
+  there4 : slice_get s4.locals caller ≡ Some l4
+  there4 = there instance caller s3 l3 kind4 there3
+
+  abbrev read : SeenRead
+  read = record { place = root_place_of callers cur; op = op; reply = reply_after instance (history_in instance s3) (root_place_of callers cur) op; before = length l3.answered + length (answers_below instance (history_in instance s3) (root_place_of callers cur) (unanswered l3)) }
+
+  -- the reply is that of the history that the state after it has
+  replied : read.reply ≡ reply_after instance (history_in instance s4) read.place op
+  replied =
+      ((law4.answers.each caller l4 there4).reads (length l.seen_reads) read (slice_get-last l.seen_reads read)).reply
+      ∙ ap (λ (h : List Entry). reply_after instance h read.place op) (sym (history_is instance.base.place law4.history s4.locals law4.tickets.merged))
+
+  reads_at_rest : ReachesRead instance s caller l op
+  reads_at_rest = record {
     events = event instance caller LoadCur ∷ event instance caller (TryShared r) ∷ event instance caller (LoadWord r 0 false) ∷ event instance caller kind4 ∷ [];
     to = s4;
     ran = (s1, makes1, (s2, makes2, (s3, makes3, (s4, makes4, refl))));
-    after = raised_by instance (scene_of instance s3) cur (Some op) l3;
-    of_caller = there instance caller s3 l3 kind4 there3;
-    read = _;
+    after = l4;
+    of_caller = there4;
+    read = read;
     op_is = refl;
+    reply = replied;
     reads = refl;
   }
+
+-- whatever the caller holds, which it puts down first
+pub reaches_read : (instance : Instance) (s : State) (caller : ℕ) (l : Local) (op : List ℕ) → Lawful instance s → slice_get s.locals caller ≡ Some l → 0 < length instance.base.words →
+    IsTrue (instance.reads op) → Words 144 op → ReachesRead instance s caller l op
+reaches_read instance s caller l op law at some reads op_words =
+    let history = history_in instance s in
+    let first = settles instance caller history s l (record { law = law; at = at; told = refl }) some in
+    let then_ = reads_at_rest instance first.to caller first.after op first.here.law first.here.at first.holds.rests some reads op_words in
+    record {
+      events = first.events ++ then_.events;
+      to = then_.to;
+      ran = run_on instance s first.to then_.to first.events then_.events first.ran then_.ran;
+      after = then_.after;
+      of_caller = then_.of_caller;
+      read = then_.read;
+      op_is = then_.op_is;
+      reply = then_.reply;
+      reads = then_.reads ∙ ap (λ (xs : List SeenRead). xs ++ then_.read ∷ []) first.holds.same.reads;
+    }

@@ -2,13 +2,12 @@
 
 ghost use Rattle.std.specs.Prelude.{◌≡◌, ◌<◌, ℕ, List, IsTrue, Some, length, slice_get};
 ghost use Rattle.core_reach.specs.Reaching.{AreOpWords, ReachesRead};
-ghost use Rattle.cx_core.specs.Free.{HoldsNone};
 ghost use Rattle.cx_core.specs.Lawful.{Lawful};
 ghost use Rattle.cx_core.specs.State.{Instance, State};
 
-/// From each lawful state in which a caller holds no replica, some run answers a read of it, of the words of any operation that only reads: CUR is
-/// loaded, its replica taken shared, the place there looked at, and DUR raised by the code found.
+/// From each lawful state, whatever the callers hold, some run answers a read of a caller, of the words of any operation that only reads. The caller puts
+/// down what it holds, as for an update. Then CUR is loaded, its replica taken shared, the place there looked at, and DUR raised by the code found.
 pub fn reads_can_be_answered()
-    ensures { (instance : Instance) (s : State) (caller : ℕ) (l : _) (op : List ℕ) → Lawful instance s → slice_get s.locals caller ≡ Some l → HoldsNone l →
+    ensures { (instance : Instance) (s : State) (caller : ℕ) (l : _) (op : List ℕ) → Lawful instance s → slice_get s.locals caller ≡ Some l →
         0 < length instance.base.words → IsTrue (instance.reads op) → AreOpWords op → ReachesRead instance s caller l op }
 {}

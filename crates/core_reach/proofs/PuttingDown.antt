@@ -1,0 +1,173 @@
+-- A caller puts down what it holds: a shared right, a passer's mark, a downgraded right and a win. An exclusive right stays.
+use Rattle.std.proofs.Common.{◌≡◌, ◌∙◌, ◌*◌, ◌<◌, ◌≤◌, ◌⊎◌, inl, inr, ℕ, Bool, max, cond, List, Option, None, Some, ap, refl, sym, subst, arith, option_map}
+use Rattle.std.proofs.lemmas.Bool.{eq-eqb}
+use Rattle.std.proofs.lemmas.List.{append-nil}
+use Rattle.core_reach.proofs.Steps.{Here, Reached, andthen, made, stay, step, stepped}
+use Rattle.core_replica.proofs.Unheld.{downgraded_one}
+use Rattle.cx_core.proofs.Claims.{shared_one}
+use Rattle.cx_core.proofs.Sums.{on_same}
+use Rattle.cx_core.specs.Events.{Guard}
+use Rattle.cx_core.specs.LockEvents.{backed_off}
+use Rattle.cx_core.specs.Merge.{scene_of}
+use Rattle.cx_core.specs.Rights.{is_at, is_on, rights_on}
+use Rattle.cx_core.specs.RootEvents.{CanRetire, IsWonCode, raised_by}
+use Rattle.cx_core.specs.State.{Instance, State, one_more}
+use Rattle.cx_core.specs.declared.entry.Entry.{Entry}
+use Rattle.cx_core.specs.declared.kinds.Kind.{Kind}
+use Rattle.cx_core.specs.declared.kinds.Kind.TheVariants.{BackOff, Raise, Retire}
+use Rattle.cx_core.specs.declared.local.HeldDowngraded.{HeldDowngraded}
+use Rattle.cx_core.specs.declared.local.HeldShared.{HeldShared}
+use Rattle.cx_core.specs.declared.local.Local.{Local}
+
+-- a caller with the entries, the cells and the reads of another local state
+pub record Same (l l' : Local) : Type 0 where
+  pub own : l'.own ≡ l.own
+  pub cells : l'.cells ≡ l.cells
+  pub reads : l'.seen_reads ≡ l.seen_reads
+
+-- of its shared right, its passer's mark, its downgraded right and its win the first n are put down
+pub record PutDown (n : ℕ) (l l' : Local) : Type 0 where
+  pub same : Same l l'
+  pub shared : 0 < n → l'.shared ≡ None
+  pub passer : 1 < n → l'.passer ≡ None
+  pub downgraded : 2 < n → l'.downgraded ≡ None
+  pub won : 3 < n → l'.won ≡ None
+
+pub option_cases : {X : Type 0} (o : Option X) → (o ≡ None) ⊎ ((x : X) × (o ≡ Some x))
+option_cases None = inl refl
+option_cases (Some x) = inr (x, refl)
+
+-- the local states after backing off
+abbrev unshared : Local → Local
+unshared l = record l { shared = None; steps = one_more l.steps }
+
+abbrev unpassed : Local → Local
+unpassed l = record l { passer = None; steps = one_more l.steps }
+
+abbrev ungiven : Local → Local
+ungiven l = record l { downgraded = None; steps = one_more l.steps }
+
+abbrev shared_at : ℕ → Option HeldShared → Bool
+shared_at r o = is_at r (option_map (λ (h : HeldShared). h.replica) o)
+
+-- with no shared right and no passer's mark it is the downgraded right that ends
+pub backed_off_given : (l : Local) (r : ℕ) → l.shared ≡ None → l.passer ≡ None → backed_off r l ≡ record l { downgraded = None; steps = one_more l.steps }
+backed_off_given l r shared passer =
+    ap (λ (o : Option HeldShared). cond (shared_at r o) (unshared l) (cond (is_at r l.passer) (unpassed l) (ungiven l))) shared
+    ∙ ap (λ (o : Option ℕ). cond (is_at r o) (unpassed l) (ungiven l)) passer
+
+module _ (instance : Instance) (caller : ℕ) (history : List Entry) (l0 : Local) (s : State) (l : Local) (here : Here instance caller history s l) where
+  -- a caller's right is on a replica that there is
+  below : (r : ℕ) → 0 < rights_on instance.callers r l → r < 2 * instance.callers
+  below r some = (here.law.locks.few caller l here.at).below r some
+
+  -- it backs off from a replica
+  back_off : (r : ℕ) (n : ℕ) (l' : Local) → Guard instance (scene_of instance s) (BackOff r) l → backed_off r l ≡ l' → l'.own ≡ l.own → PutDown n l0 l' →
+      Reached instance caller history s (λ _ l'. PutDown n l0 l')
+  back_off r n l' can is own down =
+      step instance caller s l (BackOff r) history history here can (stay instance caller _ l' history (stepped instance caller s l l' (BackOff r) history here can is own) down)
+
+  put_shared : PutDown 0 l0 l → Reached instance caller history s (λ _ l'. PutDown 1 l0 l')
+  put_shared down =
+      let then_ = λ (l' : Local) (same : Same l0 l') (none : l'.shared ≡ None). (let d : PutDown 1 l0 l' = record {
+        same = same;
+        shared = λ _. none;
+        passer = λ less. absurd (omega arith);
+        downgraded = λ less. absurd (omega arith);
+        won = λ less. absurd (omega arith);
+      } in d) in
+      elim (option_cases l.shared) [
+        | inl none ↦ stay instance caller s l history here (then_ l down.same none)
+        | inr held ↦ (
+            let r = held.0.replica in
+            let one = shared_one l held.0 held.1 in
+            let rest = cond (is_at r l.passer) (unpassed l) (ungiven l) in
+            back_off r 1 (unshared l) (below r (omega arith), inl (ap (option_map (λ (h : HeldShared). h.replica)) held.1))
+            (ap (λ (o : Option HeldShared). cond (shared_at r o) (unshared l) rest) held.1 ∙ ap (λ b. cond b (unshared l) rest) (eq-eqb r r refl)) refl
+            (then_ (unshared l) (record { own = down.same.own; cells = down.same.cells; reads = down.same.reads }) refl))
+      ]
+
+  put_passer : PutDown 1 l0 l → Reached instance caller history s (λ _ l'. PutDown 2 l0 l')
+  put_passer down =
+      let none = down.shared (omega arith) in
+      let then_ = λ (l' : Local) (same : Same l0 l') (shared : l'.shared ≡ None) (passer : l'.passer ≡ None). (let d : PutDown 2 l0 l' = record {
+        same = same;
+        shared = λ _. shared;
+        passer = λ _. passer;
+        downgraded = λ less. absurd (omega arith);
+        won = λ less. absurd (omega arith);
+      } in d) in
+      elim (option_cases l.passer) [
+        | inl passer ↦ stay instance caller s l history here (then_ l down.same none passer)
+        | inr held ↦ (
+            let r = held.0 in
+            let one : is_on r l.passer ≡ 1 = ap (is_on r) held.1 ∙ on_same r r refl in
+            back_off r 2 (unpassed l) (below r (omega arith), inr (inl held.1))
+            (ap (λ (o : Option HeldShared). cond (shared_at r o) (unshared l) (cond (is_at r l.passer) (unpassed l) (ungiven l))) none
+            ∙ ap (λ (o : Option ℕ). cond (is_at r o) (unpassed l) (ungiven l)) held.1
+            ∙ ap (λ b. cond b (unpassed l) (ungiven l)) (eq-eqb r r refl)) refl
+            (then_ (unpassed l) (record { own = down.same.own; cells = down.same.cells; reads = down.same.reads }) none refl))
+      ]
+
+  put_downgraded : PutDown 2 l0 l → Reached instance caller history s (λ _ l'. PutDown 3 l0 l')
+  put_downgraded down =
+      let shared = down.shared (omega arith) in
+      let passer = down.passer (omega arith) in
+      let then_ = λ (l' : Local) (same : Same l0 l') (none : l'.shared ≡ None) (no_mark : l'.passer ≡ None) (downgraded : l'.downgraded ≡ None). (let d : PutDown 3 l0 l' = record {
+        same = same;
+        shared = λ _. none;
+        passer = λ _. no_mark;
+        downgraded = λ _. downgraded;
+        won = λ less. absurd (omega arith);
+      } in d) in
+      elim (option_cases l.downgraded) [
+        | inl downgraded ↦ stay instance caller s l history here (then_ l down.same shared passer downgraded)
+        | inr held ↦ (
+            let r = held.0.replica in
+            let one = downgraded_one l held.0 held.1 in
+            back_off r 3 (ungiven l) (below r (omega arith), inr (inr (ap (option_map (λ (h : HeldDowngraded). h.replica)) held.1)))
+            (backed_off_given l r shared passer) refl
+            (then_ (ungiven l) (record { own = down.same.own; cells = down.same.cells; reads = down.same.reads }) shared passer refl))
+      ]
+
+  -- DUR is raised by the code that won, and the win retired
+  put_won : PutDown 3 l0 l → Reached instance caller history s (λ _ l'. PutDown 4 l0 l')
+  put_won down =
+      let shared = down.shared (omega arith) in
+      let passer = down.passer (omega arith) in
+      let downgraded = down.downgraded (omega arith) in
+      elim (option_cases l.won) [
+        | inl none ↦ stay instance caller s l history here (record { same = down.same; shared = λ _. shared; passer = λ _. passer; downgraded = λ _. downgraded; won = λ _. none })
+        | inr held ↦ (
+            let code = held.0.code in
+            let raise : Kind = Raise code None in
+            let can_raise : Guard instance (scene_of instance s) raise l = (inr (subst (IsWonCode code) (sym held.1) refl), tt) in
+            let l1 : Local = raised_by instance (scene_of instance s) code None l in
+            let l2 : Local = record l1 { won = None; steps = one_more l1.steps } in
+            let s1 = made instance caller s l raise in
+            let here1 : Here instance caller history s1 l1 = stepped instance caller s l l1 raise history here can_raise refl refl in
+            let can_retire : Guard instance (scene_of instance s1) Retire l1 = subst (CanRetire (max l.raised code)) (sym held.1) (let most : code ≤ max l.raised code = omega arith in most) in
+            let here2 : Here instance caller history (made instance caller s1 l1 Retire) l2 = stepped instance caller s1 l1 l2 Retire history here1 can_retire refl refl in
+            let put : PutDown 4 l0 l2 = record {
+              same = record { own = down.same.own; cells = down.same.cells; reads = append-nil l.seen_reads ∙ down.same.reads };
+              shared = λ _. shared;
+              passer = λ _. passer;
+              downgraded = λ _. downgraded;
+              won = λ _. refl;
+            } in
+            step instance caller s l raise history history here can_raise (step instance caller s1 l1 Retire history history here1 can_retire (stay instance caller _ l2 history here2 put)))
+      ]
+
+pub puts_down : (instance : Instance) (caller : ℕ) (history : List Entry) (s : State) (l : Local) → Here instance caller history s l → Reached instance caller history s (λ _ l'. PutDown 4 l l')
+puts_down instance caller history s l here =
+    let none : PutDown 0 l l = record {
+      same = record { own = refl; cells = refl; reads = refl };
+      shared = λ less. absurd (omega arith);
+      passer = λ less. absurd (omega arith);
+      downgraded = λ less. absurd (omega arith);
+      won = λ less. absurd (omega arith);
+    } in
+    andthen instance caller s history history (put_shared instance caller history l s l here none) (λ s1 l1 here1 down1.
+    andthen instance caller s1 history history (put_passer instance caller history l s1 l1 here1 down1) (λ s2 l2 here2 down2.
+    andthen instance caller s2 history history (put_downgraded instance caller history l s2 l2 here2 down2) (λ s3 l3 here3 down3.
+    put_won instance caller history l s3 l3 here3 down3)))

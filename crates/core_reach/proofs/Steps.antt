@@ -1,0 +1,121 @@
+-- Runs put together from a caller's steps, and some of other callers between.
+use Rattle.std.proofs.Common.{◌≡◌, ◌∙◌, ◌+◌, ◌<◌, ℕ, zero, suc, List, [], ◌∷◌, ◌++◌, Some, set, ap, refl, sym, subst, arith}
+use Rattle.std.proofs.lemmas.List.{length-set}
+use Rattle.std.proofs.lemmas.Option.{slice_get_within}
+use Rattle.std.specs.List.{slice_get}
+use Rattle.core_runs.proofs.Keeps.{run_kept}
+use Rattle.cx_core.proofs.ListLemmas.{slice_get-set_same}
+use Rattle.cx_core.proofs.Locals.{EachLocal-set}
+use Rattle.cx_core.proofs.MergeLemmas.{history_is}
+use Rattle.cx_core.specs.Events.{Guard, Makes, Run, local_after, words_after}
+use Rattle.cx_core.specs.Lawful.{Lawful}
+use Rattle.cx_core.specs.Merge.{IsHistory, history_of, own_of, scene_of}
+use Rattle.cx_core.specs.State.{Instance, State}
+use Rattle.cx_core.specs.declared.entry.Entry.{Entry}
+use Rattle.cx_core.specs.declared.kinds.Event.{Event}
+use Rattle.cx_core.specs.declared.kinds.Kind.{Kind}
+use Rattle.cx_core.specs.declared.local.Local.{Local}
+
+-- a lawful state with this history, in which a caller has this local state
+pub record Here (instance : Instance) (caller : ℕ) (history : List Entry) (s : State) (l : Local) : Type 0 where
+  pub law : Lawful instance s
+  pub at : slice_get s.locals caller ≡ Some l
+  pub told : history_of instance.base.place s.locals ≡ history
+
+-- some run leads from a state to such a one, of which something holds
+pub record Reached (instance : Instance) (caller : ℕ) (history : List Entry) (from : State) (P : State → Local → Type 0) : Type 0 where
+  pub events : List Event
+  pub to : State
+  pub ran : Run instance from events to
+  pub after : Local
+  pub here : Here instance caller history to after
+  pub holds : P to after
+
+module _ (instance : Instance) (caller : ℕ) where
+  -- one step of the caller
+  abbrev pub event : Kind → Event
+  event kind = record { caller = caller; kind = kind }
+
+  abbrev pub made : State → Local → Kind → State
+  made s l kind = record { words = words_after instance kind l s.words; locals = set s.locals caller (local_after instance (scene_of instance s) kind l) }
+
+  pub makes : (s : State) (l : Local) (kind : Kind) → slice_get s.locals caller ≡ Some l → Guard instance (scene_of instance s) kind l → Makes instance (event kind) s (made s l kind)
+  makes s l kind at guard = record { local = l; of_caller = at; guard = guard; words = refl; locals = refl }
+
+  pub there : (s : State) (l : Local) (kind : Kind) → slice_get s.locals caller ≡ Some l → slice_get (made s l kind).locals caller ≡ Some (local_after instance (scene_of instance s) kind l)
+  there s l kind at = slice_get-set_same s.locals caller (local_after instance (scene_of instance s) kind l) (slice_get_within s.locals caller l at)
+
+  pub keeps : (s : State) (l : Local) (kind : Kind) → Lawful instance s → Makes instance (event kind) s (made s l kind) → Lawful instance (made s l kind)
+  keeps s l kind law makes_it = run_kept instance s (event kind ∷ []) (made s l kind) law (made s l kind, makes_it, refl)
+
+  -- the history is that of the invariant
+  pub history_same : (history : List Entry) (s : State) (l : Local) (here : Here instance caller history s l) → here.law.history ≡ history
+  history_same history s l here = sym (history_is instance.base.place here.law.history s.locals here.law.tickets.merged) ∙ here.told
+
+  -- a step that leaves the own list leaves the history
+  untold : (s : State) (l l' : Local) (history : List Entry) → Here instance caller history s l → l'.own ≡ l.own → history_of instance.base.place (set s.locals caller l') ≡ history
+  untold s l l' history here own =
+      let place = instance.base.place in
+      let merged = here.law.tickets.merged in
+      let after : IsHistory place here.law.history (set s.locals caller l') = record {
+        own = EachLocal-set s.locals caller l l' (λ c x. x.own ≡ own_of c place here.law.history) here.at merged.own (own ∙ merged.own caller l here.at);
+        of_callers = λ i entry item. subst (λ n. entry.caller < n) (sym (length-set s.locals caller l')) (merged.of_callers i entry item);
+      } in
+      history_is place here.law.history (set s.locals caller l') after ∙ history_same history s l here
+
+  -- where the caller is after such a step, whose local state is given
+  pub stepped : (s : State) (l l' : Local) (kind : Kind) (history : List Entry) → Here instance caller history s l → Guard instance (scene_of instance s) kind l →
+      local_after instance (scene_of instance s) kind l ≡ l' → l'.own ≡ l.own → Here instance caller history (made s l kind) l'
+  stepped s l l' kind history here guard is own = record {
+    law = keeps s l kind here.law (makes s l kind here.at guard);
+    at = there s l kind here.at ∙ ap Some is;
+    told = ap (λ (x : Local). history_of instance.base.place (set s.locals caller x)) is ∙ untold s l l' history here own;
+  }
+
+-- one run after another
+pub run_on : (instance : Instance) (from mid to : State) (first second : List Event) → Run instance from first mid → Run instance mid second to → Run instance from (first ++ second) to
+run_on instance from mid to [] second a b = subst (λ s. Run instance s second to) a b
+run_on instance from mid to (e ∷ first) second a b = (a.0, a.1, run_on instance a.0 mid to first second a.2 b)
+
+-- a step of any caller before others
+pub step_by : (instance : Instance) (caller d : ℕ) {P : State → Local → Type 0} (s : State) (m : Local) (kind : Kind) (history before : List Entry) → Here instance d before s m →
+    Guard instance (scene_of instance s) kind m → Reached instance caller history (made instance d s m kind) P → Reached instance caller history s P
+step_by instance caller d s m kind history before here guard rest = record {
+  events = event instance d kind ∷ rest.events;
+  to = rest.to;
+  ran = (made instance d s m kind, makes instance d s m kind here.at guard, rest.ran);
+  after = rest.after;
+  here = rest.here;
+  holds = rest.holds;
+}
+
+module _ (instance : Instance) (caller : ℕ) where
+  -- no step, and a step of the caller before others
+  pub stay : {P : State → Local → Type 0} (s : State) (l : Local) (history : List Entry) → Here instance caller history s l → P s l → Reached instance caller history s P
+  stay s l history here holds = record { events = []; to = s; ran = refl; after = l; here = here; holds = holds }
+
+  pub step : {P : State → Local → Type 0} (s : State) (l : Local) (kind : Kind) (history before : List Entry) → Here instance caller before s l → Guard instance (scene_of instance s) kind l →
+      Reached instance caller history (made instance caller s l kind) P → Reached instance caller history s P
+  step s l kind history before here guard rest = step_by instance caller caller s l kind history before here guard rest
+
+  -- a run, and what follows from where it leads
+  pub andthen : {P Q : State → Local → Type 0} (from : State) (before history : List Entry) → Reached instance caller before from P →
+      ((s : State) (l : Local) → Here instance caller before s l → P s l → Reached instance caller history s Q) → Reached instance caller history from Q
+  andthen from before history first next =
+      let rest = next first.to first.after first.here first.holds in
+      record {
+        events = first.events ++ rest.events;
+        to = rest.to;
+        ran = run_on instance from first.to rest.to first.events rest.events first.ran rest.ran;
+        after = rest.after;
+        here = rest.here;
+        holds = rest.holds;
+      }
+
+  -- so many steps or runs, each of which makes the next fact of the last
+  pub each_of : (Q : ℕ → State → Local → Type 0) (history : List Entry) (total : ℕ) →
+      ((i : ℕ) (s : State) (l : Local) → i < total → Here instance caller history s l → Q i s l → Reached instance caller history s (Q (i + 1))) →
+      (n i : ℕ) → i + n ≡ total → (s : State) (l : Local) → Here instance caller history s l → Q i s l → Reached instance caller history s (Q total)
+  each_of Q history total one zero i all s l here holds = stay s l history here (subst (λ k. Q k s l) (let e : i ≡ total = omega arith in e) holds)
+  each_of Q history total one (suc n) i all s l here holds =
+      andthen s history history (one i s l (omega arith) here holds) (λ s' l' here' holds'. each_of Q history total one n (i + 1) (omega arith) s' l' here' holds')
