@@ -22,10 +22,6 @@ drop_at_item xs i x below is = drop-cons xs i x below ∙ ap (λ y. y ∷ drop (
 pub own_at_drop : (locals : List Local) (i : ℕ) (l : Local) → i < length locals → l ≡ get_or locals i l → all_own (drop i locals) ≡ l.own ++ all_own (drop (i + 1) locals)
 own_at_drop locals i l below is = ap all_own (drop_at_item locals i l below is)
 
-pub entry_at_drop : (ticket : ℕ) (own : List Linked) (i : ℕ) (x : Linked) → i < length own → x ≡ get_or own i x →
-    entry_at ticket (drop i own) ≡ cond (x.ticket == ticket) (Some x.entry) (entry_at ticket (drop (i + 1) own))
-entry_at_drop ticket own i x below is = ap (entry_at ticket) (drop_at_item own i x below is)
-
 pub entry_at-append_none : (ticket : ℕ) (xs ys : List Linked) → entry_at ticket xs ≡ None → entry_at ticket (xs ++ ys) ≡ entry_at ticket ys
 entry_at-append_none ticket [] ys none = refl
 entry_at-append_none ticket (x ∷ xs) ys none =

@@ -52,10 +52,6 @@ module _ {Key : Type 0} where
       Becomes old mid R → Loaded at v mid new → Becomes old new (λ x y. R x y × (slice_index y at ≡ v))
   Becomes-loaded b l = Becomes-load b l (λ first x y s r e. (r, e))
 
-  -- with the number of the words after it
-  pub Becomes-long : {old new : Key → List ℕ → Type 0} {R : List ℕ → List ℕ → Type 0} (n : ℕ) → ((first : Key) (now : List ℕ) → new first now → Words n now) → Becomes old new R → Becomes old new (λ x y. R x y × (length y ≡ n))
-  Becomes-long n words b = Becomes-weaker b (λ first x y s r. (r, (words first y s).long))
-
   -- what held of all words before gives what holds of all words after
   pub always_after : {old new : Key → List ℕ → Type 0} {R : List ℕ → List ℕ → Type 0} {P Q : List ℕ → Type 0} → Always old P → Becomes old new R → ((x y : List ℕ) → P x → R x y → Q y) → Always new Q
   always_after all b w first now s = (let p = b.from first now s in w p.0 now (all first p.0 p.1) p.2)

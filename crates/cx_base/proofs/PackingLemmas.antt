@@ -18,10 +18,6 @@ below_8 P a b c d e f g h (suc (suc (suc (suc (suc (suc zero)))))) l = g
 below_8 P a b c d e f g h (suc (suc (suc (suc (suc (suc (suc zero))))))) l = h
 below_8 P a b c d e f g h (suc (suc (suc (suc (suc (suc (suc (suc j)))))))) l = absurd (omega arith)
 
--- the first word of what is left behind k words' bytes is word k
-pub packed_at-drop : (bytes : List ℕ) (k : ℕ) → packed_at (drop (8 * k) bytes) 0 ≡ packed_at bytes k
-packed_at-drop bytes k = simp (get_or-drop, add-zero, zero-add)
-
 -- a word past the bytes' end
 pub packed_at-past : (bytes : List ℕ) (k : ℕ) → length bytes ≤ 8 * k → packed_at bytes k ≡ 0
 packed_at-past bytes k past =

@@ -32,16 +32,9 @@ module _ {Key : Type 0} where
   pub Reads-with : {old new : Key → List ℕ → Type 0} {P Q : List ℕ → Type 0} → Always old P → Reads old new Q → Reads old new (λ ws. P ws × Q ws)
   Reads-with all r = record { from = λ first now s. (let p = r.from first now s in (p.0, (all first now p.0, p.1))) }
 
-  -- with the number of the words
-  pub Reads-long : {old new : Key → List ℕ → Type 0} {P : List ℕ → Type 0} (n : ℕ) → ((first : Key) (now : List ℕ) → new first now → Words n now) → Reads old new P → Reads old new (λ ws. P ws × (length ws ≡ n))
-  Reads-long n words r = record { from = λ first now s. (let p = r.from first now s in (p.0, (p.1, (words first now s).long))) }
-
   -- what held of all words holds of them after a reading, with what was read
   pub always_read : {old new : Key → List ℕ → Type 0} {P Q R : List ℕ → Type 0} → Always old P → Reads old new Q → ((ws : List ℕ) → P ws → Q ws → R ws) → Always new R
   always_read all r w first now s = (let p = r.from first now s in w now (all first now p.0) p.1)
-
-  pub always_with : {old new : Key → List ℕ → Type 0} {P Q : List ℕ → Type 0} → Always old P → Reads old new Q → Always new (λ ws. P ws × Q ws)
-  always_with all r = always_read all r (λ ws p q. (p, q))
 
   -- a reading as a change of nothing
   pub Becomes-from-read : {old new : Key → List ℕ → Type 0} {P : List ℕ → Type 0} → Reads old new P → Becomes old new (λ x y. (y ≡ x) × P y)

@@ -1,7 +1,7 @@
 -- Words put over a list of words. What is known of words of 64 bits stands in the specs, since laws of objects cite it.
 use Rattle.std.proofs.Common.{◌≡◌, ◌≢◌, ◌+◌, ◌^◌, ◌<◌, ◌≤◌, ℕ, zero, suc, List, [], ◌∷◌, ◌++◌, ◌-◌, ◌⊎◌, inl, inr, length, take, drop, slice_index, slice_set, refl, sym, ap, ◌∙◌, arith}
 use Rattle.std.specs.List.{All}
-use Rattle.std.proofs.lemmas.List.{length-set, take_all, take-append-drop, take_more, length-take-le, get_or-set_same, get_or-set_other}
+use Rattle.std.proofs.lemmas.List.{length-set, take_all, take-append-drop, take_more, length-take-le, get_or-set_same, get_or-set_other, set-get_or}
 use Rattle.std.proofs.Math.Seq.{take-append-add}
 use Rattle.std.proofs.lemmas.List.Elements.{All-head, All-tail}
 use Rattle.cx_base.specs.Memory.{Words, overwritten}
@@ -32,6 +32,26 @@ overwritten_next vs before ws at i below e =
     ap (λ xs. slice_set xs (at + i) (slice_index vs i)) e
     ∙ sym (overwritten_more (take i vs) before at i (slice_index vs i) (length-take-le i vs (omega arith)))
     ∙ ap (λ xs. overwritten at xs before) (sym (take_more vs i 0 below))
+
+-- a word need not be put where it stands already
+agreed_next : (vs before ws : List ℕ) (at i : ℕ) → i < length vs → ws ≡ overwritten at (take i vs) before → slice_index vs i ≡ slice_index ws (at + i) → ws ≡ overwritten at (take (i + 1) vs) before
+agreed_next vs before ws at i below e same =
+    sym (set-get_or ws (at + i) 0)
+    ∙ ap (λ v. slice_set ws (at + i) v) (sym same)
+    ∙ overwritten_next vs before ws at i below e
+
+agreed_by : (vs before ws : List ℕ) (at i to k : ℕ) → i + k ≡ to → to ≤ length vs → ws ≡ overwritten at (take i vs) before → ((j : ℕ) → i ≤ j → j < to → slice_index vs j ≡ slice_index ws (at + j)) → ws ≡ overwritten at (take to vs) before
+agreed_by vs before ws at i to zero sum within e same =
+    let here : i ≡ to = omega (arith, sum) in
+    e ∙ ap (λ n. overwritten at (take n vs) before) here
+agreed_by vs before ws at i to (suc k) sum within e same =
+    let less : i < to = omega (arith, sum) in
+    let next = agreed_next vs before ws at i (omega (arith, less, within)) e (same i (omega arith) less) in
+    agreed_by vs before ws at (i + 1) to k (omega (arith, sum)) within next (λ j from below. same j (omega (arith, from)) below)
+
+-- nor the next words
+pub overwritten_agreed : (vs before ws : List ℕ) (at i to : ℕ) → i ≤ to → to ≤ length vs → ws ≡ overwritten at (take i vs) before → ((j : ℕ) → i ≤ j → j < to → slice_index vs j ≡ slice_index ws (at + j)) → ws ≡ overwritten at (take to vs) before
+overwritten_agreed vs before ws at i to less within e same = agreed_by vs before ws at i to (to - i) (omega arith) within e same
 
 -- words put behind others
 pub overwritten_then : (xs ys ws : List ℕ) (at : ℕ) → overwritten at (xs ++ ys) ws ≡ overwritten (at + length xs) ys (overwritten at xs ws)

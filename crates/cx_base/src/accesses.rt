@@ -5,9 +5,8 @@ ghost use Rattle.cx_base.specs.Calls.{Changes};
 ghost use Rattle.cx_base.specs.Memory.{AreAt, Loaded, Framed, Always, overwritten};
 
 use crate::memory::{Halt, Memory};
-
-/// How many words are loaded at once where those that differ are stored: a third of a reply.
-const FEW: usize = 48;
+use crate::object::OP_WORDS;
+use line_lanes::first_apart;
 
 /// Puts words over those from a place on, and stores only those that differ. `Halt` comes only where no access is left, and then
 /// only the first of the words are there.
@@ -17,23 +16,23 @@ pub fn store_words<M: Memory>(mem: &mut M, at: u64, words: &[u64]) -> Result<(),
     requires writable { IsTrue (M.writable mem.old) }
     ensures { Changes M.Memory mem.old mem.new result (λ _ before now. now ≡ overwritten at words.now before) }
 {
-    for turn in 0..words.len().div_ceil(FEW) {
-        let from = FEW * turn;
-        let to = words.len().min(from + FEW);
+    for turn in 0..words.len().div_ceil(OP_WORDS) {
+        let from = OP_WORDS * turn;
+        let to = words.len().min(from + OP_WORDS);
         store_few(mem, at + from as u64, &words[from..to])?;
     }
     Ok(())
 }
 
-/// Does as `store_words` for a few words, which are loaded at once.
+/// Does as `store_words` for at most a reply, whose words are loaded at once.
 fn store_few<M: Memory>(mem: &mut M, at: u64, words: &[u64]) -> Result<(), Halt>
-    requires few { length words.now ≤ 48 }
+    requires few { length words.now ≤ OP_WORDS }
     requires within { at + length words.now ≤ M.size mem.old }
     requires small { at + length words.now < 2 ^ 64 }
     requires writable { IsTrue (M.writable mem.old) }
     ensures { Changes M.Memory mem.old mem.new result (λ _ before now. now ≡ overwritten at words.now before) }
 {
-    let mut there = [0; FEW];
+    let mut there = [0; OP_WORDS];
     let there = &mut there[..words.len()];
     mem.load_words(at, there)?;
     store_differing(mem, at, words, there)
@@ -53,8 +52,10 @@ fn store_differing<M: Memory>(
     requires known { Always (M.stands mem.old) (AreAt at there.now) }
     ensures { Changes M.Memory mem.old mem.new result (λ _ before now. now ≡ overwritten at words.now before) }
 {
-    for i in 0..words.len() {
-        store_over(mem, at + i as u64, there[i], words[i])?;
+    let mut next = first_apart(words, there, 0);
+    while next < words.len() {
+        mem.store(at + next as u64, words[next])?;
+        next = first_apart(words, there, next + 1);
     }
     Ok(())
 }

@@ -52,13 +52,6 @@ unfolding full_image
 full_stays instance history more place within =
     ap (image_from instance.step instance.base.words) (take-append-le (place - instance.base.place) history more (omega arith))
 
-pub full_grows : (instance : Instance) (history more : List Entry) (region : List ℕ) → IsFull instance history region → IsFull instance (history ++ more) region
-full_grows instance history more region f = record {
-  from = f.from;
-  to = (let l = length-append history more in let t = f.to in omega (arith, l, t));
-  full = f.full ∙ sym (full_stays instance history more (place_of region) f.to);
-}
-
 pub linked_grows : (place : ℕ) (history more : List Entry) (ticket : ℕ) (entry : Entry) → IsLinked place history ticket entry → IsLinked place (history ++ more) ticket entry
 linked_grows place history more ticket entry l = record { from = l.from; at = slice_get-append_left history more (ticket - place) entry l.at }
 

@@ -34,7 +34,7 @@ use Rattle.cx_rule.specs.Seats.{IsByShown, WordFits, accesses_after, known_after
 use Rattle.core_runs.proofs.Keeps.{bounds_of, kind_kept}
 use Rattle.cx_rule.proofs.ShownLaws.{guard_shown, known_shown, lawful_shown, put_shown, told_shown, word_shown}
 use Rattle.cx_rule.proofs.Notes.{noted_hold, notes-append, notes_still}
-use Rattle.cx_rule.specs.Steps.{IsCopyLearned, IsEventOn, IsImageLearned, IsStoreEvent, Puts, Teaches, TeachesCopied, TeachesImage, known_copied, known_taken}
+use Rattle.cx_rule.specs.Steps.{IsCopyLearned, IsEventOn, IsImageLearned, Puts, Teaches, TeachesCopied, TeachesImage, known_copied, known_taken}
 use Rattle.cx_rule.specs.Timing.{AddTimes, AreTimes}
 use Rattle.cx_rule.specs.Told.{KnownOfLoad}
 use Rattle.cx_rule.proofs.Telling.{told_holds}
@@ -379,15 +379,6 @@ allows_found r step reads kind slots id word table me f event puts =
     let instance = instance_at r step reads in
     let known = known_of me.0 in
     allows instance (λ _. kind) known slots id word me f (Teaches instance kind known) event.one (event_learns r step reads kind word table me f event puts) (λ found taught. taught)
-
--- the same of a store, which finds no word
-pub allows_store : {O : Type 0} (r : Running O) (step : O → List ℕ → List ℕ → List ℕ × List ℕ) (reads : O → List ℕ → Bool) (kind : Kind) (slots id word : ℕ) (table : TableId) (me : atomic.Me ℕ (List Known)) (new : ℕ) →
-    IsEventOn r step reads kind word table me → IsStoreEvent (instance_at r step reads) kind (known_of me.0) new → atomic.Allows (RuleHolds (instance_at r step reads)) slots id me word (λ _. new) (λ _. Teaches (instance_at r step reads) kind (known_of me.0) 0)
-allows_store r step reads kind slots id word table me new event store =
-    let instance = instance_at r step reads in
-    let known = known_of me.0 in
-    allows instance (λ _. kind) known slots id word me (λ _. new) (λ _. Teaches instance kind known 0) event.one (event_learns r step reads kind word table me (λ _. new) event store.puts)
-    (λ found taught. blind_teaches instance kind known found store.blind store.silent taught)
 
 abbrev pub Same : Instance → Instance → Type 0
 Same a b = a ≡ b

@@ -187,12 +187,6 @@ module _ (lines : ℕ) (lawful : List ℕ → Type 0) (instance : Instance) (law
 
 -- what is known of a raise where no entry is unanswered, where the unanswered one is not below the place, and where it is
 module _ (lines : ℕ) (lawful : List ℕ → Type 0) (base : Base) (step : List ℕ → List ℕ → List ℕ × List ℕ) (known : Known) (place : ℕ) where
-  pub tells_none : unanswered known.local ≡ None → TellsAnswers lines lawful base step known place []
-  tells_none is = subst (λ (o : Option Linked). AnswersOf lines lawful base step known place o []) (sym is) refl
-
-  pub tells_past : (x : Linked) → unanswered known.local ≡ Some x → place ≤ x.ticket → TellsAnswers lines lawful base step known place []
-  tells_past x is past = subst (λ (o : Option Linked). AnswersOf lines lawful base step known place o []) (sym is) (inl (past, refl))
-
   pub tells_one : (x : Linked) (reply : List ℕ) → unanswered known.local ≡ Some x → x.ticket < place → TellsReply lines lawful base step known x.ticket reply →
       TellsAnswers lines lawful base step known place (record { ticket = x.ticket; reply = reply } ∷ [])
   tells_one x reply is below tells =

@@ -155,10 +155,6 @@ lawful_shown instance l law = record {
   reads = law.reads;
 }
 
--- a local state with no exclusive right is shown whole
-pub shown_whole : (l : Local) → l.exclusive ≡ None → shown l ≡ l
-shown_whole l none = ap (λ (o : Option HeldExclusive). record l { exclusive = option_map blank o }) none ∙ ap (holding l) (sym none)
-
 none_shown : (o : Option HeldExclusive) → option_map blank o ≡ None → o ≡ None
 none_shown None e = refl
 none_shown (Some h) e = cc

@@ -3,6 +3,7 @@ pub mod GapLoads
 mod GapSteps
 pub mod GapWalks
 mod Handing
+mod MadeSteps
 mod Marking
 mod Opening
 pub mod Runs

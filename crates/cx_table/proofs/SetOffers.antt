@@ -1,7 +1,7 @@
 -- The set of an own entry is offered by the numbers that its seat keeps.
-use Rattle.std.proofs.Common.{◌≡◌, ◌≢◌, ◌+◌, ◌^◌, ◌<◌, ℕ, List, [], length, arith, refl, slice_index, slice_index_or, ap, subst, sym, ◌∙◌, Bool, true, false, Option, Some, None, IfNone, IfSome}
+use Rattle.std.proofs.Common.{◌≡◌, ◌≢◌, ◌+◌, ◌<◌, ℕ, List, [], length, refl, slice_index, slice_index_or, ap, subst, sym, ◌∙◌, Bool, true, false, Option, Some, None, IfNone, IfSome}
 use Rattle.std.proofs.lemmas.Bool.{false≢true}
-use Rattle.std.proofs.lemmas.Option.{get_or_from_slice_get, slice_get-get_or, slice_get_within}
+use Rattle.std.proofs.lemmas.Option.{get_or_from_slice_get, slice_get_within}
 use Rattle.atomic_table.specs.Table.{Me}
 use Rattle.cx_core.specs.declared.kinds.Kind.TheVariants.{Offer}
 use Rattle.cx_core.specs.declared.local.Cell.{Cell}
@@ -20,28 +20,15 @@ use Rattle.cx_rule.proofs.Offering.{learns_offer}
 use Rattle.cx_table.specs.OwnCells.{HasTicketAs}
 use Rattle.seat_memory.specs.declared.summary.Summary.{Summary}
 use Rattle.seat_memory.specs.Summaries.{HasSummary}
+use Rattle.seat_memory.proofs.FollowedSteps.{ticket_at}
 use Rattle.seat_memory.proofs.SetNumbers.{part_at}
 
 abbrev no_cell : Cell
 no_cell = record { words = []; ticket = None; set = []; offer = 0 }
 
--- the ticket and the offer word of a cell are among the numbers
-ticket_at : (me : Me ℕ (List Known)) (summary : Summary) (before j : ℕ) → HasSummary me summary before → slice_index_or summary.tickets j None ≡ (cell_of (known_of me.0).local j).ticket
-ticket_at me summary before j has = ap (λ (m : Summary). slice_index_or m.tickets j None) has.is ∙ part_at (λ (c : Cell). c.ticket) (known_of me.0).local.cells j
-
+-- the offer word of a cell is among the numbers
 pub offer_at : (me : Me ℕ (List Known)) (summary : Summary) (before j : ℕ) → HasSummary me summary before → slice_index summary.offers j ≡ (cell_of (known_of me.0).local j).offer
 offer_at me summary before j has = ap (λ (m : Summary). slice_index m.offers j) has.is ∙ part_at (λ (c : Cell). c.offer) (known_of me.0).local.cells j
-
--- the tickets of cells are small
-pub small_ticket : (me : Me ℕ (List Known)) (summary : Summary) (before j t : ℕ) → HasSummary me summary before → j < 16 → slice_index_or summary.tickets j None ≡ Some t → t < 2 ^ 40
-small_ticket me summary before j t has small is = (has.own j t small (sym (ticket_at me summary before j has) ∙ is)).small
-
--- a cell that is offered with its ticket has an own set of it, and one that is not may be offered
-pub own_set : (me : Me ℕ (List Known)) (summary : Summary) (before j t : ℕ) → HasSummary me summary before → j < 16 → (cell_of (known_of me.0).local j).ticket ≡ Some t → (cell_of (known_of me.0).local j).offer ≡ t + 1 →
-    IsOwnSet (known_of me.0).local.cells t (cell_of (known_of me.0).local j).set
-own_set me summary before j t has small named offered =
-    let l = (known_of me.0).local in
-    record { j = j; cell = cell_of l j; at = slice_get-get_or l.cells j no_cell (omega (arith, small, has.cells.count)); named = named; offered = offered; is = refl }
 
 pub can_write : (me : Me ℕ (List Known)) (summary : Summary) (before j t : ℕ) → HasSummary me summary before → j < 16 → (cell_of (known_of me.0).local j).ticket ≡ Some t → (cell_of (known_of me.0).local j).offer ≢ t + 1 → CanWriteSet (known_of me.0).local j
 can_write me summary before j t has small named apart =
@@ -73,12 +60,11 @@ no_cell_to_write l t None none = λ j can named.
 -- a set that is told is offered
 pub learns_offering : {O : Type 0} (line_count : O → ℕ) (lawful : O → List ℕ → Type 0) (step : O → List ℕ → List ℕ → List ℕ × List ℕ) (reads : O → List ℕ → Bool) (r : Running O) (j word new : ℕ) (me : Me ℕ (List Known)) (summary : Summary) (before : ℕ) (old : Seated) →
     IsRunning line_count lawful r → ObjectLaws r.lines (lawful r.object) (step r.object) → HasSummary me summary before → known_of me.0 ≡ old.known → CanWriteSet old.known.local j → TellsOffer r.lines (lawful r.object) r.base (step r.object) old.known j →
-    word ≡ step_word (instance_at r step reads) (Offer j) (known_of me.0).local → new ≡ offer_of (slice_index_or summary.tickets j None) (slice_index summary.offers j) →
-    LearnsBy (instance_at r step reads) (λ _. Offer j) (known_of me.0) word (λ _. new)
+    word ≡ step_word (instance_at r step reads) (Offer j) old.known.local → new ≡ offer_of (slice_index_or summary.tickets j None) (slice_index summary.offers j) →
+    LearnsBy (instance_at r step reads) (λ _. Offer j) old.known word (λ _. new)
 learns_offering line_count lawful step reads r j word new me summary before old running laws has same can tells at is =
     let known = known_of me.0 in
-    let puts : new ≡ offer_of (cell_of known.local j).ticket (cell_of known.local j).offer =
-    is ∙ ap (λ t. offer_of t (slice_index summary.offers j)) (ticket_at me summary before j has) ∙ ap (offer_of (cell_of known.local j).ticket) (offer_at me summary before j has) in
-    subst (λ w. LearnsBy (instance_at r step reads) (λ _. Offer j) known word (λ _. w)) (sym puts)
-    (learns_offer r.lines (lawful r.object) (instance_at r step reads) laws running.base j known word (subst (λ (k : Known). CanWriteSet k.local j) (sym same) can) at
-    (subst (λ (k : Known). TellsOffer r.lines (lawful r.object) r.base (step r.object) k j) (sym same) tells))
+    let puts : new ≡ offer_of (cell_of old.known.local j).ticket (cell_of old.known.local j).offer =
+    is ∙ ap (λ t. offer_of t (slice_index summary.offers j)) (ticket_at me summary before j has) ∙ ap (offer_of (cell_of known.local j).ticket) (offer_at me summary before j has)
+    ∙ ap (λ (k : Known). offer_of (cell_of k.local j).ticket (cell_of k.local j).offer) same in
+    subst (λ w. LearnsBy (instance_at r step reads) (λ _. Offer j) old.known word (λ _. w)) (sym puts) (learns_offer r.lines (lawful r.object) (instance_at r step reads) laws running.base j old.known word can at tells)

@@ -18,7 +18,8 @@ use Rattle.cx_rule.proofs.Fitting.{fitting, image_base}
 use Rattle.seat_memory.specs.declared.summary.Summary.{Summary}
 use Rattle.seat_memory.specs.Copies.{Copied, IsCopied}
 use Rattle.seat_memory.specs.Summaries.{Follows, HasSummary, summary_of}
-use Rattle.seat_memory.proofs.SummaryLaws.{IsSeat, seated, step_made}
+use Rattle.seat_memory.proofs.FollowedSteps.{step_made}
+use Rattle.seat_memory.proofs.SummaryLaws.{IsSeat, seated}
 
 -- Plain memory has nothing of the images that were taken.
 copy_taken : (instance : Instance) (kind : Kind) (image : List ℕ) (found : ℕ) (k : Known) (c : Copied) → IsCopied (known_after instance kind k found) c → IsCopied (known_taken instance kind image k found) c
@@ -33,7 +34,7 @@ module _ {O : Type 0} (r : Running O) (step : O → List ℕ → List ℕ → Li
       let k = known_of me.0 in
       let left : Me ℕ (List Known) = (known_after instance (BackOff replica) k found ∷ [], []) in
       let now : Me ℕ (List Known) = (known_taken instance (BackOff replica) image k found ∷ [], []) in
-      let made = step_made r step reads (BackOff replica) found me left summary summary' copy copy table table' before callers old is view allowed of guard same_table taught.event same follows refl in
+      let made = step_made r step reads (BackOff replica) found me left summary summary' copy copy table table' before callers old is view allowed of guard same_table taught.event same (λ i x callers_is place. follows i x callers_is) (λ x is. refl) in
       let m = made.0.0 in
       let at = made.1.seat in
       let summarised : HasSummary now summary' before = record { one = refl; is = m.is; linked = m.linked; front = m.front; few = m.few; small = m.small; place = m.place; cells = m.cells; own = m.own; within = m.within } in

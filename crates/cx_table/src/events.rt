@@ -8,7 +8,7 @@ ghost use Rattle.cx_rule.specs.Raises.{IsRaiseLearned, TeachesRaised};
 ghost use Rattle.cx_rule.specs.Rule.{RuleHolds};
 ghost use Rattle.cx_rule.specs.Running.{instance_at};
 ghost use Rattle.cx_rule.specs.Seats.{kind_found, known_of};
-ghost use Rattle.cx_rule.specs.Steps.{IsBlind, IsEventOn, IsLearned, IsStoreEvent, Puts, Teaches};
+ghost use Rattle.cx_rule.specs.Steps.{IsBlind, IsEventOn, IsLearned, Puts, Teaches};
 ghost use Rattle.cx_table.specs.Words.{IsOnWord, IsTaught, put_by};
 
 use crate::raise_step::AnsweredRead;
@@ -127,15 +127,6 @@ impl<O: Object> Shared<O> {
     {
         let about = (code, read);
         self.run::<Brand, (u64, Option<AnsweredRead>)>(seat, &about, word, Instruction::Raise(code))
-    }
-
-    /// A store that is the event of this kind, which looks at no word found and tells of none.
-    pub(crate) fn store_event(&self, seat: &mut Seat<u8, View>, kind: &Kind, word: usize, new: u64)
-        requires event { IsEventOn self.now O.step O.only_reads kind.now word seat.old.table_id seat.old.me }
-        requires stores { IsStoreEvent (instance_at self.now O.step O.only_reads) kind.now (known_of seat.old.me.0) new }
-        ensures { IsTaught seat.old.table_id seat.new.table_id (Teaches (instance_at self.now O.step O.only_reads) kind.now (known_of seat.old.me.0) 0 seat.new.me) }
-    {
-        self.store_as::<Brand>(seat, kind, word, new);
     }
 
     /// A store that is the event of this kind as what its caller noted tells it.

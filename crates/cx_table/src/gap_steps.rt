@@ -33,12 +33,8 @@ impl<O: Object> Shared<O> {
         requires told { (pairs : List ℕ) × TellsGap self.now.lines (O.lawful self.now.object) self.now.base (O.step self.now.object) seat.old.known (gap_of self.now.callers s v) pairs }
         ensures { MakesFittingStep O.Object self.now seat.old seat.new result (λ _. Steps self.now O.step O.only_reads (NoteGap s i v) 0 seat.old seat.new) }
     {
-        seat.summary.check()?;
-        let kind = Kind::NoteGap { s, i, v };
         let word = gap_at(self.callers.number, s, i);
-        self.store_learned(&mut seat.seat, &kind, word, v);
-        seat.summary.pass_set();
-        Ok(())
+        self.stored_learned(seat, &Kind::NoteGap { s, i, v }, word, v)
     }
 
     /// Loads a word of a slot of the ring of gaps, and notes it: the gap that it names is one of the history. `Halt` comes only where the limit
@@ -47,12 +43,8 @@ impl<O: Object> Shared<O> {
         requires { MayStep O.Object self.now (LoadGap s i) seat.old }
         ensures { MakesFittingStep O.Object self.now seat.old seat.new result (λ found. Steps self.now O.step O.only_reads (LoadGap s i) found seat.old seat.new) }
     {
-        seat.summary.check()?;
-        let kind = Kind::LoadGap { s, i };
         let word = gap_at(self.callers.number, s, i);
-        let found = self.event(&mut seat.seat, &kind, word, Instruction::Load);
-        seat.summary.pass_set();
-        Ok(found)
+        self.made(seat, &Kind::LoadGap { s, i }, word, Instruction::Load)
     }
 
     /// Loads words of a slot, from one on, each as `load_gap` does. It answers whether the limit leaves as many steps: if not, nothing changes.

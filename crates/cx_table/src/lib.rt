@@ -52,6 +52,7 @@ mod gap_steps;
 mod gap_words;
 mod gather;
 mod lock_steps;
+mod made;
 mod make;
 mod own_sets;
 mod raise_step;

@@ -40,17 +40,9 @@ impl<O: Object> Shared<O> {
         ensures step { MakesFittingStep O.Object self.now seat.old seat.new result (λ x. Steps self.now O.step O.only_reads (TryExclusive r) x.0 seat.old seat.new) }
         ensures token { IfOk result (λ x. TriedExclusive self.now.callers r seat.new x.0 x.1) }
     {
-        seat.summary.check()?;
-        let kind = Kind::TryExclusive { r };
         let word = lock_at(self.callers.number, r);
-        let found = self.event(
-            &mut seat.seat,
-            &kind,
-            word,
-            Instruction::Exchange(0, EXCLUSIVE_MARK),
-        );
-        seat.summary.try_exclusive(self.callers, r, found);
-        seat.copy.begin();
+        let exchange = Instruction::Exchange(0, EXCLUSIVE_MARK);
+        let found = self.made(seat, &Kind::TryExclusive { r }, word, exchange)?;
         Ok((found, exclusive_token(found, r as u32, seat.summary.number)))
     }
 
@@ -65,11 +57,8 @@ impl<O: Object> Shared<O> {
         ensures step { MakesFittingStep O.Object self.now seat.old seat.new result (λ x. Steps self.now O.step O.only_reads (TryShared r) x.0 seat.old seat.new) }
         ensures token { IfOk result (λ x. TriedShared self.now.callers r seat.new x.0 x.1) }
     {
-        seat.summary.check()?;
-        let kind = Kind::TryShared { r };
         let word = lock_at(self.callers.number, r);
-        let found = self.event(&mut seat.seat, &kind, word, Instruction::Add(1));
-        seat.summary.try_shared(self.callers, r, found);
+        let found = self.made(seat, &Kind::TryShared { r }, word, Instruction::Add(1))?;
         Ok((found, shared_token(found, r as u32, seat.summary.number)))
     }
 
@@ -81,12 +70,8 @@ impl<O: Object> Shared<O> {
         ensures { MakesStep self.now seat.old seat.new result (λ found. Steps self.now O.step O.only_reads (BackOff (replica_of right)) found seat.old seat.new) }
     {
         let r = replica_in(right) as u64;
-        seat.summary.check()?;
-        let kind = Kind::BackOff { r };
         let word = lock_at(self.callers.number, r);
-        let found = self.learned(&mut seat.seat, &kind, word, Instruction::Subtract(1));
-        seat.summary.back_off(r);
-        Ok(found)
+        self.made(seat, &Kind::BackOff { r }, word, Instruction::Subtract(1))
     }
 
     /// Releases a shared right whose words were copied over the replica held exclusively: each was loaded, and it is the
@@ -189,17 +174,10 @@ impl<O: Object> Shared<O> {
             caller,
             kind: _,
         } = held;
-        seat.summary.check()?;
         let r = replica as u64;
-        let kind = Kind::Downgrade { r };
         let word = lock_at(self.callers.number, r);
-        let found = self.learned(
-            &mut seat.seat,
-            &kind,
-            word,
-            Instruction::Subtract(EXCLUSIVE_MARK - 1),
-        );
-        seat.summary.downgrade(r, seat.copy.place());
+        let lowering = Instruction::Subtract(EXCLUSIVE_MARK - 1);
+        let found = self.made_learned(seat, &Kind::Downgrade { r }, word, lowering)?;
         let lowered = Token {
             replica,
             caller,
@@ -221,18 +199,10 @@ impl<O: Object> Shared<O> {
             caller: _,
             kind: _,
         } = held;
-        seat.summary.check()?;
         let r = replica as u64;
         let kind = Kind::ReleaseExclusive { r };
         let word = lock_at(self.callers.number, r);
-        let found = self.learned(
-            &mut seat.seat,
-            &kind,
-            word,
-            Instruction::Subtract(EXCLUSIVE_MARK),
-        );
-        seat.summary.release_exclusive();
-        Ok(found)
+        self.made_learned(seat, &kind, word, Instruction::Subtract(EXCLUSIVE_MARK))
     }
 }
 

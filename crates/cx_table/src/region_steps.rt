@@ -1,21 +1,17 @@
 //! The step calls on words of replicas. `Halt` comes exactly where the seat's steps equal its limit, and then nothing changes.
 
-ghost use Rattle.std.specs.Prelude.{◌≡◌, ◌&&◌};
 ghost use Rattle.cx_core.specs.declared.kinds.Kind.TheVariants.{LoadWord, Persist, StoreWord};
 ghost use Rattle.cx_rule.specs.Running.{instance_at};
-ghost use Rattle.cx_rule.specs.Seats.{is_outdated, marked_load};
-ghost use Rattle.seat_memory.specs.Summaries.{summary_of};
+ghost use Rattle.cx_rule.specs.Seats.{marked_load};
 ghost use Rattle.cx_rule.specs.Steps.{Steps};
 ghost use Rattle.cx_table.specs.Calls.{MakesFittingStep, MakesStep, MayStep};
 
 use crate::events::Instruction;
 use crate::seat::CallerSeat;
 use crate::shared::Shared;
-use core_guards::locks::is_at;
-use cx_base::{Halt, Object, root_place};
+use cx_base::{Halt, Object};
 use cx_core::Kind;
 use cx_core::layout::{per_at, vol_at};
-use seat_memory::Summary;
 
 impl<O: Object> Shared<O> {
     /// Loads a word of a replica that the caller holds exclusively or shared, and notes it. With `mark`, a place word that
@@ -24,19 +20,13 @@ impl<O: Object> Shared<O> {
         requires { MayStep O.Object self.now (LoadWord r i mark) seat.old }
         ensures { MakesFittingStep O.Object self.now seat.old seat.new result (λ found. Steps self.now O.step O.only_reads (marked_load (instance_at self.now O.step O.only_reads) r i mark seat.old.known.local found) found seat.old seat.new) }
     {
-        seat.summary.check()?;
         let kind = Kind::LoadWord {
             r,
             i,
             refused: mark,
         };
         let word = vol_at(self.callers.number, seat.copy.region(), r, i);
-        let found = self.learned(&mut seat.seat, &kind, word, Instruction::Load);
-        let held = is_at(r, seat.summary.exclusive);
-        seat.copy.load(held, i, found);
-        let refused = self.is_refusal(&seat.summary, r, i, mark, found);
-        seat.summary.load_word(refused);
-        Ok(found)
+        self.made_learned(seat, &kind, word, Instruction::Load)
     }
 
     /// Stores a word of a replica that the caller holds exclusively, and marks it as dirty. `Halt` comes only where the limit leaves no step.
@@ -44,13 +34,8 @@ impl<O: Object> Shared<O> {
         requires { MayStep O.Object self.now (StoreWord r i v) seat.old }
         ensures { MakesFittingStep O.Object self.now seat.old seat.new result (λ _. Steps self.now O.step O.only_reads (StoreWord r i v) 0 seat.old seat.new) }
     {
-        seat.summary.check()?;
-        let kind = Kind::StoreWord { r, i, v };
         let word = vol_at(self.callers.number, seat.copy.region(), r, i);
-        self.store_event(&mut seat.seat, &kind, word, v);
-        seat.copy.store(i, v);
-        seat.summary.write_word();
-        Ok(())
+        self.stored(seat, &Kind::StoreWord { r, i, v }, word, v)
     }
 
     /// Persists a dirty word of a replica that the caller holds exclusively: the medium gets what was stored last. `Halt` comes only where
@@ -59,24 +44,8 @@ impl<O: Object> Shared<O> {
         requires { MayStep O.Object self.now (Persist r i) seat.old }
         ensures { MakesStep self.now seat.old seat.new result (λ _. Steps self.now O.step O.only_reads (Persist r i) 0 seat.old seat.new) }
     {
-        seat.summary.check()?;
-        let kind = Kind::Persist { r, i };
         let word = per_at(self.callers.number, seat.copy.region(), r, i);
         let v = seat.copy.word(i);
-        self.store_learned(&mut seat.seat, &kind, word, v);
-        seat.copy.persist(i);
-        seat.summary.write_word();
-        Ok(())
-    }
-
-    /// Whether a load is marked as a refusal: that is asked for, and the word found shows that the code last loaded from CUR
-    /// is outdated.
-    fn is_refusal(&self, summary: &Summary, r: u64, i: u64, mark: bool, found: u64) -> bool
-        ensures { (l : _) → summary.now ≡ summary_of l → result ≡ (mark && is_outdated (instance_at self.now O.step O.only_reads) r i l found) }
-    {
-        mark && i == 0
-            && is_at(r, summary.shared)
-            && summary.is_fresh_on(self.callers, r)
-            && found != root_place(self.callers.number, summary.seen_cur)
+        self.stored_learned(seat, &Kind::Persist { r, i }, word, v)
     }
 }

@@ -21,12 +21,8 @@ impl<O: Object> Shared<O> {
         ensures { MakesStep self.now seat.old seat.new result (λ _. Steps self.now O.step O.only_reads (Protect p) 0 seat.old seat.new) }
     {
         let _ = &self.table;
-        seat.summary.check()?;
-        let kind = Kind::Protect { p };
         let word = need_at(seat.summary.number);
-        self.store_event(&mut seat.seat, &kind, word, p);
-        seat.summary.protect(p);
-        Ok(())
+        self.stored(seat, &Kind::Protect { p }, word, p)
     }
 
     /// Loads LOW, which confirms the protection stated where it is at most its place: the tickets from there on are then not
@@ -36,10 +32,7 @@ impl<O: Object> Shared<O> {
         ensures { MakesStep self.now seat.old seat.new result (λ found. Steps self.now O.step O.only_reads Confirm found seat.old seat.new) }
     {
         let _ = &self.table;
-        seat.summary.check()?;
-        let found = self.event(&mut seat.seat, &Kind::Confirm, LOW_AT, Instruction::Load);
-        seat.summary.confirm(self.callers, found);
-        Ok(found)
+        self.made(seat, &Kind::Confirm, LOW_AT, Instruction::Load)
     }
 
     /// Releases the caller's protection: stores in its need that it needs no ticket. `Halt` comes only where the limit leaves no step.
@@ -48,11 +41,8 @@ impl<O: Object> Shared<O> {
         ensures { MakesStep self.now seat.old seat.new result (λ _. Steps self.now O.step O.only_reads Unprotect 0 seat.old seat.new) }
     {
         let _ = &self.table;
-        seat.summary.check()?;
         let word = need_at(seat.summary.number);
-        self.store_event(&mut seat.seat, &Kind::Unprotect, word, MAX_WORD);
-        seat.summary.unprotect();
-        Ok(())
+        self.stored(seat, &Kind::Unprotect, word, MAX_WORD)
     }
 
     /// Raises LOW to a target, so that no protection below it is confirmed any more, and begins a scan of what the callers
@@ -62,11 +52,8 @@ impl<O: Object> Shared<O> {
         ensures { MakesStep self.now seat.old seat.new result (λ found. Steps self.now O.step O.only_reads (CloseLow target) found seat.old seat.new) }
     {
         let _ = &self.table;
-        seat.summary.check()?;
         let kind = Kind::CloseLow { target };
-        let found = self.event(&mut seat.seat, &kind, LOW_AT, Instruction::Raise(target));
-        seat.summary.close_low(target);
-        Ok(found)
+        self.made(seat, &kind, LOW_AT, Instruction::Raise(target))
     }
 
     /// Loads the need of caller `d`, the next one of the caller's scan, which lowers the scan's bound to it. `Halt` comes only where the
@@ -76,12 +63,8 @@ impl<O: Object> Shared<O> {
         ensures { MakesStep self.now seat.old seat.new result (λ found. Steps self.now O.step O.only_reads (Scan d) found seat.old seat.new) }
     {
         let _ = &self.table;
-        seat.summary.check()?;
-        let kind = Kind::Scan { d };
         let word = need_at(d as u32);
-        let found = self.event(&mut seat.seat, &kind, word, Instruction::Load);
-        seat.summary.scan(d, found);
-        Ok(found)
+        self.made(seat, &Kind::Scan { d }, word, Instruction::Load)
     }
 
     /// Raises FREE to the bound that the caller's scan of every need found, so that the cells of the tickets below it may be
@@ -91,15 +74,7 @@ impl<O: Object> Shared<O> {
         ensures { MakesStep self.now seat.old seat.new result (λ found. Steps self.now O.step O.only_reads OpenFree found seat.old seat.new) }
     {
         let _ = &self.table;
-        seat.summary.check()?;
         let bound = seat.summary.bound();
-        let found = self.event(
-            &mut seat.seat,
-            &Kind::OpenFree,
-            FREE_AT,
-            Instruction::Raise(bound),
-        );
-        seat.summary.open_free(found);
-        Ok(found)
+        self.made(seat, &Kind::OpenFree, FREE_AT, Instruction::Raise(bound))
     }
 }

@@ -24,10 +24,7 @@ impl<O: Object> Shared<O> {
         ensures { MakesFittingStep O.Object self.now seat.old seat.new result (λ found. Steps self.now O.step O.only_reads LoadCur found seat.old seat.new) }
     {
         let _ = &self.table;
-        seat.summary.check()?;
-        let found = self.event(&mut seat.seat, &Kind::LoadCur, CUR_AT, Instruction::Load);
-        seat.summary.load_cur(self.callers, found);
-        Ok(found)
+        self.made(seat, &Kind::LoadCur, CUR_AT, Instruction::Load)
     }
 
     /// Publishes the replica that the caller has downgraded, at a place above that of the code last found in CUR, where each win
@@ -43,16 +40,10 @@ impl<O: Object> Shared<O> {
         ensures step { MakesFittingStep O.Object self.now seat.old seat.new result (λ x. Steps self.now O.step O.only_reads Publish x.0 seat.old seat.new) }
         ensures token { IfOk result (λ x. TriedPublish self.now.callers seat.old held seat.new x.0 x.1) }
     {
-        seat.summary.check()?;
         let seen = seat.summary.seen_cur;
         let code = seat.summary.downgraded_code(self.callers);
-        let found = self.event(
-            &mut seat.seat,
-            &Kind::Publish,
-            CUR_AT,
-            Instruction::Exchange(seen, code),
-        );
-        seat.summary.publish(self.callers, code, found);
+        let exchange = Instruction::Exchange(seen, code);
+        let found = self.made(seat, &Kind::Publish, CUR_AT, exchange)?;
         Ok((found, won_token(code, seen, held, found)))
     }
 
@@ -68,17 +59,9 @@ impl<O: Object> Shared<O> {
             before,
             caller: _,
         } = won;
-        seat.summary.check()?;
         let r = u64::from(root_replica(self.callers.number, before));
         let word = lock_at(self.callers.number, r);
-        let found = self.learned(
-            &mut seat.seat,
-            &Kind::Retire,
-            word,
-            Instruction::Subtract(1),
-        );
-        seat.summary.retire();
-        Ok(found)
+        self.made(seat, &Kind::Retire, word, Instruction::Subtract(1))
     }
 }
 

@@ -21,14 +21,9 @@ impl<O: Object> Shared<O> {
         requires { MayStep O.Object self.now (WriteSet j i v) seat.old }
         ensures { MakesFittingStep O.Object self.now seat.old seat.new result (λ _. Steps self.now O.step O.only_reads (WriteSet j i v) 0 seat.old seat.new) }
     {
-        seat.summary.check()?;
-        let kind = Kind::WriteSet { j, i, v };
         let cell = CELLS * u64::from(seat.summary.number) + j;
         let word = set_at(self.callers.number, cell, i);
-        self.store_event(&mut seat.seat, &kind, word, v);
-        seat.copy.write_set(j, i, v);
-        seat.summary.pass_set();
-        Ok(())
+        self.stored(seat, &Kind::WriteSet { j, i, v }, word, v)
     }
 
     /// Offers the set of the caller's own entry in a cell, which whatever fits what the caller noted tells to be a write set of the entry's
@@ -38,14 +33,10 @@ impl<O: Object> Shared<O> {
         requires told { TellsOffer self.now.lines (O.lawful self.now.object) self.now.base (O.step self.now.object) seat.old.known j }
         ensures { MakesFittingStep O.Object self.now seat.old seat.new result (λ _. Steps self.now O.step O.only_reads (Offer j) 0 seat.old seat.new) }
     {
-        seat.summary.check()?;
-        let kind = Kind::Offer { j };
         let cell = CELLS * u64::from(seat.summary.number) + j;
         let word = offer_at(self.callers.number, cell);
         let offering = seat.summary.offering_word(j);
-        self.store_learned(&mut seat.seat, &kind, word, offering);
-        seat.summary.offer(j, offering);
-        Ok(())
+        self.stored_learned(seat, &Kind::Offer { j }, word, offering)
     }
 
     /// Loads the offer word of the cell that the slot last looked at shows with a ticket. The entry is offered where the word is the ticket
@@ -54,12 +45,8 @@ impl<O: Object> Shared<O> {
         requires { MayStep O.Object self.now (LoadOffer k t) seat.old }
         ensures { MakesStep self.now seat.old seat.new result (λ found. Steps self.now O.step O.only_reads (LoadOffer k t) found seat.old seat.new) }
     {
-        seat.summary.check()?;
-        let kind = Kind::LoadOffer { k, t };
         let word = offer_at(self.callers.number, k);
-        let found = self.event(&mut seat.seat, &kind, word, Instruction::Load);
-        seat.summary.load_offer(k, t, found);
-        Ok(found)
+        self.made(seat, &Kind::LoadOffer { k, t }, word, Instruction::Load)
     }
 
     /// Loads a word of the set of the cell that the offer word last loaded shows to be offered with a ticket, and notes it with the ticket.
@@ -68,11 +55,7 @@ impl<O: Object> Shared<O> {
         requires { MayStep O.Object self.now (ReadSet k t i) seat.old }
         ensures { MakesFittingStep O.Object self.now seat.old seat.new result (λ found. Steps self.now O.step O.only_reads (ReadSet k t i) found seat.old seat.new) }
     {
-        seat.summary.check()?;
-        let kind = Kind::ReadSet { k, t, i };
         let word = set_at(self.callers.number, k, i);
-        let found = self.event(&mut seat.seat, &kind, word, Instruction::Load);
-        seat.summary.pass_set();
-        Ok(found)
+        self.made(seat, &Kind::ReadSet { k, t, i }, word, Instruction::Load)
     }
 }

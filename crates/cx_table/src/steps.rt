@@ -19,14 +19,9 @@ impl<O: Object> Shared<O> {
         requires { MayStep O.Object self.now (WriteCell j i v) seat.old }
         ensures { MakesStep self.now seat.old seat.new result (λ _. Steps self.now O.step O.only_reads (WriteCell j i v) 0 seat.old seat.new) }
     {
-        seat.summary.check()?;
-        let kind = Kind::WriteCell { j, i, v };
         let cell = CELLS * u64::from(seat.summary.number) + j;
         let word = cell_at(self.callers.number, cell, i);
-        self.store_event(&mut seat.seat, &kind, word, v);
-        seat.copy.write_cell(j, i, v);
-        seat.summary.write_cell(j);
-        Ok(())
+        self.stored(seat, &Kind::WriteCell { j, i, v }, word, v)
     }
 
     /// Tries to link the entry in a cell of the caller at the caller's front: a compare-exchange of the slot last looked at,
@@ -36,21 +31,14 @@ impl<O: Object> Shared<O> {
         requires { MayStep O.Object self.now (Link j) seat.old }
         ensures { MakesStep self.now seat.old seat.new result (λ found. Steps self.now O.step O.only_reads (Link j) found seat.old seat.new) }
     {
-        seat.summary.check()?;
-        let kind = Kind::Link { j };
         let summary = &seat.summary;
         let slot = summary.front % cell_count(self.callers.number);
         let word = link_at(self.callers.number, slot);
         let seen = summary.seen_word();
         let cell = CELLS as u32 * summary.number + j as u32;
         let code = link_code(self.callers.number, summary.front, cell);
-        let found = self.event(
-            &mut seat.seat,
-            &kind,
-            word,
-            Instruction::Exchange(seen, code),
-        );
-        seat.summary.link(self.callers, j, found);
+        let exchange = Instruction::Exchange(seen, code);
+        let found = self.made(seat, &Kind::Link { j }, word, exchange)?;
         seat.last = j;
         Ok(found)
     }
@@ -60,12 +48,8 @@ impl<O: Object> Shared<O> {
         requires { MayStep O.Object self.now (Look s) seat.old }
         ensures { MakesStep self.now seat.old seat.new result (λ found. Steps self.now O.step O.only_reads (Look s) found seat.old seat.new) }
     {
-        seat.summary.check()?;
-        let kind = Kind::Look { s };
         let word = link_at(self.callers.number, s);
-        let found = self.event(&mut seat.seat, &kind, word, Instruction::Load);
-        seat.summary.look(self.callers, s, found);
-        Ok(found)
+        self.made(seat, &Kind::Look { s }, word, Instruction::Load)
     }
 
     /// Loads a word of the cell that the slot last looked at shows with a ticket, and notes it with the ticket. `Halt` comes only where the
@@ -74,12 +58,8 @@ impl<O: Object> Shared<O> {
         requires { MayStep O.Object self.now (ReadCell t k i) seat.old }
         ensures { MakesFittingStep O.Object self.now seat.old seat.new result (λ found. Steps self.now O.step O.only_reads (ReadCell t k i) found seat.old seat.new) }
     {
-        seat.summary.check()?;
-        let kind = Kind::ReadCell { t, k, i };
         let word = cell_at(self.callers.number, k, i);
-        let found = self.event(&mut seat.seat, &kind, word, Instruction::Load);
-        seat.summary.read_cell();
-        Ok(found)
+        self.made(seat, &Kind::ReadCell { t, k, i }, word, Instruction::Load)
     }
 
     /// Loads FREE, the ticket below which cells may be written again. `Halt` comes only where the limit leaves no step.
@@ -88,9 +68,6 @@ impl<O: Object> Shared<O> {
         ensures { MakesStep self.now seat.old seat.new result (λ found. Steps self.now O.step O.only_reads LoadFree found seat.old seat.new) }
     {
         let _ = &self.table;
-        seat.summary.check()?;
-        let found = self.event(&mut seat.seat, &Kind::LoadFree, FREE_AT, Instruction::Load);
-        seat.summary.load_free(found);
-        Ok(found)
+        self.made(seat, &Kind::LoadFree, FREE_AT, Instruction::Load)
     }
 }

@@ -52,15 +52,6 @@ module _ (instance : Instance) (target callers found free : ℕ) (s t u v : Seat
       ∙ ap (λ n. but_collected (record u { known = record u.known { noted = n } })) (append-nil u.known.noted)
       ∙ opened_rest
 
-  -- before FREE is loaded
-  pub opens_only : Opens callers s u
-  opens_only = record {
-    same = opened_rest;
-    scan = ap (λ (x : Seated). x.known.local.scan) opens;
-    scans = ap (λ (x : Seated). x.known.local.scans) opens ∙ ap (λ (x : Seated). one_more x.known.local.scans) so.same;
-    count = (let c = so.count in omega (arith, ap (λ (x : Seated). x.known.local.steps) opens, c));
-  }
-
   pub collects : (collected : Collected) → collected.free ≡ free → v.known.local.seen_need ≡ Some (record { need = collected.need; caller = collected.holder }) → Collects callers target s v collected
   collects collected is seen_as =
       let kept : t.known.local.seen_free ≡ s.known.local.seen_free = ap (λ (x : Seated). x.known.local.seen_free) so.same in

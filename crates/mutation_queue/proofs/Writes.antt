@@ -204,13 +204,6 @@ module _ (s : Seated) (j : ℕ) (ws : List ℕ) (cells : HasCells s.known.local)
         within = made.within;
       }
 
-  -- it is still the seat of its caller
-  pub still_of : {O : Type 0} (r : Running O) (n : ℕ) (t : Seated) → HasTo j ws n s t → IsSeatOf r s → IsSeatOf r t
-  still_of r n t to of = subst (IsSeatOf r) (sym to.is) (record { table = of.table; caller = of.caller; before = of.before; region = of.region })
-
-  pub still_number : (n : ℕ) (t : Seated) → HasTo j ws n s t → t.known.local.number ≡ s.known.local.number
-  still_number n t to = ap (λ (x : Seated). x.known.local.number) to.is
-
   -- the cell is idle after the first word
   pub still_idle : (n : ℕ) (t : Seated) → HasTo j ws n s t → IsIdle t.known.local j
   still_idle n t to = subst (IsIdleAt t.known.local.seen_free) (sym (ap (λ (x : Cell). x.ticket) (cell_is n t to))) tt
@@ -264,19 +257,6 @@ module _ (s : Seated) (j : ℕ) (ws : List ℕ) (cells : HasCells s.known.local)
         count = count;
         most = omega (arith, count, most, rest_count);
       }
-
--- no word was written
-pub halts_before : (s t : Seated) (j : ℕ) (ws : List ℕ) → IsIdle s.known.local j → t ≡ s → IsAtLimit s.known.local → HaltsIn j ws s t
-halts_before s t j ws idle same limit = subst (HaltsIn j ws s) (sym same) (record {
-  limit = limit;
-  short = (let at = limit.0 in omega arith);
-  since = omega arith;
-  none = λ at. refl;
-  idle = idle;
-  cell = λ i. inl refl;
-  others = λ k ne. refl;
-  rest = refl;
-})
 
 -- an announced entry may be linked, and the seat is still its caller's
 pub announced_ready : {O : Type 0} (r : Running O) (j : ℕ) (op : List ℕ) (s t : Seated) → Announces j (next_number r.base s.known.local ∷ op) s t → IsSeatOf r s →

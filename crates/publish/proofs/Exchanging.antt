@@ -161,22 +161,3 @@ passed callers found before after rest rights none seen above = record {
   none = ap (λ (s : Seated). s.known.local.won) rest ∙ none;
   stale = λ was. ap (λ (s : Seated). s.known.local.fresh) rest ∙ was;
 }
-
-pub passed_rest : (before after : Seated) → but_downgraded after ≡ but_downgraded before → beside_publish after ≡ beside_publish before
-passed_rest before after rest = ap beside_publish rest
-
--- what one exchange more meets
-pub meets_more : (first seat after : Seated) → MeetsOne first seat → KeepsMet seat after → after.known.local.met ≤ seat.known.local.met + 1 → after.known.local.fresh ≡ false → MeetsOne first after
-meets_more first seat after (inl same) keeps most stale = inr (omega (arith, same, most), stale)
-meets_more first seat after (inr one) keeps most stale = (let met = keeps one.1 in let few = one.0 in inr (omega (arith, met, few), stale))
-
-pub meets_most : (first seat after : Seated) → MeetsOne first seat → KeepsMet seat after → after.known.local.met ≤ seat.known.local.met + 1 → after.known.local.met ≤ first.known.local.met + 1
-meets_most first seat after (inl same) keeps most = omega (arith, same, most)
-meets_most first seat after (inr one) keeps most = (let met = keeps one.1 in let few = one.0 in omega (arith, met, few))
-
-pub met_most : (first seat : Seated) → MeetsOne first seat → seat.known.local.met ≤ first.known.local.met + 1
-met_most first seat (inl same) = omega (arith, same)
-met_most first seat (inr one) = one.0
-
-pub passed_met : (before after : Seated) → but_downgraded after ≡ but_downgraded before → KeepsMet before after
-passed_met before after rest was = ap (λ (s : Seated). s.known.local.met) rest

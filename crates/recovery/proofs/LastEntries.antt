@@ -48,10 +48,6 @@ module _ (lines : ℕ) (lawful : List ℕ → Type 0) (instance : Instance) (law
       keep.keeps lines lawful instance.step (at_place ticket) entry (at_place (ticket + 1)) before (omega (arith, small, within)) is.caller is.some (omega (arith, most, back))
       image_lawful (laws.shape (instance.step image entry.op).0 image_lawful) (laws.replies image entry.op before.object is.op) refl (full_next instance history ticket entry linked)
 
-  -- a ticket has one entry
-  one_entry : (ticket : ℕ) (a b : Entry) → IsLinked instance.base.place history ticket a → IsLinked instance.base.place history ticket b → a ≡ b
-  one_entry ticket a b la lb = same_Some a b (sym la.at ∙ lb.at)
-
   -- an entry says its number, and the history's reply to it
   told_by : (ticket : ℕ) (entry : Entry) (reply : List ℕ) → IsLinked instance.base.place history ticket entry →
       reply_at instance.step instance.base.place (object_part instance.base.words) history ticket ≡ Some reply → outcome_of entry.caller (at_place (ticket + 1)) ≡ Applied entry.number reply

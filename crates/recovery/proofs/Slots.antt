@@ -36,13 +36,3 @@ zeros_there words long law =
     let count : length (take 7 (drop 1 words)) ≡ 7 = length-take-le 7 (drop 1 words) (omega (arith, length-drop 1 words, long)) in
     let inside : i < 7 = omega (arith, below, count) in
     get_or-take 7 (drop 1 words) i 0 inside ∙ get_or-drop 1 words i 0 ∙ law.zeros (1 + i) (omega arith) (omega (arith, inside))))
-
-pub zeros_are : (words : List ℕ) → 8 ≤ length words → All (λ (w : ℕ). w ≡ 0) (take 7 (drop 1 words)) → (at : ℕ) → 1 ≤ at → at ≤ 7 → get_or words at 0 ≡ 0
-zeros_are words long blank at from to =
-    let count : length (take 7 (drop 1 words)) ≡ 7 = length-take-le 7 (drop 1 words) (omega (arith, length-drop 1 words, long)) in
-    let inside : at - 1 < 7 = omega (arith, from, to) in
-    let there : 1 + (at - 1) ≡ at = omega (arith, from) in
-    ap (λ n. get_or words n 0) (sym there)
-    ∙ sym (get_or-drop 1 words (at - 1) 0)
-    ∙ sym (get_or-take 7 (drop 1 words) (at - 1) 0 inside)
-    ∙ All-get_or (λ (w : ℕ). w ≡ 0) (take 7 (drop 1 words)) (at - 1) 0 (omega (arith, inside, count)) blank

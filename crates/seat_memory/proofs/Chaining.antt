@@ -68,9 +68,6 @@ pub record Goes (all left : List WonCode) (from : ℕ) (above : List ℕ) (to co
   pub ahead : (w : WonCode) → Contains all w → code ≤ w.before → Contains left w
   pub only : (w : WonCode) → Contains left w → Contains all w
 
-pub goes_first : (wins : List WonCode) (from : ℕ) (above : List ℕ) (to : ℕ) → IsWayBy wins from above to → Goes wins wins from above to from (from ∷ [])
-goes_first wins from above to way = record { rest = above; whole = refl; leads = way.leads; ahead = λ w there _. there; only = λ w there. there }
-
 -- one code more
 module _ (all left left' : List WonCode) (from : ℕ) (above : List ℕ) (to code next : ℕ) (codes : List ℕ) (way : IsWayBy all from above to) (taken : IsWinTaken code next left left') where
   goes_by : (rest : List ℕ) → codes ++ rest ≡ from ∷ above → LeadsBy all code rest to → ((w : WonCode) → Contains all w → code ≤ w.before → Contains left w) →

@@ -23,7 +23,8 @@ use Rattle.cx_rule.proofs.Fitting.{fitting}
 use Rattle.seat_memory.specs.declared.summary.Summary.{Summary}
 use Rattle.seat_memory.specs.Copies.{Copied, CopiesDirty, IsCopied}
 use Rattle.seat_memory.specs.Summaries.{Follows, HasSummary, summary_of}
-use Rattle.seat_memory.proofs.SummaryLaws.{IsSeat, seated, step_made}
+use Rattle.seat_memory.proofs.FollowedSteps.{step_made}
+use Rattle.seat_memory.proofs.SummaryLaws.{IsSeat, seated}
 
 -- a right that was taken back leaves the replica held exclusively
 abbrev backed : Bool → Bool → Local → Local
@@ -56,10 +57,6 @@ copy_moved instance r found k c long copies behind is =
           subst (TellsWord n (loads_of (loaded_of k.local.shared)) i) same (noted_tells n (loads_of (loaded_of k.local.shared)) i a.0 below a.2));
     }
 
--- where all words were copied, the dirty ones were
-pub copies_all : (n : ℕ) (k : Known) → 0 < n → AgreeTo k n → CopiesDirty n k
-copies_all n k some agree = record { place = agree 0 some; dirty = λ i below there. agree i below }
-
 module _ {O : Type 0} (r : Running O) (step : O → List ℕ → List ℕ → List ℕ × List ℕ) (reads : O → List ℕ → Bool) (replica found : ℕ) (me me' : Me ℕ (List Known)) (summary summary' : Summary) (copy : Copied) (table table' : TableId) (before : ℕ) where
   pub moved_made : (callers : ℕ) (old : Seated) → IsSeat me summary before copy → seated table me before copy ≡ old → ((l : Local) → summary ≡ summary_of l → ¬ IsAtLimit l) → IsSeatOf r old →
       CanBackOff r.callers replica old.known.local → table' ≡ table → TeachesCopied (instance_at r step reads) (BackOff replica) (known_of me.0) found me' → callers ≡ r.callers → Follows callers (BackOff replica) found summary summary' →
@@ -69,7 +66,7 @@ module _ {O : Type 0} (r : Running O) (step : O → List ℕ → List ℕ → Li
       let k = known_of me.0 in
       let left : Me ℕ (List Known) = (known_after instance (BackOff replica) k found ∷ [], []) in
       let now : Me ℕ (List Known) = (known_copied instance (BackOff replica) k found ∷ [], []) in
-      let made = step_made r step reads (BackOff replica) found me left summary summary' copy copy table table' before callers old is view allowed of guard same_table taught.event same follows refl in
+      let made = step_made r step reads (BackOff replica) found me left summary summary' copy copy table table' before callers old is view allowed of guard same_table taught.event same (λ i x callers_is place. follows i x callers_is) (λ x is. refl) in
       let m = made.0.0 in
       let at = made.1.seat in
       let long : length copy.words ≡ length r.base.words = ap (λ (s : Seated). s.region) view ∙ of.region in
@@ -83,13 +80,6 @@ module _ {O : Type 0} (r : Running O) (step : O → List ℕ → List ℕ → Li
         (summarised, copied),
         record { event = subst (λ (s : Seated). Steps r step reads (BackOff replica) found old s) made.1.made made.1; made = whole; seat = stands },
       )
-
-  -- so it is where all words were copied
-  pub copied_made : (callers : ℕ) (old : Seated) → IsSeat me summary before copy → seated table me before copy ≡ old → ((l : Local) → summary ≡ summary_of l → ¬ IsAtLimit l) → IsSeatOf r old →
-      CanBackOff r.callers replica old.known.local → table' ≡ table → TeachesCopied (instance_at r step reads) (BackOff replica) (known_of me.0) found me' → callers ≡ r.callers → Follows callers (BackOff replica) found summary summary' →
-      AgreeTo old.known old.region → 0 < length r.base.words → IsSeat me' summary' before copy × StepsCopied r step reads replica found old (seated table' me' before copy)
-  copied_made callers old is view allowed of guard same_table taught same follows agree some =
-      moved_made callers old is view allowed of guard same_table taught same follows (copies_all old.region old.known (subst (λ n. 0 < n) (sym of.region) some) agree)
 
 -- a step of a replica that is another way to say the same
 pub copied_same : {O : Type 0} {r : Running O} {step : O → List ℕ → List ℕ → List ℕ × List ℕ} {reads : O → List ℕ → Bool} {replica replica' found : ℕ} {before after : Seated} → replica ≡ replica' → StepsCopied r step reads replica found before after →

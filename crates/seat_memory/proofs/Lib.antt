@@ -3,6 +3,7 @@ pub mod SetNumbers
 mod CopyLaws
 pub mod OwnEntries
 pub mod SummaryLaws
+pub mod FollowedSteps
 mod Refused
 pub mod Copying
 pub mod Raising

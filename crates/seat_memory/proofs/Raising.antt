@@ -134,11 +134,6 @@ raise_learned line_count lawful step reads r code read known old running laws sa
     subst (λ (k : Known). IsRaiseLearned (instance_at r step reads) code answers read k dur_at) (sym same)
     (learns_raise r.lines (lawful r.object) (instance_at r step reads) laws running.base code answers read old.known dur_at guard refl tells told)
 
--- whether there is an item, and whether it was made from one
-pub some_map : {X Y : Type 0} (f : X → Y) (o : Option X) → is_some o ≡ is_some (option_map f o)
-some_map f None = refl
-some_map f (Some x) = refl
-
 -- what really is there fits what was noted
 pub raised_fits : {O : Type 0} (line_count : O → ℕ) (lawful : O → List ℕ → Type 0) (step : O → List ℕ → List ℕ → List ℕ × List ℕ) (reads : O → List ℕ → Bool) (r : Running O) (code : ℕ) (answers : List Answer) (read : Option (List ℕ × List ℕ)) (known : Known) (me' : Me ℕ (List Known)) →
     IsRunning line_count lawful r → ObjectLaws r.lines (lawful r.object) (step r.object) → TeachesRaised (instance_at r step reads) code answers read known me' → Fitting r.lines (lawful r.object) r.base (step r.object) (known_of me'.0)

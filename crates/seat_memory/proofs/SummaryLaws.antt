@@ -24,7 +24,7 @@ use Rattle.core_queue.proofs.Shapes.{cell_there, shape_linked, shape_put, shape_
 use Rattle.seat_memory.specs.declared.summary.Summary.{Summary}
 use Rattle.cx_rule.specs.declared.rule.Known.{Known}
 use Rattle.seat_memory.specs.Copies.{Copied, IsCopied, copied_after}
-use Rattle.seat_memory.specs.Summaries.{Follows, HasSummary, summary_of}
+use Rattle.seat_memory.specs.Summaries.{HasSummary, summary_of}
 use Rattle.seat_memory.proofs.CopyLaws.{copy_kept}
 use Rattle.seat_memory.proofs.OwnEntries.{own_kept}
 use Rattle.seat_memory.proofs.SetNumbers.{part_kept}
@@ -188,7 +188,7 @@ IsSeat me summary before copy = HasSummary me summary before × IsCopied (known_
 
 -- a step that was made: the seat's numbers are its caller's, and the seat is as the step says
 module _ {O : Type 0} (r : Running O) (step : O → List ℕ → List ℕ → List ℕ × List ℕ) (reads : O → List ℕ → Bool) (kind : Kind) (found : ℕ) (me me' : Me ℕ (List Known)) (summary summary' : Summary) (copy copy' : Copied) (table table' : TableId) (before : ℕ) where
-  made_inside : IsSeat me summary before copy → ¬ IsAtLimit (known_of me.0).local → IsSeatOf r (seated table me before copy) → SeenGuard (instance_at r step reads) kind (known_of me.0).local →
+  pub made_inside : IsSeat me summary before copy → ¬ IsAtLimit (known_of me.0).local → IsSeatOf r (seated table me before copy) → SeenGuard (instance_at r step reads) kind (known_of me.0).local →
       table' ≡ table → Teaches (instance_at r step reads) kind (known_of me.0) found me' → summary' ≡ summary_of (known_local (instance_at r step reads) kind (known_of me.0) found) → copy' ≡ copied_after kind (known_of me.0) found copy →
       IsSeat me' summary' before copy' × Steps r step reads kind found (seated table me before copy) (seated table' me' before copy')
   made_inside old allowed of may same_table taught numbers copied =
@@ -233,12 +233,3 @@ module _ {O : Type 0} (r : Running O) (step : O → List ℕ → List ℕ → Li
       let may = subst (λ (s : Seated). SeenGuard instance kind s.known.local) (sym view) guard in
       subst (λ (s : Seated). IsSeat me' summary' before copy' × Steps r step reads kind found s (seated table' me' before copy')) view
       (made_inside is (allowed (known_of me.0).local is.0.is) (subst (IsSeatOf r) (sym view) of) may same_table taught numbers copied)
-
-  pub step_made : (callers : ℕ) (old : Seated) → IsSeat me summary before copy → seated table me before copy ≡ old → ((l : Local) → summary ≡ summary_of l → ¬ IsAtLimit l) → IsSeatOf r old →
-      SeenGuard (instance_at r step reads) kind old.known.local → table' ≡ table → Teaches (instance_at r step reads) kind (known_of me.0) found me' → callers ≡ r.callers → Follows callers kind found summary summary' →
-      copy' ≡ copied_after kind (known_of me.0) found copy → IsSeat me' summary' before copy' × Steps r step reads kind found old (seated table' me' before copy')
-  step_made callers old is view allowed of guard same_table taught same follows copied =
-      let instance = instance_at r step reads in
-      let may = subst (λ (s : Seated). SeenGuard instance kind s.known.local) (sym view) guard in
-      subst (λ (s : Seated). IsSeat me' summary' before copy' × Steps r step reads kind found s (seated table' me' before copy')) view
-      (made_inside is (allowed (known_of me.0).local is.0.is) (subst (IsSeatOf r) (sym view) of) may same_table taught (follows instance (known_of me.0) (sym same) may is.0.is) copied)

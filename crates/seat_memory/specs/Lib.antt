@@ -3,3 +3,4 @@ pub mod Raised
 pub mod Copies
 pub mod Marks
 pub mod Wins
+pub mod Following

@@ -16,7 +16,7 @@ use Rattle.cx_core.specs.State.{Instance}
 use Rattle.seat_memory.specs.declared.summary.Summary.{Summary}
 use Rattle.cx_rule.specs.declared.rule.Known.{Known}
 use Rattle.cx_rule.specs.Fitting.{IsOwn}
-use Rattle.cx_rule.specs.Seats.{HasCells, IsWithinLimit, SeenGuard, known_local, known_of, unanswered_ticket}
+use Rattle.cx_rule.specs.Seats.{HasCells, IsWithinLimit, SeenGuard, kind_found, known_local, known_of, unanswered_ticket}
 
 abbrev pub summary_of : Local → Summary
 summary_of l = record {
@@ -53,7 +53,7 @@ summary_of l = record {
 -- instance with this number of callers
 abbrev pub Follows : ℕ → Kind → ℕ → Summary → Summary → Type 0
 Follows callers kind found before after =
-    (instance : Instance) (k : Known) → instance.callers ≡ callers → SeenGuard instance kind k.local → before ≡ summary_of k.local → after ≡ summary_of (known_local instance kind k found)
+    (instance : Instance) (k : Known) → instance.callers ≡ callers → SeenGuard instance kind k.local → before ≡ summary_of k.local → after ≡ summary_of (known_local instance (kind_found instance kind k.local found) k found)
 
 -- an entry is a caller's own one with a ticket, and it is one that may come there
 pub record IsOwnEntry (entries : List Linked) (caller ticket : ℕ) (entry : Entry) : Type 0 where

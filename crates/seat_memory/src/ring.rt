@@ -1,9 +1,11 @@
 //! How the steps of the ring change the numbers: what a caller needs is stated, confirmed and released, and tickets are
 //! closed, scanned and opened.
 
-ghost use Rattle.std.specs.Prelude.{◌≡◌, ◌<◌, ℕ};
-ghost use Rattle.cx_core.specs.declared.kinds.Kind.TheVariants.{Protect, Confirm, Unprotect, CloseLow, Scan, OpenFree};
+ghost use Rattle.std.specs.Prelude.{◌≡◌, ◌<◌, false, max, None, Some};
+ghost use Rattle.cx_core.specs.declared.kinds.Kind.TheVariants.{Confirm};
+ghost use Rattle.cx_core.specs.declared.local.Protection.TheVariants.{Stated, Unprotected};
 ghost use Rattle.cx_core.specs.RingEvents.{bound_in, confirmed_by, least_in, scan_after, shows_outdated};
+ghost use Rattle.cx_core.specs.State.{one_more};
 ghost use Rattle.seat_memory.specs.Summaries.{Follows, summary_of};
 
 use crate::summary::Summary;
@@ -14,8 +16,8 @@ use cx_core::Protection;
 
 impl Summary {
     /// A protection was stated.
-    pub fn protect(&mut self, p: u64)
-        ensures { (callers found : ℕ) → Follows callers (Protect p) found self.old self.new }
+    pub(crate) fn protect(&mut self, p: u64)
+        ensures { self.new ≡ record self.old { protection = Stated p; steps = one_more self.old.steps } }
     {
         self.protection = Protection::Stated(p);
         self.steps = self.steps.saturating_add(1);
@@ -35,7 +37,7 @@ impl Summary {
     }
 
     /// LOW was found.
-    pub fn confirm(&mut self, callers: Callers, found: u64)
+    pub(crate) fn confirm(&mut self, callers: Callers, found: u64)
         ensures { Follows callers.number Confirm found self.old self.new }
     {
         if self.shows_outdated(callers, found) {
@@ -48,16 +50,16 @@ impl Summary {
     }
 
     /// A protection was released.
-    pub fn unprotect(&mut self)
-        ensures { (callers found : ℕ) → Follows callers Unprotect found self.old self.new }
+    pub(crate) fn unprotect(&mut self)
+        ensures { self.new ≡ record self.old { protection = Unprotected; steps = one_more self.old.steps } }
     {
         self.protection = Protection::Unprotected;
         self.steps = self.steps.saturating_add(1);
     }
 
     /// LOW was raised to a target, which begins a scan.
-    pub fn close_low(&mut self, target: u64)
-        ensures { (callers found : ℕ) → Follows callers (CloseLow target) found self.old self.new }
+    pub(crate) fn close_low(&mut self, target: u64)
+        ensures { self.new ≡ record self.old { scan = Some (record { target = target; bound = target; next = 0; least = None }); steps = one_more self.old.steps } }
     {
         self.scan = Some(cx_core::Scan {
             target,
@@ -69,9 +71,9 @@ impl Summary {
     }
 
     /// The need of caller `d` was found.
-    pub fn scan(&mut self, d: u64, found: u64)
+    pub(crate) fn scan(&mut self, d: u64, found: u64)
         requires { d < 8 }
-        ensures { (callers : ℕ) → Follows callers (Scan d) found self.old self.new }
+        ensures { self.new ≡ record self.old { scan = scan_after d found self.old.scan; steps = one_more self.old.steps } }
     {
         self.scan = scan_after(d, found, self.scan);
         self.steps = self.steps.saturating_add(1);
@@ -85,8 +87,8 @@ impl Summary {
     }
 
     /// FREE was raised to the scan's bound, which ends the scan.
-    pub fn open_free(&mut self, found: u64)
-        ensures { (callers : ℕ) → Follows callers OpenFree found self.old self.new }
+    pub(crate) fn open_free(&mut self, found: u64)
+        ensures { self.new ≡ record self.old { seen_free = max self.old.seen_free (max found (bound_in self.old.scan)); seen_need = least_in self.old.scan; scan = None; fresh = false; steps = one_more self.old.steps; scans = one_more self.old.scans } }
     {
         self.seen_free = self.seen_free.max(found.max(self.bound()));
         self.seen_need = least_in(self.scan);

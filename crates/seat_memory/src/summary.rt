@@ -1,19 +1,18 @@
 //! The numbers of a local state that code reads, and how each kind of step changes them.
 
-ghost use Rattle.std.specs.Prelude.{◌≡◌, ◌+◌, ◌*◌, ◌^◌, ◌<◌, ◌≤◌, ℕ, IsTrue, MatchResult, false, length, max, slice_index_or, Some, None};
+ghost use Rattle.std.specs.Prelude.{◌≡◌, ◌&&◌, ◌+◌, ◌*◌, ◌^◌, ◌<◌, ◌≤◌, ℕ, IsTrue, MatchResult, false, length, max, slice_index_or, Some, None};
 ghost use Rattle.cx_core.specs.QueueEvents.{linked, lost, seen_word};
 ghost use Rattle.cx_base.specs.Codes.{root_place_of};
 ghost use Rattle.cx_core.specs.declared.local.HeldDowngraded.{HeldDowngraded};
 ghost use Rattle.cx_core.specs.RootEvents.{code_in, outrun, published};
-ghost use Rattle.cx_core.specs.declared.kinds.Kind.TheVariants.{WriteCell, Link, Look, ReadCell, LoadFree, TryExclusive, TryShared, BackOff, Downgrade, ReleaseExclusive, LoadWord, StoreWord, Persist, LoadCur, Publish, Retire};
+ghost use Rattle.cx_core.specs.declared.kinds.Kind.TheVariants.{WriteCell, Link, Look, TryExclusive, TryShared, BackOff, LoadWord, LoadCur, Publish};
 ghost use Rattle.std.specs.List.{list_all, range_with_len};
 ghost use Rattle.cx_core.specs.LockEvents.{is_fresh_on, refused_by, taken};
-ghost use Rattle.cx_core.specs.State.{Instance, opening_local};
+ghost use Rattle.cx_core.specs.State.{Instance, one_more, opening_local};
 ghost use Rattle.cx_core.specs.Rights.{is_at};
 ghost use Rattle.seat_memory.specs.Summaries.{Follows, summary_of};
 ghost use Rattle.seat_memory.specs.Raised.{is_below, raised_summary};
-ghost use Rattle.cx_rule.specs.declared.rule.Known.{Known};
-ghost use Rattle.cx_rule.specs.Seats.{IsAtLimit, known_local, place_noted, unseen};
+ghost use Rattle.cx_rule.specs.Seats.{IsAtLimit, is_outdated, unseen};
 
 use core_guards::callers::Callers;
 use core_guards::locks::is_at;
@@ -135,7 +134,7 @@ impl Summary {
     }
 
     /// A word was written into cell `j`.
-    pub fn write_cell(&mut self, j: u64)
+    pub(crate) fn write_cell(&mut self, j: u64)
         requires { j < 16 }
         ensures { (callers i v found : ℕ) → Follows callers (WriteCell j i v) found self.old self.new }
     {
@@ -145,7 +144,7 @@ impl Summary {
     }
 
     /// The entry in cell `j` was linked at the front.
-    pub fn win(&mut self, j: u64)
+    fn win(&mut self, j: u64)
         requires j { j < 16 }
         requires front { self.old.front < 2 ^ 40 }
         requires linked { self.old.linked ≤ self.old.front }
@@ -159,7 +158,7 @@ impl Summary {
     }
 
     /// A link was lost to the word found.
-    pub fn lose(&mut self, callers: Callers, found: u64)
+    fn lose(&mut self, callers: Callers, found: u64)
         ensures { (l : _) → self.old ≡ summary_of l → self.new ≡ summary_of (lost callers.number l found) }
     {
         self.front = front_after(callers, self.front, found);
@@ -167,7 +166,7 @@ impl Summary {
     }
 
     /// A link of the entry in cell `j` found this word.
-    pub fn link(&mut self, callers: Callers, j: u64, found: u64)
+    pub(crate) fn link(&mut self, callers: Callers, j: u64, found: u64)
         requires j { j < 16 }
         requires front { self.old.front < 2 ^ 40 }
         requires linked { self.old.linked ≤ self.old.front }
@@ -188,7 +187,7 @@ impl Summary {
     }
 
     /// A link slot was looked at.
-    pub fn look(&mut self, callers: Callers, s: u64, found: u64)
+    pub(crate) fn look(&mut self, callers: Callers, s: u64, found: u64)
         ensures { Follows callers.number (Look s) found self.old self.new }
     {
         self.seen_slot = Some(SeenSlot {
@@ -199,23 +198,23 @@ impl Summary {
         self.steps = self.steps.saturating_add(1);
     }
 
-    /// A word of a cell was read.
-    pub fn read_cell(&mut self)
-        ensures { (callers t k i found : ℕ) → Follows callers (ReadCell t k i) found self.old self.new }
+    /// A word was loaded or stored that no number tells of.
+    pub(crate) fn pass(&mut self)
+        ensures { self.new ≡ record self.old { steps = one_more self.old.steps } }
     {
         self.steps = self.steps.saturating_add(1);
     }
 
     /// FREE was found.
-    pub fn load_free(&mut self, found: u64)
-        ensures { (callers : ℕ) → Follows callers LoadFree found self.old self.new }
+    pub(crate) fn load_free(&mut self, found: u64)
+        ensures { self.new ≡ record self.old { seen_free = max self.old.seen_free found; steps = one_more self.old.steps } }
     {
         self.seen_free = self.seen_free.max(found);
         self.steps = self.steps.saturating_add(1);
     }
 
     /// An exclusive try of a replica found this word.
-    pub fn try_exclusive(&mut self, callers: Callers, r: u64, found: u64)
+    pub(crate) fn try_exclusive(&mut self, callers: Callers, r: u64, found: u64)
         requires { r < 2 * callers.number }
         ensures { Follows callers.number (TryExclusive r) found self.old self.new }
     {
@@ -257,7 +256,7 @@ impl Summary {
     }
 
     /// A shared try of a replica found this word.
-    pub fn try_shared(&mut self, callers: Callers, r: u64, found: u64)
+    pub(crate) fn try_shared(&mut self, callers: Callers, r: u64, found: u64)
         ensures { Follows callers.number (TryShared r) found self.old self.new }
     {
         if found < EXCLUSIVE_MARK {
@@ -295,8 +294,8 @@ impl Summary {
     }
 
     /// An exclusive right was turned into a shared one, at the place noted.
-    pub fn downgrade(&mut self, r: u64, place: u64)
-        ensures { (instance : Instance) (k : Known) (found : ℕ) → place ≡ place_noted 0 k.accesses → self.old ≡ summary_of k.local → self.new ≡ summary_of (known_local instance (Downgrade r) k found) }
+    pub(crate) fn downgrade(&mut self, r: u64, place: u64)
+        ensures { self.new ≡ record self.old { exclusive = None; downgraded = Some (record { replica = r; place = place }); steps = one_more self.old.steps } }
     {
         self.exclusive = None;
         self.downgraded = Some(HeldDowngraded { replica: r, place });
@@ -304,15 +303,15 @@ impl Summary {
     }
 
     /// An exclusive right was released.
-    pub fn release_exclusive(&mut self)
-        ensures { (callers r found : ℕ) → Follows callers (ReleaseExclusive r) found self.old self.new }
+    pub(crate) fn release_exclusive(&mut self)
+        ensures { self.new ≡ record self.old { exclusive = None; steps = one_more self.old.steps } }
     {
         self.exclusive = None;
         self.steps = self.steps.saturating_add(1);
     }
 
     /// CUR was found.
-    pub fn load_cur(&mut self, callers: Callers, found: u64)
+    pub(crate) fn load_cur(&mut self, callers: Callers, found: u64)
         ensures { Follows callers.number LoadCur found self.old self.new }
     {
         self.see_cur(callers, found);
@@ -331,12 +330,13 @@ impl Summary {
         }
     }
 
-    /// A publication of this code found this word in CUR.
-    pub fn publish(&mut self, callers: Callers, code: u64, found: u64)
-        requires code { code ≡ code_in callers.number self.old.downgraded }
+    /// A publication found this word in CUR.
+    pub(crate) fn publish(&mut self, callers: Callers, found: u64)
+        requires placed { (h : HeldDowngraded) → self.old.downgraded ≡ Some h → (h.replica < 2 * callers.number) × (h.place ≤ 2 ^ 40) }
         ensures { Follows callers.number Publish found self.old self.new }
     {
         if found == self.seen_cur {
+            let code = self.downgraded_code(callers);
             self.win_cur(callers, code);
         } else {
             self.lose_cur(callers, found);
@@ -371,30 +371,33 @@ impl Summary {
     }
 
     /// A win was retired.
-    pub fn retire(&mut self)
-        ensures { (callers found : ℕ) → Follows callers Retire found self.old self.new }
+    pub(crate) fn retire(&mut self)
+        ensures { self.new ≡ record self.old { won = None; steps = one_more self.old.steps } }
     {
         self.won = None;
         self.steps = self.steps.saturating_add(1);
     }
 
-    /// A word of a replica was loaded, and marked as a refusal or not.
-    pub fn load_word(&mut self, refused: bool)
-        ensures { (callers r i found : ℕ) → Follows callers (LoadWord r i refused) found self.old self.new }
+    /// A word of a replica was loaded, which is marked as a refusal where that is asked for and the word shows it.
+    pub(crate) fn load_word(&mut self, callers: Callers, r: u64, i: u64, mark: bool, found: u64)
+        ensures { Follows callers.number (LoadWord r i mark) found self.old self.new }
     {
-        if refused {
+        if self.is_refusal(callers, r, i, mark, found) {
             self.met = self.met.saturating_add(1);
             self.fresh = false;
         }
         self.steps = self.steps.saturating_add(1);
     }
 
-    /// A word of a replica was stored or persisted.
-    pub fn write_word(&mut self)
-        ensures stored { (callers r i v found : ℕ) → Follows callers (StoreWord r i v) found self.old self.new }
-        ensures persisted { (callers r i found : ℕ) → Follows callers (Persist r i) found self.old self.new }
+    /// Whether a load is marked as a refusal: that is asked for, and the word found shows that the code last loaded from CUR
+    /// is outdated.
+    fn is_refusal(&self, callers: Callers, r: u64, i: u64, mark: bool, found: u64) -> bool
+        ensures { (instance : Instance) (l : _) → instance.callers ≡ callers.number → self.now ≡ summary_of l → result ≡ (mark && is_outdated instance r i l found) }
     {
-        self.steps = self.steps.saturating_add(1);
+        mark && i == 0
+            && is_at(r, self.shared)
+            && self.is_fresh_on(callers, r)
+            && found != root_place(callers.number, self.seen_cur)
     }
 
     /// DUR was raised by a code, with a read that is answered or without.

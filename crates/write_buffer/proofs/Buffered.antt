@@ -19,9 +19,6 @@ pub covers_none : (places values under now : List ℕ) → Covers 0 places value
 covers_none places values under now c =
     ext_get_or 0 now under c.long (λ at l. c.free at (λ i below. absurd (omega (arith, below))))
 
-pub covers_all : (places values ws : List ℕ) → Covers 0 places values ws ws
-covers_all places values ws = record { long = refl; held = λ i l. absurd (omega (arith, l)); free = λ at f. refl }
-
 -- one word more, as it stands behind
 pub covers_more : (count at x : ℕ) (places values under now : List ℕ) → count < length places → count < length values → IsFree places count at → Covers count places values under now → slice_index under at ≡ x →
     Covers (count + 1) (slice_set places count at) (slice_set values count x) under now
@@ -98,59 +95,6 @@ module _ {Key : Type 0} where
     known = λ key u s. h.known key u (back key u s);
   }
 
-  -- nothing is held back
-  pub held_none : {stands : Key → List ℕ → Type 0} (size : ℕ) (places found values : List ℕ) → length places ≡ 192 → length found ≡ 192 → length values ≡ 192 → IsHeldBack stands size 0 places found values
-  held_none size places found values p f v = record {
-    few = omega arith;
-    places_long = p;
-    found_long = f;
-    values_long = v;
-    within = λ i l. absurd (omega (arith, l));
-    small = λ i l. absurd (omega (arith, l));
-    apart = λ i j l m e. absurd (omega (arith, l));
-    known = λ key u s i l. absurd (omega (arith, l));
-  }
-
-  -- one word more
-  pub held_more : {stands : Key → List ℕ → Type 0} (size count at x : ℕ) (places found values : List ℕ) → count < 192 → at < size → x < 2 ^ 64 → IsFree places count at → Always stands (λ u. slice_index u at ≡ x) →
-      IsHeldBack stands size count places found values → IsHeldBack stands size (count + 1) (slice_set places count at) (slice_set found count x) (slice_set values count x)
-  held_more size count at x places found values room inside fits free known h =
-      let p : count < length places = (let e = h.places_long in omega (arith, e, room)) in
-      let f : count < length found = (let e = h.found_long in omega (arith, e, room)) in
-      let v : count < length values = (let e = h.values_long in omega (arith, e, room)) in
-      record {
-        few = omega (arith, room);
-        places_long = length-set places count at ∙ h.places_long;
-        found_long = length-set found count x ∙ h.found_long;
-        values_long = length-set values count x ∙ h.values_long;
-        within = λ i l. elim (cases_eq i count) [
-          | inl same ↦ subst (λ k. slice_index (slice_set places count at) k < size) (sym same) (subst (λ n. n < size) (sym (there places count at p)) inside)
-          | inr other ↦ subst (λ n. n < size) (sym (beside places count i at other)) (h.within i (let d : i ≢ count = other in omega (arith, l, d)))
-        ];
-        small = λ i l. elim (cases_eq i count) [
-          | inl same ↦ subst (λ k. slice_index (slice_set values count x) k < 2 ^ 64) (sym same) (subst (λ n. n < 2 ^ 64) (sym (there values count x v)) fits)
-          | inr other ↦ subst (λ n. n < 2 ^ 64) (sym (beside values count i x other)) (h.small i (let d : i ≢ count = other in omega (arith, l, d)))
-        ];
-        apart = λ i j l m e. elim (cases_eq i count) [
-          | inl same ↦ elim (cases_eq j count) [
-            | inl also ↦ same ∙ sym also
-            | inr other ↦ absurd (free j (let d : j ≢ count = other in omega (arith, m, d))
-                (sym (beside places count j at other) ∙ sym e ∙ ap (slice_index (slice_set places count at)) same ∙ there places count at p))
-          ]
-          | inr other ↦ elim (cases_eq j count) [
-            | inl also ↦ absurd (free i (let d : i ≢ count = other in omega (arith, l, d))
-                (sym (beside places count i at other) ∙ e ∙ ap (slice_index (slice_set places count at)) also ∙ there places count at p))
-            | inr neither ↦ h.apart i j (let d : i ≢ count = other in omega (arith, l, d)) (let d : j ≢ count = neither in omega (arith, m, d))
-                (sym (beside places count i at other) ∙ e ∙ beside places count j at neither)
-          ]
-        ];
-        known = λ key u s i l. elim (cases_eq i count) [
-          | inl same ↦ subst (λ k. slice_index u (slice_index (slice_set places count at) k) ≡ slice_index (slice_set found count x) k) (sym same)
-              (ap (slice_index u) (there places count at p) ∙ known key u s ∙ sym (there found count x f))
-          | inr other ↦ ap (slice_index u) (beside places count i at other) ∙ h.known key u s i (let d : i ≢ count = other in omega (arith, l, d)) ∙ sym (beside found count i x other)
-        ];
-      }
-
   -- another value for one
   pub held_put : {stands : Key → List ℕ → Type 0} (size count i v : ℕ) (places found values : List ℕ) → i < count → v < 2 ^ 64 →
       IsHeldBack stands size count places found values → IsHeldBack stands size count places found (slice_set values i v)
@@ -167,22 +111,6 @@ module _ {Key : Type 0} where
     ];
     apart = h.apart;
     known = h.known;
-  }
-
-  -- a free word is stored to behind
-  pub held_stored : {old new : Key → List ℕ → Type 0} (size size' count at v : ℕ) (places found values : List ℕ) → size' ≡ size → IsFree places count at → Stored at v old new →
-      IsHeldBack old size count places found values → IsHeldBack new size' count places found values
-  held_stored size size' count at v places found values e free d h = record {
-    few = h.few;
-    places_long = h.places_long;
-    found_long = h.found_long;
-    values_long = h.values_long;
-    within = λ i l. subst (λ n. slice_index places i < n) (sym e) (h.within i l);
-    small = h.small;
-    apart = h.apart;
-    known = λ key u s i l. (
-        let p = d.back key u s in
-        ap (λ xs. slice_index xs (slice_index places i)) p.2 ∙ beside p.0 at (slice_index places i) v (free i l) ∙ h.known key p.0 p.1 i l);
   }
 
   -- a load behind gives the word that was found there

@@ -13,8 +13,8 @@ pub loop-turn-preserved : goal.loop-turn-preserved
 loop-turn-preserved g c =
     let i = c.loop-turn.invariant in
     let e = c.in_ok-store_few.ensures in
-    let from = 48 * c.loop-turn.turn in
+    let from = 144 * c.loop-turn.turn in
     record {
-      done = Becomes-then i.done e.done (λ x y z m n. overwritten_slice c.args.words.now x y z c.args.at from c.min-to.result (48 * (c.loop-turn.turn + 1)) (omega (arith, c.loop-turn-test.true, c.loop-turn.auto.turn-end, c.div_ceil-turn-end.ensures, c.min-to.ensures)) (omega (arith, c.loop-turn-test.true, c.loop-turn.auto.turn-end, c.div_ceil-turn-end.ensures)) (grind arith) m n);
+      done = Becomes-then i.done e.done (λ x y z m n. overwritten_slice c.args.words.now x y z c.args.at from c.min-to.result (144 * (c.loop-turn.turn + 1)) (omega (arith, c.loop-turn-test.true, c.loop-turn.auto.turn-end, c.div_ceil-turn-end.ensures, c.min-to.ensures)) (omega (arith, c.loop-turn-test.true, c.loop-turn.auto.turn-end, c.div_ceil-turn-end.ensures)) (grind arith) m n);
       framed = Framed-then i.framed e.framed;
     }

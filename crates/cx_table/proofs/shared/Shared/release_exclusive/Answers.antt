@@ -1,36 +1,17 @@
-use Rattle.std.proofs.Common.{ℕ, ap, refl, subst, sym, ◌∙◌}
-use Rattle.cx_core.specs.declared.kinds.Kind.TheVariants.{ReleaseExclusive}
+use Rattle.std.proofs.Common.{ℕ, ap, subst, sym, ◌∙◌}
 use Rattle.cx_core.specs.Layout.{lock_at}
 use Rattle.cx_core.specs.LockEvents.{IsClean}
-use Rattle.cx_rule.specs.Fitting.{IsReplayed}
 use Rattle.cx_rule.specs.Running.{IsRunning, Running, instance_at}
-use Rattle.cx_rule.specs.Seats.{Seated, known_of}
 use Rattle.cx_rule.proofs.Giving.{learns_release}
-use Rattle.cx_table.proofs.Handing.{laws_at, steps_same}
 use Rattle.cx_table.specs.Right.{Right}
-use Rattle.seat_memory.proofs.SummaryLaws.{step_made}
+use Rattle.cx_table.proofs.Handing.{laws_at}
 use Rattle.cx_table.proofs.shared.Shared.release_exclusive.Goals as goal
 
-pub learned-found-requires-clause-learns : goal.learned-found-requires-clause-learns
-learned-found-requires-clause-learns g c =
+pub made_learned-requires-clause-learns : goal.made_learned-requires-clause-learns
+made_learned-requires-clause-learns g c =
     let t = c.args.self.now in
-    learns_release t.lines (g.O.Object.lawful t.object) (instance_at c.args.self.now g.O.Object.step g.O.Object.only_reads)
-    (laws_at g.O.Object.line_count g.O.Object.lawful g.O.Object.step c.args.self.now (subst (IsRunning g.O.Object.line_count g.O.Object.lawful) c.self.view_is c.self.invariant.0)
-    g.met.O.Object.keeps (λ o image law. (g.met.O.Object.shape o image law).0) g.met.O.Object.replies)
-    (subst (IsRunning g.O.Object.line_count g.O.Object.lawful) c.self.view_is c.self.invariant.0).base c.held.inside.replica (known_of c.seat.inside.seat.me.0) _
-    (subst (λ (n : ℕ). IsClean t.callers n (known_of c.seat.inside.seat.me.0).local) (sym (ap (λ (x : Right). x.replica) c.held.view_is)) (subst (λ (s : Seated). IsClean t.callers c.args.held.replica s.known.local) (sym c.seat.view_is) c.requires.may.guard))
-    (c.lock_at-word.ensures ∙ ap (λ (r : Running _). lock_at r.callers c.held.inside.replica) c.self.view_is)
-    (subst (λ (s : Seated). IsReplayed t.lines (g.O.Object.lawful t.object) t.base (g.O.Object.step t.object) s.known) (sym c.seat.view_is) c.requires.replayed)
-
-pub invariant_of-seat : goal.invariant_of-seat
-invariant_of-seat g c =
-    (step_made c.args.self.now g.O.Object.step g.O.Object.only_reads (ReleaseExclusive c.held.inside.replica) c.learned-found.result _ _ _ _ _ _ _ _ _ _ _ c.seat.invariant c.seat.view_is c.in_ok-check.ensures c.requires.may.seat (subst (λ (n : ℕ). IsClean c.args.self.now.callers n c.args.seat.now.known.local) (sym (ap (λ (x : Right). x.replica) c.held.view_is)) c.requires.may.guard)
-    c.learned-found.ensures.table c.learned-found.ensures.taught (ap (λ (r : Running _). r.callers) c.self.view_is) (c.release_exclusive.ensures _ c.held.inside.replica c.learned-found.result) refl).0
-
-pub returns : goal.returns
-returns g c = record {
-  made = steps_same (ReleaseExclusive c.held.inside.replica) (ReleaseExclusive c.args.held.replica) (ap (λ (n : ℕ). ReleaseExclusive n) (ap (λ (x : Right). x.replica) c.held.view_is))
-      (step_made c.args.self.now g.O.Object.step g.O.Object.only_reads (ReleaseExclusive c.held.inside.replica) c.learned-found.result _ _ _ _ _ _ _ _ _ _ _ c.seat.invariant c.seat.view_is c.in_ok-check.ensures c.requires.may.seat (subst (λ (n : ℕ). IsClean c.args.self.now.callers n c.args.seat.now.known.local) (sym (ap (λ (x : Right). x.replica) c.held.view_is)) c.requires.may.guard)
-      c.learned-found.ensures.table c.learned-found.ensures.taught (ap (λ (r : Running _). r.callers) c.self.view_is) (c.release_exclusive.ensures _ c.held.inside.replica c.learned-found.result) refl).1;
-  halted = tt;
-}
+    let running = subst (IsRunning g.O.Object.line_count g.O.Object.lawful) c.self.view_is c.self.invariant.0 in
+    let laws = laws_at g.O.Object.line_count g.O.Object.lawful g.O.Object.step t running g.met.O.Object.keeps (λ o image law. (g.met.O.Object.shape o image law).0) g.met.O.Object.replies in
+    learns_release t.lines (g.O.Object.lawful t.object) (instance_at t g.O.Object.step g.O.Object.only_reads) laws running.base c.held.inside.replica c.args.seat.now.known _
+    (subst (λ (n : ℕ). IsClean t.callers n c.args.seat.now.known.local) (sym (ap (λ (x : Right). x.replica) c.held.view_is)) c.requires.may.guard)
+    (c.lock_at-word.ensures ∙ ap (λ (r : Running _). lock_at r.callers c.held.inside.replica) c.self.view_is) c.requires.replayed

@@ -2,4 +2,4 @@ use Rattle.seat_memory.proofs.SetNumbers.{summary_offered}
 use Rattle.seat_memory.proofs.summary.Summary.offer.Goals as goal
 
 pub returns : goal.returns
-returns c = rw c.saturating_add-self.ensures (λ callers found instance k same guard is. summary_offered instance k.local c.args.self.now c.args.j c.args.word found is c.requires.word)
+returns c = rw c.saturating_add-self.ensures (λ callers found instance k same guard is. summary_offered instance k.local c.args.self.now c.args.j _ found is c.offering_word.ensures)

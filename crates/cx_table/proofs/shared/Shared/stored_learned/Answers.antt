@@ -1,0 +1,54 @@
+use Rattle.std.proofs.Common.{◌∙◌, ◌≤◌, ap, subst, sym}
+use Rattle.cx_core.specs.declared.kinds.Kind.{Kind}
+use Rattle.cx_rule.specs.Running.{IsRunning, Running, instance_at}
+use Rattle.cx_rule.specs.Seats.{Seated, SeenGuard, known_of}
+use Rattle.cx_rule.specs.Steps.{IsBlind, IsLearned, Steps, Teaches}
+use Rattle.cx_table.proofs.Handing.{laws_at, step_fits}
+use Rattle.seat_memory.specs.Following.{CanFollow, IsFollowed}
+use Rattle.seat_memory.proofs.FollowedSteps.{can_follow, step_made}
+use Rattle.seat_memory.proofs.SummaryLaws.{IsSeat, seated}
+use Rattle.cx_table.proofs.shared.Shared.stored_learned.Goals as goal
+
+pub store_learned-requires-clause-learns : goal.store_learned-requires-clause-learns
+store_learned-requires-clause-learns g c =
+    subst (λ (s : Seated). IsLearned (instance_at c.args.self.now g.O.Object.step g.O.Object.only_reads) c.args.kind.now s.known c.args.word (λ _. c.args.new)) (sym c.seat.view_is) c.requires.learns
+
+pub store_learned-requires-clause-blind : goal.store_learned-requires-clause-blind
+store_learned-requires-clause-blind g c =
+    subst (λ (s : Seated). IsBlind (instance_at c.args.self.now g.O.Object.step g.O.Object.only_reads) c.args.kind.now s.known) (sym c.seat.view_is) c.requires.blind
+
+pub follow-requires : goal.follow-requires
+follow-requires g c =
+    let t = c.args.self.now in
+    let instance = instance_at t g.O.Object.step g.O.Object.only_reads in
+    let same = ap (λ (r : Running _). r.callers) c.self.view_is in
+    let region = ap (λ (s : Seated). s.region) c.seat.view_is ∙ c.requires.may.seat.region in
+    subst (λ n. CanFollow n c.args.kind.now c.seat.inside.summary c.seat.inside.copy) (sym same)
+    (can_follow instance c.args.kind.now c.seat.inside.seat.me c.seat.inside.summary c.seat.inside.before c.seat.inside.copy c.seat.invariant region (subst (λ n. n ≤ 8) same c.self.inside.callers.few)
+    (subst (λ (s : Seated). SeenGuard instance c.args.kind.now s.known.local) (sym c.seat.view_is) c.requires.may.guard) (subst (λ (s : Seated). IsFollowed t.callers c.args.kind.now s.known.local) (sym c.seat.view_is) c.requires.followed))
+
+-- what the step makes
+made : (g : _) (c : goal.After-follow g) → IsSeat c.store_learned.new.seat.me c.follow.new.summary c.seat.inside.before c.follow.new.copy
+    × Steps c.args.self.now g.O.Object.step g.O.Object.only_reads c.args.kind.now 0 c.args.seat.now (seated c.store_learned.new.seat.table_id c.store_learned.new.seat.me c.seat.inside.before c.follow.new.copy)
+made g c =
+    let t = c.args.self.now in
+    let instance = instance_at t g.O.Object.step g.O.Object.only_reads in
+    let taught = subst (λ (k : Kind). Teaches instance k (known_of c.seat.inside.seat.me.0) 0 c.store_learned.new.seat.me) (sym (c.requires.plain (known_of c.seat.inside.seat.me.0).local 0)) c.store_learned.ensures.taught in
+    subst (λ (k : Kind). IsSeat c.store_learned.new.seat.me c.follow.new.summary c.seat.inside.before c.follow.new.copy × Steps t g.O.Object.step g.O.Object.only_reads k 0 c.args.seat.now (seated c.store_learned.new.seat.table_id c.store_learned.new.seat.me c.seat.inside.before c.follow.new.copy))
+    (c.requires.plain c.args.seat.now.known.local 0)
+    (step_made t g.O.Object.step g.O.Object.only_reads c.args.kind.now 0 _ _ _ _ _ _ _ _ _ _ _ c.seat.invariant c.seat.view_is c.in_ok-check.ensures c.requires.may.seat c.requires.may.guard
+    c.store_learned.ensures.table taught (ap (λ (r : Running _). r.callers) c.self.view_is) c.follow.ensures.numbers c.follow.ensures.copies)
+
+pub invariant_of-seat : goal.invariant_of-seat
+invariant_of-seat g c = (made g c).0
+
+pub returns : goal.returns
+returns g c =
+    let running = subst (IsRunning g.O.Object.line_count g.O.Object.lawful) c.self.view_is c.self.invariant.0 in
+    record {
+      made = (made g c).1;
+      fits = step_fits g.O.Object.line_count g.O.Object.lawful g.O.Object.step g.O.Object.only_reads c.args.self.now c.args.kind.now _ 0 _ running
+          (laws_at g.O.Object.line_count g.O.Object.lawful g.O.Object.step c.args.self.now running g.met.O.Object.keeps (λ o image law. (g.met.O.Object.shape o image law).0) g.met.O.Object.replies)
+          c.store_learned.ensures.taught;
+      halted = tt;
+    }

@@ -1,0 +1,110 @@
+//! A step as data: its kind, its word, and its instruction or the word that it stores. What the seat keeps in plain memory follows by the kind,
+//! which each step call names: so of all that is done for some kind its own alone is left in the code. `Halt` comes exactly where the seat's
+//! steps equal its limit, and then nothing changes.
+
+ghost use Rattle.std.specs.Prelude.{◌≡◌, ◌<◌, ℕ};
+ghost use Rattle.cx_core.specs.declared.local.Local.{Local};
+ghost use Rattle.cx_core.specs.Events.{step_word};
+ghost use Rattle.cx_rule.specs.Running.{instance_at};
+ghost use Rattle.cx_rule.specs.Seats.{IsByShown, WordFits, kind_found};
+ghost use Rattle.cx_rule.specs.Steps.{IsBlind, IsLearned, IsStoreEvent, Puts, Steps};
+ghost use Rattle.cx_table.specs.Calls.{MakesFittingStep, MayStep};
+ghost use Rattle.cx_table.specs.Words.{put_by};
+ghost use Rattle.seat_memory.specs.Following.{IsFollowed};
+
+use crate::events::Instruction;
+use crate::seat::CallerSeat;
+use crate::shared::Shared;
+use cx_base::{Halt, Object};
+use cx_core::Kind;
+use seat_memory::follow;
+
+impl<O: Object> Shared<O> {
+    /// Makes the step of this kind: an instruction on its word. It gives the word found.
+    #[inline(always)]
+    pub(crate) fn made(
+        &self,
+        seat: &mut CallerSeat,
+        kind: &Kind,
+        word: usize,
+        instruction: Instruction,
+    ) -> Result<u64, Halt>
+        requires shown { IsByShown kind.now }
+        requires fits { WordFits kind.now }
+        requires followed { IsFollowed self.now.callers kind.now seat.old.known.local }
+        requires may { MayStep O.Object self.now kind.now seat.old }
+        requires place { word ≡ step_word (instance_at self.now O.step O.only_reads) kind.now seat.old.known.local }
+        requires within { word < self.now.table.words }
+        requires puts { Puts (instance_at self.now O.step O.only_reads) kind.now seat.old.known.local (put_by instruction) }
+        ensures { MakesFittingStep O.Object self.now seat.old seat.new result (λ found. Steps self.now O.step O.only_reads kind.now found seat.old seat.new) }
+    {
+        self.made_learned(seat, kind, word, instruction)
+    }
+
+    /// The same of a step that what its caller noted tells. A load that may be marked as a refusal is marked by the word found.
+    #[inline(always)]
+    pub(crate) fn made_learned(
+        &self,
+        seat: &mut CallerSeat,
+        kind: &Kind,
+        word: usize,
+        instruction: Instruction,
+    ) -> Result<u64, Halt>
+        requires followed { IsFollowed self.now.callers kind.now seat.old.known.local }
+        requires may { MayStep O.Object self.now kind.now seat.old }
+        requires within { word < self.now.table.words }
+        requires learns { IsLearned (instance_at self.now O.step O.only_reads) kind.now seat.old.known word (put_by instruction) }
+        ensures { MakesFittingStep O.Object self.now seat.old seat.new result (λ found. Steps self.now O.step O.only_reads (kind_found (instance_at self.now O.step O.only_reads) kind.now seat.old.known.local found) found seat.old seat.new) }
+    {
+        let _ = &self.table;
+        seat.summary.check()?;
+        let found = self.learned(&mut seat.seat, kind, word, instruction);
+        follow(&mut seat.summary, &mut seat.copy, self.callers, kind, found);
+        Ok(found)
+    }
+
+    /// Makes the step of this kind that stores a word.
+    #[inline(always)]
+    pub(crate) fn stored(
+        &self,
+        seat: &mut CallerSeat,
+        kind: &Kind,
+        word: usize,
+        new: u64,
+    ) -> Result<(), Halt>
+        requires shown { IsByShown kind.now }
+        requires fits { WordFits kind.now }
+        requires followed { IsFollowed self.now.callers kind.now seat.old.known.local }
+        requires may { MayStep O.Object self.now kind.now seat.old }
+        requires place { word ≡ step_word (instance_at self.now O.step O.only_reads) kind.now seat.old.known.local }
+        requires within { word < self.now.table.words }
+        requires stores { IsStoreEvent (instance_at self.now O.step O.only_reads) kind.now seat.old.known new }
+        ensures { MakesFittingStep O.Object self.now seat.old seat.new result (λ _. Steps self.now O.step O.only_reads kind.now 0 seat.old seat.new) }
+    {
+        self.stored_learned(seat, kind, word, new)
+    }
+
+    /// The same of a step that what its caller noted tells.
+    #[inline(always)]
+    pub(crate) fn stored_learned(
+        &self,
+        seat: &mut CallerSeat,
+        kind: &Kind,
+        word: usize,
+        new: u64,
+    ) -> Result<(), Halt>
+        requires followed { IsFollowed self.now.callers kind.now seat.old.known.local }
+        requires may { MayStep O.Object self.now kind.now seat.old }
+        requires within { word < self.now.table.words }
+        requires learns { IsLearned (instance_at self.now O.step O.only_reads) kind.now seat.old.known word (λ _. new) }
+        requires plain { (l : Local) (found : ℕ) → kind_found (instance_at self.now O.step O.only_reads) kind.now l found ≡ kind.now }
+        requires blind { IsBlind (instance_at self.now O.step O.only_reads) kind.now seat.old.known }
+        ensures { MakesFittingStep O.Object self.now seat.old seat.new result (λ _. Steps self.now O.step O.only_reads kind.now 0 seat.old seat.new) }
+    {
+        let _ = &self.table;
+        seat.summary.check()?;
+        self.store_learned(&mut seat.seat, kind, word, new);
+        follow(&mut seat.summary, &mut seat.copy, self.callers, kind, 0);
+        Ok(())
+    }
+}
