@@ -13,7 +13,7 @@ use Rattle.cx_rule.specs.Running.{Running}
 use Rattle.cx_rule.specs.Seats.{Seated}
 use Rattle.cx_service.specs.Callers.{IsCallerOf, StoppedSeat}
 use Rattle.cx_service.specs.CatchUps.{CatchUpHalted, CatchUpKeeps}
-use Rattle.cx_service.specs.Drives.{MeetsFewer}
+use Rattle.cx_service.specs.Drives.{MeetsFewer, answer_with}
 use Rattle.cx_service.specs.Lookups.{ReadAnswered, ReadHalted, ReadKeeps, ReadPending}
 use Rattle.cx_service.specs.Submits.{next_entry}
 use Rattle.cx_service.specs.Updates.{KeepsLists, ReadQueues, ReadStops, UpdateDone, UpdateFull, UpdateHalted, UpdateWorn, Updates}
@@ -215,26 +215,6 @@ module _ {O : Type 0} (r : Running O) where
           record { limits = ap (λ (u : Hand). limits_at u.home) is; told = ap (λ (u : Hand). u.told) is; shown = ap (λ (u : Hand). u.shown) is; returned = ap (λ (u : Hand). u.returned) is },
         )
 
-    pub kept_out : (before after : Lent) (x : Seated) → IsLentTo r table before → before.kept ≡ Some (Idle x) → after.kept ≡ None → after.pass ≡ before.pass → IsOut r table after x × TellsSame before after
-    kept_out before after x lent keeps none same =
-        let w : view after.pass ≡ view before.pass = ap (λ p. view p) same in (
-          record {
-            part = part_like before after (view before.pass) lent.part (ap (λ p. p.table_id) same ∙ lent.part.pass.0, ap (λ p. p.me.1) same ∙ lent.part.pass.1) w refl refl refl;
-            none = none;
-            holds = subst (λ (u : Hand). HoldsIdle r u x) (sym w) (subst (HoldsKept r (view before.pass)) keeps lent.kept);
-          },
-          record { limits = ap (λ (u : Hand). limits_at u.home) w; told = ap (λ (u : Hand). u.told) w; shown = ap (λ (u : Hand). u.shown) w; returned = ap (λ (u : Hand). u.returned) w },
-        )
-
-    -- the caller that a call begins with
-    pub taken_first : (before after : Lent) (x : Seated) → IsLentTo r table before → before.kept ≡ None → view after.pass ≡ with_taken (view before.pass) x → IsFirstCaller before.kept (view after.pass) x
-    taken_first before after x lent none is =
-        let held : (view before.pass).held ≡ [] = subst (HoldsKept r (view before.pass)) none lent.kept in
-        record { kept = subst (λ k. IsKeptCaller k x) (sym none) tt; taken = λ _. ap (λ (u : Hand). u.held) is ∙ ap (λ (l : List Seated). x ∷ l) held }
-
-    pub kept_first : (before after : Lent) (x : Seated) → before.kept ≡ Some (Idle x) → IsFirstCaller before.kept (view after.pass) x
-    kept_first before after x keeps = record { kept = subst (λ k. IsKeptCaller k x) (sym keeps) refl; taken = λ none. absurd (none-some (Idle x) (sym none ∙ keeps)) }
-
     pub out_on : (lent : Lent) (x y : Seated) → IsOut r table lent x → StaysIdle r x y → IsOut r table lent y
     out_on lent x y out idle = record { part = out.part; none = out.none; holds = holds_on (view lent.pass) x y out.holds idle }
 
@@ -407,32 +387,25 @@ module _ {O : Type 0} (r : Running O) where
       (are_shown r out.holds.taken y [] (view lent.pass) out.holds.held (stays_on out.holds.taken x y out.holds.idle (caught_on x y is keeps))).0,
     )
 
-    pub read_back : (op : List ℕ) (lent : Lent) (x y : Seated) (seen : Seen) → IsOut r table lent x → ReadAnswered r op x y seen → IsCallerOf r y × HasLimit (limits_at (view lent.pass).home) y × IsFirstOf (view lent.pass).held y
-    read_back op lent x y seen out a = (
-      a.caller,
-      limit_of (view lent.pass) x y out.holds a.keeps.number a.keeps.limit,
-      (are_shown r out.holds.taken y [] (view lent.pass) out.holds.held (read_on op out.holds.taken x y seen out.holds.idle a)).0,
-    )
-
     -- a caller that met refusals beside the queue before it entered it
-    queued_out : (op : List ℕ) (lent : Lent) (x : Seated) (u : Updated) → IsOut r table lent x → (q : ReadQueues r op x u) → IsOut r table lent q.refused
-    queued_out op lent x u out q = out_on lent x q.refused out (refused_on 8 x x q.refused (stays x out.holds.idle.caller) q.pending)
+    queued_out : (op reply : List ℕ) (lent : Lent) (x : Seated) (u : Updated) → IsOut r table lent x → (q : ReadQueues r op reply x u) → IsOut r table lent q.refused
+    queued_out op reply lent x u out q = out_on lent x q.refused out (refused_on 8 x x q.refused (stays x out.holds.idle.caller) q.pending)
 
     -- what is left of it may be settled
-    pub update_settles : (op : List ℕ) (lent : Lent) (x : Seated) → IsOut r table lent x → (u : Updated) → Updates r op x u → MaySettle r lent u
-    update_settles op lent x out (UpdatedDone y answer) is = done_back op lent x y answer out is
-    update_settles op lent x out (UpdatedFull y note) is = tt
-    update_settles op lent x out (UpdatedWorn y) is = tt
-    update_settles op lent x out (UpdatedHalted s) is = tt
+    pub update_settles : (op reply : List ℕ) (lent : Lent) (x : Seated) → IsOut r table lent x → (u : Updated) → Updates r op reply x u → MaySettle r lent u
+    update_settles op reply lent x out (UpdatedDone y ticket) is = done_back op lent x y (answer_with ticket reply) out is
+    update_settles op reply lent x out (UpdatedFull y note) is = tt
+    update_settles op reply lent x out (UpdatedWorn y) is = tt
+    update_settles op reply lent x out (UpdatedHalted s) is = tt
 
-    pub read_settles : (op : List ℕ) (lent : Lent) (x : Seated) → IsOut r table lent x → (u : Updated) → EntersRead r op x u → MaySettle r lent u
-    read_settles op lent x out (UpdatedDone y answer) q = done_back op lent q.refused y answer (queued_out op lent x (UpdatedDone y answer) out q) q.entered
-    read_settles op lent x out (UpdatedFull y note) is = tt
-    read_settles op lent x out (UpdatedWorn y) is = tt
-    read_settles op lent x out (UpdatedHalted s) is = tt
+    pub read_settles : (op reply : List ℕ) (lent : Lent) (x : Seated) → IsOut r table lent x → (u : Updated) → EntersRead r op reply x u → MaySettle r lent u
+    read_settles op reply lent x out (UpdatedDone y ticket) q = done_back op lent q.refused y (answer_with ticket reply) (queued_out op reply lent x (UpdatedDone y ticket) out q) q.entered
+    read_settles op reply lent x out (UpdatedFull y note) is = tt
+    read_settles op reply lent x out (UpdatedWorn y) is = tt
+    read_settles op reply lent x out (UpdatedHalted s) is = tt
 
     -- it was given back, and its entry told
-    module _ (op : List ℕ) (floor : ℕ) (before mid after : Lent) where
+    module _ (op reply : List ℕ) (floor : ℕ) (before mid after : Lent) where
       entry_told : (x y : Seated) (caller : ℕ) (answer : Answer) → TellsSame before mid → IsOut r table mid x → floor ≤ x.known.local.front → UpdateDone r op x y answer → caller ≡ y.known.local.number → y.known.local.front ≤ 2 ^ 40 → GivesBack table mid after y
           → TellsEntry r table op floor x before after caller answer
       entry_told x y caller answer same out floor_ done number front back =
@@ -475,19 +448,21 @@ module _ {O : Type 0} (r : Running O) where
       }
 
       -- by an update
-      pub update_told : (x : Seated) (caller : ℕ) (answer : Answer) → IsBegun r table floor before mid x → (u : Updated) → Updates r op x u → Settles table mid after u (Done caller answer) → (t : TellsEntry r table op floor x before after caller answer) × IsClientAnswered r (ComesFrom r) op before after t.told
-      update_told x caller answer begun u is s =
-          let done : UpdateDone r op x s.0 answer = subst (Updates r op x) s.1 is in
+      pub update_told : (x : Seated) (caller ticket : ℕ) → IsBegun r table floor before mid x → (u : Updated) → Updates r op reply x u → Settles table mid after u (Done caller ticket) → (t : TellsEntry r table op floor x before after caller (answer_with ticket reply)) × IsClientAnswered r (ComesFrom r) op before after t.told
+      update_told x caller ticket begun u is s =
+          let answer = answer_with ticket reply in
+          let done : UpdateDone r op x s.0 answer = subst (Updates r op reply x) s.1 is in
           let t = entry_told x s.0 caller answer begun.tells begun.out begun.from done s.2 s.3 s.4 in
           let back = returns_first before mid after begun.first s.0 begun.tells begun.is (returns mid after x s.0 begun.out s.4.view_is) in
           (t, answered (ComesFrom r) begun.first x s.0 caller answer back begun.since done t)
 
       -- by a read that entered the queue
-      pub read_told : (x : Seated) (caller : ℕ) (answer : Answer) → IsBegun r table floor before mid x → LooksOn r table op x mid after (Done caller answer) → (a : Seated) × (t : TellsEntry r table op floor a before after caller answer) × IsClientAnswered r (IsReadRefused r) op before after t.told
-      read_told x caller answer begun l =
+      pub read_told : (x : Seated) (caller ticket : ℕ) → IsBegun r table floor before mid x → LooksOn r table op reply x mid after (Done caller ticket) → (a : Seated) × (t : TellsEntry r table op floor a before after caller (answer_with ticket reply)) × IsClientAnswered r (IsReadRefused r) op before after t.told
+      read_told x caller ticket begun l =
+          let answer = answer_with ticket reply in
           let s = l.settles in
-          let q : ReadQueues r op l.asked (UpdatedDone s.0 answer) = subst (EntersRead r op l.asked) s.1 l.enters in
-          let out = queued_out op mid l.asked (UpdatedDone s.0 answer) (out_on mid x l.asked begun.out l.since.idle) q in
+          let q : ReadQueues r op reply l.asked (UpdatedDone s.0 ticket) = subst (EntersRead r op reply l.asked) s.1 l.enters in
+          let out = queued_out op reply mid l.asked (UpdatedDone s.0 ticket) (out_on mid x l.asked begun.out l.since.idle) q in
           let front = l.since.front in
           let kept = q.pending.keeps.front in
           let t = entry_told q.refused s.0 caller answer begun.tells out (omega (arith, begun.from, front, kept)) q.entered s.2 s.3 s.4 in
@@ -497,46 +472,46 @@ module _ {O : Type 0} (r : Running O) where
 
       -- what an update comes to that is not answered
       module _ (x : Seated) (begun : IsBegun r table floor before mid x) where
-        pub update_full : (note : FullNote) (u : Updated) → Updates r op x u → Settles table mid after u (Full note) → KeepsFull r table (ComesFrom r) before after note
-        update_full note u is s = full_kept before mid after begun.tells begun.first begun.is s.2.0 (ComesFrom r) x s.0 note begun.since begun.out (subst (Updates r op x) s.1 is) s.2.1
+        pub update_full : (note : FullNote) (u : Updated) → Updates r op reply x u → Settles table mid after u (Full note) → KeepsFull r table (ComesFrom r) before after note
+        update_full note u is s = full_kept before mid after begun.tells begun.first begun.is s.2.0 (ComesFrom r) x s.0 note begun.since begun.out (subst (Updates r op reply x) s.1 is) s.2.1
 
-        pub update_worn : (u : Updated) → Updates r op x u → Settles table mid after u Worn → KeepsWorn r table (ComesFrom r) before after
-        update_worn u is s = worn_kept before mid after begun.tells begun.first begun.is s.2.0 (ComesFrom r) x s.0 begun.since begun.out (subst (Updates r op x) s.1 is) s.2.1
+        pub update_worn : (u : Updated) → Updates r op reply x u → Settles table mid after u Worn → KeepsWorn r table (ComesFrom r) before after
+        update_worn u is s = worn_kept before mid after begun.tells begun.first begun.is s.2.0 (ComesFrom r) x s.0 begun.since begun.out (subst (Updates r op reply x) s.1 is) s.2.1
 
-        pub update_stopped : (linked : Option ℕ) (u : Updated) → Updates r op x u → Settles table mid after u (Halted linked) → KeepsStopped r table (HaltsClientUpdate r op) before after linked
+        pub update_stopped : (linked : Option ℕ) (u : Updated) → Updates r op reply x u → Settles table mid after u (Halted linked) → KeepsStopped r table (HaltsClientUpdate r op) before after linked
         update_stopped linked u is s =
-            let halted : UpdateHalted r op x s.0 = subst (Updates r op x) s.1 is in
+            let halted : UpdateHalted r op x s.0 = subst (Updates r op reply x) s.1 is in
             subst (KeepsStopped r table (HaltsClientUpdate r op) before after) s.2
             (stopped_kept before mid after begun.tells begun.first begun.is s.3.0 (HaltsClientUpdate r op) op x x s.0 begun.since (inr halted) begun.out (inl halted) s.3.1)
 
         -- and a read
-        came_to : (u : Updated) (a : Seated) → ComesFrom r x a → (q : ReadQueues r op a u) → IsReadRefused r begun.first q.refused
+        came_to : (u : Updated) (a : Seated) → ComesFrom r x a → (q : ReadQueues r op reply a u) → IsReadRefused r begun.first q.refused
         came_to u a since q = record { looked = a; since = comes_on begun.first x a begun.since since; refused = q.pending }
 
-        pub read_full : (note : FullNote) → LooksOn r table op x mid after (Full note) → KeepsFull r table (IsReadRefused r) before after note
+        pub read_full : (note : FullNote) → LooksOn r table op reply x mid after (Full note) → KeepsFull r table (IsReadRefused r) before after note
         read_full note l =
             let s = l.settles in
             let u = UpdatedFull s.0 note in
-            let q : ReadQueues r op l.asked u = subst (EntersRead r op l.asked) s.1 l.enters in
-            full_kept before mid after begun.tells begun.first begun.is s.2.0 (IsReadRefused r) q.refused s.0 note (came_to u l.asked l.since q) (queued_out op mid l.asked u (out_on mid x l.asked begun.out l.since.idle) q) q.entered s.2.1
+            let q : ReadQueues r op reply l.asked u = subst (EntersRead r op reply l.asked) s.1 l.enters in
+            full_kept before mid after begun.tells begun.first begun.is s.2.0 (IsReadRefused r) q.refused s.0 note (came_to u l.asked l.since q) (queued_out op reply mid l.asked u (out_on mid x l.asked begun.out l.since.idle) q) q.entered s.2.1
 
-        pub read_worn : LooksOn r table op x mid after Worn → KeepsWorn r table (IsReadRefused r) before after
+        pub read_worn : LooksOn r table op reply x mid after Worn → KeepsWorn r table (IsReadRefused r) before after
         read_worn l =
             let s = l.settles in
             let u = UpdatedWorn s.0 in
-            let q : ReadQueues r op l.asked u = subst (EntersRead r op l.asked) s.1 l.enters in
-            worn_kept before mid after begun.tells begun.first begun.is s.2.0 (IsReadRefused r) q.refused s.0 (came_to u l.asked l.since q) (queued_out op mid l.asked u (out_on mid x l.asked begun.out l.since.idle) q) q.entered s.2.1
+            let q : ReadQueues r op reply l.asked u = subst (EntersRead r op reply l.asked) s.1 l.enters in
+            worn_kept before mid after begun.tells begun.first begun.is s.2.0 (IsReadRefused r) q.refused s.0 (came_to u l.asked l.since q) (queued_out op reply mid l.asked u (out_on mid x l.asked begun.out l.since.idle) q) q.entered s.2.1
 
-        pub read_stopped : (linked : Option ℕ) → LooksOn r table op x mid after (Halted linked) → KeepsStopped r table (HaltsClientRead r op) before after linked
+        pub read_stopped : (linked : Option ℕ) → LooksOn r table op reply x mid after (Halted linked) → KeepsStopped r table (HaltsClientRead r op) before after linked
         read_stopped linked l =
             let s = l.settles in
             let h = UpdatedHalted s.0 in
-            let stops : ReadStops r op l.asked s.0 = subst (EntersRead r op l.asked) s.1 l.enters in
+            let stops : ReadStops r op l.asked s.0 = subst (EntersRead r op reply l.asked) s.1 l.enters in
             let out = out_on mid x l.asked begun.out l.since.idle in
             let kept = stopped_kept before mid after begun.tells begun.first begun.is s.3.0 (HaltsClientRead r op) op l.asked in
             let since = comes_on begun.first x l.asked begun.since l.since in
             subst (KeepsStopped r table (HaltsClientRead r op) before after) s.2
-            (⊎_elim (λ b. kept l.asked s.0 since (inr stops) out (inr b.0) s.3.1) (λ q. kept q.refused s.0 since (inr stops) (queued_out op mid l.asked h out q) (inl q.entered) s.3.1) stops.lists)
+            (⊎_elim (λ b. kept l.asked s.0 since (inr stops) out (inr b.0) s.3.1) (λ q. kept q.refused s.0 since (inr stops) (queued_out op [] mid l.asked h out q) (inl q.entered) s.3.1) stops.lists)
 
     -- what was shown and given back since a caller was taken out, was so since the call began
     module _ (before mid after : Lent) (same : TellsSame before mid) where

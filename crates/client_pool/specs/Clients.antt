@@ -8,8 +8,8 @@ use Rattle.cx_rule.specs.Running.{Running}
 use Rattle.cx_rule.specs.Seats.{Seated}
 use Rattle.cx_service.specs.Callers.{StoppedSeat}
 use Rattle.cx_service.specs.CatchUps.{CatchUpBehind, CatchUpCaught, CatchUpHalted}
-use Rattle.cx_service.specs.Drives.{MeetsFewer}
-use Rattle.cx_service.specs.Lookups.{ReadAnswered}
+use Rattle.cx_service.specs.Drives.{MeetsFewer, answer_with}
+use Rattle.cx_service.specs.Lookups.{ReadAnswered, seen_with}
 use Rattle.cx_service.specs.Submits.{next_entry}
 use Rattle.cx_service.specs.Updates.{ReadStops, UpdateDone, UpdateHalted}
 use Rattle.cx_turns.specs.declared.lookup.Seen.{Seen}
@@ -176,22 +176,22 @@ HaltsClientUpdate r op asked stopped = HaltsBesideQueue r asked stopped ⊎ Upda
 abbrev pub HaltsClientRead : {O : Type 0} → Running O → List ℕ → Seated → StoppedSeat → Type 0
 HaltsClientRead r op asked stopped = HaltsBesideQueue r asked stopped ⊎ ReadStops r op asked stopped
 
--- The result of an update of this operation. The caller that the client keeps makes the call, where it keeps one.
-abbrev pub UpdatesForClient : {O : Type 0} → Running O → TableId → List ℕ → Client → Client → Pooled → Type 0
-UpdatesForClient r table op before after (Done answer) = (made : HasUpdated r table op before after answer) × IsClientAnswered r (ComesFrom r) op before.lent after.lent made.told
-UpdatesForClient r table op before after (Full note) = HasNoMore r table before after × KeepsFull r table (ComesFrom r) before.lent after.lent note
-UpdatesForClient r table op before after Worn = HasNoMore r table before after × KeepsWorn r table (ComesFrom r) before.lent after.lent
-UpdatesForClient r table op before after (Stopped linked) = HasNoMore r table before after × KeepsStopped r table (HaltsClientUpdate r op) before.lent after.lent linked
-UpdatesForClient r table op before after Memory = HasNoMore r table before after × WantsRoom before after
+-- The result of an update of this operation, which left these words in the client's buffer. The caller that the client keeps makes the call, where it keeps one.
+abbrev pub UpdatesForClient : {O : Type 0} → Running O → TableId → List ℕ → List ℕ → Client → Client → Pooled → Type 0
+UpdatesForClient r table op reply before after (Done ticket) = (made : HasUpdated r table op before after (answer_with ticket reply)) × IsClientAnswered r (ComesFrom r) op before.lent after.lent made.told
+UpdatesForClient r table op reply before after (Full note) = HasNoMore r table before after × KeepsFull r table (ComesFrom r) before.lent after.lent note
+UpdatesForClient r table op reply before after Worn = HasNoMore r table before after × KeepsWorn r table (ComesFrom r) before.lent after.lent
+UpdatesForClient r table op reply before after (Stopped linked) = HasNoMore r table before after × KeepsStopped r table (HaltsClientUpdate r op) before.lent after.lent linked
+UpdatesForClient r table op reply before after Memory = HasNoMore r table before after × WantsRoom before after
 
--- The result of a read of this operation. The same caller makes it. It enters the queue only where it met eight refusals beside it.
-abbrev pub ReadsForClient : {O : Type 0} → Running O → TableId → List ℕ → Client → Client → PooledRead → Type 0
-ReadsForClient r table op before after (ReadSeen seen) = (made : HasRead r table op before after seen) × IsReadShown r op before.lent after.lent made.read
-ReadsForClient r table op before after (Queued answer) = (made : HasUpdated r table op before after answer) × IsClientAnswered r (IsReadRefused r) op before.lent after.lent made.told
-ReadsForClient r table op before after (FullRead note) = HasNoMore r table before after × KeepsFull r table (IsReadRefused r) before.lent after.lent note
-ReadsForClient r table op before after WornRead = HasNoMore r table before after × KeepsWorn r table (IsReadRefused r) before.lent after.lent
-ReadsForClient r table op before after (StoppedRead linked) = HasNoMore r table before after × KeepsStopped r table (HaltsClientRead r op) before.lent after.lent linked
-ReadsForClient r table op before after MemoryRead = HasNoMore r table before after × WantsRoom before after
+-- The result of a read of this operation, which left these words in the client's buffer. The same caller makes it. It enters the queue only where it met eight refusals beside it.
+abbrev pub ReadsForClient : {O : Type 0} → Running O → TableId → List ℕ → List ℕ → Client → Client → PooledRead → Type 0
+ReadsForClient r table op reply before after (ReadSeen place) = (made : HasRead r table op before after (seen_with place reply)) × IsReadShown r op before.lent after.lent made.read
+ReadsForClient r table op reply before after (Queued ticket) = (made : HasUpdated r table op before after (answer_with ticket reply)) × IsClientAnswered r (IsReadRefused r) op before.lent after.lent made.told
+ReadsForClient r table op reply before after (FullRead note) = HasNoMore r table before after × KeepsFull r table (IsReadRefused r) before.lent after.lent note
+ReadsForClient r table op reply before after WornRead = HasNoMore r table before after × KeepsWorn r table (IsReadRefused r) before.lent after.lent
+ReadsForClient r table op reply before after (StoppedRead linked) = HasNoMore r table before after × KeepsStopped r table (HaltsClientRead r op) before.lent after.lent linked
+ReadsForClient r table op reply before after MemoryRead = HasNoMore r table before after × WantsRoom before after
 
 -- the result of catching up with a place
 abbrev pub ClientCatchesUp : {O : Type 0} → Running O → TableId → ℕ → Client → Client → PooledCatchUp → Type 0

@@ -10,7 +10,7 @@ use Rattle.cx_service.specs.Callers.{IsCallerOf, StoppedSeat}
 use Rattle.cx_service.specs.CatchUps.{CatchUpBehind, CatchUpCaught, CatchUpHalted}
 use Rattle.cx_service.specs.Closes.{seat_of}
 use Rattle.cx_service.specs.Drives.{MeetsFewer}
-use Rattle.cx_service.specs.Lookups.{ReadAnswered, ReadDue, ReadHalted, ReadPending}
+use Rattle.cx_service.specs.Lookups.{ReadAnswered, ReadDue, ReadHalted, ReadPending, seen_with}
 use Rattle.cx_service.specs.Updates.{ReadQueues, ReadStops, UpdateFull, UpdateWorn}
 use Rattle.cx_service.specs.declared.close.Handed.{Handed}
 use Rattle.cx_service.specs.declared.close.Handed.TheVariants.{Idle, Linked, Stopped}
@@ -220,7 +220,7 @@ pub record MayGive {O : Type 0} (r : Running O) (lent : Lent) (back : Seated) : 
 
 -- so it may once its operation is answered
 abbrev pub MaySettle : {O : Type 0} → Running O → Lent → Updated → Type 0
-MaySettle r lent (UpdatedDone back answer) = MayGive r lent back
+MaySettle r lent (UpdatedDone back ticket) = MayGive r lent back
 MaySettle r lent (UpdatedFull back note) = Unit {0}
 MaySettle r lent (UpdatedWorn back) = Unit {0}
 MaySettle r lent (UpdatedHalted stopped) = Unit {0}
@@ -237,30 +237,30 @@ KeepsNow before after handed = (after.pass ≡ before.pass) × (after.kept ≡ S
 
 -- What is left of the caller that was out: it was given back where its operation is answered, and else the client keeps it.
 abbrev pub Settles : TableId → Lent → Lent → Updated → Served → Type 0
-Settles table before after updated (Done caller answer) = (back : Seated) × (updated ≡ UpdatedDone back answer) × (caller ≡ back.known.local.number) × (back.known.local.front ≤ 2 ^ 40) × GivesBack table before after back
+Settles table before after updated (Done caller ticket) = (back : Seated) × (updated ≡ UpdatedDone back ticket) × (caller ≡ back.known.local.number) × (back.known.local.front ≤ 2 ^ 40) × GivesBack table before after back
 Settles table before after updated (Full note) = (back : Seated) × (updated ≡ UpdatedFull back note) × KeepsNow before after (Idle back)
 Settles table before after updated Worn = (back : Seated) × (updated ≡ UpdatedWorn back) × KeepsNow before after (Idle back)
 Settles table before after updated (Halted linked) = (stopped : StoppedSeat) × (updated ≡ UpdatedHalted stopped) × (stopped.linked ≡ linked) × KeepsNow before after (Stopped stopped)
 
 -- the result of a read that is not answered beside the queue
-abbrev pub EntersRead : {O : Type 0} → Running O → List ℕ → Seated → Updated → Type 0
-EntersRead r op asked (UpdatedDone after answer) = ReadQueues r op asked (UpdatedDone after answer)
-EntersRead r op asked (UpdatedFull after note) = ReadQueues r op asked (UpdatedFull after note)
-EntersRead r op asked (UpdatedWorn after) = ReadQueues r op asked (UpdatedWorn after)
-EntersRead r op asked (UpdatedHalted stopped) = ReadStops r op asked stopped
+abbrev pub EntersRead : {O : Type 0} → Running O → List ℕ → List ℕ → Seated → Updated → Type 0
+EntersRead r op reply asked (UpdatedDone after ticket) = ReadQueues r op reply asked (UpdatedDone after ticket)
+EntersRead r op reply asked (UpdatedFull after note) = ReadQueues r op reply asked (UpdatedFull after note)
+EntersRead r op reply asked (UpdatedWorn after) = ReadQueues r op reply asked (UpdatedWorn after)
+EntersRead r op reply asked (UpdatedHalted stopped) = ReadStops r op asked stopped
 
 -- The caller that was out was asked for a read that was not answered beside the queue, and this is left of it.
-pub record LooksOn {O : Type 0} (r : Running O) (table : TableId) (op : List ℕ) (caller : Seated) (before after : Lent) (served : Served) : Type 0 where
+pub record LooksOn {O : Type 0} (r : Running O) (table : TableId) (op reply : List ℕ) (caller : Seated) (before after : Lent) (served : Served) : Type 0 where
   pub asked : Seated
   pub since : ComesFrom r caller asked
   pub updated : Updated
-  pub enters : EntersRead r op asked updated
+  pub enters : EntersRead r op reply asked updated
   pub settles : Settles table before after updated served
 
--- the result of an operation that only reads
-abbrev pub ReadsBesideQueue : {O : Type 0} → Running O → TableId → List ℕ → ℕ → Seated → Lent → Lent → Looked → Type 0
-ReadsBesideQueue r table op floor caller before after (Found seen) = (shows : ShowsRead r table op floor caller before after seen) × Returns before after shows.now
-ReadsBesideQueue r table op floor caller before after (Entered served) = LooksOn r table op caller before after served
+-- the result of an operation that only reads, which left these words in the client's buffer
+abbrev pub ReadsBesideQueue : {O : Type 0} → Running O → TableId → List ℕ → List ℕ → ℕ → Seated → Lent → Lent → Looked → Type 0
+ReadsBesideQueue r table op reply floor caller before after (Found place) = (shows : ShowsRead r table op floor caller before after (seen_with place reply)) × Returns before after shows.now
+ReadsBesideQueue r table op reply floor caller before after (Entered served) = LooksOn r table op reply caller before after served
 
 -- the caller that was taken is given back, with no call more
 pub record IsGivenBack {O : Type 0} (r : Running O) (table : TableId) (before after : Lent) : Type 0 where

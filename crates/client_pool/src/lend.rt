@@ -11,7 +11,7 @@ use crate::pool::Pool;
 use crossbeam_queue::Pass;
 use cx_base::{Object, OpWords};
 use cx_core::FullNote;
-use cx_service::{Answer, Caller, Handed, ReadTried, Service, Stopped, Updated};
+use cx_service::{Caller, Handed, ReadTried, Service, Stopped, Updated};
 use seat_pool::{Hand, Lent, Line, give, take};
 use std::sync::Wait;
 use std::thread;
@@ -31,8 +31,8 @@ pub(crate) enum Caught {
 /// The result of an operation that enters the queue.
 #[derive(Drop)]
 pub(crate) enum Served {
-    /// It is answered, as an entry of this caller.
-    Done(u32, Answer),
+    /// It is answered, as an entry of this caller at this ticket.
+    Done(u32, u64),
     /// No cell of the caller is idle.
     Full(FullNote),
     /// There is no further ticket.
@@ -81,13 +81,14 @@ pub(crate) fn take_for<O: Object, R: Wait>(
     }
 }
 
-/// Reads the probe until the caller has seen all below the floor: it waits for those who publish.
+/// Reads the probe, into a buffer, until the caller has seen all below the floor: it waits for those who publish.
 fn catch_up<O: Object, R: Wait>(
     rt: &R,
     service: &Service<O>,
     probe: &OpWords,
     caller: Caller,
     floor: u64,
+    buffer: &mut OpWords,
 ) -> Caught
     requires caller { IsCallerOf service.now caller }
     requires probe { IsTrue (O.only_reads service.now.object probe.now) }
@@ -98,7 +99,7 @@ fn catch_up<O: Object, R: Wait>(
         if caller.front() >= floor {
             return Caught::Up(caller);
         }
-        match service.try_read(caller, probe, TURNS) {
+        match service.try_read(caller, probe, buffer, TURNS) {
             ReadTried::Read(back, _) => caller = back,
             ReadTried::Pending(back) => {
                 thread::yield_now();
@@ -120,20 +121,21 @@ pub(crate) fn keep_stopped(lent: &mut Lent, stopped: Stopped) -> Option<u64>
     linked
 }
 
-/// Takes a caller that has seen all below the floor. The client keeps one whose step limit was reached: the result is then its linked entry that no
+/// Takes a caller that has seen all below the floor, by reads into a buffer. The client keeps one whose step limit was reached: the result is then its linked entry that no
 /// call has answered.
 pub(crate) fn begin<O: Object, R: Wait>(
     rt: &R,
     pool: &Pool<O>,
     lent: &mut Lent,
     floor: u64,
+    buffer: &mut OpWords,
 ) -> Result<Caller, Option<u64>>
     requires pool { IsPool O.only_reads pool.now }
     requires lent { IsLentTo pool.now.service pool.now.line.table.shared.table_id lent.old × (is_live lent.old.kept ≡ true) }
     ensures { Begins pool.now.service pool.now.line.table.shared.table_id floor lent.old lent.new result }
 {
     let caller = take_for(rt, &pool.service, &pool.line, lent);
-    match catch_up(rt, &pool.service, &pool.probe, caller, floor) {
+    match catch_up(rt, &pool.service, &pool.probe, caller, floor, buffer) {
         Caught::Up(caller) => Ok(caller),
         Caught::Ended(stopped) => Err(keep_stopped(lent, stopped)),
     }
@@ -152,12 +154,12 @@ pub(crate) fn settle<O: Object, R: Wait>(
     ensures { Settles pool.now.line.table.shared.table_id lent.old lent.new updated result }
 {
     match updated {
-        Updated::Done(back, answer) => {
+        Updated::Done(back, ticket) => {
             let number = back.number();
             // its ticket is below this
             let _front = back.front();
             give(rt, &pool.service, &pool.line, &mut lent.pass, back);
-            Served::Done(number, answer)
+            Served::Done(number, ticket)
         }
         Updated::Full(back, note) => {
             lent.kept = Some(Handed::Idle(back));

@@ -9,7 +9,7 @@ use crate::client::Client;
 use crate::lend::{Served, begin, settle};
 use crate::pool::{Pool, PooledRead};
 use cx_base::{Object, OpWords};
-use cx_service::{Caller, ReadDone, Seen, Updated};
+use cx_service::{Answer, Caller, ReadDone, Seen, Updated};
 use seat_pool::{Lent, give};
 use std::sync::Wait;
 use std::thread;
@@ -17,8 +17,8 @@ use std::thread;
 /// The result of an operation that only reads.
 #[derive(Drop)]
 pub(crate) enum Looked {
-    /// It is answered beside the queue.
-    Found(Seen),
+    /// It is answered beside the queue at this place.
+    Found(u64),
     /// It entered the queue.
     Entered(Served),
 }
@@ -31,25 +31,26 @@ fn look<O: Object, R: Wait>(
     caller: Caller,
     floor: u64,
     op: &OpWords,
+    reply: &mut OpWords,
 ) -> Looked
     requires pool { IsPool O.only_reads pool.now }
     requires out { IsOut pool.now.service pool.now.line.table.shared.table_id lent.old caller × (floor ≤ caller.known.local.front) }
     requires reads { IsTrue (O.only_reads pool.now.service.object op.now) }
-    ensures { ReadsBesideQueue pool.now.service pool.now.line.table.shared.table_id op.now floor caller lent.old lent.new result }
+    ensures { ReadsBesideQueue pool.now.service pool.now.line.table.shared.table_id op.now reply.new floor caller lent.old lent.new result }
 {
     let mut caller = caller;
     for _ in rt.forever() {
-        let updated = match pool.service.read(rt, caller, op) {
-            ReadDone::Read(back, seen) => {
-                if seen.place >= floor {
+        let updated = match pool.service.read(rt, caller, op, reply) {
+            ReadDone::Read(back, place) => {
+                if place >= floor {
                     give(rt, &pool.service, &pool.line, &mut lent.pass, back);
-                    return Looked::Found(seen);
+                    return Looked::Found(place);
                 }
                 thread::yield_now();
                 caller = back;
                 continue;
             }
-            ReadDone::Queued(back, answer) => Updated::Done(back, answer),
+            ReadDone::Queued(back, ticket) => Updated::Done(back, ticket),
             ReadDone::Full(back, note) => Updated::Full(back, note),
             ReadDone::Worn(back) => Updated::Worn(back),
             ReadDone::Halted(stopped) => Updated::Halted(stopped),
@@ -61,31 +62,41 @@ fn look<O: Object, R: Wait>(
 
 impl<O: Object> Pool<O> {
     /// Answers an operation that only reads for a client that was not told `Stopped`, by a caller that has seen all that the client was answered before or
-    /// caught up with: beside the queue, or as an entry of it. A read whose place is below that is made again. It waits as `update` does, and `Full`, `Worn`, `Stopped` and `Memory` are as
+    /// caught up with: beside the queue, or as an entry of it. The reply is written into the client's buffer as in `update`. A read whose place is below that is made again. It waits as `update` does, and `Full`, `Worn`, `Stopped` and `Memory` are as
     /// there.
-    pub fn read<R: Wait>(&self, rt: &R, client: &mut Client, op: &OpWords) -> PooledRead
+    pub fn read<R: Wait>(
+        &self,
+        rt: &R,
+        client: &mut Client,
+        op: &OpWords,
+        reply: &mut OpWords,
+    ) -> PooledRead
         requires pool { IsPool O.only_reads self.now }
         requires client { IsClientOf self.now.service self.now.line.table.shared.table_id client.old × (is_live client.old.lent.kept ≡ true) }
         requires reads { IsTrue (O.only_reads self.now.service.object op.now) }
-        ensures { ReadsForClient self.now.service self.now.line.table.shared.table_id op.now client.old client.new result }
+        ensures { ReadsForClient self.now.service self.now.line.table.shared.table_id op.now reply.new client.old client.new result }
     {
         if client.answers.reserve(1).is_err() {
             return PooledRead::Memory;
         }
         let floor = client.place();
-        match begin(rt, self, &mut client.lent, floor) {
-            Ok(caller) => match look(rt, self, &mut client.lent, caller, floor, op) {
-                Looked::Found(seen) => {
+        match begin(rt, self, &mut client.lent, floor, reply) {
+            Ok(caller) => match look(rt, self, &mut client.lent, caller, floor, op, reply) {
+                Looked::Found(place) => {
+                    let reply = *reply;
+                    let seen = Seen { place, reply };
                     client.answers.push_reserved(Answered::Read { seen });
-                    client.floor = seen.place;
-                    PooledRead::Read(seen)
+                    client.floor = place;
+                    PooledRead::Read(place)
                 }
-                Looked::Entered(Served::Done(caller, answer)) => {
+                Looked::Entered(Served::Done(caller, ticket)) => {
+                    let reply = *reply;
+                    let answer = Answer { ticket, reply };
                     client
                         .answers
                         .push_reserved(Answered::Updated { caller, answer });
-                    client.floor = answer.ticket + 1;
-                    PooledRead::Queued(answer)
+                    client.floor = ticket + 1;
+                    PooledRead::Queued(ticket)
                 }
                 Looked::Entered(Served::Full(note)) => PooledRead::Full(note),
                 Looked::Entered(Served::Worn) => PooledRead::Worn,

@@ -3,7 +3,7 @@
 use crate::call::Answered;
 use cx_base::{Object, OpWords};
 use cx_core::FullNote;
-use cx_service::{Answer, Handed, Seen, Service};
+use cx_service::{Handed, Service};
 use seat_pool::Line;
 
 /// A service whose callers clients share. It is shared by threads.
@@ -33,8 +33,8 @@ pub struct PoolKept<O: Object> {
 /// The result of an update.
 #[derive(Clone, Copy, Debug, PartialEq, Eq, Drop)]
 pub enum Pooled {
-    /// The entry is applied and durable: its ticket, and the reply.
-    Done(Answer),
+    /// The entry at this ticket is applied and durable, and the reply is written.
+    Done(u64),
     /// No cell of the caller is idle: the note names another caller that needs entries in them. The client keeps its caller.
     Full(FullNote),
     /// There is no further ticket. The client keeps its caller.
@@ -59,10 +59,10 @@ pub enum PooledCatchUp {
 /// The result of a read.
 #[derive(Clone, Copy, Debug, PartialEq, Eq, Drop)]
 pub enum PooledRead {
-    /// It is answered beside the queue: its place, and the reply there.
-    Read(Seen),
-    /// It is answered as an entry of the queue: its ticket, and the reply.
-    Queued(Answer),
+    /// It is answered beside the queue at this place, and the reply there is written.
+    Read(u64),
+    /// It is answered as an entry of the queue at this ticket, and the reply is written.
+    Queued(u64),
     /// No cell of the caller is idle: the note names another caller that needs entries in them. The client keeps its caller.
     Full(FullNote),
     /// There is no further ticket. The client keeps its caller.

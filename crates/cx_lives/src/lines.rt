@@ -2,8 +2,10 @@
 
 ghost use Rattle.std.specs.Prelude.{◌≡◌, ◌++◌, IfOk, []};
 ghost use Rattle.cx_lives.specs.Lines.{AddsClientEntry, AddsClientRead};
+ghost use Rattle.cx_service.specs.Drives.{answer_with};
+ghost use Rattle.cx_service.specs.Lookups.{seen_with};
 
-use cx_service::{Answer, Seen};
+use cx_base::OpWords;
 use life_records::{JournalLine, ReadLine};
 use std::alloc::{AllocError, Global};
 use typed_object::TypedObject;
@@ -42,23 +44,24 @@ impl<Reply: Drop> Lines<Reply> {
     }
 }
 
-/// Notes the line of a client's entry that is answered, as that of its command of this number. `false` where the words of the answer are
-/// of no reply. `Err` means out of memory.
+/// Notes the line of a client's entry that is answered at a ticket, as that of its command of this number. `false` where the words are of no
+/// reply. `Err` means out of memory.
 pub fn note_entry<O: TypedObject>(
     alloc: Global,
     object: &O,
     lines: &mut Lines<O::Reply>,
     client: u32,
     number: u64,
-    answer: &Answer,
+    ticket: u64,
+    words: &OpWords,
 ) -> Result<bool, AllocError>
-    ensures { IfOk result (AddsClientEntry (O.meaning object.now) client number answer.now lines.old lines.new) }
+    ensures { IfOk result (AddsClientEntry (O.meaning object.now) client number (answer_with ticket words.now) lines.old lines.new) }
 {
-    let Some(reply) = object.reply_of(alloc, &answer.reply)? else {
+    let Some(reply) = object.reply_of(alloc, words)? else {
         return Ok(false);
     };
     lines.entries.push(JournalLine {
-        ticket: answer.ticket,
+        ticket,
         client,
         command: number,
         reply: Some(reply),
@@ -67,24 +70,25 @@ pub fn note_entry<O: TypedObject>(
 }
 
 /// Notes the line of a client's read that is answered, at the place that its caller has seen, as that of its command of this number.
-/// `false` where the words of the answer are of no reply. `Err` means out of memory.
+/// `false` where the words are of no reply. `Err` means out of memory.
 pub fn note_read<O: TypedObject>(
     alloc: Global,
     object: &O,
     lines: &mut Lines<O::Reply>,
     client: u32,
     number: u64,
-    seen: &Seen,
+    place: u64,
+    words: &OpWords,
 ) -> Result<bool, AllocError>
-    ensures { IfOk result (AddsClientRead (O.meaning object.now) client number seen.now lines.old lines.new) }
+    ensures { IfOk result (AddsClientRead (O.meaning object.now) client number (seen_with place words.now) lines.old lines.new) }
 {
-    let Some(reply) = object.reply_of(alloc, &seen.reply)? else {
+    let Some(reply) = object.reply_of(alloc, words)? else {
         return Ok(false);
     };
     lines.reads.push(ReadLine {
         client,
         command: number,
-        place: seen.place,
+        place,
         reply,
     })?;
     Ok(true)

@@ -9,7 +9,7 @@ ghost use Rattle.cx_lives.specs.Turns.{StopsIn, ended, turn_after};
 use crate::calls::ask;
 use crate::lines::{Lines, note_entry, note_read};
 use crate::operations::words_of;
-use cx_base::OpWords;
+use cx_base::{OP_WORDS, OpWords};
 use cx_core::FullNote;
 use cx_service::{Caller, Handed, ReadDone, Service, Stopped};
 use life_records::{BorrowedLife, Command, FullLine, JournalLine, StopLine};
@@ -77,13 +77,14 @@ pub(crate) fn make<O: TypedObject, R: Wait>(
     let client = command.client;
     let object = service.object();
     let (op, reads_only) = service_words(service, &command.op);
-    match ask(rt, service, caller, &op, reads_only, most) {
-        ReadDone::Queued(caller, answer) => {
-            let is_reply = note_entry(alloc, object, &mut lines, client, number, &answer)?;
+    let mut reply = [0; OP_WORDS];
+    match ask(rt, service, caller, &op, &mut reply, reads_only, most) {
+        ReadDone::Queued(caller, ticket) => {
+            let is_reply = note_entry(alloc, object, &mut lines, client, number, ticket, &reply)?;
             Ok(after_answer(Progress { caller, lines }, is_reply))
         }
-        ReadDone::Read(caller, seen) => {
-            let is_reply = note_read(alloc, object, &mut lines, client, number, &seen)?;
+        ReadDone::Read(caller, place) => {
+            let is_reply = note_read(alloc, object, &mut lines, client, number, place, &reply)?;
             Ok(after_answer(Progress { caller, lines }, is_reply))
         }
         ReadDone::Full(caller, note) => Ok(Turn::Full(Progress { caller, lines }, note)),

@@ -63,54 +63,10 @@ module _ {O : Type 0} (o : Ghosts O) (r : Running O) (s v : Seated) (caller : Is
     images = none;
   }
 
-  pub image_ended : HaltsImage s v → CheckpointHalted r s (record { seat = v; linked = None }) × ReadDue 1 s v
-  image_ended h = (
-    record { caller = record { of = of; limit = h.halts.limit }; linked = refl; keeps = keeps h.halts.counted; images = h.none },
-    record { most = h.halts.most; due = λ none. (let same = h.halts.due none in omega (arith, same)) },
-  )
-
 -- a turn behind others, in each of which a refusal was met
 module _ {O : Type 0} (r : Running O) (n : ℕ) (s u : Seated) (before : ReadPending r n s u) where
   keeps_then : (v : Seated) → CheckpointKeeps u v → CheckpointKeeps s v
   keeps_then v k = record { lists = read_keeps_then r [] n s u before v k.lists; reads = k.reads ∙ before.reads; times = k.times ∙ before.times }
 
-  taken_then : (o : Ghosts O) (words : List ℕ) (place : ℕ) (v : Seated) → CheckpointTaken o r words place u v → CheckpointTaken o r words place s v
-  taken_then o words place v taken = record {
-    caller = taken.caller;
-    keeps = keeps_then v taken.keeps;
-    allowed = before.allowed;
-    images = taken.images ∙ ap (λ (p : List (List ℕ) × List ImageTimes). p.0 ++ words ∷ []) before.images;
-    times = record {
-      image = taken.times.image;
-      from = (let since = before.keeps.since in let is = taken.times.from in omega (arith, since, is));
-      to = taken.times.to;
-      at = taken.times.at;
-      durable = taken.times.durable;
-      is = taken.times.is ∙ ap (λ (p : List (List ℕ) × List ImageTimes). p.1 ++ taken.times.image ∷ []) before.images;
-    };
-    base = taken.base;
-    current = taken.current;
-    finds = record { loaded = (let since = before.keeps.since in let is = taken.finds.loaded in omega (arith, since, is)); raised = taken.finds.raised };
-    reached = taken.reached;
-    above = λ i x at. taken.above i x (ap (λ (xs : List Answer). slice_get xs i) before.keeps.answered ∙ at);
-    from = λ i x at. taken.from i x (ap (λ (xs : List SeenRead). slice_get xs i) before.reads ∙ at);
-  }
-
   halted_then : (v : StoppedSeat) → CheckpointHalted r u v → CheckpointHalted r s v
   halted_then v h = record { caller = h.caller; linked = h.linked; keeps = keeps_then v.seat h.keeps; images = h.images ∙ before.images }
-
-module _ {O : Type 0} (r : Running O) (n : ℕ) (s u : Seated) (on : LooksOn r n s u) where
-  pub images_done : (o : Ghosts O) (words : List ℕ) (tries place : ℕ) (v : Seated) → n < tries → CheckpointTaken o r words place u v × MeetsFewer 1 u v → CheckpointTaken o r words place s v × MeetsFewer tries s v
-  images_done o words tries place v more d = (
-    elim on.turns [ inl none ↦ subst (λ x. CheckpointTaken o r words place x v) none.1 d.0 | inr some ↦ taken_then r n s u some o words place v d.0 ],
-    (let few = d.1 in omega (arith, looks_met r [] n s u on, few, more)),
-  )
-
-  pub images_halted : (tries : ℕ) (v : StoppedSeat) → n < tries → CheckpointHalted r u v × ReadDue 1 u v.seat → CheckpointHalted r s v × ReadDue tries s v.seat
-  images_halted tries v more h = (
-    elim on.turns [ inl none ↦ subst (λ x. CheckpointHalted r x v) none.1 h.0 | inr some ↦ halted_then r n s u some v h.0 ],
-    record {
-      most = (let few = h.1.most in omega (arith, looks_met r [] n s u on, few, more));
-      due = λ none. (let few = h.1.due none in omega (arith, looks_met r [] n s u on, few, more));
-    },
-  )

@@ -25,8 +25,8 @@ use Rattle.cx_service.specs.declared.update.ReadDone.{ReadDone}
 use Rattle.cx_service.specs.declared.update.ReadDone.TheVariants.{Read, Queued, Full as FullRead, Worn as WornRead, Halted as HaltedRead}
 use Rattle.cx_service.specs.declared.update.Updated.{Updated}
 use Rattle.cx_service.specs.declared.update.Updated.TheVariants.{Done as UpdatedDone, Full as UpdatedFull, Worn as UpdatedWorn, Halted as UpdatedHalted}
-use Rattle.cx_service.specs.Drives.{DriveDone}
-use Rattle.cx_service.specs.Lookups.{ReadAnswered, ReadKeeps}
+use Rattle.cx_service.specs.Drives.{DriveDone, answer_with}
+use Rattle.cx_service.specs.Lookups.{ReadAnswered, ReadKeeps, seen_with}
 use Rattle.cx_service.specs.Submits.{SubmitKeeps, SubmitLinked, next_entry}
 use Rattle.cx_service.specs.Updates.{KeepsLists, ReadQueues, ReadsInAll, UpdateDone, Updates}
 use Rattle.cx_service.proofs.Cells.{own_kept}
@@ -119,25 +119,25 @@ lists_seen r place before after caller was keeps = still_seen r place before aft
 pub catch_up_seen : {O : Type 0} (r : Running O) (place : ℕ) (before after : Seated) → IsCallerOf r before → HasSeen r.callers place before.known.local → CatchUpKeeps before after → HasSeen r.callers place after.known.local
 catch_up_seen r place before after caller was keeps = still_seen r place before after caller was keeps.front keeps.cur keeps.answered
 
-pub update_sees : {O : Type 0} (r : Running O) (op : List ℕ) (place : ℕ) (before : Seated) (updated : Updated) → IsCallerOf r before → HasSeen r.callers place before.known.local → Updates r op before updated →
+pub update_sees : {O : Type 0} (r : Running O) (op reply : List ℕ) (place : ℕ) (before : Seated) (updated : Updated) → IsCallerOf r before → HasSeen r.callers place before.known.local → Updates r op reply before updated →
     UpdateSees r.callers place updated
-update_sees r op place before (UpdatedDone after answer) caller was done = update_behind r op before after place answer was done
-update_sees r op place before (UpdatedFull after note) caller was full = lists_seen r place before after caller was full.keeps
-update_sees r op place before (UpdatedWorn after) caller was worn = lists_seen r place before after caller was worn.keeps
-update_sees r op place before (UpdatedHalted after) caller was halted = tt
+update_sees r op reply place before (UpdatedDone after ticket) caller was done = update_behind r op before after place (answer_with ticket reply) was done
+update_sees r op reply place before (UpdatedFull after note) caller was full = lists_seen r place before after caller was full.keeps
+update_sees r op reply place before (UpdatedWorn after) caller was worn = lists_seen r place before after caller was worn.keeps
+update_sees r op reply place before (UpdatedHalted after) caller was halted = tt
 
-pub queued_sees : {O : Type 0} (r : Running O) (op : List ℕ) (place : ℕ) (before : Seated) (updated : Updated) → IsCallerOf r before → HasSeen r.callers place before.known.local → ReadQueues r op before updated →
+pub queued_sees : {O : Type 0} (r : Running O) (op reply : List ℕ) (place : ℕ) (before : Seated) (updated : Updated) → IsCallerOf r before → HasSeen r.callers place before.known.local → ReadQueues r op reply before updated →
     UpdateSees r.callers place updated
-queued_sees r op place before updated caller was queues =
-    update_sees r op place queues.refused updated queues.pending.caller (still_seen r place before queues.refused caller was queues.pending.keeps.front queues.pending.keeps.cur queues.pending.keeps.answered) queues.entered
+queued_sees r op reply place before updated caller was queues =
+    update_sees r op reply place queues.refused updated queues.pending.caller (still_seen r place before queues.refused caller was queues.pending.keeps.front queues.pending.keeps.cur queues.pending.keeps.answered) queues.entered
 
-pub read_sees : {O : Type 0} (r : Running O) (op : List ℕ) (place : ℕ) (before : Seated) (done : ReadDone) → IsCallerOf r before → HasSeen r.callers place before.known.local → ReadsInAll r op before done →
+pub read_sees : {O : Type 0} (r : Running O) (op reply : List ℕ) (place : ℕ) (before : Seated) (done : ReadDone) → IsCallerOf r before → HasSeen r.callers place before.known.local → ReadsInAll r op reply before done →
     ReadSees r.callers place done
-read_sees r op place before (Read after seen) caller was read = read_behind r op before after place seen was read.0
-read_sees r op place before (Queued after answer) caller was queues = queued_sees r op place before (UpdatedDone after answer) caller was queues
-read_sees r op place before (FullRead after note) caller was queues = queued_sees r op place before (UpdatedFull after note) caller was queues
-read_sees r op place before (WornRead after) caller was queues = queued_sees r op place before (UpdatedWorn after) caller was queues
-read_sees r op place before (HaltedRead after) caller was stops = tt
+read_sees r op reply place before (Read after at) caller was read = read_behind r op before after place (seen_with at reply) was read.0
+read_sees r op reply place before (Queued after ticket) caller was queues = queued_sees r op reply place before (UpdatedDone after ticket) caller was queues
+read_sees r op reply place before (FullRead after note) caller was queues = queued_sees r op reply place before (UpdatedFull after note) caller was queues
+read_sees r op reply place before (WornRead after) caller was queues = queued_sees r op reply place before (UpdatedWorn after) caller was queues
+read_sees r op reply place before (HaltedRead after) caller was stops = tt
 
 pub catch_up_sees : {O : Type 0} (r : Running O) (other place : ℕ) (before : Seated) (caught : CaughtUp) → IsCallerOf r before → HasSeen r.callers place before.known.local → CatchesUp r other before caught →
     CatchUpSees r.callers place caught

@@ -179,9 +179,6 @@ pub record DrivesOn {O : Type 0} (r : Running O) (n : ℕ) (s u : Seated) : Type
   pub caller : IsLinkedOf r u
   pub turns : ((n ≡ 0) × (u ≡ s)) ⊎ DrivePending r n s u
 
-pub drives_none : {O : Type 0} (r : Running O) (s : Seated) → IsLinkedOf r s → DrivesOn r 0 s s
-drives_none r s linked = record { caller = linked; turns = inl (refl, refl) }
-
 module _ {O : Type 0} (r : Running O) (n : ℕ) (s u : Seated) (on : DrivesOn r n s u) where
   drives_then : (m : ℕ) (v : Seated) → DrivePending r m u v → DrivesOn r (n + m) s v
   drives_then m v p = record {
@@ -192,15 +189,9 @@ module _ {O : Type 0} (r : Running O) (n : ℕ) (s u : Seated) (on : DrivesOn r 
     ];
   }
 
-  pub drives_more : (v : Seated) → DrivePending r 1 u v → DrivesOn r (n + 1) s v
-  drives_more v p = drives_then 1 v p
-
   -- at most as many refusals
   drives_met : MeetsAtMost n s u
   drives_met = elim on.turns [ inl none ↦ (let same = ap (λ (x : Seated). x.known.local.met) none.1 in omega (arith, same)) | inr some ↦ some.most ]
-
-  pub drives_all : 1 ≤ n → DrivePending r n s u
-  drives_all some = elim on.turns [ inl none ↦ (let zero = none.0 in absurd (omega (arith, zero, some))) | inr turned ↦ turned ]
 
   done_on : (v : Seated) (answer : Answer) → DriveDone r u v answer → DriveDone r s v answer
   done_on v answer d = elim on.turns [ inl none ↦ subst (λ x. DriveDone r x v answer) none.1 d | inr some ↦ done_then r n s u some v answer d ]
@@ -224,9 +215,6 @@ module _ {O : Type 0} (r : Running O) (n : ℕ) (s u : Seated) (on : DrivesOn r 
 pub record DrivesAgain {O : Type 0} (r : Running O) (s u : Seated) : Type 0 where
   pub turns : ℕ
   pub on : DrivesOn r turns s u
-
-pub again_none : {O : Type 0} (r : Running O) (s : Seated) → IsLinkedOf r s → DrivesAgain r s s
-again_none r s linked = record { turns = 0; on = drives_none r s linked }
 
 pub again_more : {O : Type 0} (r : Running O) (m : ℕ) (s u v : Seated) → DrivesAgain r s u → DrivePending r m u v → DrivesAgain r s v
 again_more r m s u v again p = record { turns = again.turns + m; on = drives_then r again.turns s u again.on m v p }
@@ -329,19 +317,6 @@ module _ {O : Type 0} (r : Running O) (op : List ℕ) (n : ℕ) (s u : Seated) (
       ap (λ (xs : List Answer). reads_with place op reply (length xs) u.known.local.seen_reads) before.keeps.answered
       ∙ ap (reads_with place op reply (length s.known.local.answered)) before.reads
 
-  read_pending_then : (v : Seated) → ReadPending r 1 u v → ReadPending r (n + 1) s v
-  read_pending_then v p = record {
-    caller = p.caller;
-    keeps = read_keeps_then v p.keeps;
-    allowed = before.allowed;
-    reads = p.reads ∙ before.reads;
-    met = meets_then n 1 s u v before.met p.met;
-    most = omega (arith, before.most, p.most);
-    steps = omega (arith, before.steps, p.steps);
-    times = p.times ∙ before.times;
-    images = p.images ∙ before.images;
-  }
-
   read_done_then : (v : Seated) (seen : Seen) → ReadAnswered r op u v seen → ReadAnswered r op s v seen
   read_done_then v seen d = record {
     caller = d.caller;
@@ -377,22 +352,7 @@ pub record LooksOn {O : Type 0} (r : Running O) (n : ℕ) (s u : Seated) : Type 
   pub caller : IsCallerOf r u
   pub turns : ((n ≡ 0) × (u ≡ s)) ⊎ ReadPending r n s u
 
-pub looks_none : {O : Type 0} (r : Running O) (s : Seated) → IsCallerOf r s → LooksOn r 0 s s
-looks_none r s caller = record { caller = caller; turns = inl (refl, refl) }
-
 module _ {O : Type 0} (r : Running O) (op : List ℕ) (n : ℕ) (s u : Seated) (on : LooksOn r n s u) where
-  pub looks_more : (v : Seated) → ReadPending r 1 u v → LooksOn r (n + 1) s v
-  looks_more v p = record {
-    caller = p.caller;
-    turns = elim on.turns [
-      | inl none ↦ (let one : 1 ≡ n + 1 = (let zero = none.0 in omega (arith, zero)) in inr (subst (λ k. ReadPending r k s v) one (subst (λ x. ReadPending r 1 x v) none.1 p)))
-      | inr some ↦ inr (read_pending_then r op n s u some v p)
-    ];
-  }
-
-  pub looks_all : 1 ≤ n → ReadPending r n s u
-  looks_all some = elim on.turns [ inl none ↦ (let zero = none.0 in absurd (omega (arith, zero, some))) | inr turned ↦ turned ]
-
   pub looks_done : (tries : ℕ) (v : Seated) (seen : Seen) → n < tries → ReadAnswered r op u v seen × MeetsFewer 1 u v → ReadAnswered r op s v seen × MeetsFewer tries s v
   looks_done tries v seen more d =
       elim on.turns [

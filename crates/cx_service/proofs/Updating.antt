@@ -11,7 +11,7 @@ use Rattle.cx_rule.specs.Seats.{IsAtLimit, Seated, images_of}
 use Rattle.cx_rule.specs.Timing.{KeepsTimes}
 use Rattle.cx_core.specs.declared.local.FullNote.{FullNote}
 use Rattle.cx_service.specs.Callers.{StoppedSeat}
-use Rattle.cx_service.specs.Drives.{DriveDone, DriveHalted}
+use Rattle.cx_service.specs.Drives.{DriveDone, DriveHalted, answer_with}
 use Rattle.cx_service.specs.Submits.{SubmitAgain, SubmitFull, SubmitHalted, SubmitKeeps, SubmitLinked, SubmitWorn, next_entry}
 use Rattle.cx_service.specs.Lookups.{ReadPending}
 use Rattle.cx_service.specs.Submits.{Submits}
@@ -175,17 +175,17 @@ module _ {O : Type 0} (r : Running O) (op : List ℕ) (s u : Seated) (same : Kee
     }
 
     -- what it comes to that the linked entry is driven to its end
-    pub finished : (d : Updated) → u.known.sets ≡ s.known.sets → s.known.local.front ≤ u.known.local.front → Finishes r l d → Updates r op s d
-    finished (UpdateIs v answer) still rise done = update_done v answer still rise done
-    finished (FullUpdate v note) still rise none = absurd none
-    finished (WornUpdate v) still rise none = absurd none
-    finished (HaltedUpdate v) still rise halted = drive_halted v halted
+    pub finished : (reply : List ℕ) (d : Updated) → u.known.sets ≡ s.known.sets → s.known.local.front ≤ u.known.local.front → Finishes r reply l d → Updates r op reply s d
+    finished reply (UpdateIs v ticket) still rise done = update_done v (answer_with ticket reply) still rise done
+    finished reply (FullUpdate v note) still rise none = absurd none
+    finished reply (WornUpdate v) still rise none = absurd none
+    finished reply (HaltedUpdate v) still rise halted = drive_halted v halted
 
 -- a read that was refused beside the queue, and entered it
-pub queued : {O : Type 0} (r : Running O) (op : List ℕ) (s u : Seated) (d : ReadDone) → ReadPending r 8 s u → QueuesRead r op u d → ReadsInAll r op s d
-queued r op s u (Read v seen) refused entered = absurd entered
-queued r op s u (Queued v answer) refused entered = record { refused = u; pending = refused; entered = entered }
-queued r op s u (FullRead v note) refused entered = record { refused = u; pending = refused; entered = entered }
-queued r op s u (WornRead v) refused entered = record { refused = u; pending = refused; entered = entered }
-queued r op s u (HaltedRead v) refused entered =
+pub queued : {O : Type 0} (r : Running O) (op reply : List ℕ) (s u : Seated) (d : ReadDone) → ReadPending r 8 s u → QueuesRead r op reply u d → ReadsInAll r op reply s d
+queued r op reply s u (Read v place) refused entered = absurd entered
+queued r op reply s u (Queued v ticket) refused entered = record { refused = u; pending = refused; entered = entered }
+queued r op reply s u (FullRead v note) refused entered = record { refused = u; pending = refused; entered = entered }
+queued r op reply s u (WornRead v) refused entered = record { refused = u; pending = refused; entered = entered }
+queued r op reply s u (HaltedRead v) refused entered =
     record { caller = entered.caller; number = entered.number ∙ refused.keeps.number; images = entered.images ∙ refused.images; lists = inr (record { refused = u; pending = refused; entered = entered }) }

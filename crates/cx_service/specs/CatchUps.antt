@@ -95,15 +95,15 @@ CatchUpSees callers place (Halted after) = Unit {0}
 
 -- An update stands at or above a place and leaves its caller with the place seen, and so does one that is not answered.
 abbrev pub UpdateSees : ℕ → ℕ → Updated → Type 0
-UpdateSees callers place (UpdatedDone after answer) = (place ≤ answer.ticket) × HasSeen callers place after.known.local
+UpdateSees callers place (UpdatedDone after ticket) = (place ≤ ticket) × HasSeen callers place after.known.local
 UpdateSees callers place (UpdatedFull after note) = HasSeen callers place after.known.local
 UpdateSees callers place (UpdatedWorn after) = HasSeen callers place after.known.local
 UpdateSees callers place (UpdatedHalted after) = Unit {0}
 
 -- The same of a read, whether it is answered beside the queue or as an entry of it.
 abbrev pub ReadSees : ℕ → ℕ → ReadDone → Type 0
-ReadSees callers place (Read after seen) = (place ≤ seen.place) × HasSeen callers place after.known.local
-ReadSees callers place (Queued after answer) = (place ≤ answer.ticket) × HasSeen callers place after.known.local
+ReadSees callers place (Read after read) = (place ≤ read) × HasSeen callers place after.known.local
+ReadSees callers place (Queued after ticket) = (place ≤ ticket) × HasSeen callers place after.known.local
 ReadSees callers place (FullRead after note) = HasSeen callers place after.known.local
 ReadSees callers place (WornRead after) = HasSeen callers place after.known.local
 ReadSees callers place (HaltedRead after) = Unit {0}

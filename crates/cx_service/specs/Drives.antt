@@ -8,8 +8,6 @@ use Rattle.cx_rule.specs.Seats.{IsAtLimit, Seated, images_of, unanswered_ticket}
 use Rattle.cx_rule.specs.Timing.{EndsIn}
 use Rattle.cx_service.specs.declared.drive.Driven.{Driven}
 use Rattle.cx_service.specs.declared.drive.Driven.TheVariants.{Done, Pending, Halted}
-use Rattle.cx_service.specs.declared.drive.Turned.{Turned}
-use Rattle.cx_service.specs.declared.drive.Turned.TheVariants.{Answered, Refused, Ended}
 use Rattle.cx_service.specs.Callers.{IsCallerOf, IsLinkedOf, IsStoppedOf, StoppedSeat}
 use Rattle.cx_turns.specs.Answering.{with_answer}
 use Rattle.cx_turns.specs.Bringing.{BringsEntries}
@@ -44,8 +42,12 @@ pub record DriveKeeps (before after : Seated) : Type 0 where
   pub met : before.known.local.met ≤ after.known.local.met
   pub since : StepsOn before after
 
--- The entry is answered, and nothing else: the caller has one answer more, at the entry's ticket. The count of others' entries that were
--- brought on by their sets rises by those of this call. The limit allowed a step.
+-- an entry's answer: its ticket, and the reply that stands in the caller's buffer
+abbrev pub answer_with : ℕ → List ℕ → Answer
+answer_with ticket reply = record { ticket = ticket; reply = reply }
+
+-- The entry is answered, and nothing else: the caller has one answer more, at the entry's ticket. The count of others' sets that were
+-- read rises by those of this call. The limit allowed a step.
 pub record DriveDone {O : Type 0} (r : Running O) (before after : Seated) (answer : Answer) : Type 0 where
   pub caller : IsCallerOf r after
   pub keeps : DriveKeeps before after
@@ -84,15 +86,9 @@ pub record DriveDue {O : Type 0} (r : Running O) (tries : ℕ) (before : Seated)
   pub most : MeetsAtMost tries before after.seat
   pub due : all_rights after.seat ≡ no_rights → MeetsFewer tries before after.seat ⊎ ((ticket : ℕ) × (after.linked ≡ Some ticket) × (ticket < root_place_of r.callers after.seat.known.local.seen_cur))
 
--- The result of a drive of a linked entry in this many turns. A turn meets at most one refusal, also the last one where a publication
--- was lost in it.
-abbrev pub Drives : {O : Type 0} → Running O → ℕ → Seated → Driven → Type 0
-Drives r tries before (Done after answer) = DriveDone r before after answer × MeetsAtMost tries before after
-Drives r tries before (Pending after) = DrivePending r tries before after
-Drives r tries before (Halted after) = DriveHalted r before after × DriveDue r tries before after
-
--- the result of one turn, which left this in the caller's buffer
-abbrev pub TurnsOnce : {O : Type 0} → Running O → List ℕ → Seated → Turned → Type 0
-TurnsOnce r reply before (Answered after ticket) = DriveDone r before after (record { ticket = ticket; reply = reply }) × MeetsAtMost 1 before after
-TurnsOnce r reply before (Refused after) = DrivePending r 1 before after
-TurnsOnce r reply before (Ended after) = DriveHalted r before after × DriveDue r 1 before after
+-- The result of a drive of a linked entry in this many turns, which left these words in the caller's buffer. A turn meets at most one
+-- refusal, also the last one where a publication was lost in it.
+abbrev pub Drives : {O : Type 0} → Running O → ℕ → List ℕ → Seated → Driven → Type 0
+Drives r tries reply before (Done after ticket) = DriveDone r before after (answer_with ticket reply) × MeetsAtMost tries before after
+Drives r tries reply before (Pending after) = DrivePending r tries before after
+Drives r tries reply before (Halted after) = DriveHalted r before after × DriveDue r tries before after

@@ -6,8 +6,6 @@ use Rattle.cx_core.specs.declared.local.SeenRead.{SeenRead}
 use Rattle.cx_rule.specs.Running.{Running}
 use Rattle.cx_rule.specs.Seats.{IsAtLimit, Seated, StepsBy, images_of}
 use Rattle.cx_rule.specs.Timing.{ReadsIn}
-use Rattle.cx_service.specs.declared.lookup.Looked.{Looked}
-use Rattle.cx_service.specs.declared.lookup.Looked.TheVariants.{Ended, Found, Refused}
 use Rattle.cx_service.specs.declared.lookup.ReadTried.{ReadTried}
 use Rattle.cx_service.specs.declared.lookup.ReadTried.TheVariants.{Read, Pending, Halted}
 use Rattle.cx_service.specs.Callers.{IsCallerOf, IsStoppedOf, StoppedSeat}
@@ -31,6 +29,10 @@ pub record ReadKeeps (before after : Seated) : Type 0 where
   pub since : StepsOn before after
   pub linked : after.known.times.linked ≡ before.known.times.linked
   pub ended : after.known.times.answered ≡ before.known.times.answered
+
+-- what a read found: its place, and the reply that stands in the caller's buffer
+abbrev pub seen_with : ℕ → List ℕ → Seen
+seen_with place reply = record { place = place; reply = reply }
 
 -- The read is answered, and nothing else: the caller has one read more, of this operation. Its place is that of the code last found in CUR,
 -- above each ticket and not below any place that the caller was answered before, and not above the caller's front. The limit allowed a step. It began and was
@@ -76,14 +78,9 @@ pub record ReadDue (tries : ℕ) (before after : Seated) : Type 0 where
   pub most : MeetsAtMost tries before after
   pub due : all_rights after ≡ no_rights → MeetsFewer tries before after
 
--- The result of a read of this operation in this many turns. The turn that answers it meets no refusal.
-abbrev pub Looks : {O : Type 0} → Running O → List ℕ → ℕ → Seated → ReadTried → Type 0
-Looks r op tries before (Read after seen) = ReadAnswered r op before after seen × MeetsFewer tries before after
-Looks r op tries before (Pending after) = ReadPending r tries before after
-Looks r op tries before (Halted after) = ReadHalted r op before after × ReadDue tries before after.seat
-
--- the result of one turn of it, without the reply
-abbrev pub LooksOnce : {O : Type 0} → Running O → List ℕ → List ℕ → Seated → Looked → Type 0
-LooksOnce r op reply before (Found after place) = ReadAnswered r op before after (record { place = place; reply = reply }) × MeetsFewer 1 before after
-LooksOnce r op reply before (Refused after) = ReadPending r 1 before after
-LooksOnce r op reply before (Ended after) = ReadHalted r op before after × ReadDue 1 before after.seat
+-- The result of a read of this operation in this many turns, which left these words in the caller's buffer. The turn that answers it meets
+-- no refusal.
+abbrev pub Looks : {O : Type 0} → Running O → List ℕ → ℕ → List ℕ → Seated → ReadTried → Type 0
+Looks r op tries reply before (Read after place) = ReadAnswered r op before after (seen_with place reply) × MeetsFewer tries before after
+Looks r op tries reply before (Pending after) = ReadPending r tries before after
+Looks r op tries reply before (Halted after) = ReadHalted r op before after × ReadDue tries before after.seat

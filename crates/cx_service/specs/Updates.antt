@@ -14,8 +14,8 @@ use Rattle.cx_service.specs.declared.update.ReadDone.TheVariants.{Read, Queued, 
 use Rattle.cx_service.specs.declared.update.Updated.{Updated}
 use Rattle.cx_service.specs.declared.update.Updated.TheVariants.{Done, Full, Worn, Halted}
 use Rattle.cx_service.specs.Callers.{IsCallerOf, IsStoppedOf, StoppedSeat}
-use Rattle.cx_service.specs.Drives.{DriveDone, DriveHalted, EndsOrNot, MeetsFewer}
-use Rattle.cx_service.specs.Lookups.{ReadAnswered, ReadDue, ReadHalted, ReadPending}
+use Rattle.cx_service.specs.Drives.{DriveDone, DriveHalted, EndsOrNot, MeetsFewer, answer_with}
+use Rattle.cx_service.specs.Lookups.{ReadAnswered, ReadDue, ReadHalted, ReadPending, seen_with}
 use Rattle.cx_service.specs.Submits.{NamesHolder, Submits, next_entry}
 use Rattle.cx_turns.specs.Answering.{with_answer}
 use Rattle.cx_turns.specs.Bringing.{BringsEntries}
@@ -42,8 +42,8 @@ pub record LinksEntry {O : Type 0} (r : Running O) (op : List ℕ) (ticket : ℕ
   pub since : StepsOn before after
 
 -- The entry is linked and answered, and nothing else: the caller has one entry more and one answer more, at the answer's ticket, which is not
--- below the caller's front. It was linked and answered by steps of this call, and no refusal is taken back. The count of others' entries that
--- were brought on by their sets rises by those of this call.
+-- below the caller's front. It was linked and answered by steps of this call, and no refusal is taken back. The count of others' sets
+-- that were read rises by those of this call.
 pub record UpdateDone {O : Type 0} (r : Running O) (op : List ℕ) (before after : Seated) (answer : Answer) : Type 0 where
   pub caller : IsCallerOf r after
   pub allowed : ¬ IsAtLimit before.known.local
@@ -118,45 +118,46 @@ pub record UpdateHalted {O : Type 0} (r : Running O) (op : List ℕ) (before : S
   pub lists : HaltsUnlinked r op before after ⊎ HaltsLinked r op before after
   pub images : images_of after.seat.known ≡ images_of before.known
 
--- the result of an update of this operation
-abbrev pub Updates : {O : Type 0} → Running O → List ℕ → Seated → Updated → Type 0
-Updates r op before (Done after answer) = UpdateDone r op before after answer
-Updates r op before (Full after note) = UpdateFull r before after note
-Updates r op before (Worn after) = UpdateWorn r before after
-Updates r op before (Halted after) = UpdateHalted r op before after
+-- the result of an update of this operation, which left these words in the caller's buffer
+abbrev pub Updates : {O : Type 0} → Running O → List ℕ → List ℕ → Seated → Updated → Type 0
+Updates r op reply before (Done after ticket) = UpdateDone r op before after (answer_with ticket reply)
+Updates r op reply before (Full after note) = UpdateFull r before after note
+Updates r op reply before (Worn after) = UpdateWorn r before after
+Updates r op reply before (Halted after) = UpdateHalted r op before after
 
 -- the result of driving a linked entry to its end
-abbrev pub Finishes : {O : Type 0} → Running O → Seated → Updated → Type 0
-Finishes r before (Done after answer) = DriveDone r before after answer
-Finishes r before (Full after note) = ⊥
-Finishes r before (Worn after) = ⊥
-Finishes r before (Halted after) = DriveHalted r before after
+abbrev pub Finishes : {O : Type 0} → Running O → List ℕ → Seated → Updated → Type 0
+Finishes r reply before (Done after ticket) = DriveDone r before after (answer_with ticket reply)
+Finishes r reply before (Full after note) = ⊥
+Finishes r reply before (Worn after) = ⊥
+Finishes r reply before (Halted after) = DriveHalted r before after
 
 -- A read was refused in each of 8 turns beside the queue, so that just as many refusals more are met, and then it entered the queue.
-pub record ReadQueues {O : Type 0} (r : Running O) (op : List ℕ) (before : Seated) (updated : Updated) : Type 0 where
+pub record ReadQueues {O : Type 0} (r : Running O) (op reply : List ℕ) (before : Seated) (updated : Updated) : Type 0 where
   pub refused : Seated
   pub pending : ReadPending r 8 before refused
-  pub entered : Updates r op refused updated
+  pub entered : Updates r op reply refused updated
 
--- A further step was to be made and the steps equal the limit: in a turn beside the queue, or in the update by which the read had entered it.
+-- A further step was to be made and the steps equal the limit: in a turn beside the queue, or in the update by which the read had entered it,
+-- which has no reply.
 pub record ReadStops {O : Type 0} (r : Running O) (op : List ℕ) (before : Seated) (after : StoppedSeat) : Type 0 where
   pub caller : IsStoppedOf r after.seat
   pub number : after.seat.known.local.number ≡ before.known.local.number
-  pub lists : (ReadHalted r op before after × ReadDue 8 before after.seat) ⊎ ReadQueues r op before (Halted after)
+  pub lists : (ReadHalted r op before after × ReadDue 8 before after.seat) ⊎ ReadQueues r op [] before (Halted after)
   pub images : images_of after.seat.known ≡ images_of before.known
 
--- the result of a read of this operation
-abbrev pub ReadsInAll : {O : Type 0} → Running O → List ℕ → Seated → ReadDone → Type 0
-ReadsInAll r op before (Read after seen) = ReadAnswered r op before after seen × MeetsFewer 8 before after
-ReadsInAll r op before (Queued after answer) = ReadQueues r op before (Done after answer)
-ReadsInAll r op before (FullRead after note) = ReadQueues r op before (Full after note)
-ReadsInAll r op before (WornRead after) = ReadQueues r op before (Worn after)
-ReadsInAll r op before (HaltedRead after) = ReadStops r op before after
+-- the result of a read of this operation, which left these words in the caller's buffer
+abbrev pub ReadsInAll : {O : Type 0} → Running O → List ℕ → List ℕ → Seated → ReadDone → Type 0
+ReadsInAll r op reply before (Read after place) = ReadAnswered r op before after (seen_with place reply) × MeetsFewer 8 before after
+ReadsInAll r op reply before (Queued after ticket) = ReadQueues r op reply before (Done after ticket)
+ReadsInAll r op reply before (FullRead after note) = ReadQueues r op reply before (Full after note)
+ReadsInAll r op reply before (WornRead after) = ReadQueues r op reply before (Worn after)
+ReadsInAll r op reply before (HaltedRead after) = ReadStops r op before after
 
 -- the result of a read that enters the queue
-abbrev pub QueuesRead : {O : Type 0} → Running O → List ℕ → Seated → ReadDone → Type 0
-QueuesRead r op before (Read after seen) = ⊥
-QueuesRead r op before (Queued after answer) = Updates r op before (Done after answer)
-QueuesRead r op before (FullRead after note) = Updates r op before (Full after note)
-QueuesRead r op before (WornRead after) = Updates r op before (Worn after)
-QueuesRead r op before (HaltedRead after) = Updates r op before (Halted after)
+abbrev pub QueuesRead : {O : Type 0} → Running O → List ℕ → List ℕ → Seated → ReadDone → Type 0
+QueuesRead r op reply before (Read after place) = ⊥
+QueuesRead r op reply before (Queued after ticket) = Updates r op reply before (Done after ticket)
+QueuesRead r op reply before (FullRead after note) = Updates r op reply before (Full after note)
+QueuesRead r op reply before (WornRead after) = Updates r op reply before (Worn after)
+QueuesRead r op reply before (HaltedRead after) = Updates r op reply before (Halted after)

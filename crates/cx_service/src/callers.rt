@@ -6,7 +6,6 @@ ghost use Rattle.cx_core.specs.Layout.{max_word};
 ghost use Rattle.cx_rule.specs.Seats.{IsWithinLimit, unanswered_ticket};
 ghost use Rattle.redo_set.specs.Taking.{sets_read};
 
-use cx_core::Answer;
 use cx_table::CallerSeat;
 use cx_turns::Scratch;
 use std::marker::Model;
@@ -105,17 +104,19 @@ impl Caller {
         self.desk.seat.met()
     }
 
-    /// The place behind an entry that it was answered, its ticket plus 1: another caller that catches up with it sees the entry.
-    pub fn place_behind(&self, answer: &Answer) -> u64
-        requires { answer.now.ticket < self.now.known.local.front }
-        ensures { result ≡ answer.now.ticket + 1 }
+    /// The place behind an entry that it was answered, at this ticket, which is the ticket plus 1: another caller that catches up with it
+    /// sees the entry.
+    pub fn place_behind(&self, ticket: u64) -> u64
+        requires { ticket < self.now.known.local.front }
+        ensures { result ≡ ticket + 1 }
     {
         // the ticket is below this, which is 2^40 at most
         let _front = self.front();
-        answer.ticket + 1
+        ticket + 1
     }
 
-    /// How often this caller applied another's entry by its write set in this service, on whichever replica. This stays at 2^64 - 1 once there.
+    /// How many write sets of others this caller read in this service, each to apply the entry that it is of by it, on whichever replica. This stays
+    /// at 2^64 - 1 once there.
     pub fn taken(&self) -> u64
         ensures { result ≡ min (sets_read self.now.known.sets) max_word }
     {

@@ -13,8 +13,9 @@
 //! caller took stands in its ghost knowledge, which no other call adds to, and a closing says that each such image is the history's at its place.
 //!
 //! A caller that drives its entry brings a replica up to it. Another's entry it applies by its write set, where its caller offered that,
-//! and else by its step: `Caller::taken` counts the sets that it took. Of each the drive that took it tells a seat from which to a next
-//! just its pairs were stored (`DriveDone`: `brought`), and no other call takes one.
+//! and else by its step: `Caller::taken` counts the sets that it read. Of each the drive that read it tells a seat from which to a next
+//! just its pairs are stored (`DriveDone`: `brought`), and no other call reads one. No clause of a drive says that its own steps led through
+//! these seats: that a set which was read is stored over the replica, and no step done instead, is a clause of `replay_offered` of `replica_sets`.
 //!
 //! The steps of a caller are counted, up to 2^64 - 1, and no answer of any call takes one back (`StepsOn`: `since` of `ReadKeeps`, `DriveKeeps`,
 //! `LinksEntry`, `SubmitHalted`, `HaltsUnlinked`, or an exact count). The refusals that it met are counted so too, and no answer takes one back (`met`

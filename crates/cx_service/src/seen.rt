@@ -66,12 +66,12 @@ pub fn driven_entries_are_seen<O: Object>()
 
 /// Whatever an update returns, it stands at or above a place that its caller had seen, and the caller has seen the place still, unless it is stopped.
 pub fn updates_keep_what_was_seen<O: Object>()
-    ensures { (r : Running O) (op : List ℕ) (place : ℕ) (before : Seated) (updated : Updated) → IsCallerOf r before → HasSeen r.callers place before.known.local → Updates r op before updated → UpdateSees r.callers place updated }
+    ensures { (r : Running O) (op reply : List ℕ) (place : ℕ) (before : Seated) (updated : Updated) → IsCallerOf r before → HasSeen r.callers place before.known.local → Updates r op reply before updated → UpdateSees r.callers place updated }
 {}
 
 /// The same of a read, which may have entered the queue.
 pub fn queued_reads_keep_what_was_seen<O: Object>()
-    ensures { (r : Running O) (op : List ℕ) (place : ℕ) (before : Seated) (done : ReadDone) → IsCallerOf r before → HasSeen r.callers place before.known.local → ReadsInAll r op before done → ReadSees r.callers place done }
+    ensures { (r : Running O) (op reply : List ℕ) (place : ℕ) (before : Seated) (done : ReadDone) → IsCallerOf r before → HasSeen r.callers place before.known.local → ReadsInAll r op reply before done → ReadSees r.callers place done }
 {}
 
 /// Catching up with another place, which may be a lower one, leaves what was seen before.

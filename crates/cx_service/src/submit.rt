@@ -42,8 +42,9 @@ impl<O: Object> Service<O> {
     /// let Submitted::Linked(linked) = service.submit(caller, &op, 1) else {
     ///     return None;
     /// };
-    /// match service.drive(linked, 1) {
-    ///     Driven::Done(back, answer) => Some((back, answer.reply[0])),
+    /// let mut reply = [0; OP_WORDS];
+    /// match service.drive(linked, &mut reply, 1) {
+    ///     Driven::Done(back, _) => Some((back, reply[0])),
     ///     Driven::Pending(_) | Driven::Halted(_) => None,
     /// }
     /// ```

@@ -10,8 +10,7 @@ use crate::lookup::ReadTried;
 use crate::service::Service;
 use crate::submit::Submitted;
 use cx_base::{Object, OpWords};
-use cx_core::{Answer, FullNote};
-use cx_turns::Seen;
+use cx_core::FullNote;
 use std::sync::Wait;
 use std::thread;
 
@@ -24,8 +23,8 @@ const READ_TRIES: u64 = 8;
 /// The result of an update.
 #[derive(Drop)]
 pub enum Updated {
-    /// The entry is applied and durable: its ticket, and the reply.
-    Done(Caller, Answer),
+    /// The entry at this ticket is applied and durable, and the reply is written.
+    Done(Caller, u64),
     /// No cell of the caller is idle: the note names another caller that needs entries in them.
     Full(Caller, FullNote),
     /// There is no further ticket.
@@ -37,10 +36,10 @@ pub enum Updated {
 /// The result of a read.
 #[derive(Drop)]
 pub enum ReadDone {
-    /// The read is answered beside the queue: its place, and the reply there.
-    Read(Caller, Seen),
-    /// The read is answered as an entry of the queue: its ticket, and the reply.
-    Queued(Caller, Answer),
+    /// The read is answered beside the queue at this place, and the reply there is written.
+    Read(Caller, u64),
+    /// The read is answered as an entry of the queue at this ticket, and the reply is written.
+    Queued(Caller, u64),
     /// No cell of the caller is idle: the note names another caller that needs entries in them.
     Full(Caller, FullNote),
     /// There is no further ticket.
@@ -50,15 +49,16 @@ pub enum ReadDone {
 }
 
 impl<O: Object> Service<O> {
-    /// Enters an operation into the queue and drives it to its answer. It tries again as long as others link before it, or hold all
+    /// Enters an operation into the queue and drives it to its answer, whose reply it writes into the caller's buffer; where it is not
+    /// done nothing is said of the buffer. It tries again as long as others link before it, or hold all
     /// replicas, and so it may wait for them; before it does, other threads may run. `Full` comes only where the count of scans rose in this call and another caller,
     /// which the note names, needs the entries in the caller's cells. `Halted` comes exactly where a further step is to be made, of the submit that
     /// was begun last or of driving the linked entry, and the steps equal the limit.
     ///
     /// From `crates/life_tests/src/queue_service.rt`:
     /// ```rattle
-    /// match service.update(rt, caller, &fifo_words(op)) {
-    ///     Updated::Done(back, answer) => match fifo_reply_of(alloc, &answer.reply) {
+    /// match service.update(rt, caller, &fifo_words(op), &mut words) {
+    ///     Updated::Done(back, _) => match fifo_reply_of(alloc, &words) {
     ///         Ok(reply) => Ok(Some((back, reply))),
     ///         Err(FifoFault::Memory) => Err(AllocError),
     ///         Err(FifoFault::BadOp) => Ok(None),
@@ -66,14 +66,20 @@ impl<O: Object> Service<O> {
     ///     Updated::Full(_, _) | Updated::Worn(_) | Updated::Halted(_) => Ok(None),
     /// }
     /// ```
-    pub fn update<R: Wait>(&self, rt: &R, caller: Caller, op: &OpWords) -> Updated
+    pub fn update<R: Wait>(
+        &self,
+        rt: &R,
+        caller: Caller,
+        op: &OpWords,
+        reply: &mut OpWords,
+    ) -> Updated
         requires { IsCallerOf self.now caller }
-        ensures { Updates self.now op.now caller result }
+        ensures { Updates self.now op.now reply.new caller result }
     {
         let mut caller = caller;
         for _ in rt.forever() {
             match self.submit(caller, op, TRIES) {
-                Submitted::Linked(linked) => return self.finish(rt, linked),
+                Submitted::Linked(linked) => return self.finish(rt, linked, reply),
                 Submitted::Again(back) => {
                     thread::yield_now();
                     caller = back;
@@ -87,14 +93,14 @@ impl<O: Object> Service<O> {
     }
 
     /// Drives a linked entry to its answer.
-    fn finish<R: Wait>(&self, rt: &R, linked: Linked) -> Updated
+    fn finish<R: Wait>(&self, rt: &R, linked: Linked, reply: &mut OpWords) -> Updated
         requires { IsLinkedOf self.now linked }
-        ensures { Finishes self.now linked result }
+        ensures { Finishes self.now reply.new linked result }
     {
         let mut linked = linked;
         for _ in rt.forever() {
-            match self.drive(linked, TRIES) {
-                Driven::Done(caller, answer) => return Updated::Done(caller, answer),
+            match self.drive(linked, reply, TRIES) {
+                Driven::Done(caller, ticket) => return Updated::Done(caller, ticket),
                 Driven::Pending(back) => {
                     thread::yield_now();
                     linked = back;
@@ -106,37 +112,44 @@ impl<O: Object> Service<O> {
     }
 
     /// Answers an operation that only reads: beside the queue where the current replica can be read in 8 turns, and else as an entry
-    /// of the queue, which it may wait for as an update does. So no read is kept out for good by those who publish. `Halted` comes
+    /// of the queue, which it may wait for as an update does. So no read is kept out for good by those who publish. The reply is written
+    /// into the caller's buffer, of which nothing is said where the read is not answered. `Halted` comes
     /// exactly where a further step is to be made and the steps equal the limit.
     ///
     /// The two answers that have a reply; the others are those of `update`. From `crates/service_parts/src/call.rt`:
     /// ```rattle
-    /// match service.read(rt, caller, op) {
-    ///     ReadDone::Read(back, seen) => return Asked::Told(back, seen.reply, seen.place),
-    ///     ReadDone::Queued(back, answer) => {
-    ///         let place = back.place_behind(&answer);
-    ///         return Asked::Told(back, answer.reply, place);
+    /// match service.read(rt, caller, op, reply) {
+    ///     ReadDone::Read(back, place) => return Asked::Told(back, place),
+    ///     ReadDone::Queued(back, ticket) => {
+    ///         let place = back.place_behind(ticket);
+    ///         return Asked::Told(back, place);
     ///     }
     /// ```
-    pub fn read<R: Wait>(&self, rt: &R, caller: Caller, op: &OpWords) -> ReadDone
+    pub fn read<R: Wait>(
+        &self,
+        rt: &R,
+        caller: Caller,
+        op: &OpWords,
+        reply: &mut OpWords,
+    ) -> ReadDone
         requires caller { IsCallerOf self.now caller }
         requires reads { IsTrue (O.only_reads self.now.object op.now) }
-        ensures { ReadsInAll self.now op.now caller result }
+        ensures { ReadsInAll self.now op.now reply.new caller result }
     {
-        match self.try_read(caller, op, READ_TRIES) {
-            ReadTried::Read(back, seen) => ReadDone::Read(back, seen),
-            ReadTried::Pending(back) => self.queue(rt, back, op),
+        match self.try_read(caller, op, reply, READ_TRIES) {
+            ReadTried::Read(back, place) => ReadDone::Read(back, place),
+            ReadTried::Pending(back) => self.queue(rt, back, op, reply),
             ReadTried::Halted(stopped) => ReadDone::Halted(stopped),
         }
     }
 
     /// Enters a read into the queue.
-    fn queue<R: Wait>(&self, rt: &R, caller: Caller, op: &OpWords) -> ReadDone
+    fn queue<R: Wait>(&self, rt: &R, caller: Caller, op: &OpWords, reply: &mut OpWords) -> ReadDone
         requires { IsCallerOf self.now caller }
-        ensures { QueuesRead self.now op.now caller result }
+        ensures { QueuesRead self.now op.now reply.new caller result }
     {
-        match self.update(rt, caller, op) {
-            Updated::Done(back, answer) => ReadDone::Queued(back, answer),
+        match self.update(rt, caller, op, reply) {
+            Updated::Done(back, ticket) => ReadDone::Queued(back, ticket),
             Updated::Full(back, note) => ReadDone::Full(back, note),
             Updated::Worn(back) => ReadDone::Worn(back),
             Updated::Halted(stopped) => ReadDone::Halted(stopped),

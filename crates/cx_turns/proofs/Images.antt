@@ -144,78 +144,12 @@ none_loaded o r hold first last held same = record {
   kept = λ x has. subst (λ s. Contains (loaded_of s.known.local.shared) x) (sym same) has;
 }
 
--- ---- what stands once the replica is held
-
-module _ {O : Type 0} (o : Ghosts O) (r : Running O) (found : ℕ) (s mid new : Seated) (may : MayLook r s) (load : Steps r o.step o.only_reads LoadCur found s mid) where
-  mid_rest : IsAtRest (record mid.known.local { fresh = false })
-  mid_rest = subst (λ (t : Seated). IsAtRest (record t.known.local { fresh = false })) (sym load.made) (record {
-    exclusive = may.rest.exclusive;
-    shared = may.rest.shared;
-    passer = may.rest.passer;
-    downgraded = may.rest.downgraded;
-    won = may.rest.won;
-    protection = may.rest.protection;
-    scan = may.rest.scan;
-    refused = may.rest.refused;
-    fresh = refl;
-  })
-
-  pub at_current : (hold : Right) → beside_read new ≡ beside_read mid → HoldsCurrent o r (all_rights mid) mid new hold → IsAtCurrent o r new hold
-  at_current hold same taken = record {
-    held = taken.held;
-    place = taken.place;
-    rest = record {
-      exclusive = ap (λ (t : Seated). t.known.local.exclusive) same ∙ mid_rest.exclusive;
-      shared = refl;
-      passer = ap (λ (a : AllRights). a.passer) taken.with ∙ mid_rest.passer;
-      downgraded = ap (λ (t : Seated). t.known.local.downgraded) same ∙ mid_rest.downgraded;
-      won = ap (λ (t : Seated). t.known.local.won) same ∙ mid_rest.won;
-      protection = ap (λ (t : Seated). t.known.local.protection) same ∙ mid_rest.protection;
-      scan = ap (λ (t : Seated). t.known.local.scan) same ∙ mid_rest.scan;
-      refused = ap (λ (t : Seated). t.known.local.refused) same ∙ mid_rest.refused;
-      fresh = refl;
-    };
-    answered = ap (λ (t : Seated). unanswered_ticket t.known.local) same ∙ ap (λ (t : Seated). unanswered_ticket t.known.local) load.made ∙ may.answered;
-  }
-
-  -- and CUR was loaded
-  pub has_seen : beside_read new ≡ beside_read mid → IsTrue new.known.times.seen
-  has_seen same = ap (λ (t : Seated). t.known.times.seen) same ∙ ap (λ (t : Seated). t.known.times.seen) load.made ∙ ap (λ (b : Bool). cond b s.known.times.seen true) may.rest.fresh
-
 -- ---- the raise, and the right given back
 
 module _ {O : Type 0} (o : Ghosts O) (r : Running O) (hold : Right) (first s : Seated) (loads : LoadsSome o r hold first s) where
   -- what loads leave as it was
   loads_rest : beside_checkpoint s ≡ beside_checkpoint first
   loads_rest = ap beside_checkpoint loads.rest
-
-  pub loads_turns : Turns r beside_checkpoint first s
-  loads_turns = record { seat = loads.held.of; since = loads.since; rest = loads_rest; front = (let same = ap (λ (x : Seated). x.known.local.front) loads.rest in omega (arith, same)) }
-
-  pub loads_halt : IsAtLimit s.known.local → HaltsImage first s
-  loads_halt limit =
-      let met = ap (λ (x : Seated). x.known.local.met) loads.rest in
-      record { halts = record { limit = limit; counted = omega (arith, met); most = omega (arith, met); due = λ _. met }; none = ap (λ (x : Seated). images_of x.known) loads.rest }
-
-  pub loads_answered : unanswered_ticket first.known.local ≡ None → unanswered_ticket s.known.local ≡ None
-  loads_answered none = ap (λ (x : Seated). unanswered_ticket x.known.local) loads.rest ∙ none
-
-  -- the raise halted
-  pub unraised_turns : (u : Seated) → Halts r s u → Turns r beside_checkpoint first u
-  unraised_turns u h = record {
-    seat = h.seat;
-    since = on_then first s u loads.since (on_same s u h.same);
-    rest = ap beside_checkpoint h.same ∙ loads_rest;
-    front = (let a = ap (λ (x : Seated). x.known.local.front) h.same in let b = ap (λ (x : Seated). x.known.local.front) loads.rest in omega (arith, a, b));
-  }
-
-  pub unraised_halt : (u : Seated) → Halts r s u → HaltsImage first u
-  unraised_halt u h =
-      let met = ap (λ (x : Seated). x.known.local.met) h.same ∙ ap (λ (x : Seated). x.known.local.met) loads.rest in
-      record {
-        halts = record { limit = subst (λ (x : Seated). IsAtLimit x.known.local) (sym h.same) h.limit; counted = omega (arith, met); most = omega (arith, met); due = λ _. met };
-        none = ap (λ (x : Seated). images_of x.known) h.same ∙ ap (λ (x : Seated). images_of x.known) loads.rest;
-      }
 
   module _ (code : ℕ) (u : Seated) (raise : RaisesCurrent o r code s u) where
     abbrev put : List Answer → List SeenRead → List ℕ → List (ℕ × ℕ) → Seated
@@ -226,9 +160,6 @@ module _ {O : Type 0} (o : Ghosts O) (r : Running O) (hold : Right) (first s : S
         ap beside_checkpoint raise.made
         ∙ (λ i. put (append-nil s.known.local.answered i) (append-nil s.known.local.seen_reads i) (append-nil s.known.times.answered i) (append-nil s.known.times.reads i))
         ∙ loads_rest
-
-    raised_since : StepsOn first u
-    raised_since = on_then_one first s u loads.since (ap (λ (x : Seated). x.known.local.steps) raise.made)
 
     raised_front : u.known.local.front ≡ first.known.local.front
     raised_front = ap (λ (x : Seated). x.known.local.front) raise.made ∙ ap (λ (x : Seated). x.known.local.front) loads.rest
@@ -242,32 +173,8 @@ module _ {O : Type 0} (o : Ghosts O) (r : Running O) (hold : Right) (first s : S
     pub raised_cur : u.known.local.seen_cur ≡ first.known.local.seen_cur
     raised_cur = ap (λ (x : Seated). x.known.local.seen_cur) raise.made ∙ ap (λ (x : Seated). x.known.local.seen_cur) loads.rest
 
-    -- the release halted
-    pub unreleased_turns : (v : Seated) → Halts r u v → Turns r beside_checkpoint first v
-    unreleased_turns v h = record {
-      seat = h.seat;
-      since = on_then first u v raised_since (on_same u v h.same);
-      rest = ap beside_checkpoint h.same ∙ raised_rest;
-      front = (let a = ap (λ (x : Seated). x.known.local.front) h.same in omega (arith, a, raised_front));
-    }
-
-    pub unreleased_halt : (v : Seated) → Halts r u v → HaltsImage first v
-    unreleased_halt v h =
-        let met = ap (λ (x : Seated). x.known.local.met) h.same ∙ raised_met in
-        record {
-          halts = record { limit = subst (λ (x : Seated). IsAtLimit x.known.local) (sym h.same) h.limit; counted = omega (arith, met); most = omega (arith, met); due = λ _. met };
-          none = ap (λ (x : Seated). images_of x.known) h.same ∙ raised_images;
-        }
-
     raised_holds : shared_on u.known.local ≡ Some hold.replica
     raised_holds = ap (λ (x : Seated). shared_on x.known.local) raise.made ∙ loads.held.right.holds
-
-    -- what was loaded is known still
-    pub taken_from : (image : List ℕ) → TellsWords s.known s.region image → IsTakenFrom r.callers u hold image
-    taken_from image tells = record {
-      source = record { few = loads.held.right.few; caller = loads.held.right.caller ∙ sym (ap (λ (x : Seated). x.known.local.number) raise.made); holds = raised_holds };
-      tells = subst (λ (x : Seated). TellsWords x.known x.region image) (sym raise.made) (record { long = tells.long; each = tells.each });
-    }
 
     module _ (image : List ℕ) (found : ℕ) (v : Seated) (steps : StepsTaking r o.step o.only_reads hold.replica found image u v) where
       -- the seat that took it, by its local state
@@ -302,14 +209,6 @@ module _ {O : Type 0} (o : Ghosts O) (r : Running O) (hold : Right) (first s : S
       image_noted seen =
           let loaded : u.known.times.seen ≡ true = ap (λ (x : Seated). x.known.times.seen) raise.made ∙ ap (λ (x : Seated). x.known.times.seen) loads.rest ∙ seen in
           ap (λ (x : Seated). x.known.times.images) released ∙ ap (λ (b : Bool). u.known.times.images ++ cond b (image_now ∷ []) []) loaded ∙ ap (λ (p : List (List ℕ) × List ImageTimes). p.1 ++ image_now ∷ []) raised_images
-
-      pub taken_turns : Turns r beside_checkpoint first v
-      taken_turns = record {
-        seat = steps.seat;
-        since = on_then_one first u v raised_since (ap (λ (x : Seated). x.known.local.steps) released);
-        rest = ap beside_checkpoint released ∙ raised_rest;
-        front = (let a = ap (λ (x : Seated). x.known.local.front) released in omega (arith, a, raised_front));
-      }
 
       pub taken_cur : v.known.local.seen_cur ≡ first.known.local.seen_cur
       taken_cur = ap (λ (x : Seated). x.known.local.seen_cur) released ∙ raised_cur

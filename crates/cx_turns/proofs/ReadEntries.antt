@@ -42,14 +42,6 @@ ready_read o r caller ticket at words before after held of read fits was = recor
   place = ap noted_place read.seat ∙ was.place;
 }
 
--- an entry that was read comes next where it has the replica's place as its ticket
-pub read_comes : {O : Type 0} (o : Ghosts O) (r : Running O) (at : ℕ) (entry : Entry) (before after : Seated) → ReadsNext o r at entry before after → noted_place after ≡ at → ComesNext entry after
-read_comes o r at entry before after next place = record {
-  had = subst (λ p. HasEntry (entries_of after.known) p entry) (sym place) (inl next.noted.noted);
-  lawful = subst (λ p. IsLawfulEntry p entry) (sym place) next.noted.lawful;
-  small = subst (λ p. p < 2 ^ 40) (sym place) next.noted.small;
-}
-
 -- it still does where what is noted of entries stayed
 pub offered_comes : {O : Type 0} (o : Ghosts O) (r : Running O) (at : ℕ) (entry : Entry) (before mid after : Seated) → ReadsNext o r at entry before mid → after.known.noted ≡ mid.known.noted → noted_place after ≡ at → ComesNext entry after
 offered_comes o r at entry before mid after next same place = record {

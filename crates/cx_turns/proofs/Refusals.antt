@@ -93,12 +93,6 @@ module _ (count first : ℕ) (within : first < count) where
         | inr apart ↦ inr (grind (arith, next.below, next.above, passed, apart))
       ]
 
-  pub none_refused : Refuses count first 0 []
-  none_refused = record {
-    each = All-nil (IsPassed count first 0);
-    those = λ x few passed. elim passed [ inl h ↦ (let a = h.0 in let b = h.1 in absurd (omega arith)) | inr h ↦ (let a = h.0 in let b = h.1 in absurd (omega arith)) ];
-  }
-
   next_below : (n r : ℕ) → n < count → IsNext count first n r → r < count
   next_below n r small next = elim (cases_lt (first + n) count) [
     | inl less ↦ (let e = next.below less in omega arith)
@@ -164,14 +158,6 @@ pub record IsRefusing (callers first n : ℕ) (before now : Seated) : Type 0 whe
   pub few : n < 2 * callers → Refuses (2 * callers) first n now.known.local.refused
   pub same : n < 2 * callers → now.known.local.met ≡ before.known.local.met
   pub end : n ≡ 2 * callers → IsRefusedByAll before now
-
-pub refusing_none : (callers first : ℕ) (seat : Seated) → 1 ≤ callers → first < 2 * callers → all_rights seat ≡ no_rights → seat.known.local.refused ≡ [] → IsRefusing callers first 0 seat seat
-refusing_none callers first seat some within rights none = record {
-  rights = rights;
-  few = λ _. subst (Refuses (2 * callers) first 0) (sym none) (none_refused (2 * callers) first within);
-  same = λ _. refl;
-  end = λ e. absurd (omega arith);
-}
 
 pub refusing_more : (callers first n r : ℕ) (before now after : Seated) → first < 2 * callers → n < 2 * callers → IsNext (2 * callers) first n r → IsRefusing callers first n before now → IsRefusedBy callers r now after → IsRefusing callers first (n + 1) before after
 refusing_more callers first n r before now after within small next so by =

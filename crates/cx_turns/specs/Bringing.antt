@@ -1,16 +1,17 @@
--- The entries of others that a call brings onto a replica by their write sets.
+-- The write sets of others that a call reads, to bring their entries onto a replica. Of each there is a seat from which to a next just its pairs are
+-- stored; no definition here says that the call's own steps lead through these two.
 use Rattle.std.specs.Prelude.{◌≡◌, ◌+◌, ◌⊎◌, true, false, ℕ, Bool, List, Option, Some, None}
 use Rattle.cx_rule.specs.Seats.{Seated}
 use Rattle.cx_turns.specs.Turns.{KeepsCount}
 use Rattle.redo_set.specs.Taking.{sets_read}
 use Rattle.replica_sets.specs.Offered.{StoresSet}
 
--- At most the entry with this ticket was brought on so: no word of a set was read, or one set was, and from there on just its pairs were stored.
+-- At most the set of the entry with this ticket was read: no word of a set, or one set, and from some seat on just its pairs are stored.
 abbrev pub BringsAtMost : ℕ → Seated → Seated → Type 0
 BringsAtMost ticket before after = (after.known.sets ≡ before.known.sets) ⊎ ((set : List ℕ) × (mid : Seated) × (mid.known.sets ≡ before.known.sets) × StoresSet ticket set mid after)
 
--- From the first seat on this many entries were brought on by their sets, each by a set that was read for it and stored, and no word of any
--- other set was read.
+-- From the first seat on this many sets were read, each with a seat from which to a next its pairs are stored, and no word of any other set was
+-- read.
 pub data BringsOn (before : Seated) : ℕ → Seated → Type 0 where
   none_yet : (n : ℕ) (now : Seated) → n ≡ 0 → now.known.sets ≡ before.known.sets → BringsOn before n now
   one_more : (n : ℕ) (now : Seated) (first : ℕ) (mid next : Seated) (ticket : ℕ) (set : List ℕ) → n ≡ first + 1 → BringsOn before first mid → StoresSet ticket set mid next → now.known.sets ≡ next.known.sets → BringsOn before n now
@@ -21,12 +22,12 @@ pub record BringsEntries (before after : Seated) : Type 0 where
   pub on : BringsOn before count after
   pub read : sets_read after.known.sets ≡ sets_read before.known.sets + count
 
--- beside them the sets of others that were taken stay counted
+-- beside them the sets of others that were read stay counted
 pub record CountsEntries (taken : ℕ) (before : Seated) (now : ℕ) (after : Seated) : Type 0 where
   pub counted : KeepsCount taken before now after
   pub by_sets : BringsEntries before after
 
--- what a turn that may give nothing brings on: then no word of a set was read
+-- what a turn that may give nothing reads: where it gives nothing, no word of a set
 abbrev pub BringsIn : {X : Type 0} → Seated → Seated → Option X → Type 0
 BringsIn before after (Some x) = BringsEntries before after
 BringsIn before after None = after.known.sets ≡ before.known.sets

@@ -15,10 +15,10 @@
 //! - A replica is brought up by the queue's entries to a place above the caller's ticket: `replay_to` (`replayed`). Each is applied by its write
 //!   set, where the caller has that in an own cell or takes it from another's, or by its step, the caller's own from its seat, and each other read
 //!   under a protection. Which of these it is, and whether the set of an own step is offered, is in no contract. But the sets of others that were
-//!   taken are counted, and own ones are not: where no call halts the count is right up to 2^64 - 1, where it stays (`counted`, of `replay_to`,
-//!   `prepare` and `update_turn`: `CountsEntries`, `CountsIn`). As many sets were read as entries were brought on by them: of each there is a seat
-//!   from which to a next just its pairs were stored (`BringsEntries`), between which and the seat before one entry no word of a set is read
-//!   (`BringsAtMost`, within the crate). A turn that gives nothing reads no word of a set.
+//!   read are counted, and own ones are not: where no call halts the count is right up to 2^64 - 1, where it stays (`counted`, of `replay_to`,
+//!   `prepare` and `update_turn`: `CountsEntries`, `CountsIn`). Of each set that was read there is a seat from which to a next just its pairs are
+//!   stored (`BringsEntries`; of one entry `BringsAtMost`, within the crate); that the call's own steps lead through these seats is a clause of
+//!   `replay_offered` of `replica_sets` alone. A turn that gives nothing reads no word of a set.
 //!   The reply to the caller's last entry there, for whatever fits what was noted, is the one that the step of that entry gave (`IsReplayedPast`),
 //!   or is loaded from the replica where the last entry was applied otherwise. Where cells from the replica's place on are closed it is a copy of the
 //!   current one first: of the lines alone that changed, where the ring of gaps tells them. It is made durable and downgraded: `prepare` (`prepared`).

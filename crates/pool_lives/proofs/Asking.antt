@@ -45,10 +45,10 @@ module _ {O : Type 0} (r : Running O) (table : TableId) where
       calls = λ calls has. made.calls calls (less.calls calls has);
     }
 
-    pub asked_since : (op : List ℕ) (asked : Asked) → ClientRequestEnds r table op b c asked → ClientRequestEnds r table op a c asked
-    asked_since op (Done answer) u = record { told = u.told; is = u.is; made = made_since _ u.made }
-    asked_since op (Read seen) u = record { read = u.read; is = u.is; made = made_since _ u.made }
-    asked_since op Worn u = (again u.0, u.1)
+    pub asked_since : (op reply : List ℕ) (asked : Asked) → ClientRequestEnds r table op reply b c asked → ClientRequestEnds r table op reply a c asked
+    asked_since op reply (Done ticket) u = record { told = u.told; is = u.is; made = made_since _ u.made }
+    asked_since op reply (Read place) u = record { read = u.read; is = u.is; made = made_since _ u.made }
+    asked_since op reply Worn u = (again u.0, u.1)
 
   module _ (a b : Client) (may : MayAsk r table a) where
     pub may_still : (kept : is_live b.lent.kept ≡ true) → HasNoMore r table a b → MayAsk r table b

@@ -3,6 +3,8 @@ use Rattle.std.specs.Prelude.{◌≡◌, ◌^◌, ◌-◌, ℕ, true, List, Opti
 use Rattle.atomic_table.specs.Seated.{TableId}
 use Rattle.cx_rule.specs.Running.{Running}
 use Rattle.cx_rule.specs.Seats.{Seated}
+use Rattle.cx_service.specs.Drives.{answer_with}
+use Rattle.cx_service.specs.Lookups.{seen_with}
 use Rattle.cx_service.specs.declared.close.Handed.TheVariants.{Idle}
 use Rattle.client_pool.specs.Clients.{HasNoMore, HasRead, HasUpdated, IsClientOf}
 use Rattle.client_pool.specs.Lending.{is_live, limits_of}
@@ -26,13 +28,13 @@ pub record KeepsLast (client : Client) : Type 0 where
   pub keeps : client.lent.kept ≡ Some (Idle last)
   pub front : last.known.local.front ≡ 2 ^ 40
 
--- the result of an operation
-abbrev pub ClientRequestEnds : {O : Type 0} → Running O → TableId → List ℕ → Client → Client → Asked → Type 0
-ClientRequestEnds r table op before after (Done answer) = HasUpdated r table op before after answer
-ClientRequestEnds r table op before after (Read seen) = HasRead r table op before after seen
-ClientRequestEnds r table op before after Worn = HasNoMore r table before after × KeepsLast after
+-- the result of an operation, which left these words in the buffer
+abbrev pub ClientRequestEnds : {O : Type 0} → Running O → TableId → List ℕ → List ℕ → Client → Client → Asked → Type 0
+ClientRequestEnds r table op reply before after (Done ticket) = HasUpdated r table op before after (answer_with ticket reply)
+ClientRequestEnds r table op reply before after (Read place) = HasRead r table op before after (seen_with place reply)
+ClientRequestEnds r table op reply before after Worn = HasNoMore r table before after × KeepsLast after
 
 -- the result of asking for it once: nothing where no cell is idle, and the client may ask again
-abbrev pub ClientAsksOnce : {O : Type 0} → Running O → TableId → List ℕ → Client → Client → Option Asked → Type 0
-ClientAsksOnce r table op before after (Some asked) = ClientRequestEnds r table op before after asked
-ClientAsksOnce r table op before after None = HasNoMore r table before after × MayAsk r table after
+abbrev pub ClientAsksOnce : {O : Type 0} → Running O → TableId → List ℕ → List ℕ → Client → Client → Option Asked → Type 0
+ClientAsksOnce r table op reply before after (Some asked) = ClientRequestEnds r table op reply before after asked
+ClientAsksOnce r table op reply before after None = HasNoMore r table before after × MayAsk r table after

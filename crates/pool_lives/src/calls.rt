@@ -6,7 +6,6 @@ ghost use Rattle.pool_lives.specs.Asking.{ClientAsksOnce, ClientRequestEnds, May
 
 use client_pool::{Client, Pool, Pooled, PooledRead};
 use cx_base::{Object, OpWords};
-use cx_service::{Answer, Seen};
 use std::alloc::AllocError;
 use std::sync::Wait;
 use std::thread;
@@ -14,29 +13,30 @@ use std::thread;
 /// The result of an operation that a client asks for.
 #[derive(Drop)]
 pub(crate) enum Asked {
-    /// It is answered as an entry of the queue.
-    Done(Answer),
-    /// It is answered beside the queue.
-    Read(Seen),
+    /// It is answered as an entry of the queue at this ticket.
+    Done(u64),
+    /// It is answered beside the queue at this place.
+    Read(u64),
     /// There is no further ticket.
     Worn,
 }
 
-/// Asks for an operation, again as often as no cell is idle: those who keep the cells release them in time. `Err` means out of memory.
+/// Asks for an operation, whose reply is written into the buffer, again as often as no cell is idle: those who keep the cells release them in time. `Err` means out of memory.
 pub(crate) fn ask<O: Object, R: Wait>(
     rt: &R,
     pool: &Pool<O>,
     client: &mut Client,
     op: &OpWords,
+    reply: &mut OpWords,
     reads: bool,
 ) -> Result<Asked, AllocError>
     requires pool { IsPool O.only_reads pool.now }
     requires client { MayAsk pool.now.service pool.now.line.table.shared.table_id client.old }
     requires reads { IsTrue reads → IsTrue (O.only_reads pool.now.service.object op.now) }
-    ensures { IfOk result (ClientRequestEnds pool.now.service pool.now.line.table.shared.table_id op.now client.old client.new) }
+    ensures { IfOk result (ClientRequestEnds pool.now.service pool.now.line.table.shared.table_id op.now reply.new client.old client.new) }
 {
     for _ in rt.forever() {
-        match ask_once(rt, pool, client, op, reads)? {
+        match ask_once(rt, pool, client, op, reply, reads)? {
             Some(asked) => return Ok(asked),
             None => thread::yield_now(),
         }
@@ -50,25 +50,26 @@ fn ask_once<O: Object, R: Wait>(
     pool: &Pool<O>,
     client: &mut Client,
     op: &OpWords,
+    reply: &mut OpWords,
     reads: bool,
 ) -> Result<Option<Asked>, AllocError>
     requires pool { IsPool O.only_reads pool.now }
     requires client { MayAsk pool.now.service pool.now.line.table.shared.table_id client.old }
     requires reads { IsTrue reads → IsTrue (O.only_reads pool.now.service.object op.now) }
-    ensures { IfOk result (ClientAsksOnce pool.now.service pool.now.line.table.shared.table_id op.now client.old client.new) }
+    ensures { IfOk result (ClientAsksOnce pool.now.service pool.now.line.table.shared.table_id op.now reply.new client.old client.new) }
 {
     if reads {
-        match pool.read(rt, client, op) {
-            PooledRead::Read(seen) => Ok(Some(Asked::Read(seen))),
-            PooledRead::Queued(answer) => Ok(Some(Asked::Done(answer))),
+        match pool.read(rt, client, op, reply) {
+            PooledRead::Read(place) => Ok(Some(Asked::Read(place))),
+            PooledRead::Queued(ticket) => Ok(Some(Asked::Done(ticket))),
             PooledRead::Full(_) => Ok(None),
             PooledRead::Worn => Ok(Some(Asked::Worn)),
             PooledRead::Stopped { .. } => unreachable!(),
             PooledRead::Memory => Err(AllocError),
         }
     } else {
-        match pool.update(rt, client, op) {
-            Pooled::Done(answer) => Ok(Some(Asked::Done(answer))),
+        match pool.update(rt, client, op, reply) {
+            Pooled::Done(ticket) => Ok(Some(Asked::Done(ticket))),
             Pooled::Full(_) => Ok(None),
             Pooled::Worn => Ok(Some(Asked::Worn)),
             Pooled::Stopped { .. } => unreachable!(),

@@ -7,6 +7,7 @@ ghost use Rattle.pool_lives.specs.Working.{IsAtWork, MakesCommand};
 
 use crate::calls::{Asked, ask};
 use client_pool::{Client, Pool};
+use cx_base::OP_WORDS;
 use cx_lives::{Lines, note_entry, note_read, words_of};
 use life_records::{BorrowedLife, Command};
 use std::alloc::{AllocError, Global};
@@ -36,14 +37,16 @@ pub(crate) fn make<O: TypedObject, R: Wait>(
     let _ = life;
     let _ = clients;
     let (op, reads) = words_of(object, &command.op);
-    let asked = ask(rt, pool, client, &op, reads)?;
+    let mut reply = [0; OP_WORDS];
+    let asked = ask(rt, pool, client, &op, &mut reply, reads)?;
+    let by = command.client;
     match asked {
-        Asked::Done(answer) => {
-            let is_reply = note_entry(alloc, object, lines, command.client, number, &answer)?;
+        Asked::Done(ticket) => {
+            let is_reply = note_entry(alloc, object, lines, by, number, ticket, &reply)?;
             Ok(is_reply)
         }
-        Asked::Read(seen) => {
-            let is_reply = note_read(alloc, object, lines, command.client, number, &seen)?;
+        Asked::Read(place) => {
+            let is_reply = note_read(alloc, object, lines, by, number, place, &reply)?;
             Ok(is_reply)
         }
         Asked::Worn => Ok(false),

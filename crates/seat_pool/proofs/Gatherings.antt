@@ -103,19 +103,6 @@ module _ {O : Type 0} (r : Running O) (table : TableId) where
     reads = λ h. omega arith;
   }))
 
-  pub takes_in : (all : List Lent) (v : Hand) (xs : List Handed) → IsRestOf r v (length all) → All (IsLentOf r table) all → xs ≡ [] → IsTakingIn r table all v all xs
-  takes_in all v xs rest lents empty = record {
-    home = rest.home;
-    some = rest.some;
-    parts = rest.parts;
-    placed = rest.placed;
-    told = λ h. omega (arith, no_weight h v.told rest.told);
-    shown = λ h. omega (arith, no_weight h v.shown rest.shown);
-    kept = λ f. omega (arith, no_weight f xs empty);
-    lents = lents;
-    gathers = gathers_none v.held xs rest.held empty;
-  }
-
   -- the last one that is left
   pub last_of : (all : List Lent) (v : Hand) (rest after : List Lent) (found : Option Lent) (x : Lent) (xs : List Handed) → IsTakingIn r table all v rest xs → rest ≡ after ++ option_to_list found → found ≡ Some x → IsLentOf r table x
   last_of all v rest after found x xs k popped some = (All-pop (IsLentOf r table) rest after (Some x) (popped ∙ ap (λ (o : Option Lent). after ++ option_to_list o) some) k.lents).1
@@ -145,12 +132,6 @@ module _ {O : Type 0} (r : Running O) (table : TableId) where
         lents = (All-pop (IsLentOf r table) rest after (Some x) left k.lents).0;
         gathers = subst (λ (t : Hand). Gathers r t.held ys) same gathers;
       })
-
-  -- all are gathered, by number
-  pub all_numbers : (all : List Lent) (v w : Hand) (xs ys : List Handed) → IsTakingIn r table all v [] xs → w.placed ≡ v.placed → IsPassWhole w [] → Gathers r w.held ys → (h : ℕ → ℕ) → total_weight (λ (g : Handed). h (handed_number g)) ys ≡ total_weight h (range_with_len 0 r.callers)
-  all_numbers all v w xs ys k same whole gathers h =
-      let placed : total_weight h w.placed ≡ total_weight h (range_with_len 0 r.callers) = ap (total_weight h) (same ∙ k.placed) in
-      omega (arith, placed, whole.callers h, gathers.numbers h)
 
   -- and their calls are those that were told
   pub all_told : (all : List Lent) (v w : Hand) (xs ys zs : List Handed) → IsTakingIn r table all v [] xs → w.told ≡ v.told → w.shown ≡ v.shown → IsPassWhole w [] → Gathers r w.held ys → ((f : Handed → ℕ) → total_weight f xs ≤ total_weight f ys) → ((f : Handed → ℕ) → ((s : Seated) → f (Idle s) ≡ 0) → total_weight f ys ≡ total_weight f xs) → AreSame zs ys → All (IsHandedOf r) zs

@@ -87,9 +87,6 @@ pub is_none : (n : ℕ) (b : Bool) → b ≡ true → b ≡ (n == 0) → n ≡ 0
 is_none n b is test = grind (arith, nat_tests)
 
 module _ {O : Type 0} (r : Running O) where
-  pub ordering_begins : (all : List Handed) → All (IsHandedOf r) all → IsOrdering r all all []
-  ordering_begins all of = record { left = of; done = All-nil (IsHandedOf r); numbers = refl; same = λ f. omega arith }
-
   pub ordering_goes_on : (all gathered out after more : List Handed) (place : ℕ) (x : Handed) → IsOrdering r all gathered out → IsNumberAt gathered place (length out)
       → x ≡ slice_index_or gathered place x → after ≡ remove gathered place → more ≡ out ++ x ∷ [] → IsOrdering r all after more
   ordering_goes_on all gathered out after more place x o at is left pushed =
@@ -121,9 +118,6 @@ module _ {O : Type 0} (r : Running O) where
       let there : 0 < total_weight (one_at m) (range_with_len 0 r.callers) = (let same : 0 + m ≡ m = omega arith in subst (λ q. 0 < total_weight (one_at q) (range_with_len 0 r.callers)) same (stands 0 m r.callers (omega (arith, many, some_left)))) in
       let none : total_weight (λ (g : Handed). one_at m (handed_number g)) out ≡ 0 = sym (total_map (one_at m) handed_number out) ∙ ap (total_weight (one_at m)) o.numbers ∙ not_below m 0 m (omega arith) in
       omega (arith, there, none, numbers (one_at m), o.same (λ (g : Handed). one_at m (handed_number g)))
-
-  pub room_left : (all gathered out : List Handed) → IsOrdering r all gathered out → ((h : ℕ → ℕ) → total_weight (λ (g : Handed). h (handed_number g)) all ≡ total_weight h (range_with_len 0 r.callers)) → 0 < length gathered → length out < r.callers
-  room_left all gathered out o numbers some_left = (let many = count all gathered out o numbers in omega (arith, many, some_left))
 
   seat_handed : (g : Handed) → IsHandedOf r g → IsSeatOf r (seat_of g)
   seat_handed (Idle seat) is = is.of

@@ -7,6 +7,7 @@ use Rattle.cx_rule.specs.Running.{Running}
 use Rattle.cx_rule.specs.Seats.{Seated}
 use Rattle.cx_service.specs.Callers.{IsCallerOf}
 use Rattle.cx_service.specs.CatchUps.{HasSeen}
+use Rattle.cx_service.specs.Drives.{answer_with}
 use Rattle.cx_service.specs.Lookups.{ReadAnswered, ReadPending}
 use Rattle.cx_service.specs.Submits.{next_entry}
 use Rattle.cx_core.specs.declared.local.FullNote.{FullNote}
@@ -44,7 +45,7 @@ module _ {O : Type 0} (r : Running O) (op : List ℕ) (before u : Seated) (keeps
     ended = record { at = done.ended.at; to = done.ended.to; is = done.ended.is ∙ ap (λ xs. xs ++ done.ended.at ∷ []) idle.times.answered };
   }
 
-  pub done_asked : (after : Seated) (answer : Answer) (place : ℕ) → UpdateDone r op u after answer → place ≡ answer.ticket + 1 → IsAsked r op before (Told after answer.reply place)
+  pub done_asked : (after : Seated) (answer : Answer) (place : ℕ) → UpdateDone r op u after answer → place ≡ answer.ticket + 1 → IsAsked r op answer.reply before (Told after place)
   done_asked after answer place done is = (
     record { caller = done.caller; number = done.links.number ∙ keeps.number },
     inr (answer.ticket, is, done_answered after answer done),
@@ -69,30 +70,6 @@ module _ {O : Type 0} (r : Running O) (op : List ℕ) (before u : Seated) (keeps
     since = (let first = idle.since in let more = p.keeps.since in omega (arith, first, more));
   }
 
-  full_idle : (v w : Seated) (note : FullNote) → IsIdleSince before v → UpdateFull r v w note → IsIdleSince before w
-  full_idle v w note was full = record {
-    times = record { linked = full.times.linked ∙ was.times.linked; answered = full.times.answered ∙ was.times.answered; reads = full.times.reads ∙ was.times.reads };
-    since = (let first = was.since in let more = full.steps in omega (arith, first, more));
-  }
-
-  worn_idle : (v w : Seated) → IsIdleSince before v → UpdateWorn r v w → IsIdleSince before w
-  worn_idle v w was worn = record {
-    times = record { linked = worn.times.linked ∙ was.times.linked; answered = worn.times.answered ∙ was.times.answered; reads = worn.times.reads ∙ was.times.reads };
-    since = (let first = was.since in let more = worn.steps in omega (arith, first, more));
-  }
-
-  pub idle_full : (w : Seated) (note : FullNote) → UpdateFull r u w note → IsIdleSince before w
-  idle_full w note full = full_idle u w note idle full
-
-  pub idle_worn : (w : Seated) → UpdateWorn r u w → IsIdleSince before w
-  idle_worn w worn = worn_idle u w idle worn
-
-  pub idle_queued_full : (w : Seated) (note : FullNote) → ReadQueues r op u (Full w note) → IsIdleSince before w
-  idle_queued_full w note queues = full_idle queues.refused w note (pending_idle queues.refused queues.pending) queues.entered
-
-  pub idle_queued_worn : (w : Seated) → ReadQueues r op u (Worn w) → IsIdleSince before w
-  idle_queued_worn w queues = worn_idle queues.refused w (pending_idle queues.refused queues.pending) queues.entered
-
   pub read_asked : (after : Seated) (found : Seen) → ReadAnswered r op u after found → IsReadBeside op found.place found.reply before after
   read_asked after found read = record {
     own = read.keeps.own ∙ keeps.own;
@@ -109,8 +86,8 @@ module _ {O : Type 0} (r : Running O) (op : List ℕ) (before u : Seated) (keeps
     ended = read.keeps.ended ∙ idle.times.answered;
   }
 
-  pub queued_asked : (after : Seated) (answer : Answer) (place : ℕ) → ReadQueues r op u (Done after answer) → place ≡ answer.ticket + 1 → IsAsked r op before (Told after answer.reply place)
-  queued_asked after answer place queues is = done_asked r op before queues.refused (pending_keeps queues.refused queues.pending) (pending_idle queues.refused queues.pending) after answer place queues.entered is
+  pub queued_asked : (reply : List ℕ) (after : Seated) (ticket place : ℕ) → ReadQueues r op reply u (Done after ticket) → place ≡ ticket + 1 → IsAsked r op reply before (Told after place)
+  queued_asked reply after ticket place queues is = done_asked r op before queues.refused (pending_keeps queues.refused queues.pending) (pending_idle queues.refused queues.pending) after (answer_with ticket reply) place queues.entered is
 
 module _ {O : Type 0} (r : Running O) (op : List ℕ) (before u : Seated) (caller : IsCallerOf r before) (now : IsCallerOf r u) (keeps : KeepsLists before u) where
   abbrev Sees : ℕ → Seated → Type 0
@@ -122,9 +99,9 @@ module _ {O : Type 0} (r : Running O) (op : List ℕ) (before u : Seated) (calle
       let low = b.0 in
       (omega (arith, low, is), b.1)
 
-  pub queued_done_sees : (after : Seated) (answer : Answer) (place : ℕ) → ReadQueues r op u (Done after answer) → place ≡ answer.ticket + 1 → Sees place after
-  queued_done_sees after answer place queues is seen was =
-      let b = queued_sees r op seen u (Done after answer) now (lists_seen r seen before u caller was keeps) queues in
+  pub queued_done_sees : (reply : List ℕ) (after : Seated) (ticket place : ℕ) → ReadQueues r op reply u (Done after ticket) → place ≡ ticket + 1 → Sees place after
+  queued_done_sees reply after ticket place queues is seen was =
+      let b = queued_sees r op reply seen u (Done after ticket) now (lists_seen r seen before u caller was keeps) queues in
       let low = b.0 in
       (omega (arith, low, is), b.1)
 
@@ -134,5 +111,5 @@ module _ {O : Type 0} (r : Running O) (op : List ℕ) (before u : Seated) (calle
   pub worn_sees : (after : Seated) → UpdateWorn r u after → (seen : ℕ) → HasSeen r.callers seen before.known.local → HasSeen r.callers seen after.known.local
   worn_sees after worn seen was = lists_seen r seen u after now (lists_seen r seen before u caller was keeps) worn.keeps
 
-  pub queued_worn_sees : (after : Seated) → ReadQueues r op u (Worn after) → (seen : ℕ) → HasSeen r.callers seen before.known.local → HasSeen r.callers seen after.known.local
-  queued_worn_sees after queues seen was = queued_sees r op seen u (Worn after) now (lists_seen r seen before u caller was keeps) queues
+  pub queued_worn_sees : (reply : List ℕ) (after : Seated) → ReadQueues r op reply u (Worn after) → (seen : ℕ) → HasSeen r.callers seen before.known.local → HasSeen r.callers seen after.known.local
+  queued_worn_sees reply after queues seen was = queued_sees r op reply seen u (Worn after) now (lists_seen r seen before u caller was keeps) queues

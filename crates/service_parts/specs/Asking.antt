@@ -53,16 +53,16 @@ pub record IsReadBeside (op : List ℕ) (place : ℕ) (reply : List ℕ) (before
   pub linked : after.known.times.linked ≡ before.known.times.linked
   pub ended : after.known.times.answered ≡ before.known.times.answered
 
--- The result of an operation. One that is told is answered beside the queue at the place that is told, or as an entry of it, whose ticket is the
--- one below that place.
-abbrev pub IsAsked : {O : Type 0} → Running O → List ℕ → Seated → Asked → Type 0
-IsAsked r op before (Told after reply place) = IsBack r before after × (IsReadBeside op place reply before after ⊎ ((ticket : ℕ) × (place ≡ ticket + 1) × IsOperationAnswered r op ticket reply before after))
-IsAsked r op before (Worn after) = IsLeftAlone r before after
-IsAsked r op before (Stopped after) = IsStoppedIn r before after
+-- The result of an operation, which left these words in the caller's buffer. One that is told is answered beside the queue at the place that is told,
+-- or as an entry of it, whose ticket is the one below that place; the words are its reply.
+abbrev pub IsAsked : {O : Type 0} → Running O → List ℕ → List ℕ → Seated → Asked → Type 0
+IsAsked r op reply before (Told after place) = IsBack r before after × (IsReadBeside op place reply before after ⊎ ((ticket : ℕ) × (place ≡ ticket + 1) × IsOperationAnswered r op ticket reply before after))
+IsAsked r op reply before (Worn after) = IsLeftAlone r before after
+IsAsked r op reply before (Stopped after) = IsStoppedIn r before after
 
 -- What its caller has seen before, it has seen then: an answer stands at or above each place that the caller had seen.
 abbrev pub KeepsPlaces : ℕ → Seated → Asked → Type 0
-KeepsPlaces callers before (Told after reply place) = (seen : ℕ) → HasSeen callers seen before.known.local → (seen ≤ place) × HasSeen callers seen after.known.local
+KeepsPlaces callers before (Told after place) = (seen : ℕ) → HasSeen callers seen before.known.local → (seen ≤ place) × HasSeen callers seen after.known.local
 KeepsPlaces callers before (Worn after) = (seen : ℕ) → HasSeen callers seen before.known.local → HasSeen callers seen after.known.local
 KeepsPlaces callers before (Stopped after) = Unit {0}
 

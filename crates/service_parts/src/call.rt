@@ -12,28 +12,35 @@ use std::thread;
 /// The result of an operation that is asked for until it is answered.
 #[derive(Drop)]
 pub enum Asked {
-    /// It is done and durable, or read of what is durable: the reply, and the place by which another caller catches up with it: after an entry
-    /// its ticket plus 1, and of a read the read's.
-    Told(Caller, OpWords, u64),
+    /// It is done and durable, or read of what is durable, and the reply is written: the place by which another caller catches up with it, after
+    /// an entry its ticket plus 1, and of a read the read's.
+    Told(Caller, u64),
     /// There is no further ticket. Nothing is done.
     Worn(Caller),
     /// The caller's step limit was reached.
     Stopped(Stopped),
 }
 
-/// Asks for an operation until it is answered; one that only reads is answered beside the queue where it can be. Where another caller
+/// Asks for an operation until it is answered, and writes its reply into the caller's buffer, of which nothing is said where it is not answered;
+/// one that only reads is answered beside the queue where it can be. Where another caller
 /// needs this one's cells (`Full`) it is tried again, once others have run: each caller gives back in time what it needs, unless it was
 /// stopped. So it is for services none of whose callers has a limit of steps; with one that may be stopped, count the answers of
 /// `Service::update` and stop asking.
-pub fn ask<O: Object, R: Wait>(rt: &R, service: &Service<O>, caller: Caller, op: &OpWords) -> Asked
+pub fn ask<O: Object, R: Wait>(
+    rt: &R,
+    service: &Service<O>,
+    caller: Caller,
+    op: &OpWords,
+    reply: &mut OpWords,
+) -> Asked
     requires { IsCallerOf service.now caller }
-    ensures asked { IsAsked service.now op.now caller result }
+    ensures asked { IsAsked service.now op.now reply.new caller result }
     ensures sees { KeepsPlaces service.now.callers caller result }
 {
     if service.object().reads(op) {
-        look(rt, service, caller, op)
+        look(rt, service, caller, op, reply)
     } else {
-        enter(rt, service, caller, op)
+        enter(rt, service, caller, op, reply)
     }
 }
 
@@ -64,17 +71,23 @@ pub fn follow<O: Object, R: Wait>(
 }
 
 /// Asks for any operation, as an entry of the queue.
-fn enter<O: Object, R: Wait>(rt: &R, service: &Service<O>, caller: Caller, op: &OpWords) -> Asked
+fn enter<O: Object, R: Wait>(
+    rt: &R,
+    service: &Service<O>,
+    caller: Caller,
+    op: &OpWords,
+    reply: &mut OpWords,
+) -> Asked
     requires { IsCallerOf service.now caller }
-    ensures asked { IsAsked service.now op.now caller result }
+    ensures asked { IsAsked service.now op.now reply.new caller result }
     ensures sees { KeepsPlaces service.now.callers caller result }
 {
     let mut caller = caller;
     for _ in rt.forever() {
-        match service.update(rt, caller, op) {
-            Updated::Done(back, answer) => {
-                let place = back.place_behind(&answer);
-                return Asked::Told(back, answer.reply, place);
+        match service.update(rt, caller, op, reply) {
+            Updated::Done(back, ticket) => {
+                let place = back.place_behind(ticket);
+                return Asked::Told(back, place);
             }
             Updated::Full(back, _) => {
                 thread::yield_now();
@@ -88,19 +101,25 @@ fn enter<O: Object, R: Wait>(rt: &R, service: &Service<O>, caller: Caller, op: &
 }
 
 /// Asks for one that only reads, beside the queue or in it.
-fn look<O: Object, R: Wait>(rt: &R, service: &Service<O>, caller: Caller, op: &OpWords) -> Asked
+fn look<O: Object, R: Wait>(
+    rt: &R,
+    service: &Service<O>,
+    caller: Caller,
+    op: &OpWords,
+    reply: &mut OpWords,
+) -> Asked
     requires caller { IsCallerOf service.now caller }
     requires reads { IsTrue (O.only_reads service.now.object op.now) }
-    ensures asked { IsAsked service.now op.now caller result }
+    ensures asked { IsAsked service.now op.now reply.new caller result }
     ensures sees { KeepsPlaces service.now.callers caller result }
 {
     let mut caller = caller;
     for _ in rt.forever() {
-        match service.read(rt, caller, op) {
-            ReadDone::Read(back, seen) => return Asked::Told(back, seen.reply, seen.place),
-            ReadDone::Queued(back, answer) => {
-                let place = back.place_behind(&answer);
-                return Asked::Told(back, answer.reply, place);
+        match service.read(rt, caller, op, reply) {
+            ReadDone::Read(back, place) => return Asked::Told(back, place),
+            ReadDone::Queued(back, ticket) => {
+                let place = back.place_behind(ticket);
+                return Asked::Told(back, place);
             }
             ReadDone::Full(back, _) => {
                 thread::yield_now();

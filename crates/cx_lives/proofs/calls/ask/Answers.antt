@@ -1,4 +1,6 @@
 use Rattle.std.proofs.Common.{◌∙◌, arith, sym}
+use Rattle.cx_service.specs.Drives.{answer_with}
+use Rattle.cx_service.specs.Lookups.{seen_with}
 use Rattle.cx_lives.proofs.Calling.{done_on, enough_asked, halts_on, keeps_on, one_full, read_on, scanned, worn_on}
 use Rattle.cx_lives.proofs.calls.ask.Goals as goal
 
@@ -20,10 +22,10 @@ returns-then-are_enough g c =
     }
 
 pub returns-in-Queued : goal.returns-in-Queued
-returns-in-Queued g c = done_on c.args.service.now c.args.op.now c.args.caller c.loop.caller c.loop.invariant.keeps c.in-Queued.back c.in-Queued.answer c.in-Queued.ensures
+returns-in-Queued g c = done_on c.args.service.now c.args.op.now c.args.caller c.loop.caller c.loop.invariant.keeps c.in-Queued.back (answer_with c.in-Queued.ticket c.ask_once.new.reply) c.in-Queued.ensures
 
 pub returns-in-Read : goal.returns-in-Read
-returns-in-Read g c = read_on c.args.service.now c.args.op.now c.args.caller c.loop.caller c.loop.invariant.keeps c.in-Read.back c.in-Read.seen c.in-Read.ensures
+returns-in-Read g c = read_on c.args.service.now c.args.op.now c.args.caller c.loop.caller c.loop.invariant.keeps c.in-Read.back (seen_with c.in-Read.place c.ask_once.new.reply) c.in-Read.ensures
 
 pub returns-in-Worn : goal.returns-in-Worn
 returns-in-Worn g c = worn_on c.args.service.now c.args.op.now c.args.caller c.loop.caller c.loop.invariant.keeps c.in-Worn.back c.in-Worn.ensures

@@ -10,12 +10,12 @@ pub loop-preserved : goal.loop-preserved
 loop-preserved g c =
     let r = c.args.pool.now.service in
     let table = c.args.pool.now.line.table.shared.table_id in
-    let once = subst (ClientAsksOnce r table c.args.op.now c.loop.client c.ask_once.new.client) c.in-None-2.is c.in_ok-asked.ensures in
+    let once = subst (ClientAsksOnce r table c.args.op.now c.ask_once.new.reply c.loop.client c.ask_once.new.client) c.in-None-2.is c.in_ok-asked.ensures in
     (again r table c.args.client.now c.loop.client c.ask_once.new.client c.loop.invariant.0 once.0, once.1)
 
 pub returns-in-Some-2 : goal.returns-in-Some-2
 returns-in-Some-2 g c =
     let r = c.args.pool.now.service in
     let table = c.args.pool.now.line.table.shared.table_id in
-    let once = subst (ClientAsksOnce r table c.args.op.now c.loop.client c.ask_once.new.client) c.in-Some-2.is c.in_ok-asked.ensures in
-    asked_since r table c.args.client.now c.loop.client c.ask_once.new.client c.loop.invariant.0 c.args.op.now c.in-Some-2.asked once
+    let once = subst (ClientAsksOnce r table c.args.op.now c.ask_once.new.reply c.loop.client c.ask_once.new.client) c.in-Some-2.is c.in_ok-asked.ensures in
+    asked_since r table c.args.client.now c.loop.client c.ask_once.new.client c.loop.invariant.0 c.args.op.now c.ask_once.new.reply c.in-Some-2.asked once

@@ -34,7 +34,7 @@ pub returns-in-Linked : goal.returns-in-Linked
 returns-in-Linked g c =
     let inv = c.loop.invariant in
     let linked = subst (Submits c.args.self.now c.args.op.now 16 c.loop.caller) c.in-Linked.is c.submit.ensures in
-    finished c.args.self.now c.args.op.now c.args.caller c.loop.caller inv.keeps inv.times inv.since inv.stood inv.images inv.met (200 + c.args.self.now.callers + 3 * 16) c.in-Linked.linked linked c.finish.result inv.sets inv.front c.finish.ensures
+    finished c.args.self.now c.args.op.now c.args.caller c.loop.caller inv.keeps inv.times inv.since inv.stood inv.images inv.met (200 + c.args.self.now.callers + 3 * 16) c.in-Linked.linked linked c.finish.new.reply c.finish.result inv.sets inv.front c.finish.ensures
 
 pub returns-in-Full : goal.returns-in-Full
 returns-in-Full g c =
