@@ -1,6 +1,7 @@
-/* Githoppu for C99, C11 and C++: a document store and a bounded queue that 1 to 8 sessions share without a lock; an image of what a crash (a power
- * failure) leaves of them; and recovery from an image. Nothing is durable by itself: persistent memory is simulated in RAM, and the data end with the
- * process unless an image of the store, closed or running, was written to a file (githoppu_file.h does that).
+/* Githoppu for C99, C11 and C++: a document store, a bounded queue, and data structures of one's own in C (objects of programs), each of which 1 to 8
+ * sessions share without a lock; an image of what a crash (a power failure) leaves of them; and recovery from an image. Nothing is durable by itself:
+ * persistent memory is simulated in RAM, and the data end with the process unless an image of the store, closed or running, was written to a file
+ * (githoppu_file.h does that).
  *
  * `tools/install PREFIX` puts out the library; a program is compiled and linked by `cc shop.c $(pkg-config --cflags --libs githoppu)`, by CMake's package
  * githoppu, or with libgithoppu.a alone (docs/C_AND_RUST.md).
@@ -32,6 +33,8 @@
 #include <string.h>
 #include <time.h>
 
+#include "githoppu_program.h"
+
 #ifndef GITHOPPU_YIELD
 #if defined(__unix__) || defined(__APPLE__)
 #include <sched.h>
@@ -43,10 +46,10 @@
 
 /* The version of this header. GITHOPPU_VERSION is a million times the first number, a thousand times the second, and the third. */
 #define GITHOPPU_VERSION_MAJOR 0
-#define GITHOPPU_VERSION_MINOR 4
+#define GITHOPPU_VERSION_MINOR 5
 #define GITHOPPU_VERSION_PATCH 0
 #define GITHOPPU_VERSION (GITHOPPU_VERSION_MAJOR * 1000000 + GITHOPPU_VERSION_MINOR * 1000 + GITHOPPU_VERSION_PATCH)
-#define GITHOPPU_VERSION_TEXT "0.4.0"
+#define GITHOPPU_VERSION_TEXT "0.5.0"
 
 #ifdef __cplusplus
 extern "C" {
@@ -66,8 +69,8 @@ enum githoppu_status {
     GITHOPPU_STOPPED = 5,     /* the session has reached its limit of steps. Sessions of this library have none, so this is never answered */
     GITHOPPU_OUT_OF_TURN = 6, /* a call while an operation is pending, a finish while none is, a call or a finish of a closed store, an image of what is not
                                  closed, or a closing of what is closed: nothing is changed */
-    GITHOPPU_BAD_SIZE = 7,    /* the lines are not 64 to 16,384, the sessions not 1 to 8, a session's number not 0 to 7, or an image has another
-                                 number of words than was passed: nothing is changed */
+    GITHOPPU_BAD_SIZE = 7,    /* the lines are not 64 to 16,384, the sessions not 1 to 8, a session's number not 0 to 7, a program's fuel above 2^20, or an
+                                 image has another number of words than was passed: nothing is changed */
     GITHOPPU_NO_MEMORY = 8,   /* malloc gave no memory. What the call had taken is freed, and nothing else is changed */
     GITHOPPU_NO_SESSION = 9,  /* of the functions in this header: the pointer to the session, or to the closed store, is null */
     GITHOPPU_TOO_LONG = 10,   /* of the functions in this header: a key above 64 bytes, a document above 1,024, or a text above 56 */
@@ -76,12 +79,12 @@ enum githoppu_status {
                                  No run of the library is known to answer it */
     /* of a recovery and of githoppu_outcome: why the words are refused. The first check that fails is answered, in this order; that a result is a reply
        is checked last, after 20 */
-    GITHOPPU_NOT_AN_IMAGE = 13,  /* they are not an image: fewer than 8 words, another name, a format or a kind that is neither 1 nor 2, numbers of sessions
-                                    or lines that no store has, or one of the last two words of the head is not 0 */
-    GITHOPPU_OTHER_KIND = 14,    /* the image is of a queue where a store is asked for, or of a store where a queue is */
+    GITHOPPU_NOT_AN_IMAGE = 13,  /* they are not an image: fewer than 8 words, another name, a format that is neither 1 nor 2, a kind that is not 1 to 3,
+                                    numbers of sessions or lines that no store has, or one of the last two words of the head is not 0 */
+    GITHOPPU_OTHER_KIND = 14,    /* the image is of another kind than is asked for: of a store, of a queue, or of an object of a program */
     GITHOPPU_IMAGE_SIZE = 15,    /* it has another number of words than its format, sessions and lines make */
     GITHOPPU_IMAGE_ROOT = 16,    /* the root's place is above 2^40 */
-    GITHOPPU_IMAGE_VERSION = 17, /* the object's version is not known */
+    GITHOPPU_IMAGE_VERSION = 17, /* the object's version is not known, or the image is of another program than this one and the one before it */
     GITHOPPU_IMAGE_PLACE = 18,   /* the place in the replica that the root names is not the root's */
     GITHOPPU_IMAGE_BODY = 19,    /* a result in that replica is no reply of such an object (144 zeros are, of a malformed operation), or its documents or
                                     texts are none that the library writes */
@@ -93,6 +96,11 @@ enum githoppu_status {
     GITHOPPU_MALFORMED = 24,     /* of the functions in this header that do an operation: a key, a document or a text has a byte that it must not have, or
                                     is empty (githoppu_put, githoppu_push). It is answered: nothing is changed, the reply's kind is 0, and a write counts
                                     as an update of the session (githoppu_outcome). githoppu_call and githoppu_finish answer DONE instead */
+    /* of objects of programs */
+    GITHOPPU_BAD_PROGRAM = 25,   /* the words are no program: githoppu_program_why tells why, and the instruction */
+    GITHOPPU_FAULTED = 26,       /* of the functions in this header that run an operation of a program: it ended by a fault, which word 0 of the reply names
+                                    (githoppu_fault_text). It is answered: nothing is changed, and a write counts as an update of the session.
+                                    githoppu_call, githoppu_finish, githoppu_do and githoppu_end answer DONE instead */
     /* of the functions in githoppu_file.h. Where a call of the system failed, errno says why */
     GITHOPPU_NOT_OPENED = 32,        /* of a load: the file cannot be opened, or it is no regular file (errno) */
     GITHOPPU_NOT_READ = 33,          /* of a load: reading failed (errno) */
@@ -112,7 +120,8 @@ enum githoppu_status {
 
 /* ---- The library's own functions. The functions further below call these, and are easier to use. ---- */
 
-/* A session of a store or a queue, and a closed store or queue: what they are is the library's. They are two types, so that a compiler tells them apart. */
+/* A session of a store, a queue or an object of a program, and what is left of one that is closed: what they are is the library's. They are two types, so
+ * that a compiler tells them apart. What is said below of a store holds of each of the three. */
 typedef struct githoppu_session githoppu_session;
 typedef struct githoppu_closed githoppu_closed;
 
@@ -139,6 +148,20 @@ uint64_t githoppu_version(void);
  * takes one line; the first line is the object's own. DONE, BAD_SIZE, NO_MEMORY or AGAIN; where it is not DONE no slot is written. */
 int32_t githoppu_open(uint64_t lines, githoppu_session **sessions, size_t count);
 int32_t githoppu_open_queue(uint64_t lines, githoppu_session **sessions, size_t count);
+
+/* Opens an object of a program: its first line of 64 bytes is the library's, and the others are zeros. The first `instructions` of the words are
+ * instructions, the others constants; an operation takes at most `fuel` instructions. DONE, BAD_SIZE (the lines, the sessions, or a fuel above 2^20),
+ * BAD_PROGRAM, NO_MEMORY or AGAIN; where it is not DONE no slot is written. The library keeps a copy of the words. tools/program makes them of a file in C
+ * (docs/OBJECTS_IN_C.md). Each githoppu_call then runs the program once; any words are an operation, so none is malformed. */
+int32_t githoppu_open_program(const uint64_t *program, size_t words, uint64_t instructions, uint64_t fuel, uint64_t lines, githoppu_session **sessions,
+                              size_t count);
+
+/* Says why words are no program. DONE, and *fault is 0; or BAD_PROGRAM: *fault is one of githoppu_refusal, and *at the number of the first instruction at
+ * fault; or NO_MEMORY. */
+int32_t githoppu_program_fault(const uint64_t *program, size_t words, uint64_t instructions, uint64_t *fault, uint64_t *at);
+
+/* The fingerprint of a program with its fuel: the version of its images. DONE, BAD_PROGRAM, BAD_SIZE (the fuel) or NO_MEMORY. */
+int32_t githoppu_program_fingerprint(const uint64_t *program, size_t words, uint64_t instructions, uint64_t fuel, uint64_t *fingerprint);
 
 /* Does an operation, with the given number of tries (0 counts as 1, and more than 2^20 as 2^20). DONE, PENDING, AGAIN, FULL, WORN, STOPPED or
  * OUT_OF_TURN. The reply is written where it is DONE. A malformed operation is DONE with a reply of 144 zeros, and changes nothing. */
@@ -171,8 +194,8 @@ int32_t githoppu_close(githoppu_session_handle session, githoppu_either *out);
  * those that may be left. All of them hold every acknowledged update; only what was pending may be there or not. The same choice gives the same words.
  * OUT_OF_TURN where it is not closed: *needed is 0. The closed store is at *out again.
  *
- * An image is 8 words (the name "githoppu" in bytes, the format, the kind 1 of a store or 2 of a queue, the sessions, the lines, the root, 0 and 0), and
- * then in format 1, which this call writes, those of all replicas: 128 * (146 + lines) bytes for each session, and 64; in format 2, which
+ * An image is 8 words (the name "githoppu" in bytes, the format, the kind 1 of a store, 2 of a queue or 3 of a program's object, the sessions, the lines, the
+ * root, 0 and 0), and then in format 1, which this call writes, those of all replicas: 128 * (146 + lines) bytes for each session, and 64; in format 2, which
  * githoppu_checkpoint writes, those of one replica, which stands for each: 64 * (146 + lines) bytes, and 64. Each call that takes an image takes both
  * formats. Its words have the machine's byte order. An image has no checksum: a byte that is changed in a document, or in a replica that the root does not
  * name, is not seen. A file of githoppu_file.h has one. */
@@ -190,6 +213,12 @@ int32_t githoppu_checkpoint(githoppu_session_handle session, uint64_t *words, si
  * NO_MEMORY, AGAIN, or one of NOT_AN_IMAGE to IMAGE_NUMBERS. Where it is not DONE no slot is written. Every update that was acknowledged before is there. */
 int32_t githoppu_recover(const uint64_t *words, size_t words_count, githoppu_session **sessions, size_t count);
 int32_t githoppu_recover_queue(const uint64_t *words, size_t words_count, githoppu_session **sessions, size_t count);
+
+/* Opens an object of a program from the words of an image of it, as githoppu_recover does; BAD_PROGRAM comes after BAD_SIZE and before the refusals of the
+ * image. An image of a program with another fingerprint is refused, IMAGE_VERSION, unless that fingerprint is `before` (0 for none): then the image is taken
+ * over, and the program is run once as an update with the request GITHOPPU_UPGRADE and that fingerprint (githoppu_program.h). */
+int32_t githoppu_recover_program(const uint64_t *program, size_t words, uint64_t instructions, uint64_t fuel, uint64_t before, const uint64_t *image,
+                                 size_t image_words, githoppu_session **sessions, size_t count);
 
 /* What became of the last update of a session, as the words of an image of a store or a queue say. Sessions are numbered from 0, in the order in which
  * githoppu_open or githoppu_recover put them out. DONE: *number counts the updates of that session that took effect, over all runs since the store was
@@ -225,17 +254,17 @@ static inline const char *githoppu_status_text(int status) {
     case GITHOPPU_WORN: return "the store has had 2^40 updates and takes no more";
     case GITHOPPU_STOPPED: return "the session has reached its limit of steps";
     case GITHOPPU_OUT_OF_TURN: return "the session or the closed store does not take this call now";
-    case GITHOPPU_BAD_SIZE: return "a number of lines, sessions or words is out of range";
+    case GITHOPPU_BAD_SIZE: return "a number of lines, sessions or words, or the fuel, is out of range";
     case GITHOPPU_NO_MEMORY: return "out of memory";
     case GITHOPPU_NO_SESSION: return "the pointer to the session or to the closed store is null";
     case GITHOPPU_TOO_LONG: return "a key, a document or a text is too long";
     case GITHOPPU_OTHERS: return "the session is closed, and other sessions are not";
     case GITHOPPU_LOST: return "the last session did not find all that were closed before";
     case GITHOPPU_NOT_AN_IMAGE: return "the words are not an image";
-    case GITHOPPU_OTHER_KIND: return "the image is of the other kind of object";
+    case GITHOPPU_OTHER_KIND: return "the image is of another kind of object";
     case GITHOPPU_IMAGE_SIZE: return "the image has a wrong number of words";
     case GITHOPPU_IMAGE_ROOT: return "the image's root has a place above 2^40";
-    case GITHOPPU_IMAGE_VERSION: return "the version of the object in the image is not known";
+    case GITHOPPU_IMAGE_VERSION: return "the version of the object in the image is not known, or it is of another program";
     case GITHOPPU_IMAGE_PLACE: return "the image's root and its replica have different places";
     case GITHOPPU_IMAGE_BODY: return "the image's results or contents are not valid";
     case GITHOPPU_IMAGE_NUMBERS: return "a result in the image has a number above the place";
@@ -243,6 +272,8 @@ static inline const char *githoppu_status_text(int status) {
     case GITHOPPU_OLD_LIBRARY: return "the header is newer than the library";
     case GITHOPPU_BEHIND: return "the current place is below the one asked for";
     case GITHOPPU_MALFORMED: return "a key, a document or a text is empty or has a byte that it must not have";
+    case GITHOPPU_BAD_PROGRAM: return "the words are no program";
+    case GITHOPPU_FAULTED: return "the operation ended by a fault and changed nothing";
     case GITHOPPU_NOT_OPENED: return "the file cannot be opened";
     case GITHOPPU_NOT_READ: return "the file cannot be read";
     case GITHOPPU_FILE_FOREIGN: return "the file was not saved by githoppu";
@@ -264,7 +295,7 @@ static inline const char *githoppu_status_text(int status) {
 
 /* An operation or a reply. Of documents: word 0 is the kind, 1 and 2 the lengths of the key and of the document, 3 a number, 8 to 15 the key
  * and 16 to 143 the document. Of a queue: word 0 is the kind, 1 the length of the text or the number, and 2 to 8 the text. Texts are packed
- * eight bytes to a word, the first in the lowest bits; what a kind does not use is 0. */
+ * eight bytes to a word, the first in the lowest bits; what a kind does not use is 0. Of a program: githoppu_program.h. */
 typedef struct githoppu_words {
     uint64_t word[144];
 } githoppu_words;
@@ -670,5 +701,142 @@ static inline size_t githoppu_text(const githoppu_words *reply, char into[57]) {
 static inline int64_t githoppu_sum(const githoppu_words *reply) { return (int64_t)reply->word[3]; }
 static inline uint64_t githoppu_number(const githoppu_words *reply) { return reply->word[3]; }
 static inline uint64_t githoppu_length(const githoppu_words *reply) { return reply->word[1]; }
+
+/* ---- Objects of programs: data structures of one's own in C (docs/OBJECTS_IN_C.md). ---- */
+
+/* A program. `tools/program FILE.c -o FILE.h` writes one as a constant, by the name of the file. */
+typedef struct githoppu_program {
+    const uint64_t *words;
+    size_t count;          /* of words */
+    uint64_t instructions; /* the first ones are instructions, the others constants */
+    uint64_t fuel;         /* how many instructions one operation may take, at most 2^20 */
+} githoppu_program;
+
+/* Why words are no program: *fault of githoppu_program_fault. */
+enum githoppu_refusal {
+    GITHOPPU_REFUSED_LENGTH = 1,   /* there are no instructions, more than 65,536, or more than there are words */
+    GITHOPPU_REFUSED_OPCODE = 2,   /* an operation that is not known */
+    GITHOPPU_REFUSED_UNUSED = 3,   /* a field that the instruction does not use is not zero */
+    GITHOPPU_REFUSED_REGISTER = 4, /* a register above 10, or one above 9 that is written */
+    GITHOPPU_REFUSED_TARGET = 5,   /* a jump or a call that leads to no instruction */
+    GITHOPPU_REFUSED_END = 6,      /* the last instruction goes on behind the end */
+    GITHOPPU_REFUSED_HELPER = 7,   /* a call of a helper, or by an address in a register */
+    GITHOPPU_REFUSED_MAP = 8,      /* an address of a map */
+    GITHOPPU_REFUSED_ATOMIC = 9,   /* an atomic operation */
+    GITHOPPU_REFUSED_PACKET = 10   /* an access to a packet */
+};
+
+static inline const char *githoppu_refusal_text(uint64_t fault) {
+    switch (fault) {
+    case 0: return "the words are a program";
+    case GITHOPPU_REFUSED_LENGTH: return "it has no instructions, more than 65,536, or more than there are words";
+    case GITHOPPU_REFUSED_OPCODE: return "an operation that is not known";
+    case GITHOPPU_REFUSED_UNUSED: return "a field that the instruction does not use is not zero";
+    case GITHOPPU_REFUSED_REGISTER: return "a register that there is none of, or a write of register 10";
+    case GITHOPPU_REFUSED_TARGET: return "a jump or a call that leads to no instruction";
+    case GITHOPPU_REFUSED_END: return "the last instruction goes on behind the end";
+    case GITHOPPU_REFUSED_HELPER: return "a call of a helper, or by an address in a register";
+    case GITHOPPU_REFUSED_MAP: return "an address of a map";
+    case GITHOPPU_REFUSED_ATOMIC: return "an atomic operation";
+    case GITHOPPU_REFUSED_PACKET: return "an access to a packet";
+    default: return "no refusal of this version of the library";
+    }
+}
+
+/* What word 0 of a reply says of a run, in one line. */
+static inline const char *githoppu_fault_text(uint64_t kind) {
+    switch (kind) {
+    case GITHOPPU_RAN: return "the function returned";
+    case GITHOPPU_BAD_ADDRESS: return "an address that is no place to load from or store to";
+    case GITHOPPU_UNALIGNED: return "an address that is no multiple of the bytes that are loaded or stored";
+    case GITHOPPU_STORE_IN_READ: return "a store to the state in an operation that only reads";
+    case GITHOPPU_TOO_MANY_STORES: return "more than 256 stores to the state";
+    case GITHOPPU_OUT_OF_FUEL: return "more instructions than an operation may take";
+    case GITHOPPU_TOO_DEEP: return "more than 7 calls within one another";
+    case GITHOPPU_NO_INSTRUCTION: return "no instruction is there";
+    default: return "no reply of this version of the library";
+    }
+}
+
+/* Puts text behind what is in a buffer that ends by a 0, as far as there is room. */
+static inline void githoppu_append(char *text, size_t size, const char *more) {
+    size_t at = strlen(text), i;
+    for (i = 0; more[i] != 0 && at + 1 < size; i++)
+        text[at++] = more[i];
+    text[at] = 0;
+}
+
+/* Writes in one line why a program is refused, with the number of the instruction, or that it is none of that: DONE, BAD_PROGRAM or NO_MEMORY. */
+static inline int githoppu_program_why(const githoppu_program *program, char *text, size_t size) {
+    uint64_t fault = 0, at = 0;
+    char number[24];
+    size_t digit = sizeof number - 1;
+    int status = githoppu_program_fault(program->words, program->count, program->instructions, &fault, &at);
+    if (size == 0)
+        return status;
+    text[0] = 0;
+    if (status == GITHOPPU_BAD_PROGRAM && fault != GITHOPPU_REFUSED_LENGTH) {
+        number[digit] = 0;
+        do
+            number[--digit] = (char)('0' + (int)(at % 10));
+        while ((at /= 10) != 0);
+        githoppu_append(text, size, "instruction ");
+        githoppu_append(text, size, number + digit);
+        githoppu_append(text, size, ": ");
+    }
+    githoppu_append(text, size, status == GITHOPPU_NO_MEMORY ? githoppu_status_text(status) : githoppu_refusal_text(fault));
+    return status;
+}
+
+/* Opens an object of a program: what githoppu_open_program answers. */
+static inline int githoppu_open_object(const githoppu_program *program, uint64_t lines, githoppu_session **sessions, size_t count) {
+    return githoppu_open_program(program->words, program->count, program->instructions, program->fuel, lines, sessions, count);
+}
+
+/* Opens it from the words of an image: what githoppu_recover_program answers. `before` is another program whose images are taken over, or null for none. */
+static inline int githoppu_recover_object(const githoppu_program *program, const githoppu_program *before, const uint64_t *image, size_t image_words,
+                                          githoppu_session **sessions, size_t count) {
+    uint64_t fingerprint = 0;
+    int status = GITHOPPU_DONE;
+    if (before != NULL)
+        status = githoppu_program_fingerprint(before->words, before->count, before->instructions, before->fuel, &fingerprint);
+    return status != GITHOPPU_DONE ? status
+                                   : githoppu_recover_program(program->words, program->count, program->instructions, program->fuel, fingerprint, image,
+                                                              image_words, sessions, count);
+}
+
+/* FAULTED in place of DONE where the run ended by a fault. */
+static inline int githoppu_ran(int status, const githoppu_words *reply) {
+    return status == GITHOPPU_DONE && reply->word[0] != GITHOPPU_RAN ? GITHOPPU_FAULTED : status;
+}
+
+/* Runs an operation whose request begins with these words, 144 at most, and has zeros behind them. What githoppu_do answers, TOO_LONG, or FAULTED; after
+ * PENDING finish it by githoppu_end. */
+static inline int githoppu_request(githoppu_session **session, const uint64_t *words, size_t count, githoppu_words *reply) {
+    githoppu_words request;
+    if (count > 144)
+        return GITHOPPU_TOO_LONG;
+    memset(&request, 0, sizeof request);
+    memcpy(request.word, words, count * sizeof *words);
+    return githoppu_ran(githoppu_do(session, &request, reply), reply);
+}
+
+/* Runs an operation, whose number is GITHOPPU_UPDATE(n) or GITHOPPU_READ(n), with three numbers as words 1 to 3 of the request: as githoppu_request does. */
+static inline int githoppu_ask(githoppu_session **session, uint64_t operation, uint64_t first, uint64_t second, uint64_t third, githoppu_words *reply) {
+    uint64_t words[4];
+    words[0] = operation;
+    words[1] = first;
+    words[2] = second;
+    words[3] = third;
+    return githoppu_request(session, words, 4, reply);
+}
+
+/* Of a run that returned: what the function returned, and the words of its reply, 136 of them. */
+static inline uint64_t githoppu_returned(const githoppu_words *reply) { return reply->word[1]; }
+static inline const uint64_t *githoppu_replied(const githoppu_words *reply) { return reply->word + 8; }
+
+/* Of a run that a fault ended: the number of the instruction, and the address. */
+static inline uint64_t githoppu_fault_at(const githoppu_words *reply) { return reply->word[1]; }
+static inline uint64_t githoppu_fault_address(const githoppu_words *reply) { return reply->word[2]; }
 
 #endif

@@ -361,8 +361,9 @@ static inline int githoppu_save_taken(const char *path, uint64_t *words, uint64_
     return status;
 }
 
-/* Saves a running store or queue, while its other sessions go on, in an image of format 2: what githoppu_checkpoint takes by this session. DONE, NO_SESSION, OUT_OF_TURN while an
- * operation of the session is pending, AGAIN as of githoppu_checkpoint_into, NO_MEMORY, NOT_REGULAR, or one of NOT_MADE to FOLDER_NOT_SYNCED. */
+/* Saves a running store, queue or object, while its other sessions go on, in an image of format 2: what githoppu_checkpoint takes by this session. DONE,
+ * NO_SESSION, OUT_OF_TURN while an operation of the session is pending, AGAIN as of githoppu_checkpoint_into, NO_MEMORY, NOT_REGULAR, or one of NOT_MADE to
+ * FOLDER_NOT_SYNCED. */
 static inline int githoppu_save(const char *path, githoppu_session **session) {
     uint64_t count = 0, *words;
     int status = githoppu_checkpoint_size(session, &count);
@@ -489,6 +490,19 @@ static inline int githoppu_load(const char *path, githoppu_session **sessions, s
 
 static inline int githoppu_load_queue(const char *path, githoppu_session **sessions, size_t count) {
     return githoppu_load_by(githoppu_recover_queue, path, sessions, count);
+}
+
+/* Opens the object of a program that a file holds, in the same way; what githoppu_recover_object answers beside the statuses of files. */
+static inline int githoppu_load_object(const char *path, const githoppu_program *program, const githoppu_program *before, githoppu_session **sessions,
+                                       size_t count) {
+    uint64_t *words;
+    size_t length;
+    int status = githoppu_load_words(path, &words, &length);
+    if (status != GITHOPPU_DONE)
+        return status;
+    status = githoppu_recover_object(program, before, words, length, sessions, count);
+    free(words);
+    return status;
 }
 
 #endif

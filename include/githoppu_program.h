@@ -1,6 +1,6 @@
 /* A data structure of one's own for Githoppu: sequential C over words, compiled to BPF (RFC 9669).
  *
- *   tools/program FILE.c -o FILE.words      compiles and links it, with clang, and says what is wrong, by the line
+ *   tools/program FILE.c -o FILE.h          compiles and links it, with clang, to a constant for C, and says what is wrong, by the line
  *   tools/program FILE.c --test             runs it natively and in an interpreter, side by side
  *
  * One operation is one call of GITHOPPU_RUN. It sees
@@ -22,6 +22,12 @@
 #define GITHOPPU_UPDATE(n) ((uint64_t)(n) << 1)
 #define GITHOPPU_READ(n) ((uint64_t)(n) << 1 | 1)
 
+/* The update that a program gets once for each image of another program that it takes over, before all other operations: it then finds the state as the
+ * program before left it, and brings it into its own form. Word 1 of the request is that program's fingerprint, all other words are 0. What ends by a
+ * fault leaves the state as it was, so an upgrade has its fuel and its 256 stores as any operation has; a program that knows no upgrade just returns.
+ * A caller may ask for this operation too: who upgrades notes it in the state, and does it once. */
+#define GITHOPPU_UPGRADE (UINT64_MAX - 1)
+
 /* Word 0 of a reply. Of a fault, word 1 is the number of the instruction and word 2 the address. */
 enum githoppu_run_status {
     GITHOPPU_RAN = 1,             /* the function returned, word 1 is what it returned */
@@ -40,6 +46,9 @@ enum githoppu_run_status {
 #define GITHOPPU_MAYBE_UNUSED
 #endif
 
+#ifdef __cplusplus
+extern "C"
+#endif
 uint64_t githoppu_run(const uint64_t *request, uint64_t *reply, void *state, uint64_t size);
 
 /* The head of the function: its body follows. */

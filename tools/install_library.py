@@ -12,6 +12,7 @@ Under PREFIX it puts:
     lib/pkgconfig/githoppu.pc        for pkg-config
     lib/cmake/githoppu/              for find_package of CMake
     share/githoppu/githoppu_store.c  the source of a store on a disk, for who compiles it into a program (it needs libsqlite3)
+    share/githoppu/tools/program     what makes a program of a data structure in C (it needs clang; docs/OBJECTS_IN_C.md)
     share/githoppu/rust/             the crate `githoppu`, for a `path` in Cargo.toml
     share/githoppu/python/           the module `githoppu`, for PYTHONPATH
 
@@ -44,6 +45,7 @@ PACKAGE = ROOT / "bindings" / "package"
 C = ROOT / "bindings" / "c"
 RUST = ROOT / "bindings" / "rust"
 PYTHON = ROOT / "bindings" / "python"
+TOOLS = ROOT / "tools"
 USAGE = "usage: tools/install [--proved] PREFIX"
 VERSION = re.compile(r'^#define GITHOPPU_VERSION_TEXT "((\d+\.\d+)\.\d+)"$', re.MULTILINE)
 PROVED = "proved"
@@ -166,6 +168,9 @@ def install(archive, built, prefix):
             put_text(room, filled(text, values), prefix / "lib" / "cmake" / "githoppu" / text)
         put_sources(RUST, ["Cargo.toml", "build.rs", "src/**/*.rs"], room, prefix / "share" / "githoppu" / "rust")
         put_sources(PYTHON, ["githoppu.py"], room, prefix / "share" / "githoppu" / "python")
+        tools = prefix / "share" / "githoppu" / "tools"
+        put_sources(TOOLS, ["program", "bpf_model.py", "link_program.py", "native_program.c"], room, tools)
+        (tools / "program").chmod(0o755)
     return version
 
 

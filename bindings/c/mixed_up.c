@@ -13,6 +13,7 @@ int main(void) {
     githoppu_closed_handle closed_handle;
     githoppu_either left;
     githoppu_words reply;
+    githoppu_program program = {NULL, 0, 0, 0};
     uint64_t count = 0;
     int status = githoppu_open(64, sessions, 2);
     handle.at = sessions[0];
@@ -23,6 +24,7 @@ int main(void) {
     (void)left;
     (void)reply;
     (void)count;
+    (void)program;
 #if MIXED_UP == 1
     status = githoppu_get(&closed, "fruit", &reply); /* an operation of a closed store */
 #elif MIXED_UP == 2
@@ -62,6 +64,12 @@ int main(void) {
         void *slots[1]; /* what 0.3.0 took */
         status = githoppu_open(64, slots, 1);
     }
+#elif MIXED_UP == 19
+    status = githoppu_open_object(&program, 64, &closed, 1); /* an object's sessions into a closed store's slot */
+#elif MIXED_UP == 20
+    status = githoppu_ask(&closed, 2, 0, 0, 0, &reply); /* an operation of a closed object */
+#elif MIXED_UP == 21
+    status = githoppu_load_object("file", &program, NULL, &closed, 1);
 #elif MIXED_UP != 0
 #error "there is no such case"
 #endif

@@ -478,7 +478,8 @@ static void test_refusals(void) {
         {words + 1, 1, GITHOPPU_NOT_AN_IMAGE},                        /* no format */
         {words + 1, 3, GITHOPPU_IMAGE_SIZE},                      /* the format of one replica */
         {words + 2, 3, GITHOPPU_OTHER_KIND},                      /* the kind */
-        {words + 2, 2, GITHOPPU_NOT_AN_IMAGE},                        /* a kind that there is not */
+        {words + 2, 2, GITHOPPU_OTHER_KIND},                      /* the kind of a program's object */
+        {words + 2, 4, GITHOPPU_NOT_AN_IMAGE},                        /* a kind that there is not */
         {words + 2, 1, GITHOPPU_NOT_AN_IMAGE},                        /* no kind */
         {words + 3, 2, GITHOPPU_NOT_AN_IMAGE},                        /* no sessions */
         {words + 3, 8, GITHOPPU_NOT_AN_IMAGE},                        /* ten sessions */
@@ -542,7 +543,7 @@ static void test_outcome_refusals(void) {
     CHECK(githoppu_outcome(words, count - 1, 0, &number, reply.word) == GITHOPPU_IMAGE_SIZE);
     words[2] = 2;
     CHECK(githoppu_outcome(words, count, 0, &number, reply.word) == GITHOPPU_IMAGE_VERSION);
-    words[2] = 3;
+    words[2] = 4;
     CHECK(githoppu_outcome(words, count, 0, &number, reply.word) == GITHOPPU_NOT_AN_IMAGE);
     words[2] = 1;
     region[9] = 99;
@@ -671,11 +672,11 @@ static void test_versions(void) {
     static const struct {
         uint64_t version;
         int status;
-    } told[] = {{4000, GITHOPPU_DONE}, {4001, GITHOPPU_DONE}, {4999, GITHOPPU_DONE}, {3999, GITHOPPU_OLD_LIBRARY}, {5000, GITHOPPU_OLD_HEADER},
-                {1004000, GITHOPPU_OLD_HEADER}, {1, GITHOPPU_OLD_LIBRARY}};
+    } told[] = {{5000, GITHOPPU_DONE}, {5001, GITHOPPU_DONE}, {5999, GITHOPPU_DONE}, {4999, GITHOPPU_OLD_LIBRARY}, {6000, GITHOPPU_OLD_HEADER},
+                {1005000, GITHOPPU_OLD_HEADER}, {1, GITHOPPU_OLD_LIBRARY}};
     size_t i;
     CHECK(githoppu_check_version() == GITHOPPU_DONE && githoppu_version() == GITHOPPU_VERSION);
-    CHECK(strcmp(GITHOPPU_VERSION_TEXT, "0.4.0") == 0 && GITHOPPU_VERSION == 4000);
+    CHECK(strcmp(GITHOPPU_VERSION_TEXT, "0.5.0") == 0 && GITHOPPU_VERSION == 5000);
     for (i = 0; i < sizeof told / sizeof *told; i++) {
         told_version = told[i].version;
         CHECK(githoppu_check_version() == told[i].status);
@@ -1029,6 +1030,182 @@ static void test_catching_up(void) {
 
 /* ---- memory ---- */
 
+/* ---- an object of a program ---- */
+
+/* tools/program wrote these words of a counter: ADD adds a word to the first one of the state, GET reads it, and LOOP stores 99 and never ends. */
+static const uint64_t counter_words[16] = {
+    0x1479, 0x6000b0415, 0x500060415, 0x2000000b7, 0x200070455, 0x3479, 0x81179, 0x410f,
+    0x137b, 0x3179, 0x127b, 0x1000000b7, 0x95, 0x63000001b7, 0x137b, 0xffff0005,
+};
+static const githoppu_program counter = {counter_words, 16, 16, 1000};
+enum { COUNTER_ADD = GITHOPPU_UPDATE(1), COUNTER_GET = GITHOPPU_READ(2), COUNTER_LOOP = GITHOPPU_UPDATE(3) };
+
+/* A program with these words, whose refusal is told by its number, by the instruction, and in one line. */
+static void refused(const uint64_t *words, size_t count, uint64_t instructions, uint64_t fault, uint64_t at, const char *line) {
+    githoppu_program wrong = {words, count, instructions, 1000};
+    githoppu_session *slot = not_a_session(&slot);
+    uint64_t found = 99, place = 99, fingerprint = 99;
+    char text[80], brief[8];
+    CHECK(githoppu_program_fault(words, count, instructions, &found, &place) == GITHOPPU_BAD_PROGRAM && found == fault && place == at);
+    CHECK(githoppu_program_why(&wrong, text, sizeof text) == GITHOPPU_BAD_PROGRAM && strcmp(text, line) == 0);
+    CHECK(githoppu_program_why(&wrong, brief, sizeof brief) == GITHOPPU_BAD_PROGRAM && strncmp(brief, line, 7) == 0 && strlen(brief) == 7);
+    CHECK(githoppu_program_why(&wrong, NULL, 0) == GITHOPPU_BAD_PROGRAM);
+    CHECK(githoppu_open_object(&wrong, 64, &slot, 1) == GITHOPPU_BAD_PROGRAM && slot == not_a_session(&slot));
+    CHECK(githoppu_recover_object(&wrong, NULL, words, count, &slot, 1) == GITHOPPU_BAD_PROGRAM && slot == not_a_session(&slot));
+    CHECK(githoppu_recover_object(&counter, &wrong, words, count, &slot, 1) == GITHOPPU_BAD_PROGRAM);
+    CHECK(githoppu_program_fingerprint(words, count, instructions, 1000, &fingerprint) == GITHOPPU_BAD_PROGRAM && fingerprint == 99);
+}
+
+static void test_refused_programs(void) {
+    static const uint64_t exit_alone[1] = {0x95}, opcode[2] = {0xff, 0x95}, end[11] = {0x95, 0x95, 0x95, 0x95, 0x95, 0x95, 0x95, 0x95, 0x95, 0x95, 0xb7};
+    static const struct {
+        uint64_t word, fault;
+    } first[] = {{0xff, 2}, {0x10b7, 3}, {0xab7, 4}, {0x10005, 5}, {0x100000085, 7}, {0x1018, 8}, {0xdb, 9}, {0x20, 10}};
+    uint64_t found = 99, place = 99, fingerprint = 0, other = 0;
+    char text[80];
+    size_t i, k;
+    refused(exit_alone, 1, 0, GITHOPPU_REFUSED_LENGTH, 0, "it has no instructions, more than 65,536, or more than there are words");
+    refused(exit_alone, 1, 2, GITHOPPU_REFUSED_LENGTH, 0, "it has no instructions, more than 65,536, or more than there are words");
+    refused(exit_alone, 1, UINT64_MAX, GITHOPPU_REFUSED_LENGTH, 0, "it has no instructions, more than 65,536, or more than there are words");
+    refused(opcode, 2, 2, GITHOPPU_REFUSED_OPCODE, 0, "instruction 0: an operation that is not known");
+    refused(end, 11, 11, GITHOPPU_REFUSED_END, 10, "instruction 10: the last instruction goes on behind the end");
+    for (i = 0; i < sizeof first / sizeof *first; i++) {
+        uint64_t words[2];
+        words[0] = first[i].word;
+        words[1] = 0x95;
+        CHECK(githoppu_program_fault(words, 2, 2, &found, &place) == GITHOPPU_BAD_PROGRAM && found == first[i].fault && place == 0);
+    }
+    CHECK(githoppu_program_fault(counter_words, 16, 16, &found, &place) == GITHOPPU_DONE && found == 0);
+    CHECK(githoppu_program_why(&counter, text, sizeof text) == GITHOPPU_DONE && strcmp(text, "the words are a program") == 0);
+    CHECK(githoppu_program_fingerprint(counter_words, 16, 16, 1000, &fingerprint) == GITHOPPU_DONE);
+    CHECK(githoppu_program_fingerprint(counter_words, 16, 16, 1 << 20, &other) == GITHOPPU_DONE && other != fingerprint);
+    CHECK(githoppu_program_fingerprint(counter_words, 16, 16, (1 << 20) + 1, &other) == GITHOPPU_BAD_SIZE);
+    for (i = 0; i <= GITHOPPU_REFUSED_PACKET + 1; i++)
+        for (k = 0; k < i; k++)
+            CHECK(strcmp(githoppu_refusal_text(i), githoppu_refusal_text(k)) != 0);
+    for (i = 0; i <= GITHOPPU_NO_INSTRUCTION; i++)
+        for (k = 0; k < i; k++)
+            CHECK(strcmp(githoppu_fault_text(i), githoppu_fault_text(k)) != 0);
+}
+
+static uint64_t counted(githoppu_session **session) {
+    githoppu_words reply;
+    CHECK(githoppu_ask(session, COUNTER_GET, 0, 0, 0, &reply) == GITHOPPU_DONE && githoppu_returned(&reply) == 1);
+    return githoppu_replied(&reply)[0];
+}
+
+/* What a run returns, what a fault leaves, and wrong use. */
+static void test_counter(void) {
+    githoppu_session *s[2], *none = NULL, *nine[9];
+    githoppu_words reply, request;
+    githoppu_program other = counter;
+    uint64_t many[145] = {0};
+    int i;
+    for (i = 0; i < 2; i++) {
+        uint64_t wrong = i == 0 ? 63 : 16385;
+        CHECK(githoppu_open_object(&counter, wrong, s, 1) == GITHOPPU_BAD_SIZE);
+    }
+    CHECK(githoppu_open_object(&counter, 64, nine, 0) == GITHOPPU_BAD_SIZE && githoppu_open_object(&counter, 64, nine, 9) == GITHOPPU_BAD_SIZE);
+    other.fuel = (1 << 20) + 1;
+    CHECK(githoppu_open_object(&other, 64, s, 1) == GITHOPPU_BAD_SIZE && githoppu_recover_object(&other, NULL, many, 144, s, 1) == GITHOPPU_BAD_SIZE);
+    other.fuel = 0;
+    CHECK(githoppu_open_object(&other, 64, s, 1) == GITHOPPU_DONE);
+    CHECK(githoppu_ask(s, COUNTER_GET, 0, 0, 0, &reply) == GITHOPPU_FAULTED && reply.word[0] == GITHOPPU_OUT_OF_FUEL && githoppu_fault_at(&reply) == 0);
+    githoppu_give_up(s, 1);
+    CHECK(githoppu_open_object(&counter, 64, s, 2) == GITHOPPU_DONE && counted(s) == 0);
+    CHECK(githoppu_ask(&s[1], COUNTER_ADD, 5, 0, 0, &reply) == GITHOPPU_DONE && reply.word[0] == GITHOPPU_RAN && githoppu_replied(&reply)[0] == 5);
+    for (i = 9; i < 144; i++)
+        CHECK(reply.word[i] == 0);
+    CHECK(githoppu_ask(s, COUNTER_LOOP, 0, 0, 0, &reply) == GITHOPPU_FAULTED && reply.word[0] == GITHOPPU_OUT_OF_FUEL);
+    CHECK(githoppu_fault_at(&reply) == 15 && githoppu_fault_address(&reply) == 0 && counted(&s[1]) == 5);
+    /* the call below the header answers DONE */
+    memset(&request, 0, sizeof request);
+    request.word[0] = COUNTER_LOOP;
+    CHECK(githoppu_do(s, &request, &reply) == GITHOPPU_DONE && reply.word[0] == GITHOPPU_OUT_OF_FUEL);
+    CHECK(githoppu_request(s, many, 145, &reply) == GITHOPPU_TOO_LONG && githoppu_ask(&none, 2, 0, 0, 0, &reply) == GITHOPPU_NO_SESSION);
+    CHECK(githoppu_request(s, many, 144, &reply) == GITHOPPU_DONE && githoppu_returned(&reply) == 2);
+    CHECK(githoppu_end(s, &reply) == GITHOPPU_OUT_OF_TURN);
+    CHECK(githoppu_catch_up(&s[1], githoppu_place(s)) == GITHOPPU_DONE && githoppu_place(s) == 4);
+    githoppu_give_up(s, 2);
+}
+
+/* A checkpoint of an object of which one session added 41 and another one's update faulted; the image of the closed one is the same, and outcomes tell it. */
+static uint64_t *counter_image(uint64_t *length) {
+    githoppu_session *s[3];
+    githoppu_closed *closed;
+    githoppu_words reply;
+    uint64_t count, all, *words, *image;
+    CHECK(githoppu_open_object(&counter, LINES, s, 3) == GITHOPPU_DONE);
+    CHECK(githoppu_ask(&s[0], COUNTER_ADD, 41, 0, 0, &reply) == GITHOPPU_DONE && githoppu_ask(&s[2], COUNTER_LOOP, 0, 0, 0, &reply) == GITHOPPU_FAULTED);
+    words = checkpoint_of(&s[1], &count);
+    CHECK(words[1] == 2 && words[2] == 3 && words[5] == 2 * 6 && words[HEAD + 1168 + 8] == 41);
+    CHECK(is_outcome(words, count, 0, 1, GITHOPPU_RAN) && is_outcome(words, count, 2, 1, GITHOPPU_OUT_OF_FUEL) && is_outcome(words, count, 1, 0, 0));
+    CHECK(githoppu_close_all(s, 3, &closed) == GITHOPPU_DONE);
+    image = image_of(&closed, 0, &all);
+    CHECK(image[1] == 1 && image[2] == 3 && memcmp(image + HEAD + image[5] % 6 * REGION, words + HEAD, REGION * sizeof *words) == 0);
+    CHECK(is_outcome(image, all, 0, 1, GITHOPPU_RAN) && is_outcome(image, all, 2, 1, GITHOPPU_OUT_OF_FUEL));
+    CHECK(githoppu_recover_object(&counter, NULL, image, all, s, 2) == GITHOPPU_DONE && counted(&s[1]) == 41);
+    githoppu_give_up(s, 2);
+    githoppu_give_up_closed(&closed);
+    __real_free(image);
+    *length = count;
+    return words;
+}
+
+/* Images of an object: of which program, of which kind, and each word of the state turned. */
+static void test_counter_images(void) {
+    githoppu_session *s[1], *one[1];
+    githoppu_program other = counter;
+    uint64_t count, at, kind, *words = counter_image(&count);
+    other.fuel++;
+    CHECK(githoppu_recover_object(&other, NULL, words, count, one, 1) == GITHOPPU_IMAGE_VERSION);
+    CHECK(githoppu_recover_object(&other, &other, words, count, one, 1) == GITHOPPU_IMAGE_VERSION);
+    CHECK(githoppu_recover_object(&other, &counter, words, count, one, 1) == GITHOPPU_DONE && counted(one) == 41);
+    githoppu_give_up(one, 1);
+    CHECK(recover_one(words, count, one) == GITHOPPU_OTHER_KIND && githoppu_recover_queue(words, count, one, 1) == GITHOPPU_OTHER_KIND);
+    CHECK(githoppu_recover_object(&counter, NULL, words, count, s, 0) == GITHOPPU_BAD_SIZE);
+    CHECK(githoppu_recover_object(&counter, NULL, words, 7, s, 1) == GITHOPPU_NOT_AN_IMAGE);
+    CHECK(githoppu_recover_object(&counter, NULL, words, count - 1, s, 1) == GITHOPPU_IMAGE_SIZE);
+    for (kind = 1; kind <= 2; kind++) {
+        words[2] = kind;
+        CHECK(githoppu_recover_object(&counter, NULL, words, count, one, 1) == GITHOPPU_OTHER_KIND);
+    }
+    words[2] = 3;
+    /* of what stands before the object, a place and the numbers have to fit; any words are a reply */
+    for (at = 0; at < HEAD + 1168; at++) {
+        uint64_t slot = at < HEAD + 8 ? 0 : (at - HEAD - 8) % 145, turned = (uint64_t)1 << (at % 64);
+        int status;
+        words[at] ^= turned;
+        status = githoppu_recover_object(&counter, NULL, words, count, one, 1);
+        if (at >= HEAD && at < HEAD + 8)
+            CHECK(status == (at == HEAD ? GITHOPPU_IMAGE_PLACE : GITHOPPU_IMAGE_BODY));
+        else if (at >= HEAD && slot == 0)
+            CHECK(status == GITHOPPU_DONE || status == GITHOPPU_IMAGE_NUMBERS || status == GITHOPPU_IMAGE_BODY);
+        else if (at >= HEAD)
+            CHECK(status == (words[at - slot] != 0 ? GITHOPPU_DONE : GITHOPPU_IMAGE_BODY));
+        else
+            CHECK(status == GITHOPPU_DONE || (status >= GITHOPPU_NOT_AN_IMAGE && status <= GITHOPPU_IMAGE_NUMBERS));
+        if (status == GITHOPPU_DONE) {
+            CHECK(counted(one) == 41);
+            githoppu_give_up(one, 1);
+        }
+        words[at] ^= turned;
+    }
+    /* any words are a state of a program, but for its fingerprint */
+    for (at = HEAD + 1168; at < count; at += 8) {
+        words[at] ^= 2;
+        CHECK(githoppu_recover_object(&counter, NULL, words, count, one, 1) == (at == HEAD + 1168 ? GITHOPPU_IMAGE_VERSION : GITHOPPU_DONE));
+        if (at > HEAD + 1168) {
+            CHECK(counted(one) == (at == HEAD + 1176 ? 43 : 41));
+            githoppu_give_up(one, 1);
+        }
+        words[at] ^= 2;
+    }
+    __real_free(words);
+}
+
+static int32_t open_counter(uint64_t lines, githoppu_session **sessions, size_t count) { return githoppu_open_object(&counter, lines, sessions, count); }
+
 /* Refuses each block of an open in turn: NO_MEMORY, nothing is kept, and no slot is written. */
 static void test_refused(int32_t (*open)(uint64_t, githoppu_session **, size_t), size_t count) {
     githoppu_session *slots[8];
@@ -1055,6 +1232,52 @@ static void test_refused(int32_t (*open)(uint64_t, githoppu_session **, size_t),
     CHECK(taken - given == before);
 }
 
+/* Refuses each block of a look at a program in turn: NO_MEMORY, nothing is kept, and nothing is written. */
+static void test_refused_looks(void) {
+    long which, before = taken - given;
+    int status = GITHOPPU_NO_MEMORY;
+    for (which = 1; status == GITHOPPU_NO_MEMORY; which++) {
+        uint64_t found = 99, at = 99, fingerprint = 99;
+        char text[80];
+        refused_at = taken + which;
+        status = githoppu_program_fault(counter_words, 16, 16, &found, &at);
+        if (status == GITHOPPU_NO_MEMORY) {
+            given++;
+            CHECK(taken - given == before && found == 99 && at == 99);
+            refused_at = taken + which;
+            CHECK(githoppu_program_why(&counter, text, sizeof text) == GITHOPPU_NO_MEMORY && strcmp(text, "out of memory") == 0);
+            given++;
+            refused_at = taken + which;
+            CHECK(githoppu_program_fingerprint(counter_words, 16, 16, 1, &fingerprint) == GITHOPPU_NO_MEMORY && fingerprint == 99);
+            given++;
+        }
+        refused_at = 0;
+    }
+    CHECK(status == GITHOPPU_DONE && which > 2 && taken - given == before);
+}
+
+/* Refuses each block of a recovery of an object in turn. */
+static void test_refused_recoveries(void) {
+    uint64_t count, *words = counter_image(&count);
+    githoppu_session *slot;
+    long which, before = taken - given;
+    int status = GITHOPPU_NO_MEMORY;
+    for (which = 1; status == GITHOPPU_NO_MEMORY; which++) {
+        slot = not_a_session(&slot);
+        refused_at = taken + which;
+        status = githoppu_recover_object(&counter, NULL, words, count, &slot, 1);
+        if (status == GITHOPPU_NO_MEMORY) {
+            CHECK(taken >= refused_at && taken - given == before + 1 && slot == not_a_session(&slot));
+            given++;
+        }
+        refused_at = 0;
+    }
+    CHECK(status == GITHOPPU_DONE && which > 4 && counted(&slot) == 41);
+    githoppu_give_up(&slot, 1);
+    CHECK(taken - given == before);
+    __real_free(words);
+}
+
 /* Calls take no memory. */
 static void test_calls_take_none(void) {
     githoppu_session *s[2];
@@ -1068,6 +1291,12 @@ static void test_calls_take_none(void) {
         DO(githoppu_get(&s[i % 2], "sold", &reply), GITHOPPU_DOC);
     }
     CHECK(taken == before);
+    githoppu_give_up(s, 2);
+    CHECK(githoppu_open_object(&counter, 64, s, 2) == GITHOPPU_DONE);
+    before = taken;
+    for (i = 0; i < 200; i++)
+        CHECK(githoppu_ask(&s[i % 2], i % 3 == 0 ? COUNTER_LOOP : COUNTER_ADD, 1, 0, 0, &reply) == (i % 3 == 0 ? GITHOPPU_FAULTED : GITHOPPU_DONE));
+    CHECK(taken == before && counted(s) == 133);
     githoppu_give_up(s, 2);
 }
 
@@ -1148,6 +1377,13 @@ int main(int count, char **words) {
     test_refused(githoppu_open, 1);
     test_refused(githoppu_open, 8);
     test_refused(githoppu_open_queue, 3);
+    test_refused(open_counter, 1);
+    test_refused(open_counter, 8);
+    test_refused_looks();
+    test_refused_recoveries();
+    test_refused_programs();
+    test_counter();
+    test_counter_images();
     test_calls_take_none();
     test_closing_orders();
     test_closing_turns();

@@ -1,4 +1,5 @@
-"""A document store and a bounded queue that 1 to 8 sessions share without a lock, from Python, over the shared library libgithoppu.so.
+"""A document store, a bounded queue, and data structures of one's own in C, each of which 1 to 8 sessions share without a lock, from Python, over the shared
+library libgithoppu.so.
 
     >>> with Store(lines=64, sessions=2) as store:
     ...     first, second = store
@@ -14,6 +15,13 @@
     >>> with Queue(lines=64) as queue:
     ...     queue[0].push("one"), queue[0].push("two"), queue[0].pop(), len(queue[0])
     (True, True, 'one', 1)
+
+A data structure in C is made a program of words by `tools/program FILE.c -o FILE.words`, and then is an object (docs/OBJECTS_IN_C.md). Here is a program that
+returns 7, whatever the request:
+
+    >>> with Object(Program([0x7000000B7, 0x95], 2), lines=64, sessions=2) as seven:
+    ...     seven[1].update(1).value
+    7
 
 Nothing is durable by itself: persistent memory is simulated in RAM, and the data end with the process. A file keeps them, which is saved while the store
 runs, or when it is closed, and loaded again, also in C and in Rust (include/githoppu_file.h has its format, and what a save replaces, keeps and removes):
@@ -54,15 +62,16 @@ import time
 from ctypes import POINTER, byref, c_int32, c_size_t, c_uint64, c_void_p
 from dataclasses import dataclass
 from pathlib import Path
-from typing import Callable, Dict, Generic, Iterator, List, Optional, Tuple, Type, TypeVar, Union
+from typing import Callable, Dict, Generic, Iterator, List, Optional, Sequence, Tuple, Type, TypeVar, Union
 
-__version__ = "0.4.0"
+__version__ = "0.5.0"
 __all__ = [
-    "BadImage", "BadSize", "Busy", "Closed", "Error", "FileFault", "Image", "Lost", "Malformed", "NoMemory", "NoRoom", "NotClosed", "NotNumber", "OutOfTurn",
-    "Outcome", "Queue", "QueueSession", "Session", "Stale", "Store", "SumOverflow", "TooLong", "Worn", "library_version",
+    "BadImage", "BadProgram", "BadSize", "Busy", "Closed", "Error", "Fault", "FileFault", "Image", "Lost", "Malformed", "NoMemory", "NoRoom", "NotClosed",
+    "NotNumber", "Object", "ObjectSession", "OutOfTurn", "Outcome", "Program", "Queue", "QueueSession", "Ran", "Session", "Stale", "Store", "SumOverflow",
+    "TooLong", "Worn", "library_version",
 ]
 
-SERIES = "0.4"
+SERIES = "0.5"
 # the seconds for which a call is begun again while other sessions are in the way, and the tries of one call
 PATIENCE = 1.0
 TRIES = 16
@@ -73,7 +82,7 @@ LONGEST_KEY, LONGEST_DOCUMENT, LONGEST_TEXT = 64, 1024, 56
 
 DONE, PENDING, AGAIN, FULL, WORN, STOPPED, OUT_OF_TURN, BAD_SIZE, NO_MEMORY, NO_SESSION, TOO_LONG, OTHERS, LOST = range(13)
 NOT_AN_IMAGE, OTHER_KIND, IMAGE_SIZE, IMAGE_ROOT, IMAGE_VERSION, IMAGE_PLACE, IMAGE_BODY, IMAGE_NUMBERS = range(13, 21)
-BEHIND, MALFORMED = 23, 24
+BEHIND, MALFORMED, BAD_PROGRAM = 23, 24, 25
 (NOT_OPENED, NOT_READ, FILE_FOREIGN, FILE_LENGTH, FILE_CHANGED, FILE_FORMAT, NOT_MADE, NOT_WRITTEN, NOT_SYNCED, NOT_RENAMED, FOLDER_NOT_SYNCED, FILE_EMPTY,
  NOT_REGULAR) = range(32, 45)
 # the kinds of operations and of replies of a store, and of a queue
@@ -120,6 +129,10 @@ def _loaded() -> ctypes.CDLL:
         "recover": (c_int32, [words, c_size_t, out, c_size_t]),
         "recover_queue": (c_int32, [words, c_size_t, out, c_size_t]),
         "outcome": (c_int32, [words, c_size_t, c_uint64, words, words]),
+        "open_program": (c_int32, [words, c_size_t, c_uint64, c_uint64, c_uint64, out, c_size_t]),
+        "recover_program": (c_int32, [words, c_size_t, c_uint64, c_uint64, c_uint64, words, c_size_t, out, c_size_t]),
+        "program_fault": (c_int32, [words, c_size_t, c_uint64, words, words]),
+        "program_fingerprint": (c_int32, [words, c_size_t, c_uint64, c_uint64, words]),
         "drop": (None, [_Handle]),
     }
     for name, (result, arguments) in types.items():
@@ -235,7 +248,7 @@ class BadImage(Error, ValueError):
     >>> with Queue(lines=64) as queue:
     ...     Store.recover(queue[0].checkpoint())
     Traceback (most recent call last):
-    githoppu.BadImage: the image is of the other kind of object
+    githoppu.BadImage: the image is of another kind of object
     """
 
     status, text = NOT_AN_IMAGE, "the words are not an image"
@@ -279,6 +292,41 @@ class Stale(Error):
         self.revision = revision
 
 
+class BadProgram(Error, ValueError):
+    """Words that are no program: why, as a text, its number `refusal` (enum githoppu_refusal in include/githoppu.h), and the number of the first `instruction`
+    at fault.
+
+    >>> Program([0xB7, 0xFF], 2)
+    Traceback (most recent call last):
+    githoppu.BadProgram: instruction 1: an operation that is not known
+    """
+
+    status, text = BAD_PROGRAM, "the words are no program"
+
+    def __init__(self, refusal: int, instruction: int) -> None:
+        why = _REFUSALS.get(refusal, f"refusal {refusal}")
+        super().__init__(text=why if refusal == 1 else f"instruction {instruction}: {why}")
+        self.refusal, self.instruction = refusal, instruction
+
+
+class Fault(Error):
+    """An operation of a program ended by a fault, `kind` 2 to 8 (enum githoppu_run_status in include/githoppu_program.h), at an `instruction` and an `address`.
+    Nothing is changed, but an update counts as one of the session (`Image.outcome`).
+
+    >>> with Object(Program([0xFFFF0005], 1), lines=64) as endless:
+    ...     endless[0].update(1)
+    Traceback (most recent call last):
+    githoppu.Fault: instruction 0: more instructions than an operation may take
+    """
+
+    status = DONE
+
+    def __init__(self, kind: int, instruction: int, address: int) -> None:
+        why = _FAULTS.get(kind, f"fault {kind}") + (f": {address:#x}" if kind in (2, 3) else "")
+        super().__init__(text=f"instruction {instruction}: {why}")
+        self.kind, self.instruction, self.address = kind, instruction, address
+
+
 class FileFault(Error):
     """A save or a load of a file, by the status; where a call of the system failed, `__cause__` is what it said. After a status of a save other than
     FOLDER_NOT_SYNCED the path is as it was.
@@ -294,6 +342,27 @@ class FileFault(Error):
     """
 
 
+_REFUSALS = {
+    1: "it has no instructions, more than 65,536, or more than there are words",
+    2: "an operation that is not known",
+    3: "a field that the instruction does not use is not zero",
+    4: "a register that there is none of, or a write of register 10",
+    5: "a jump or a call that leads to no instruction",
+    6: "the last instruction goes on behind the end",
+    7: "a call of a helper, or by an address in a register",
+    8: "an address of a map",
+    9: "an atomic operation",
+    10: "an access to a packet",
+}
+_FAULTS = {
+    2: "an address that is no place to load from or store to",
+    3: "an address that is no multiple of the bytes that are loaded or stored",
+    4: "a store to the state in an operation that only reads",
+    5: "more than 256 stores to the state",
+    6: "more instructions than an operation may take",
+    7: "more than 7 calls within one another",
+    8: "no instruction is there",
+}
 _FILE_TEXTS = {
     NOT_OPENED: "the file cannot be opened",
     NOT_READ: "the file cannot be read",
@@ -311,10 +380,10 @@ _FILE_TEXTS = {
 }
 _IMAGE_TEXTS = {
     NOT_AN_IMAGE: "the words are not an image",
-    OTHER_KIND: "the image is of the other kind of object",
+    OTHER_KIND: "the image is of another kind of object",
     IMAGE_SIZE: "the image has a wrong number of words",
     IMAGE_ROOT: "the image's root has a place above 2^40",
-    IMAGE_VERSION: "the version of the object in the image is not known",
+    IMAGE_VERSION: "the version of the object in the image is not known, or it is of another program",
     IMAGE_PLACE: "the image's root and its replica have different places",
     IMAGE_BODY: "the image's results or contents are not valid",
     IMAGE_NUMBERS: "a result in the image has a number above the place",
@@ -632,7 +701,7 @@ class Outcome:
 
     @property
     def kind(self) -> int:
-        """The kind of the reply: NEW, REPLACED, .. of a store, PUSHED, .. of a queue, or 0 of a malformed operation."""
+        """The kind of the reply: NEW, REPLACED, .. of a store, PUSHED, .. of a queue, or 0 of a malformed operation; of a program 1, or a fault's number."""
         return self.reply[0]
 
     @property
@@ -927,7 +996,7 @@ class QueueSession(_Session):
 
 # ---- stores and queues ----
 
-S = TypeVar("S", Session, QueueSession)
+S = TypeVar("S", bound=_Session)
 T = TypeVar("T", bound="_Shared")
 
 
@@ -1081,3 +1150,89 @@ class Queue(_Shared[QueueSession]):
     """A bounded queue of texts, which 1 to 8 sessions share. The lines are 64 to 16,384, and each but the first holds a text."""
 
     _kind, _open, _recover = QueueSession, "githoppu_open_queue", "githoppu_recover_queue"
+
+
+# ---- data structures of one's own in C ----
+
+
+@dataclass(frozen=True)
+class Ran:
+    """What a run returned: the function's value, and the 136 words of its reply."""
+
+    value: int
+    words: Tuple[int, ...]
+
+
+class Program:
+    """A program of words: the first of them are instructions, as many as are said, and the others constants. An operation takes at most `fuel` instructions,
+    itself at most 2^20. Raises BadProgram.
+
+    >>> program = Program([0x7000000B7, 0x95], 2)
+    >>> program.fingerprint != Program([0x7000000B7, 0x95], 2, fuel=7).fingerprint
+    True
+    """
+
+    def __init__(self, words: Sequence[int], instructions: int, fuel: int = 100_000) -> None:
+        self.count, self.instructions, self.fuel = len(words), min(max(instructions, 0), LARGEST), min(max(fuel, 0), LARGEST)
+        self.words = (c_uint64 * max(len(words), 1))(*words)
+        fault, at, made = c_uint64(), c_uint64(), c_uint64()
+        status = _library.githoppu_program_fault(self.words, self.count, self.instructions, byref(fault), byref(at))
+        if status == BAD_PROGRAM:
+            raise BadProgram(fault.value, at.value)
+        _must(status)
+        _must(_library.githoppu_program_fingerprint(self.words, self.count, self.instructions, self.fuel, byref(made)))
+        self.fingerprint = made.value
+
+    @classmethod
+    def load(cls, path: AnyPath, fuel: int = 100_000) -> Program:
+        """The program in a text that `tools/program FILE.c -o FILE.words` wrote."""
+        with open(path, encoding="ascii") as text:
+            instructions, *words = map(int, text.read().split())
+        return cls(words, instructions, fuel)
+
+
+class ObjectSession(_Session):
+    """A session of an object of a program."""
+
+    def update(self, number: int, *words: int) -> Ran:
+        """Runs the update of this number, GITHOPPU_UPDATE(number) in C, with these words behind it in the request. Raises Fault; then nothing is changed."""
+        return self.run(number << 1, *words)
+
+    def read(self, number: int, *words: int) -> Ran:
+        """Runs the operation that only reads, GITHOPPU_READ(number) in C. It goes beside the log."""
+        return self.run(number << 1 | 1, *words)
+
+    def run(self, operation: int, *words: int) -> Ran:
+        """Runs the operation whose request begins with this word: it only reads where that is odd."""
+        if len(words) >= WORDS:
+            raise TooLong()
+        reply = self._ask(_Words(operation % 2**64, *(word % 2**64 for word in words)))
+        if reply[0] != 1:
+            raise Fault(reply[0], reply[1], reply[2])
+        return Ran(reply[1], tuple(reply[8:]))
+
+
+class Object(_Shared[ObjectSession]):
+    """An object of a program, which 1 to 8 sessions share. The lines, 64 to 16,384, have 64 bytes each; the first is the library's, and the others are zeros at
+    first."""
+
+    _kind = ObjectSession
+
+    def __init__(self, program: Program, lines: int = 1024, sessions: int = 1) -> None:
+        if not 64 <= lines <= 16_384:
+            raise BadSize()
+        given = (program.words, program.count, program.instructions, program.fuel, lines)
+        self._sessions = self._made(sessions, lambda slots: _library.githoppu_open_program(*given, slots, sessions))
+
+    @classmethod
+    def recover(cls, program: Program, image: Image, sessions: int = 1, before: Optional[Program] = None) -> Object:  # type: ignore[override]
+        """Opens it from an image of this program, or of `before`: then the program is run once, to bring the state into its own form."""
+        words, made = image._words(), cls.__new__(cls)
+        given = (program.words, program.count, program.instructions, program.fuel, before.fingerprint if before else 0, words, len(image))
+        made._sessions = cls._made(sessions, lambda slots: _library.githoppu_recover_program(*given, slots, sessions))
+        return made
+
+    @classmethod
+    def load(cls, program: Program, path: AnyPath, sessions: int = 1, before: Optional[Program] = None) -> Object:  # type: ignore[override]
+        """Opens it from a file that was saved, from here, from C or from Rust."""
+        return cls.recover(program, Image.load(path), sessions, before)

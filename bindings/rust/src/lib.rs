@@ -1,4 +1,4 @@
-//! A document store and a bounded queue that 1 to 8 sessions share, from Rust: safe types over the library's functions.
+//! A document store, a bounded queue, and data structures of one's own in C, which 1 to 8 sessions share, from Rust: safe types over the library's functions.
 //!
 //! A session is `Send` and not `Sync`: it can move to a thread, and one call at a time uses it. Calls try again while other sessions are in the way;
 //! they take no lock. Dropping the last session drops the store. Closing the last one gives the closed store, of which an image can be taken or saved to a
@@ -32,12 +32,14 @@
 pub mod disk;
 mod file;
 mod outcome;
+mod program;
 mod raw;
 mod session;
 mod words;
 
 pub use file::FileError;
 pub use outcome::{Outcome, Reply};
+pub use program::{Fault, FaultKind, Program, ProgramFault, ProgramSession, Ran, Refusal};
 pub use session::PATIENCE;
 use session::{Ended, Pointer};
 use std::fmt;
@@ -79,15 +81,17 @@ pub enum Error {
     OutOfTurn,
     /// A closing: it was the last, and did not find all that were closed before. It keeps those that it found. No run of the library is known to answer it.
     Lost,
+    /// An operation of a program ended by a fault. Nothing is changed, but an update counts as one of the session (`Image::outcome`).
+    Fault(Fault),
     /// A recovery: the words are not an image.
     NotAnImage,
-    /// The image is of a queue where a store is asked for, or of a store where a queue is.
+    /// The image is of another kind than is asked for: of a store, of a queue, or of an object of a program.
     OtherKind,
     /// The image has not as many words as its format, sessions and lines make.
     ImageSize,
     /// The root's place is above 2^40.
     ImageRoot,
-    /// The object's version is not known.
+    /// The object's version is not known, or the image is of another program.
     ImageVersion,
     /// The place in the replica that the root names is not the root's.
     ImagePlace,
@@ -135,11 +139,12 @@ impl fmt::Display for Error {
             Error::NoText => f.write_str("the document is no text"),
             Error::OutOfTurn => f.write_str("the session is to be closed again"),
             Error::Lost => f.write_str("the last session did not find all that were closed before"),
+            Error::Fault(fault) => fault.fmt(f),
             Error::NotAnImage => f.write_str("the words are not an image"),
             Error::OtherKind => f.write_str("the image is of another kind of object"),
             Error::ImageSize => f.write_str("the image has another number of words"),
             Error::ImageRoot => f.write_str("the root's place is above 2^40"),
-            Error::ImageVersion => f.write_str("the object's version is not known"),
+            Error::ImageVersion => f.write_str("the object's version is not known, or it is of another program"),
             Error::ImagePlace => f.write_str("the replica's place is not the root's"),
             Error::ImageBody => f.write_str("the replica is none that the library writes"),
             Error::ImageNumbers => f.write_str("a result has a number above the place"),

@@ -1,5 +1,6 @@
 //! What became of a session's last update.
 
+use crate::program::{Fault, Ran};
 use crate::raw::Words;
 use crate::words::text_in;
 
@@ -13,7 +14,7 @@ pub struct Outcome {
     pub reply: Reply,
 }
 
-/// The reply to an update of a document store or of a queue.
+/// The reply to an update of a document store, of a queue or of an object of a program.
 #[derive(Clone, Debug, PartialEq, Eq)]
 pub enum Reply {
     /// The operation was malformed; nothing was changed.
@@ -46,13 +47,18 @@ pub enum Reply {
     Text(String),
     /// A pop: there was no text.
     Empty,
+    /// An update of a program: it returned.
+    Ran(Box<Ran>),
+    /// An update of a program: it ended by a fault.
+    Fault(Fault),
     /// A reply that an update does not have, as that of a read.
     Other(Vec<u64>),
 }
 
-/// The reply that words have, of an object of this kind: 1 of documents, else of a queue.
+/// The reply that words have, of an object of this kind: 1 of documents, 2 of a queue, 3 of a program.
 pub fn reply_in(kind: u64, words: &Words) -> Reply {
     match (kind, words[0]) {
+        (3, _) => Ran::of(words).map_or_else(Reply::Fault, |ran| Reply::Ran(Box::new(ran))),
         (_, 0) => Reply::Malformed,
         (1, 1) => Reply::New,
         (1, 2) => Reply::Replaced,

@@ -29,6 +29,7 @@ pub const IMAGE_PLACE: i32 = 18;
 pub const IMAGE_BODY: i32 = 19;
 pub const IMAGE_NUMBERS: i32 = 20;
 pub const BEHIND: i32 = 23;
+pub const BAD_PROGRAM: i32 = 25;
 
 extern "C" {
     pub fn githoppu_open(lines: u64, sessions: *mut *mut c_void, count: usize) -> i32;
@@ -43,6 +44,28 @@ extern "C" {
     pub fn githoppu_recover(words: *const u64, words_count: usize, sessions: *mut *mut c_void, count: usize) -> i32;
     pub fn githoppu_recover_queue(words: *const u64, words_count: usize, sessions: *mut *mut c_void, count: usize) -> i32;
     pub fn githoppu_outcome(words: *const u64, words_count: usize, session: u64, number: *mut u64, reply: *mut Words) -> i32;
+    pub fn githoppu_open_program(
+        program: *const u64,
+        words: usize,
+        instructions: u64,
+        fuel: u64,
+        lines: u64,
+        sessions: *mut *mut c_void,
+        count: usize,
+    ) -> i32;
+    pub fn githoppu_recover_program(
+        program: *const u64,
+        words: usize,
+        instructions: u64,
+        fuel: u64,
+        before: u64,
+        image: *const u64,
+        image_words: usize,
+        sessions: *mut *mut c_void,
+        count: usize,
+    ) -> i32;
+    pub fn githoppu_program_fault(program: *const u64, words: usize, instructions: u64, fault: *mut u64, at: *mut u64) -> i32;
+    pub fn githoppu_program_fingerprint(program: *const u64, words: usize, instructions: u64, fuel: u64, fingerprint: *mut u64) -> i32;
     pub fn githoppu_version() -> u64;
     pub fn githoppu_drop(session: Handle);
 }
@@ -58,6 +81,24 @@ pub fn outcome_of(words: &[u64], session: u64) -> Result<(u64, Words), i32> {
     let mut reply = [0; 144];
     match unsafe { githoppu_outcome(words.as_ptr(), words.len(), session, &mut number, &mut reply) } {
         DONE => Ok((number, reply)),
+        status => Err(status),
+    }
+}
+
+/// The fingerprint of a program with its fuel, or the status with which it is refused.
+pub fn program_fingerprint(words: &[u64], instructions: u64, fuel: u64) -> Result<u64, i32> {
+    let mut fingerprint = 0;
+    match unsafe { githoppu_program_fingerprint(words.as_ptr(), words.len(), instructions, fuel, &mut fingerprint) } {
+        DONE => Ok(fingerprint),
+        status => Err(status),
+    }
+}
+
+/// Why words are no program, and the number of the instruction, or another status.
+pub fn program_fault(words: &[u64], instructions: u64) -> Result<(u64, u64), i32> {
+    let (mut fault, mut at) = (0, 0);
+    match unsafe { githoppu_program_fault(words.as_ptr(), words.len(), instructions, &mut fault, &mut at) } {
+        BAD_PROGRAM => Ok((fault, at)),
         status => Err(status),
     }
 }

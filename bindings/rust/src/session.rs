@@ -55,7 +55,8 @@ impl Pointer {
         Pointer::made(count, |slots| unsafe { recover(words.as_ptr(), words.len(), slots, count) })
     }
 
-    fn made(count: usize, make: impl FnOnce(*mut *mut c_void) -> i32) -> Result<Vec<Pointer>, Error> {
+    /// As many sessions as a call puts into the slots.
+    pub fn made(count: usize, make: impl FnOnce(*mut *mut c_void) -> i32) -> Result<Vec<Pointer>, Error> {
         if count > 8 {
             return Err(Error::BadSize);
         }

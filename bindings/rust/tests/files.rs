@@ -297,7 +297,7 @@ fn outcomes_are_told() {
     assert_eq!(image.outcome(7), Ok(None));
     assert_eq!(image.outcome(8), Err(Error::BadSize));
     assert_eq!(Image::from(vec![]).outcome(0), Err(Error::NotAnImage));
-    image[2] = 3;
+    image[2] = 4;
     assert_eq!(image.outcome(0), Err(Error::NotAnImage));
     let mut sessions = Queue::open(64, 2).unwrap();
     assert_eq!(sessions[0].push("text"), Ok(true));

@@ -5,7 +5,7 @@ use Rattle.cx_core.specs.Region.{slot_number, slot_reply}
 use Rattle.doc_model.specs.Words.{AreOfNoReply as AreOfNoDocumentReply}
 use Rattle.fifo_object.specs.Words.{AreOfNoReply as AreOfNoQueueReply}
 use Rattle.c_images.specs.declared.replies.ReplyKind.{ReplyKind}
-use Rattle.c_images.specs.declared.replies.ReplyKind.TheVariants.{Document, Queue}
+use Rattle.c_images.specs.declared.replies.ReplyKind.TheVariants.{Document, Queue, Program}
 
 -- some reply of a document store within the limits has these words, or of a queue
 abbrev pub IsDocumentReply : List ℕ → Type 0
@@ -14,9 +14,14 @@ IsDocumentReply words = ¬ AreOfNoDocumentReply words
 abbrev pub IsQueueReply : List ℕ → Type 0
 IsQueueReply words = ¬ AreOfNoQueueReply words
 
+-- any words are a reply of a program's object
+abbrev pub IsProgramReply : List ℕ → Type 0
+IsProgramReply words = Unit {0}
+
 abbrev pub IsReplyOfKind : ReplyKind → List ℕ → Type 0
 IsReplyOfKind Document = IsDocumentReply
 IsReplyOfKind Queue = IsQueueReply
+IsReplyOfKind Program = IsProgramReply
 
 -- what a result may keep: the words of a reply, or 144 zeros, which answer words of no operation
 abbrev pub IsKeptReply : (List ℕ → Type 0) → List ℕ → Type 0

@@ -34,9 +34,9 @@ root_in words = slice_index words 5
 abbrev pub IsFormat : ℕ → Type 0
 IsFormat format = (format ≡ 1) ⊎ (format ≡ 2)
 
--- the kinds of objects: a document store and a queue
+-- the kinds of objects: a document store, a queue, and a program's object
 abbrev pub IsKind : ℕ → Type 0
-IsKind kind = (kind ≡ 1) ⊎ (kind ≡ 2)
+IsKind kind = (kind ≡ 1) ⊎ ((kind ≡ 2) ⊎ (kind ≡ 3))
 
 -- the last words of a head are 0
 abbrev pub AreZeros : List ℕ → Type 0

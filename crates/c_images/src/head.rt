@@ -1,7 +1,7 @@
 //! The head of an image in words.
 
 ghost use Rattle.std.specs.Prelude.{◌↔◌, IsTrue, MatchResult};
-ghost use Rattle.c_images.specs.Words.{IsFormat, IsHeadFault, IsHeaded, IsHeadOf};
+ghost use Rattle.c_images.specs.Words.{IsFormat, IsHeadFault, IsHeaded, IsHeadOf, IsKind};
 
 use crate::reader::WordsFault;
 
@@ -49,13 +49,20 @@ fn is_headed(words: &[u64]) -> bool
     words.len() >= HEAD
         && words[0] == NAME
         && is_format(words[1])
-        && (words[2] == 1 || words[2] == 2)
+        && is_kind(words[2])
         && words[6] == 0
         && words[7] == 0
         && words[3] >= 1
         && words[3] <= 8
         && words[4] >= 64
         && words[4] <= 16384
+}
+
+/// Whether this is the number of a kind of objects.
+fn is_kind(kind: u64) -> bool
+    ensures { IsTrue result ↔ IsKind kind }
+{
+    kind == 1 || kind == 2 || kind == 3
 }
 
 /// Whether this is a format.

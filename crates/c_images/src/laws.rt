@@ -10,10 +10,11 @@ ghost use Rattle.recovery.specs.Kept.{IsKeptBy, IsOpened};
 ghost use Rattle.recovery.specs.Outcomes.{TellsOutcome};
 ghost use Rattle.recovery.specs.declared.recovered_base.ImageFault.TheVariants.{Memory};
 ghost use Rattle.c_images.specs.Exact.{AreAnsweredExactly};
-ghost use Rattle.c_images.specs.Replies.{IsDocumentReply, IsQueueReply, RepliesGoOn};
+ghost use Rattle.c_images.specs.Replies.{IsReplyOfKind, RepliesGoOn};
 ghost use Rattle.c_images.specs.Taken.{IsWrittenOf, base_at};
 ghost use Rattle.c_images.specs.Words.{IsHeaded, IsKind, IsTakenUp, IsWordsFault, AreRemainsWritten, object_kind_in};
 ghost use Rattle.c_images.specs.declared.reader.WordsFault.TheVariants.{Image};
+ghost use Rattle.c_images.specs.declared.replies.ReplyKind.{ReplyKind};
 
 use cx_base::Object;
 use recovery::{
@@ -48,17 +49,13 @@ pub fn written_images_tell_outcomes<O: Object>()
     kept_bases_tell_outcomes::<O>();
 }
 
-/// What is taken up of words that `write_image` wrote of a closed service keeps replies of documents where the service was opened with such replies and its
-/// object's step answers by none but those; and so it is with replies of a queue.
+/// What is taken up of words that `write_image` wrote of a closed service keeps replies of a kind where the service was opened with such replies and its
+/// object's step answers by none but those.
 pub fn written_images_keep_replies<O: Object>()
-    ensures documents { (table : Running O) (seats : List Seated) (r : _) (kind choice : ℕ) (words : List ℕ) (base : _) →
+    ensures { (replies : ReplyKind) (table : Running O) (seats : List Seated) (r : _) (kind choice : ℕ) (words : List ℕ) (base : _) →
         IsOpened O.line_count O.lawful table → Leaves table (instance_at table O.step O.only_reads) seats r → AreRemainsWritten kind r choice words →
         IsTakenUp (O.version_number table.object) (O.lawful table.object) (O.old_format table.object) words base →
-        RepliesGoOn IsDocumentReply (O.lawful table.object) (O.step table.object) table.base.words base.words }
-    ensures queues { (table : Running O) (seats : List Seated) (r : _) (kind choice : ℕ) (words : List ℕ) (base : _) →
-        IsOpened O.line_count O.lawful table → Leaves table (instance_at table O.step O.only_reads) seats r → AreRemainsWritten kind r choice words →
-        IsTakenUp (O.version_number table.object) (O.lawful table.object) (O.old_format table.object) words base →
-        RepliesGoOn IsQueueReply (O.lawful table.object) (O.step table.object) table.base.words base.words }
+        RepliesGoOn (IsReplyOfKind replies) (O.lawful table.object) (O.step table.object) table.base.words base.words }
 {
     written_images_are_taken_up::<O>();
     kept_bases_have_results::<O>();
@@ -79,15 +76,13 @@ pub fn taken_images_are_taken_up<O: Object>()
     lawful_bases_are_accepted::<O>();
 }
 
-/// The images that callers took of a service keep replies of documents where the service was opened with such replies and its object's step answers by none
-/// but those, and so it is with replies of a queue. It is known once the service is closed.
+/// The images that callers took of a service keep replies of a kind where the service was opened with such replies and its object's step answers by none but
+/// those. It is known once the service is closed.
 pub fn taken_images_keep_replies<O: Object>()
-    ensures documents { (table : Running O) (seats : List Seated) (r : _) → IsOpened O.line_count O.lawful table → Leaves table (instance_at table O.step O.only_reads) seats r →
+    ensures { (replies : ReplyKind) (table : Running O) (seats : List Seated) (r : _) → IsOpened O.line_count O.lawful table →
+        Leaves table (instance_at table O.step O.only_reads) seats r →
         All (λ (s : Seated). (i : ℕ) (region : List ℕ) → slice_get s.known.images i ≡ Some region →
-        RepliesGoOn IsDocumentReply (O.lawful table.object) (O.step table.object) table.base.words region) seats }
-    ensures queues { (table : Running O) (seats : List Seated) (r : _) → IsOpened O.line_count O.lawful table → Leaves table (instance_at table O.step O.only_reads) seats r →
-        All (λ (s : Seated). (i : ℕ) (region : List ℕ) → slice_get s.known.images i ≡ Some region →
-        RepliesGoOn IsQueueReply (O.lawful table.object) (O.step table.object) table.base.words region) seats }
+        RepliesGoOn (IsReplyOfKind replies) (O.lawful table.object) (O.step table.object) table.base.words region) seats }
 {
     base_of_checkpoint::<O>();
 }

@@ -10,11 +10,12 @@ use fifo_object::{FifoFault, fifo_reply_of};
 use recovery::{Outcome, outcome};
 use std::alloc::{AllocError, Global};
 
-/// Whose replies results are to be: a document store's, or a queue's.
+/// Whose replies results are to be: a document store's, a queue's, or a program's, of which any words are one.
 #[derive(Clone, Copy, Debug, PartialEq, Eq, Drop)]
 pub enum ReplyKind {
     Document,
     Queue,
+    Program,
 }
 
 /// The words of a reply.
@@ -57,6 +58,7 @@ fn is_kept_reply(alloc: Global, words: &ReplyWords, kind: ReplyKind) -> Result<b
     match kind {
         ReplyKind::Document => is_document_reply(alloc, words),
         ReplyKind::Queue => is_queue_reply(alloc, words),
+        ReplyKind::Program => Ok(true),
     }
 }
 

@@ -21,16 +21,16 @@ place_after called before = before
 
 -- driving a linked entry in this many turns has this result, with this reply where it is done, and the place after the entry
 abbrev pub DrivesTo : {O : Type 0} → Running O → ℕ → Seated → Called → Handed → List ℕ → Type 0
-DrivesTo r tries before (Done place) (Idle after) reply = (ticket : ℕ) × (place ≡ ticket + 1) × Drives r tries before (DrivenDone after (record { ticket = ticket; reply = reply }))
-DrivesTo r tries before Pending (Linked after) reply = Drives r tries before (DrivenPending after)
-DrivesTo r tries before CalledStopped (Stopped after) reply = Drives r tries before (DrivenHalted after)
+DrivesTo r tries before (Done place) (Idle after) reply = (ticket : ℕ) × (place ≡ ticket + 1) × Drives r tries reply before (DrivenDone after ticket)
+DrivesTo r tries before Pending (Linked after) reply = Drives r tries reply before (DrivenPending after)
+DrivesTo r tries before CalledStopped (Stopped after) reply = Drives r tries reply before (DrivenHalted after)
 DrivesTo r tries before called after reply = ⊥
 
 -- a read beside the queue has this result, with its place where it is done
 abbrev pub LooksTo : {O : Type 0} → Running O → List ℕ → ℕ → Seated → Called → Handed → List ℕ → Type 0
-LooksTo r op tries before (Done place) (Idle after) reply = Looks r op tries before (Read after (record { place = place; reply = reply }))
-LooksTo r op tries before Again (Idle after) reply = Looks r op tries before (ReadPending after)
-LooksTo r op tries before CalledStopped (Stopped after) reply = Looks r op tries before (ReadHalted after)
+LooksTo r op tries before (Done place) (Idle after) reply = Looks r op tries reply before (Read after place)
+LooksTo r op tries before Again (Idle after) reply = Looks r op tries reply before (ReadPending after)
+LooksTo r op tries before CalledStopped (Stopped after) reply = Looks r op tries reply before (ReadHalted after)
 LooksTo r op tries before called after reply = ⊥
 
 -- an operation is not entered into the queue

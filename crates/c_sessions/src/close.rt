@@ -48,11 +48,11 @@ impl<O: Object> Session<O> {
     /// ```rattle
     /// match closing {
     ///     Closing::Others => (Content::Gone, OTHERS),
-    ///     Closing::Again(session) => (Content::Documents(session), AGAIN),
-    ///     Closing::Closed(remains, _) => (Content::ClosedDocuments(remains), DONE),
-    ///     Closing::Kept(kept, _) => (Content::KeptDocuments(kept), NO_MEMORY),
-    ///     Closing::Missing(rest) => (Content::RestDocuments(rest), LOST),
-    ///     Closing::Shared(rest) => (Content::RestDocuments(rest), AGAIN),
+    ///     Closing::Again(session) => (Content::Session(session), AGAIN),
+    ///     Closing::Closed(remains, _) => (Content::Closed(remains), DONE),
+    ///     Closing::Kept(kept, _) => (Content::Kept(kept), NO_MEMORY),
+    ///     Closing::Missing(rest) => (Content::Rest(rest), LOST),
+    ///     Closing::Shared(rest) => (Content::Rest(rest), AGAIN),
     /// }
     /// ```
     pub fn close(self, alloc: Global) -> Closing<O>

@@ -48,8 +48,7 @@ impl<O: Object> Session<O> {
     /// From `crates/githoppu_c/src/content.rt`:
     /// ```rattle
     /// match self {
-    ///     Content::Documents(session) => session.call(op, reply, tries),
-    ///     Content::Queue(session) => session.call(op, reply, tries),
+    ///     Content::Session(session) => session.call(op, reply, tries),
     ///     _ => Called::OutOfTurn,
     /// }
     /// ```

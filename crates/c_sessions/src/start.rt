@@ -30,10 +30,10 @@ pub enum OpenFault {
 ///
 /// From `crates/githoppu_c/src/open.rt`:
 /// ```rattle
-/// let sessions = match open(alloc, Fifo::of(lines), count as u32) {
-///     Ok(sessions) => sessions,
-///     Err(fault) => return Err(open_code(fault)),
-/// };
+/// match open(alloc, object, count as u32) {
+///     Ok(sessions) => Ok(sessions),
+///     Err(fault) => Err(open_code(fault)),
+/// }
 /// ```
 pub fn open<O: Object>(alloc: Global, object: O, callers: u32) -> Result<Vec<Session<O>>, OpenFault>
     ensures { MatchResult result (λ sessions. AreFirst object (O.line_count object) callers (O.opening object) sessions.items) (IsOpenFault callers (O.line_count object)) }

@@ -107,12 +107,8 @@ fn look<O: Object>(
     ensures ready { IsHandedOf service.now result.0 }
     ensures looks { LooksTo service.now op.now tries.count caller result.1 result.0 reply.new }
 {
-    match service.try_read(caller, op, tries.count) {
-        ReadTried::Read(back, seen) => {
-            let told = seen.reply;
-            *reply = told;
-            (Handed::Idle(back), Called::Done(seen.place))
-        }
+    match service.try_read(caller, op, reply, tries.count) {
+        ReadTried::Read(back, place) => (Handed::Idle(back), Called::Done(place)),
         ReadTried::Pending(back) => (Handed::Idle(back), Called::Again),
         ReadTried::Halted(stopped) => (Handed::Stopped(stopped), Called::Stopped),
     }
@@ -150,11 +146,9 @@ fn drive<O: Object>(
     ensures ready { IsHandedOf service.now result.0 }
     ensures drives { DrivesTo service.now tries.count linked result.1 result.0 reply.new }
 {
-    match service.drive(linked, tries.count) {
-        Driven::Done(back, answer) => {
-            let told = answer.reply;
-            *reply = told;
-            let place = back.place_behind(&answer);
+    match service.drive(linked, reply, tries.count) {
+        Driven::Done(back, ticket) => {
+            let place = back.place_behind(ticket);
             (Handed::Idle(back), Called::Done(place))
         }
         Driven::Pending(back) => (Handed::Linked(back), Called::Pending),

@@ -1,13 +1,11 @@
 -- A base that is taken up, or is not, with its replies looked at.
-use Rattle.std.proofs.Common.{◌≡◌, inl, inr, ℕ, ℤ, List, Result, Ok, Err, refl, sym, subst}
+use Rattle.std.proofs.Common.{inl, inr, ℕ, ℤ, List, Result, Ok, Err, refl, sym, subst}
 use Rattle.std.specs.Prelude.{MatchResult}
 use Rattle.cx_core.specs.declared.entry.Base.{Base}
 use Rattle.recovery.specs.declared.recovered_base.ImageFault.TheVariants.{Body, Memory}
-use Rattle.c_images.specs.Words.{IsHeaded, object_kind_in}
 use Rattle.c_images.specs.declared.reader.WordsFault.{WordsFault}
 use Rattle.c_images.specs.declared.reader.WordsFault.TheVariants.{Image}
-use Rattle.githoppu_c.specs.Objects.{IsBaseWith, IsFaultOr, IsNoneWith, IsSameWith, IsStoreFault, IsStoreIn}
-use Rattle.githoppu_c.specs.Outcomes.{IsBaseIn, RefusesBase}
+use Rattle.githoppu_c.specs.Objects.{IsBaseWith, IsFaultOr, IsNoneWith, IsSameWith}
 use Rattle.githoppu_c.specs.Recoveries.{IsRefusal}
 
 pub taken : (is : List ℕ → Type 0) (takes : Base → Type 0) (faulty : WordsFault → Type 0) (base : Base) (answer : Result Base ℤ) → takes base → faulty (Image Memory)
@@ -15,9 +13,3 @@ pub taken : (is : List ℕ → Type 0) (takes : Base → Type 0) (faulty : Words
 taken is takes faulty base (Ok same) took memory told = subst (IsBaseWith is takes) (sym told.0) (took, told.1)
 taken is takes faulty base (Err code) took memory (inl told) = (Image Body, inr (refl, (base, took, told.1)), told.0)
 taken is takes faulty base (Err code) took memory (inr told) = (Image Memory, inl memory, told)
-
--- what is taken up of a store, or is not, is the base that the words say, or is not
-pub store_base : (words : List ℕ) (answer : Result Base ℤ) → IsHeaded words → object_kind_in words ≡ 1 → MatchResult answer (IsStoreIn words) (IsRefusal (IsStoreFault words))
-    → MatchResult answer (IsBaseIn words) (RefusesBase words)
-store_base words (Ok base) headed kind told = (headed, inl (kind, told))
-store_base words (Err code) headed kind told = (told.0, inr (headed, inl (kind, told.1)), told.2)

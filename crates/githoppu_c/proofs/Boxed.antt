@@ -6,8 +6,8 @@ use Rattle.std_alloc.proofs.BoxSteps.Form.{Bx}
 use Rattle.std_heap.specs.contracts.Global as Heap
 use Rattle.std_heap.specs.contracts.GlobalAllocator.TheImpl.{ghosts, dict}
 use Rattle.std_heap.proofs.Global.TheLaws as heap
-use Rattle.githoppu_c.specs.contracts.content.Content as Content
-use Rattle.githoppu_c.proofs.content.Content.TheLaws as content
+use Rattle.githoppu_c.specs.contracts.content.AnyContent as Content
+use Rattle.githoppu_c.proofs.content.AnyContent.TheLaws as content
 use Rattle.githoppu_c.specs.contracts.handle.Handle as Handle
 
 -- the box of a content

@@ -1,28 +1,41 @@
 -- Words that no check refuses are refused by no call, but for want of memory.
-use Rattle.std.proofs.Common.{◌≡◌, ◌<◌, ◌⊎◌, ◌∙◌, inl, inr, ap, arith, ℕ, ℤ, List, Result, Err, Ok, pos, refl, subst, sym}
+use Rattle.std.proofs.Common.{◌≡◌, ◌<◌, ◌⊎◌, ◌∙◌, inl, inr, ap, arith, ℕ, ℤ, List, Option, Result, Err, Ok, pos, refl, subst, sym}
+use Rattle.std.specs.Arc.{arc_value}
 use Rattle.std.specs.Prelude.{MatchResult}
-use Rattle.cx_base.specs.OldFormat.{no_old_format}
+use Rattle.cx_base.specs.OldFormat.{OldFormat, no_old_format}
+use Rattle.cx_base.specs.declared.object.Object.{Ghosts}
 use Rattle.cx_core.specs.declared.entry.Base.{Base}
 use Rattle.cx_rule.specs.Running.{Running}
 use Rattle.cx_table.specs.declared.remains.Remains.{Remains}
+use Rattle.doc_store.specs.contracts.store.DocStoreObject.TheImpl.{ghosts as store_ghosts}
 use Rattle.doc_store.specs.declared.store.DocStore.{DocStore}
 use Rattle.doc_store.specs.ExactStep.{IsImageOfStore, first_format}
+use Rattle.fifo_object.specs.contracts.fifo.FifoObject.TheImpl.{ghosts as queue_ghosts}
 use Rattle.fifo_object.specs.declared.fifo.Fifo.{Fifo}
 use Rattle.fifo_object.specs.Fifo.{IsFifo}
+use Rattle.program_object.specs.contracts.object.ProgramObjectObject.TheImpl.{ghosts as program_ghosts}
+use Rattle.program_object.specs.declared.object.ProgramObject.{ProgramObject}
+use Rattle.program_object.specs.Meaning.{IsProgramImage}
 use Rattle.recovery.specs.declared.recovered_base.ImageFault.TheVariants.{Memory}
-use Rattle.c_images.specs.Replies.{HoldsReplies, IsDocumentReply, IsQueueReply}
+use Rattle.c_images.specs.Replies.{HoldsReplies, IsDocumentReply, IsProgramReply, IsQueueReply, IsReplyOfKind, RepliesGoOn}
+use Rattle.c_images.specs.Taken.{base_at}
 use Rattle.c_images.specs.Words.{IsHeadFault, IsHeaded, IsTakenUp, IsWordsFault, AreRemainsWritten, object_kind_in, lines_in}
 use Rattle.c_images.specs.declared.reader.WordsFault.{WordsFault}
 use Rattle.c_images.specs.declared.reader.WordsFault.TheVariants.{Head, Kind, Image, Numbers}
-use Rattle.githoppu_c.specs.Again.{ComesBack, IsKeptQueue, IsKeptStore, IsTakenUpAgain}
-use Rattle.githoppu_c.specs.Closings.{Images}
+use Rattle.c_images.specs.declared.replies.ReplyKind.{ReplyKind}
+use Rattle.c_images.specs.declared.replies.ReplyKind.TheVariants.{Document, Queue as QueueReplies, Program as ProgramReplies}
+use Rattle.c_sessions.specs.Closings.{IsClosedOf}
+use Rattle.githoppu_c.specs.Again.{ComesBack, ContentComesBack, ContentTakenBack, IsKeptOfClosed, IsLeftImage, IsProgramAgain, IsQueueAgain, IsRecoveredAgain, IsStoreAgain, IsTakenImage, IsTakenProgramAgain, IsTakenQueueAgain, IsTakenStoreAgain, IsTakenUpAgain, TakenComesBack}
+use Rattle.githoppu_c.specs.Closings.{WritesRemains}
 use Rattle.githoppu_c.specs.Codes.{IsOpenCode, fault_code}
-use Rattle.githoppu_c.specs.Contents.{IsCallable}
-use Rattle.githoppu_c.specs.Objects.{IsBaseWith, IsClosedQueue, IsClosedStore, IsFaultOr, IsQueueFault, IsQueueIn, IsStoreFault, IsStoreIn, KeepsDocumentReplies, KeepsQueueReplies}
+use Rattle.githoppu_c.specs.Contents.{KeepsReplies}
+use Rattle.githoppu_c.specs.Objects.{IsBaseWith, IsFaultOr, IsProgramFault, IsProgramIn, IsQueueFault, IsQueueIn, IsStoreFault, IsStoreIn, old_in_lines}
 use Rattle.githoppu_c.specs.Outcomes.{IsBaseFault, WritesOutcome}
 use Rattle.githoppu_c.specs.Recoveries.{AreFew, Recovers}
+use Rattle.githoppu_c.specs.declared.content.AnyContent.TheVariants.{Documents, Queue, Program}
 use Rattle.githoppu_c.specs.declared.content.Content.{Content}
-use Rattle.githoppu_c.specs.declared.content.Content.TheVariants.{ClosedDocuments, ClosedQueue}
+use Rattle.githoppu_c.specs.declared.content.Content.TheVariants.{Closed, Gone, Kept, Rest, Session}
+use Rattle.githoppu_c.proofs.Replies.{queues_give_replies, stores_give_replies}
 
 -- Where the words are refused for want of memory alone, and the base that they say keeps replies, they are so with the replies looked at.
 pub memory_alone : (is : List ℕ → Type 0) (takes kept : Base → Type 0) (faulty : WordsFault → Type 0)
@@ -62,13 +75,15 @@ pub store_faults : (words : List ℕ) → IsHeaded words → object_kind_in word
     → (fault : WordsFault) → IsBaseFault words fault → fault ≡ Image Memory
 store_faults words headed kind alone fault (inl head) = absurd (no_head_fault (object_kind_in words) words fault headed refl head)
 store_faults words headed kind alone fault (inr (head, inl (one, of))) = alone fault of
-store_faults words headed kind alone fault (inr (head, inr (two, of))) = absurd (omega (arith, kind, two))
+store_faults words headed kind alone fault (inr (head, inr (inl (two, of)))) = absurd (omega (arith, kind, two))
+store_faults words headed kind alone fault (inr (head, inr (inr (three, of)))) = absurd (omega (arith, kind, three))
 
 pub queue_faults : (words : List ℕ) → IsHeaded words → object_kind_in words ≡ 2 → ((fault : WordsFault) → IsQueueFault words fault → fault ≡ Image Memory)
     → (fault : WordsFault) → IsBaseFault words fault → fault ≡ Image Memory
 queue_faults words headed kind alone fault (inl head) = absurd (no_head_fault (object_kind_in words) words fault headed refl head)
 queue_faults words headed kind alone fault (inr (head, inl (one, of))) = absurd (omega (arith, kind, one))
-queue_faults words headed kind alone fault (inr (head, inr (two, of))) = alone fault of
+queue_faults words headed kind alone fault (inr (head, inr (inl (two, of)))) = alone fault of
+queue_faults words headed kind alone fault (inr (head, inr (inr (three, of)))) = absurd (omega (arith, kind, three))
 
 -- ---- words that are taken up, where the base that they say keeps replies
 
@@ -110,31 +125,146 @@ module _ (words : List ℕ) (lines : ℕ) (there : lines_in words ≡ lines) (ke
       → ((base : Base) → queue_takes lines base → HoldsReplies IsQueueReply base.words) → IsTakenUpAgain 2 (IsQueueIn words) (IsQueueFault words) kept words
   queue_again head up holds = taken_up_again 2 head.0 head.1 IsQueueReply queue_takes queue_faulty up holds (queue_faults words head.0 head.1)
 
+  module _ (version : ℕ) (old : ℕ → OldFormat) where
+    abbrev program_takes : ℕ → Base → Type 0
+    program_takes n = IsTakenUp version (IsProgramImage n version) (old n) words
+
+    abbrev program_faulty : ℕ → WordsFault → Type 0
+    program_faulty n = IsWordsFault version (IsProgramImage n version) (old n) words
+
+    pub program_again : IsHeaded words × (object_kind_in words ≡ 3)
+        → ((answer : Result Base WordsFault) → MatchResult answer (program_takes lines) (program_faulty lines) → MatchResult answer kept (λ fault. fault ≡ Image Memory))
+        → IsRecoveredAgain 3 (IsProgramIn version old words) (IsProgramFault version old words) kept words
+    program_again head up =
+        let alone : (fault : WordsFault) → IsProgramFault version old words fault → fault ≡ Image Memory =
+        subst (λ n. (fault : WordsFault) → IsFaultOr IsProgramReply (program_takes n) (program_faulty n) fault → fault ≡ Image Memory) (sym there)
+        (memory_alone IsProgramReply (program_takes lines) kept (program_faulty lines) up (λ base took caller few some. inr tt)) in
+        record {
+          recovers = recovers_again 3 words head.0 head.1 (IsProgramIn version old words) (IsProgramFault version old words) alone;
+          keeps = λ base taken. up (Ok base) (subst (λ n. program_takes n base) there taken.0);
+        }
+
 -- ---- what an image that is written comes to
 
 pub no_other : (code : ℤ) → code ≡ pos 0 → code ≡ pos 7 → ⊥
 no_other code done bad = cc
 
-pub store_back : (self : Content) (r : Remains) (choice : ℕ) (before after : List ℕ) (needed : ℕ) (code : ℤ) → self ≡ ClosedDocuments r → IsCallable self → Images self choice before after needed code
-    → ((table : Running DocStore) (closed : IsClosedStore table r) → KeepsDocumentReplies table → AreRemainsWritten 1 r choice after
-    → IsTakenUpAgain 1 (IsStoreIn after) (IsStoreFault after) (IsKeptStore table closed.seats r choice) after)
-    → ComesBack self choice after code
-store_back self r choice before after needed code is callable images again =
-    let from = subst IsCallable is callable in
-    let writes = subst (λ (s : Content). Images s choice before after needed code) is images in
-    subst (λ (s : Content). ComesBack s choice after code) (sym is) (λ done. elim writes.written [
-      | inl w ↦ record { table = from.0; closed = from.1; again = again from.0 from.1 from.2 w.2 }
-      | inr w ↦ absurd (no_other code done w.1)
-    ])
+pub left_image : {O : Type 0} (o : Ghosts O) (kind : ℕ) (replies : ReplyKind) (choice : ℕ) (before words : List ℕ) (needed : ℕ) (code : ℤ) (r : Remains) (table : Running O)
+    (closed : IsClosedOf o.line_count o.lawful o.step o.only_reads table r) → KeepsReplies replies table → WritesRemains kind r choice before words needed code → code ≡ pos 0
+    → (AreRemainsWritten kind r choice words → IsHeaded words × (object_kind_in words ≡ kind))
+    → ((answer : Result Base WordsFault) → AreRemainsWritten kind r choice words
+    → MatchResult answer (IsTakenUp (o.version_number table.object) (o.lawful table.object) (o.old_format table.object) words) (IsWordsFault (o.version_number table.object) (o.lawful table.object) (o.old_format table.object) words)
+    → MatchResult answer (IsKeptOfClosed o table closed.seats r choice) (λ fault. fault ≡ Image Memory))
+    → ((base : Base) → AreRemainsWritten kind r choice words → IsTakenUp (o.version_number table.object) (o.lawful table.object) (o.old_format table.object) words base
+    → RepliesGoOn (IsReplyOfKind replies) (o.lawful table.object) (o.step table.object) table.base.words base.words)
+    → IsLeftImage o kind replies choice words r
+left_image o kind replies choice before words needed code r table closed opened writes done head up goes = elim writes.written [
+  | inl w ↦ record {
+    table = table;
+    closed = closed;
+    opened = opened;
+    of = record { headed = (head w.2).0; kind_is = (head w.2).1; lines_are = w.2.head.lines_are ∙ closed.is.leaves.lines ∙ closed.is.opened.lines };
+    up = λ answer. up answer w.2;
+    goes_on = λ base. goes base w.2;
+  }
+  | inr w ↦ absurd (no_other code done w.1)
+]
 
-pub queue_back : (self : Content) (r : Remains) (choice : ℕ) (before after : List ℕ) (needed : ℕ) (code : ℤ) → self ≡ ClosedQueue r → IsCallable self → Images self choice before after needed code
-    → ((table : Running Fifo) (closed : IsClosedQueue table r) → KeepsQueueReplies table → AreRemainsWritten 2 r choice after
-    → IsTakenUpAgain 2 (IsQueueIn after) (IsQueueFault after) (IsKeptQueue table closed.seats r choice) after)
-    → ComesBack self choice after code
-queue_back self r choice before after needed code is callable images again =
-    let from = subst IsCallable is callable in
-    let writes = subst (λ (s : Content). Images s choice before after needed code) is images in
-    subst (λ (s : Content). ComesBack s choice after code) (sym is) (λ done. elim writes.written [
-      | inl w ↦ record { table = from.0; closed = from.1; again = again from.0 from.1 from.2 w.2 }
-      | inr w ↦ absurd (no_other code done w.1)
-    ])
+module _ (choice : ℕ) (words : List ℕ) where
+  store_left : (r : Remains) → IsLeftImage store_ghosts 1 Document choice words r → IsStoreAgain r choice words
+  store_left r left = record {
+    table = left.table;
+    closed = left.closed;
+    again = store_again words left.table.object.lines left.of.lines_are (IsKeptOfClosed store_ghosts left.table left.closed.seats r choice) (left.of.headed, left.of.kind_is) left.up
+        (λ base took. left.goes_on base took (stores_give_replies left.table.object.lines) left.opened);
+  }
+
+  queue_left : (r : Remains) → IsLeftImage queue_ghosts 2 QueueReplies choice words r → IsQueueAgain r choice words
+  queue_left r left =
+      let enough = left.closed.is.opened.enough in
+      let of = left.closed.is.opened.lines in
+      record {
+        table = left.table;
+        closed = left.closed;
+        again = queue_again words left.table.object.lines left.of.lines_are (IsKeptOfClosed queue_ghosts left.table left.closed.seats r choice) (left.of.headed, left.of.kind_is) left.up
+            (λ base took. left.goes_on base took (queues_give_replies left.table.object.lines (omega (arith, enough, of))) left.opened);
+      }
+
+  program_left : (r : Remains) → IsLeftImage program_ghosts 3 ProgramReplies choice words r → IsProgramAgain r choice words
+  program_left r left = record {
+    table = left.table;
+    closed = left.closed;
+    again = program_again words left.table.object.lines left.of.lines_are (IsKeptOfClosed program_ghosts left.table left.closed.seats r choice) left.table.object.version (old_in_lines left.table.object)
+        (left.of.headed, left.of.kind_is) left.up;
+  }
+
+  module _ (code : ℤ) where
+    pub store_comes_back : (content : Content DocStore) → ContentComesBack store_ghosts 1 Document choice words code content → ComesBack (Documents content) choice words code
+    store_comes_back (Closed r) back = λ done. store_left r (back done)
+    store_comes_back (Session session) back = tt
+    store_comes_back (Kept kept) back = tt
+    store_comes_back (Rest rest) back = tt
+    store_comes_back Gone back = tt
+
+    pub queue_comes_back : (content : Content Fifo) → ContentComesBack queue_ghosts 2 QueueReplies choice words code content → ComesBack (Queue content) choice words code
+    queue_comes_back (Closed r) back = λ done. queue_left r (back done)
+    queue_comes_back (Session session) back = tt
+    queue_comes_back (Kept kept) back = tt
+    queue_comes_back (Rest rest) back = tt
+    queue_comes_back Gone back = tt
+
+    pub program_comes_back : (content : Content ProgramObject) → ContentComesBack program_ghosts 3 ProgramReplies choice words code content → ComesBack (Program content) choice words code
+    program_comes_back (Closed r) back = λ done. program_left r (back done)
+    program_comes_back (Session session) back = tt
+    program_comes_back (Kept kept) back = tt
+    program_comes_back (Rest rest) back = tt
+    program_comes_back Gone back = tt
+
+-- ---- and one that a session took
+
+module _ (words : List ℕ) where
+  store_taken : (r : Running DocStore) → IsTakenImage store_ghosts 1 words r → IsTakenStoreAgain r words
+  store_taken r image =
+      let base = base_at image.has.place image.has.region in
+      record {
+        has = image.has;
+        again = λ holds. store_again words r.object.lines image.of.lines_are (λ b. b ≡ base) (image.of.headed, image.of.kind_is) image.up
+            (λ b took. subst (λ (x : Base). HoldsReplies IsDocumentReply x.words) (sym (image.up (Ok b) took)) holds);
+      }
+
+  queue_taken : (r : Running Fifo) → IsTakenImage queue_ghosts 2 words r → IsTakenQueueAgain r words
+  queue_taken r image =
+      let base = base_at image.has.place image.has.region in
+      record {
+        has = image.has;
+        again = λ holds. queue_again words r.object.lines image.of.lines_are (λ b. b ≡ base) (image.of.headed, image.of.kind_is) image.up
+            (λ b took. subst (λ (x : Base). HoldsReplies IsQueueReply x.words) (sym (image.up (Ok b) took)) holds);
+      }
+
+  program_taken : (r : Running ProgramObject) → IsTakenImage program_ghosts 3 words r → IsTakenProgramAgain r words
+  program_taken r image = record {
+    has = image.has;
+    again = program_again words r.object.lines image.of.lines_are (λ b. b ≡ base_at image.has.place image.has.region) r.object.version (old_in_lines r.object) (image.of.headed, image.of.kind_is) image.up;
+  }
+
+  module _ (code : ℤ) where
+    pub store_taken_back : (content : Content DocStore) → ContentTakenBack store_ghosts 1 words code content → TakenComesBack (Documents content) words code
+    store_taken_back (Session session) back = λ done. store_taken (arc_value session.service) (back done)
+    store_taken_back (Closed r) back = tt
+    store_taken_back (Kept kept) back = tt
+    store_taken_back (Rest rest) back = tt
+    store_taken_back Gone back = tt
+
+    pub queue_taken_back : (content : Content Fifo) → ContentTakenBack queue_ghosts 2 words code content → TakenComesBack (Queue content) words code
+    queue_taken_back (Session session) back = λ done. queue_taken (arc_value session.service) (back done)
+    queue_taken_back (Closed r) back = tt
+    queue_taken_back (Kept kept) back = tt
+    queue_taken_back (Rest rest) back = tt
+    queue_taken_back Gone back = tt
+
+    pub program_taken_back : (content : Content ProgramObject) → ContentTakenBack program_ghosts 3 words code content → TakenComesBack (Program content) words code
+    program_taken_back (Session session) back = λ done. program_taken (arc_value session.service) (back done)
+    program_taken_back (Closed r) back = tt
+    program_taken_back (Kept kept) back = tt
+    program_taken_back (Rest rest) back = tt
+    program_taken_back Gone back = tt

@@ -1,28 +1,37 @@
 -- What becomes of an image that the library wrote.
-use Rattle.std.specs.Prelude.{◌≡◌, ◌⊎◌, ◌<◌, ℕ, ℤ, pos, List}
+use Rattle.std.specs.Prelude.{◌≡◌, ◌⊎◌, ◌<◌, ℕ, ℤ, pos, List, Result}
+use Rattle.std.specs.Prelude.{MatchResult}
 use Rattle.std.specs.Arc.{arc_value}
 use Rattle.cx_base.specs.declared.object.Object.{Ghosts}
 use Rattle.cx_core.specs.Base.{LawfulBase}
 use Rattle.cx_core.specs.declared.entry.Base.{Base}
-use Rattle.cx_rule.specs.Running.{Running}
+use Rattle.cx_rule.specs.Running.{IsRunning, Running}
 use Rattle.cx_rule.specs.Seats.{Seated}
 use Rattle.cx_table.specs.declared.remains.Remains.{Remains}
 use Rattle.recovery.specs.Kept.{IsKeptBy}
-use Rattle.c_images.specs.Replies.{HoldsReplies, IsDocumentReply, IsQueueReply}
+use Rattle.recovery.specs.declared.recovered_base.ImageFault.TheVariants.{Memory}
+use Rattle.c_images.specs.Replies.{HoldsReplies, IsDocumentReply, IsQueueReply, IsReplyOfKind, RepliesGoOn}
 use Rattle.c_images.specs.Taken.{IsWrittenOf, base_at}
+use Rattle.c_images.specs.Words.{IsHeaded, IsTakenUp, IsWordsFault, lines_in, object_kind_in}
 use Rattle.c_images.specs.declared.reader.WordsFault.{WordsFault}
+use Rattle.c_images.specs.declared.reader.WordsFault.TheVariants.{Image}
+use Rattle.c_images.specs.declared.replies.ReplyKind.{ReplyKind}
+use Rattle.c_sessions.specs.Closings.{IsClosedOf}
 use Rattle.doc_store.specs.contracts.store.DocStoreObject.TheImpl.{ghosts as store_ghosts}
 use Rattle.doc_store.specs.declared.store.DocStore.{DocStore}
-use Rattle.doc_store.specs.ExactStep.{IsImageOfStore, store_step}
 use Rattle.fifo_object.specs.contracts.fifo.FifoObject.TheImpl.{ghosts as queue_ghosts}
 use Rattle.fifo_object.specs.declared.fifo.Fifo.{Fifo}
-use Rattle.fifo_object.specs.Fifo.{IsFifo, fifo_step}
+use Rattle.program_object.specs.contracts.object.ProgramObjectObject.TheImpl.{ghosts as program_ghosts}
+use Rattle.program_object.specs.declared.object.ProgramObject.{ProgramObject}
 use Rattle.githoppu_c.specs.Codes.{IsOpenCode}
-use Rattle.githoppu_c.specs.Objects.{IsClosedQueue, IsClosedStore, IsQueueFault, IsQueueIn, IsStoreFault, IsStoreIn}
+use Rattle.githoppu_c.specs.Contents.{KeepsReplies}
+use Rattle.githoppu_c.specs.Objects.{IsProgramFault, IsProgramIn, IsQueueFault, IsQueueIn, IsStoreFault, IsStoreIn, old_in_lines}
 use Rattle.githoppu_c.specs.Outcomes.{WritesOutcome}
 use Rattle.githoppu_c.specs.Recoveries.{AreFew, Recovers}
+use Rattle.githoppu_c.specs.declared.content.AnyContent.{AnyContent}
+use Rattle.githoppu_c.specs.declared.content.AnyContent.TheVariants.{Documents, Queue, Program}
 use Rattle.githoppu_c.specs.declared.content.Content.{Content}
-use Rattle.githoppu_c.specs.declared.content.Content.TheVariants.{ClosedDocuments, ClosedQueue, Documents, Queue}
+use Rattle.githoppu_c.specs.declared.content.Content.TheVariants.{Closed, Session}
 
 -- Words are taken up again. As many sessions as there may be are recovered from them, and what became of each is told, unless memory runs out, or the
 -- sessions' new queue did not take its first entry. What is taken up holds what was kept.
@@ -32,28 +41,44 @@ pub record IsTakenUpAgain (kind : ℕ) (taken : Base → Type 0) (faulty : Words
       WritesOutcome words session number_before number reply_before reply code → (code ≡ pos 0) ⊎ (code ≡ pos 8)
   pub keeps : (base : Base) → taken base → kept base
 
--- what a crash keeps by choice of a closed store, or of a closed queue: among others each answer
-abbrev pub IsKeptStore : Running DocStore → List Seated → Remains → ℕ → Base → Type 0
-IsKeptStore = IsKeptBy (λ (s : DocStore). s.lines) (λ s. IsImageOfStore s.lines) (λ s. store_step s.lines)
+-- the same of recovering alone
+pub record IsRecoveredAgain (kind : ℕ) (taken : Base → Type 0) (faulty : WordsFault → Type 0) (kept : Base → Type 0) (words : List ℕ) : Type 0 where
+  pub recovers : (count : ℕ) (code : ℤ) → AreFew count → Recovers kind taken faulty words count code → (code ≡ pos 0) ⊎ IsOpenCode code
+  pub keeps : (base : Base) → taken base → kept base
 
-abbrev pub IsKeptQueue : Running Fifo → List Seated → Remains → ℕ → Base → Type 0
-IsKeptQueue = IsKeptBy (λ (f : Fifo). f.lines) (λ f. IsFifo f.lines) (λ f. fifo_step f.lines)
+-- what a crash keeps by choice of a closed service: among others each answer
+abbrev pub IsKeptOfClosed : {O : Type 0} → Ghosts O → Running O → List Seated → Remains → ℕ → Base → Type 0
+IsKeptOfClosed o = IsKeptBy o.line_count o.lawful o.step
 
--- the image by choice of a closed store, or of a closed queue, is taken up again
-pub record IsStoreAgain (r : Remains) (choice : ℕ) (words : List ℕ) : Type 0 where
-  pub table : Running DocStore
-  pub closed : IsClosedStore table r
-  pub again : IsTakenUpAgain 1 (IsStoreIn words) (IsStoreFault words) (IsKeptStore table closed.seats r choice) words
+-- the image by choice of a closed service is taken up again
+pub record IsAgain {O : Type 0} (o : Ghosts O) (kind : ℕ) (taken : Running O → Base → Type 0) (faulty : Running O → WordsFault → Type 0) (r : Remains) (choice : ℕ) (words : List ℕ) : Type 0 where
+  pub table : Running O
+  pub closed : IsClosedOf o.line_count o.lawful o.step o.only_reads table r
+  pub again : IsTakenUpAgain kind (taken table) (faulty table) (IsKeptOfClosed o table closed.seats r choice) words
 
-pub record IsQueueAgain (r : Remains) (choice : ℕ) (words : List ℕ) : Type 0 where
-  pub table : Running Fifo
-  pub closed : IsClosedQueue table r
-  pub again : IsTakenUpAgain 2 (IsQueueIn words) (IsQueueFault words) (IsKeptQueue table closed.seats r choice) words
+-- of a store, of a queue, and of a program's object
+abbrev pub IsStoreAgain : Remains → ℕ → List ℕ → Type 0
+IsStoreAgain r choice words = IsAgain store_ghosts 1 (λ _. IsStoreIn words) (λ _. IsStoreFault words) r choice words
+
+abbrev pub IsQueueAgain : Remains → ℕ → List ℕ → Type 0
+IsQueueAgain r choice words = IsAgain queue_ghosts 2 (λ _. IsQueueIn words) (λ _. IsQueueFault words) r choice words
+
+abbrev pub is_program_in : List ℕ → Running ProgramObject → Base → Type 0
+is_program_in words table = IsProgramIn table.object.version (old_in_lines table.object) words
+
+abbrev pub is_program_fault : List ℕ → Running ProgramObject → WordsFault → Type 0
+is_program_fault words table = IsProgramFault table.object.version (old_in_lines table.object) words
+
+pub record IsProgramAgain (r : Remains) (choice : ℕ) (words : List ℕ) : Type 0 where
+  pub table : Running ProgramObject
+  pub closed : IsClosedOf program_ghosts.line_count program_ghosts.lawful program_ghosts.step program_ghosts.only_reads table r
+  pub again : IsRecoveredAgain 3 (is_program_in words table) (is_program_fault words table) (IsKeptOfClosed program_ghosts table closed.seats r choice) words
 
 -- so it is where it was written
-abbrev pub ComesBack : Content → ℕ → List ℕ → ℤ → Type 0
-ComesBack (ClosedDocuments r) choice words code = code ≡ pos 0 → IsStoreAgain r choice words
-ComesBack (ClosedQueue r) choice words code = code ≡ pos 0 → IsQueueAgain r choice words
+abbrev pub ComesBack : AnyContent → ℕ → List ℕ → ℤ → Type 0
+ComesBack (Documents (Closed r)) choice words code = code ≡ pos 0 → IsStoreAgain r choice words
+ComesBack (Queue (Closed r)) choice words code = code ≡ pos 0 → IsQueueAgain r choice words
+ComesBack (Program (Closed r)) choice words code = code ≡ pos 0 → IsProgramAgain r choice words
 ComesBack content choice words code = Unit {0}
 
 -- words of an image that a session took of a running service: of one region, which is a lawful base at its place
@@ -69,15 +94,59 @@ pub record IsRegionAgain {O : Type 0} (o : Ghosts O) (kind : ℕ) (is : List ℕ
   pub has : IsRegionIn o kind r words
   pub again : HoldsReplies is has.region → IsTakenUpAgain kind taken faulty (λ base. base ≡ base_at has.place has.region) words
 
--- of a running store, and of a running queue
+-- of a running store, of a running queue, and of a program's object
 abbrev pub IsTakenStoreAgain : Running DocStore → List ℕ → Type 0
 IsTakenStoreAgain r words = IsRegionAgain store_ghosts 1 IsDocumentReply (IsStoreIn words) (IsStoreFault words) r words
 
 abbrev pub IsTakenQueueAgain : Running Fifo → List ℕ → Type 0
 IsTakenQueueAgain r words = IsRegionAgain queue_ghosts 2 IsQueueReply (IsQueueIn words) (IsQueueFault words) r words
 
+pub record IsTakenProgramAgain (r : Running ProgramObject) (words : List ℕ) : Type 0 where
+  pub has : IsRegionIn program_ghosts 3 r words
+  pub again : IsRecoveredAgain 3 (is_program_in words r) (is_program_fault words r) (λ base. base ≡ base_at has.place has.region) words
+
 -- so it is where an image was taken
-abbrev pub TakenComesBack : Content → List ℕ → ℤ → Type 0
-TakenComesBack (Documents session) words code = code ≡ pos 0 → IsTakenStoreAgain (arc_value session.service) words
-TakenComesBack (Queue session) words code = code ≡ pos 0 → IsTakenQueueAgain (arc_value session.service) words
+abbrev pub TakenComesBack : AnyContent → List ℕ → ℤ → Type 0
+TakenComesBack (Documents (Session session)) words code = code ≡ pos 0 → IsTakenStoreAgain (arc_value session.service) words
+TakenComesBack (Queue (Session session)) words code = code ≡ pos 0 → IsTakenQueueAgain (arc_value session.service) words
+TakenComesBack (Program (Session session)) words code = code ≡ pos 0 → IsTakenProgramAgain (arc_value session.service) words
 TakenComesBack content words code = Unit {0}
+
+-- ---- the same of any object, in its own words
+
+-- Whatever is answered for these words of an object, they are refused only where memory runs out, and what is taken up is kept.
+abbrev pub IsAnsweredBy : {O : Type 0} → Ghosts O → O → List ℕ → (Base → Type 0) → Type 0
+IsAnsweredBy o object words kept =
+    (answer : Result Base WordsFault) → MatchResult answer (IsTakenUp (o.version_number object) (o.lawful object) (o.old_format object) words)
+    (IsWordsFault (o.version_number object) (o.lawful object) (o.old_format object) words) → MatchResult answer kept (λ fault. fault ≡ Image Memory)
+
+-- words with the head of this kind, of an object of this many lines
+pub record IsOfKind (kind lines : ℕ) (words : List ℕ) : Type 0 where
+  pub headed : IsHeaded words
+  pub kind_is : object_kind_in words ≡ kind
+  pub lines_are : lines_in words ≡ lines
+
+-- the image by choice of a closed service is taken up, and keeps replies where the object's step answers by none but those
+pub record IsLeftImage {O : Type 0} (o : Ghosts O) (kind : ℕ) (replies : ReplyKind) (choice : ℕ) (words : List ℕ) (r : Remains) : Type 0 where
+  pub table : Running O
+  pub closed : IsClosedOf o.line_count o.lawful o.step o.only_reads table r
+  pub opened : KeepsReplies replies table
+  pub of : IsOfKind kind (o.line_count table.object) words
+  pub up : IsAnsweredBy o table.object words (IsKeptOfClosed o table closed.seats r choice)
+  pub goes_on : (base : Base) → IsTakenUp (o.version_number table.object) (o.lawful table.object) (o.old_format table.object) words base
+      → RepliesGoOn (IsReplyOfKind replies) (o.lawful table.object) (o.step table.object) table.base.words base.words
+
+abbrev pub ContentComesBack : {O : Type 0} → Ghosts O → ℕ → ReplyKind → ℕ → List ℕ → ℤ → Content O → Type 0
+ContentComesBack o kind replies choice words code (Closed r) = code ≡ pos 0 → IsLeftImage o kind replies choice words r
+ContentComesBack o kind replies choice words code content = Unit {0}
+
+-- and so is the one that a session took of a running one
+pub record IsTakenImage {O : Type 0} (o : Ghosts O) (kind : ℕ) (words : List ℕ) (r : Running O) : Type 0 where
+  pub running : IsRunning o.line_count o.lawful r
+  pub has : IsRegionIn o kind r words
+  pub of : IsOfKind kind (o.line_count r.object) words
+  pub up : IsAnsweredBy o r.object words (λ base. base ≡ base_at has.place has.region)
+
+abbrev pub ContentTakenBack : {O : Type 0} → Ghosts O → ℕ → List ℕ → ℤ → Content O → Type 0
+ContentTakenBack o kind words code (Session session) = code ≡ pos 0 → IsTakenImage o kind words (arc_value session.service)
+ContentTakenBack o kind words code content = Unit {0}

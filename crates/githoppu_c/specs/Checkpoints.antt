@@ -11,9 +11,11 @@ use Rattle.c_sessions.specs.declared.checkpoint.Taken.{Taken}
 use Rattle.c_sessions.specs.declared.checkpoint.Taken.TheVariants.{At, Again, Stopped, OutOfTurn}
 use Rattle.doc_store.specs.contracts.store.DocStoreObject.TheImpl.{ghosts as store_ghosts}
 use Rattle.fifo_object.specs.contracts.fifo.FifoObject.TheImpl.{ghosts as queue_ghosts}
-use Rattle.githoppu_c.specs.Contents.{IsCallable}
+use Rattle.program_object.specs.contracts.object.ProgramObjectObject.TheImpl.{ghosts as program_ghosts}
+use Rattle.githoppu_c.specs.Contents.{IsCallable, OfBoth}
+use Rattle.githoppu_c.specs.declared.content.AnyContent.{AnyContent}
 use Rattle.githoppu_c.specs.declared.content.Content.{Content}
-use Rattle.githoppu_c.specs.declared.content.Content.TheVariants.{Documents, Queue}
+use Rattle.githoppu_c.specs.declared.content.Content.TheVariants.{Session as ContentSession}
 
 -- the number of the result of taking an image
 abbrev pub taken_code : Taken → ℤ
@@ -45,16 +47,19 @@ pub record TakesAs {O : Type 0} (o : Ghosts O) (kind : ℕ) (before after : Sess
   pub took : ((length words_before ≡ checkpoint_words (arc_value before.service)) × TookImage o kind before after words code)
       ⊎ ((length words_before ≢ checkpoint_words (arc_value before.service)) × (code ≡ pos 7) × (words ≡ words_before) × (after ≡ before))
 
--- of a store or a queue; what is no session was called out of turn, and nothing is changed
-abbrev pub CheckpointsSession : Content → Content → List ℕ → List ℕ → ℕ → ℤ → Type 0
-CheckpointsSession (Documents before) (Documents after) words_before words needed code = TakesAs store_ghosts 1 before after words_before words needed code
-CheckpointsSession (Documents before) after words_before words needed code = ⊥
-CheckpointsSession (Queue before) (Queue after) words_before words needed code = TakesAs queue_ghosts 2 before after words_before words needed code
-CheckpointsSession (Queue before) after words_before words needed code = ⊥
-CheckpointsSession before after words_before words needed code = (after ≡ before) × (words ≡ words_before) × (needed ≡ 0) × (code ≡ pos 6)
+-- what is no session was called out of turn, and nothing is changed
+abbrev pub ContentCheckpoints : {O : Type 0} → Ghosts O → ℕ → List ℕ → List ℕ → ℕ → ℤ → Content O → Content O → Type 0
+ContentCheckpoints o kind words_before words needed code (ContentSession before) (ContentSession after) = TakesAs o kind before after words_before words needed code
+ContentCheckpoints o kind words_before words needed code (ContentSession before) after = ⊥
+ContentCheckpoints o kind words_before words needed code before after = (after ≡ before) × (words ≡ words_before) × (needed ≡ 0) × (code ≡ pos 6)
+
+abbrev pub CheckpointsSession : AnyContent → AnyContent → List ℕ → List ℕ → ℕ → ℤ → Type 0
+CheckpointsSession before after words_before words needed code =
+    OfBoth (ContentCheckpoints store_ghosts 1 words_before words needed code) (ContentCheckpoints queue_ghosts 2 words_before words needed code)
+    (ContentCheckpoints program_ghosts 3 words_before words needed code) before after
 
 -- what C is answered, which left what may be called
-pub record AnswersCheckpoint (before : Content) (words_before words : List ℕ) (needed : ℕ) (code : ℤ) : Type 0 where
-  pub after : Content
+pub record AnswersCheckpoint (before : AnyContent) (words_before words : List ℕ) (needed : ℕ) (code : ℤ) : Type 0 where
+  pub after : AnyContent
   pub callable : IsCallable after
   pub comes_to : CheckpointsSession before after words_before words needed code

@@ -1,56 +1,50 @@
 -- What C is answered where it closes a session, and where it asks for an image.
 use Rattle.std.specs.Prelude.{◌≡◌, ◌≢◌, ◌⊎◌, ◌+◌, ℕ, ℤ, pos, List, length}
 use Rattle.std.specs.Arc.{arc_value}
+use Rattle.cx_base.specs.declared.object.Object.{Ghosts}
 use Rattle.cx_service.specs.Closes.{seats_of}
 use Rattle.cx_service.specs.declared.close.Handed.{Handed}
 use Rattle.cx_table.specs.declared.remains.Remains.{Remains}
 use Rattle.recovery.specs.Images.{image_size}
 use Rattle.c_images.specs.Words.{AreRemainsWritten}
 use Rattle.cx_rule.specs.Running.{Running}
+use Rattle.c_sessions.specs.Closings.{Closes, ClosesTo, IsClosedWith}
 use Rattle.c_sessions.specs.Handing.{IsSessionRestOf}
 use Rattle.c_sessions.specs.declared.close.Closing.{Closing}
-use Rattle.c_sessions.specs.declared.close.Closing.TheVariants.{Again, Closed, Kept, Missing, Shared}
-use Rattle.doc_store.specs.declared.store.DocStore.{DocStore}
-use Rattle.fifo_object.specs.declared.fifo.Fifo.{Fifo}
+use Rattle.c_sessions.specs.declared.close.Closing.TheVariants.{Again as ClosingAgain, Closed as ClosingClosed, Kept as ClosingKept, Missing, Shared}
+use Rattle.doc_store.specs.contracts.store.DocStoreObject.TheImpl.{ghosts as store_ghosts}
+use Rattle.fifo_object.specs.contracts.fifo.FifoObject.TheImpl.{ghosts as queue_ghosts}
+use Rattle.program_object.specs.contracts.object.ProgramObjectObject.TheImpl.{ghosts as program_ghosts}
 use Rattle.githoppu_c.specs.Codes.{closing_code}
-use Rattle.githoppu_c.specs.Objects.{ClosesQueue, ClosesQueueTo, ClosesStore, ClosesStoreTo, IsClosedQueueWith, IsClosedStoreWith}
+use Rattle.githoppu_c.specs.Contents.{OfAny, OfBoth}
+use Rattle.githoppu_c.specs.declared.content.AnyContent.{AnyContent}
 use Rattle.githoppu_c.specs.declared.content.Content.{Content}
-use Rattle.githoppu_c.specs.declared.content.Content.TheVariants.{Documents, Queue, KeptDocuments, KeptQueue, RestDocuments, RestQueue, ClosedDocuments, ClosedQueue, Gone}
+use Rattle.githoppu_c.specs.declared.content.Content.TheVariants.{Session, Kept, Rest, Closed, Gone}
 
--- what C holds afterwards
-abbrev pub content_left : Closing DocStore → Content
-content_left (Again session) = Documents session
-content_left (Closed remains account) = ClosedDocuments remains
-content_left (Kept kept account) = KeptDocuments kept
-content_left (Missing rest) = RestDocuments rest
-content_left (Shared rest) = RestDocuments rest
+-- what C has afterwards
+abbrev pub content_left : {O : Type 0} → Closing O → Content O
+content_left (ClosingAgain session) = Session session
+content_left (ClosingClosed remains account) = Closed remains
+content_left (ClosingKept kept account) = Kept kept
+content_left (Missing rest) = Rest rest
+content_left (Shared rest) = Rest rest
 content_left closing = Gone
 
-abbrev pub queue_left : Closing Fifo → Content
-queue_left (Again session) = Queue session
-queue_left (Closed remains account) = ClosedQueue remains
-queue_left (Kept kept account) = KeptQueue kept
-queue_left (Missing rest) = RestQueue rest
-queue_left (Shared rest) = RestQueue rest
-queue_left closing = Gone
+-- A session was closed, as its closing has it. A service with all its callers is closed, or memory runs out again and all is as it was; what the last session has is closed, as the closing of it has
+-- it. What is no session, or is closed, is as it was.
+abbrev pub ContentCloses : {O : Type 0} → Ghosts O → ℤ → Content O → Content O → Type 0
+ContentCloses {O = O} o code (Session session) after =
+    (closing : Closing O) × Closes o.line_count o.lawful o.step o.only_reads session closing × (after ≡ content_left closing) × (code ≡ closing_code closing)
+ContentCloses o code (Kept kept) after =
+    ((remains : Remains) × IsClosedWith o.line_count o.lawful o.step o.only_reads kept.service (seats_of kept.callers.items) remains × (after ≡ Closed remains) × (code ≡ pos 0))
+    ⊎ ((after ≡ Kept kept) × (code ≡ pos 8))
+ContentCloses {O = O} o code (Rest rest) after =
+    (closing : Closing O) × ((r : Running O) (given : List Handed) → IsSessionRestOf r given rest → ClosesTo o.line_count o.lawful o.step o.only_reads r (arc_value rest.exit.handover) given closing)
+    × (after ≡ content_left closing) × (code ≡ closing_code closing)
+ContentCloses o code before after = (after ≡ before) × (code ≡ pos 6)
 
--- a service with all its callers is closed, or memory runs out again and all is as it was
-abbrev pub ClosesKept : (Remains → Type 0) → (Remains → Content) → Content → Content → ℤ → Type 0
-ClosesKept closed left before after code = ((remains : Remains) × closed remains × (after ≡ left remains) × (code ≡ pos 0)) ⊎ ((after ≡ before) × (code ≡ pos 8))
-
--- what the last session has is closed, as the closing of it has it
-abbrev pub ClosesRest : {O : Type 0} → (Closing O → Type 0) → (Closing O → Content) → Content → ℤ → Type 0
-ClosesRest {O = O} closes left after code = (closing : Closing O) × closes closing × (after ≡ left closing) × (code ≡ closing_code closing)
-
--- a session was closed, as its closing has it; what is no session, or is closed, is as it was
-abbrev pub ClosesAs : Content → Content → ℤ → Type 0
-ClosesAs (Documents session) after code = (closing : Closing DocStore) × ClosesStore session closing × (after ≡ content_left closing) × (code ≡ closing_code closing)
-ClosesAs (Queue session) after code = (closing : Closing Fifo) × ClosesQueue session closing × (after ≡ queue_left closing) × (code ≡ closing_code closing)
-ClosesAs (KeptDocuments kept) after code = ClosesKept (IsClosedStoreWith kept.service (seats_of kept.callers.items)) ClosedDocuments (KeptDocuments kept) after code
-ClosesAs (KeptQueue kept) after code = ClosesKept (IsClosedQueueWith kept.service (seats_of kept.callers.items)) ClosedQueue (KeptQueue kept) after code
-ClosesAs (RestDocuments rest) after code = ClosesRest (λ closing. (r : Running DocStore) (given : List Handed) → IsSessionRestOf r given rest → ClosesStoreTo r (arc_value rest.exit.handover) given closing) content_left after code
-ClosesAs (RestQueue rest) after code = ClosesRest (λ closing. (r : Running Fifo) (given : List Handed) → IsSessionRestOf r given rest → ClosesQueueTo r (arc_value rest.exit.handover) given closing) queue_left after code
-ClosesAs before after code = (after ≡ before) × (code ≡ pos 6)
+abbrev pub ClosesAs : AnyContent → AnyContent → ℤ → Type 0
+ClosesAs before after code = OfBoth (ContentCloses store_ghosts code) (ContentCloses queue_ghosts code) (ContentCloses program_ghosts code) before after
 
 -- how many words an image has of what a closed service left
 abbrev pub remains_words : Remains → ℕ
@@ -62,7 +56,10 @@ pub record WritesRemains (kind : ℕ) (r : Remains) (choice : ℕ) (before after
   pub written : ((length before ≡ remains_words r) × (code ≡ pos 0) × AreRemainsWritten kind r choice after) ⊎ ((length before ≢ remains_words r) × (code ≡ pos 7) × (after ≡ before))
 
 -- the image of what is closed; what is not closed has none
-abbrev pub Images : Content → ℕ → List ℕ → List ℕ → ℕ → ℤ → Type 0
-Images (ClosedDocuments r) choice before after needed code = WritesRemains 1 r choice before after needed code
-Images (ClosedQueue r) choice before after needed code = WritesRemains 2 r choice before after needed code
-Images content choice before after needed code = (after ≡ before) × (needed ≡ 0) × (code ≡ pos 6)
+abbrev pub ContentImages : {O : Type 0} → ℕ → ℕ → List ℕ → List ℕ → ℕ → ℤ → Content O → Type 0
+ContentImages kind choice before after needed code (Closed r) = WritesRemains kind r choice before after needed code
+ContentImages kind choice before after needed code content = (after ≡ before) × (needed ≡ 0) × (code ≡ pos 6)
+
+abbrev pub Images : AnyContent → ℕ → List ℕ → List ℕ → ℕ → ℤ → Type 0
+Images content choice before after needed code =
+    OfAny (ContentImages 1 choice before after needed code) (ContentImages 2 choice before after needed code) (ContentImages 3 choice before after needed code) content

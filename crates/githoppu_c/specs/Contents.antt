@@ -1,51 +1,95 @@
--- What C holds, and what a call of it answers.
+-- What C has, and what a call of it answers.
 use Rattle.std.specs.Prelude.{◌≡◌, ◌⊎◌, ◌≤◌, ◌^◌, ℕ, ℤ, pos, All, List, length}
 use Rattle.std.specs.Arc.{arc_value}
 use Rattle.std.specs.Global.{Global}
 use Rattle.std_alloc.specs.declared.boxed.Box.{Box}
-use Rattle.doc_store.specs.ExactStep.{reads_in}
-use Rattle.fifo_object.specs.Fifo.{fifo_reads}
+use Rattle.cx_base.specs.declared.object.Object.{Ghosts}
+use Rattle.cx_core.specs.declared.entry.Base.{Base}
 use Rattle.cx_rule.specs.Running.{Running}
 use Rattle.cx_service.specs.Closes.{seats_of}
 use Rattle.cx_service.specs.declared.close.Handed.{Handed}
 use Rattle.cx_table.specs.Remains.{AreSeats}
+use Rattle.doc_store.specs.contracts.store.DocStoreObject.TheImpl.{ghosts as store_ghosts}
 use Rattle.doc_store.specs.declared.store.DocStore.{DocStore}
+use Rattle.fifo_object.specs.contracts.fifo.FifoObject.TheImpl.{ghosts as queue_ghosts}
 use Rattle.fifo_object.specs.declared.fifo.Fifo.{Fifo}
+use Rattle.program_object.specs.contracts.object.ProgramObjectObject.TheImpl.{ghosts as program_ghosts}
+use Rattle.program_object.specs.declared.object.ProgramObject.{ProgramObject}
+use Rattle.c_images.specs.Replies.{HoldsReplies, IsReplyOfKind}
+use Rattle.c_images.specs.declared.replies.ReplyKind.{ReplyKind}
+use Rattle.c_images.specs.declared.replies.ReplyKind.TheVariants.{Document, Queue as QueueReplies, Program as ProgramReplies}
+use Rattle.c_sessions.specs.Closings.{IsClosedOf}
 use Rattle.c_sessions.specs.Handing.{IsSessionRestOf}
 use Rattle.c_sessions.specs.Sessions.{CallsIn, FinishesIn, IsSessionReady, IsReadyOf}
+use Rattle.c_sessions.specs.declared.session.Session.{Session as SessionOf}
 use Rattle.c_sessions.specs.declared.steps.Called.{Called}
 use Rattle.c_sessions.specs.declared.steps.Called.TheVariants.{OutOfTurn}
 use Rattle.githoppu_c.specs.Codes.{IsOpenCode, code_of}
-use Rattle.githoppu_c.specs.Objects.{IsClosedQueue, IsClosedStore, KeepsDocumentReplies, KeepsQueueReplies}
+use Rattle.githoppu_c.specs.declared.content.AnyContent.{AnyContent}
+use Rattle.githoppu_c.specs.declared.content.AnyContent.TheVariants.{Documents, Queue, Program}
 use Rattle.githoppu_c.specs.declared.content.Content.{Content}
-use Rattle.githoppu_c.specs.declared.content.Content.TheVariants.{Documents, Queue, KeptDocuments, KeptQueue, RestDocuments, RestQueue, ClosedDocuments, ClosedQueue, Gone}
+use Rattle.githoppu_c.specs.declared.content.Content.TheVariants.{Session, Kept, Rest, Closed, Gone}
+
+-- a content of any object: of each of the three this holds
+abbrev pub OfAny : (Content DocStore → Type 0) → (Content Fifo → Type 0) → (Content ProgramObject → Type 0) → AnyContent → Type 0
+OfAny documents queue program (Documents content) = documents content
+OfAny documents queue program (Queue content) = queue content
+OfAny documents queue program (Program content) = program content
+
+-- two contents of one object: of each of the three this holds
+abbrev pub OfBoth : (Content DocStore → Content DocStore → Type 0) → (Content Fifo → Content Fifo → Type 0) → (Content ProgramObject → Content ProgramObject → Type 0)
+    → AnyContent → AnyContent → Type 0
+OfBoth documents queue program (Documents before) (Documents after) = documents before after
+OfBoth documents queue program (Queue before) (Queue after) = queue before after
+OfBoth documents queue program (Program before) (Program after) = program before after
+OfBoth documents queue program before after = ⊥
+
+-- a service was opened with results that keep replies of this kind
+abbrev pub KeepsReplies : {O : Type 0} → ReplyKind → Running O → Type 0
+KeepsReplies replies r = HoldsReplies (IsReplyOfKind replies) r.base.words
 
 -- What C may call: a session that is ready, a service with all its callers that is still to be closed, or with those that the last session found, and what a closed one left. The service was opened
 -- with results that keep replies.
-abbrev pub IsCallable : Content → Type 0
-IsCallable (Documents session) = IsSessionReady session × KeepsDocumentReplies (arc_value session.service)
-IsCallable (Queue session) = IsSessionReady session × KeepsQueueReplies (arc_value session.service)
-IsCallable (KeptDocuments kept) = AreSeats kept.service (seats_of kept.callers.items) × KeepsDocumentReplies kept.service
-IsCallable (KeptQueue kept) = AreSeats kept.service (seats_of kept.callers.items) × KeepsQueueReplies kept.service
-IsCallable (RestDocuments rest) = (r : Running DocStore) × (given : List Handed) × IsSessionRestOf r given rest × KeepsDocumentReplies r
-IsCallable (RestQueue rest) = (r : Running Fifo) × (given : List Handed) × IsSessionRestOf r given rest × KeepsQueueReplies r
-IsCallable (ClosedDocuments remains) = (r : Running DocStore) × IsClosedStore r remains × KeepsDocumentReplies r
-IsCallable (ClosedQueue remains) = (r : Running Fifo) × IsClosedQueue r remains × KeepsQueueReplies r
-IsCallable Gone = Unit {0}
+abbrev pub IsContentCallable : {O : Type 0} → Ghosts O → ReplyKind → Content O → Type 0
+IsContentCallable o replies (Session session) = IsSessionReady session × KeepsReplies replies (arc_value session.service)
+IsContentCallable o replies (Kept kept) = AreSeats kept.service (seats_of kept.callers.items) × KeepsReplies replies kept.service
+IsContentCallable {O = O} o replies (Rest rest) = (r : Running O) × (given : List Handed) × IsSessionRestOf r given rest × KeepsReplies replies r
+IsContentCallable {O = O} o replies (Closed remains) = (r : Running O) × IsClosedOf o.line_count o.lawful o.step o.only_reads r remains × KeepsReplies replies r
+IsContentCallable o replies Gone = Unit {0}
 
--- a session of this store, or of this queue
-abbrev pub IsStoreOf : Running DocStore → Content → Type 0
-IsStoreOf r (Documents session) = IsReadyOf r session
-IsStoreOf r content = ⊥
+abbrev pub IsCallable : AnyContent → Type 0
+IsCallable = OfAny (IsContentCallable store_ghosts Document) (IsContentCallable queue_ghosts QueueReplies) (IsContentCallable program_ghosts ProgramReplies)
 
-abbrev pub IsQueueOf : Running Fifo → Content → Type 0
-IsQueueOf r (Queue session) = IsReadyOf r session
-IsQueueOf r content = ⊥
+-- a session of a store, of a queue, or of a program's object, as C has it
+abbrev pub store_session : SessionOf DocStore → AnyContent
+store_session session = Documents (Session session)
+
+abbrev pub queue_session : SessionOf Fifo → AnyContent
+queue_session session = Queue (Session session)
+
+abbrev pub program_session : SessionOf ProgramObject → AnyContent
+program_session session = Program (Session session)
+
+-- a session of this service, of which C has this
+pub record IsSessionIn {O : Type 0} (any : SessionOf O → AnyContent) (r : Running O) (content : AnyContent) : Type 0 where
+  pub session : SessionOf O
+  pub of : IsReadyOf r session
+  pub is : content ≡ any session
 
 -- this many boxes, with this in each, which C may call
-pub record AreBoxes (is : Content → Type 0) (count : ℕ) (boxes : List (Box Content Global)) : Type 0 where
+pub record AreBoxes (is : AnyContent → Type 0) (count : ℕ) (boxes : List (Box AnyContent Global)) : Type 0 where
   pub all : length boxes ≡ count
-  pub each : All (λ (b : Box Content Global). is b.value × IsCallable b.value) boxes
+  pub each : All (λ (b : Box AnyContent Global). is b.value × IsCallable b.value) boxes
+
+-- this many sessions of one service of this object, which opens from such a base
+pub record AreSessionsOf {O : Type 0} (object : O) (lines count : ℕ) (base : Base → Type 0) (sessions : List (SessionOf O)) : Type 0 where
+  pub service : Running O
+  pub object_is : service.object ≡ object
+  pub callers_are : service.callers ≡ count
+  pub lines_are : service.lines ≡ lines
+  pub said : base service.base
+  pub all : length sessions ≡ count
+  pub each : All (IsReadyOf service) sessions
 
 -- what may be opened: an object of 64 to 16,384 lines, with 1 to 8 sessions
 pub record MayOpen (lines count : ℕ) : Type 0 where
@@ -63,32 +107,36 @@ abbrev pub AnswersOpening : ℕ → ℕ → ℤ → Type 0
 AnswersOpening lines count code = (MayOpen lines count × (code ≡ pos 0)) ⊎ Refuses lines count code
 
 -- this many boxes of sessions of one service of an object in this many lines that may be opened
-pub record AreOpened {O : Type 0} (is : Running O → Content → Type 0) (lines count : ℕ) (boxes : List (Box Content Global)) : Type 0 where
+pub record AreOpened {O : Type 0} (any : SessionOf O → AnyContent) (lines count : ℕ) (boxes : List (Box AnyContent Global)) : Type 0 where
   pub may : MayOpen lines count
   pub service : Running O
   pub callers_are : service.callers ≡ count
   pub lines_are : service.lines ≡ lines
-  pub of : AreBoxes (is service) count boxes
+  pub of : AreBoxes (IsSessionIn any service) count boxes
 
 -- what is no session was called out of turn, and is as it was
-abbrev pub IsNoTurn : Content → Called → Content → Type 0
+abbrev pub IsNoTurn : {O : Type 0} → Content O → Called → Content O → Type 0
 IsNoTurn before called after = (called ≡ OutOfTurn) × (after ≡ before)
 
 -- a call of this operation, in this many tries, had this result
-abbrev pub CallHasResult : List ℕ → ℕ → Content → Called → Content → List ℕ → Type 0
-CallHasResult op tries (Documents before) called (Documents after) reply = CallsIn (λ _. reads_in) op tries before called after reply
-CallHasResult op tries (Documents before) called after reply = ⊥
-CallHasResult op tries (Queue before) called (Queue after) reply = CallsIn (λ _. fifo_reads) op tries before called after reply
-CallHasResult op tries (Queue before) called after reply = ⊥
-CallHasResult op tries before called after reply = IsNoTurn before called after
+abbrev pub ContentCalls : {O : Type 0} → Ghosts O → List ℕ → ℕ → Called → List ℕ → Content O → Content O → Type 0
+ContentCalls o op tries called reply (Session before) (Session after) = CallsIn o.only_reads op tries before called after reply
+ContentCalls o op tries called reply (Session before) after = ⊥
+ContentCalls o op tries called reply before after = IsNoTurn before called after
+
+abbrev pub CallHasResult : List ℕ → ℕ → AnyContent → Called → AnyContent → List ℕ → Type 0
+CallHasResult op tries before called after reply =
+    OfBoth (ContentCalls store_ghosts op tries called reply) (ContentCalls queue_ghosts op tries called reply) (ContentCalls program_ghosts op tries called reply) before after
 
 -- the same of finishing, in this many turns
-abbrev pub FinishesSession : ℕ → Content → Called → Content → List ℕ → Type 0
-FinishesSession tries (Documents before) called (Documents after) reply = FinishesIn tries before called after reply
-FinishesSession tries (Documents before) called after reply = ⊥
-FinishesSession tries (Queue before) called (Queue after) reply = FinishesIn tries before called after reply
-FinishesSession tries (Queue before) called after reply = ⊥
-FinishesSession tries before called after reply = IsNoTurn before called after
+abbrev pub ContentFinishes : {O : Type 0} → ℕ → Called → List ℕ → Content O → Content O → Type 0
+ContentFinishes tries called reply (Session before) (Session after) = FinishesIn tries before called after reply
+ContentFinishes tries called reply (Session before) after = ⊥
+ContentFinishes tries called reply before after = IsNoTurn before called after
+
+abbrev pub FinishesSession : ℕ → AnyContent → Called → AnyContent → List ℕ → Type 0
+FinishesSession tries before called after reply =
+    OfBoth (ContentFinishes tries called reply) (ContentFinishes tries called reply) (ContentFinishes tries called reply) before after
 
 -- as many tries as are asked for, but at least 1 and at most 2^20
 pub record IsTriesFor (asked tries : ℕ) : Type 0 where
@@ -98,11 +146,11 @@ pub record IsTriesFor (asked tries : ℕ) : Type 0 where
   pub all : (asked ≤ tries) ⊎ (tries ≡ 2 ^ 20)
 
 -- what C is answered: the number of the result of these tries, which left what may be called
-pub record AnswersTries (asked : ℕ) (come_to : ℕ → Called → Content → Type 0) (code : ℤ) : Type 0 where
+pub record AnswersTries (asked : ℕ) (come_to : ℕ → Called → AnyContent → Type 0) (code : ℤ) : Type 0 where
   pub tries : ℕ
   pub asked_for : IsTriesFor asked tries
   pub called : Called
-  pub after : Content
+  pub after : AnyContent
   pub callable : IsCallable after
   pub comes_to : come_to tries called after
   pub is : code ≡ code_of called

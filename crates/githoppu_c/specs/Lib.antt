@@ -3,8 +3,10 @@ pub mod Checkpoints
 pub mod Closings
 pub mod Codes
 pub mod Contents
-pub mod Places
+pub mod Named
 pub mod Objects
 pub mod Outcomes
+pub mod Places
+pub mod Programs
 pub mod Recoveries
 pub mod Sealed

@@ -1,66 +1,19 @@
--- What the definitions of sessions and of images say of the two objects.
+-- What the definitions of sessions and of images say of the three objects.
 use Rattle.std.specs.Prelude.{◌≡◌, ◌⊎◌, ℕ, ℤ, pos, List}
-use Rattle.cx_base.specs.OldFormat.{no_old_format}
+use Rattle.cx_base.specs.OldFormat.{OldFormat, no_old_format}
+use Rattle.cx_base.specs.declared.object.Object.{Ghosts}
 use Rattle.cx_core.specs.declared.entry.Base.{Base}
-use Rattle.cx_rule.specs.Running.{IsRunning, Running}
-use Rattle.cx_rule.specs.Seats.{Seated}
-use Rattle.cx_service.specs.declared.close.Handed.{Handed}
-use Rattle.cx_table.specs.declared.remains.Remains.{Remains}
-use Rattle.c_images.specs.Replies.{HoldsReplies, IsDocumentReply, IsQueueReply}
+use Rattle.c_images.specs.Replies.{HoldsReplies, IsDocumentReply, IsProgramReply, IsQueueReply, IsReplyOfKind}
 use Rattle.c_images.specs.Words.{IsTakenUp, IsWordsFault, lines_in}
 use Rattle.c_images.specs.declared.reader.WordsFault.{WordsFault}
 use Rattle.c_images.specs.declared.reader.WordsFault.TheVariants.{Image}
+use Rattle.c_images.specs.declared.replies.ReplyKind.{ReplyKind}
 use Rattle.recovery.specs.declared.recovered_base.ImageFault.TheVariants.{Body}
-use Rattle.c_sessions.specs.Closings.{Closes, ClosesTo, IsClosedOf, IsClosedWith}
-use Rattle.c_sessions.specs.declared.close.Closing.{Closing}
-use Rattle.c_sessions.specs.declared.handover.Handover.{Handover}
-use Rattle.c_sessions.specs.declared.session.Session.{Session}
-use Rattle.doc_store.specs.declared.store.DocStore.{DocStore}
-use Rattle.doc_store.specs.ExactStep.{IsImageOfStore, first_format, reads_in, store_step}
-use Rattle.fifo_object.specs.declared.fifo.Fifo.{Fifo}
-use Rattle.fifo_object.specs.Fifo.{IsFifo, fifo_reads, fifo_step}
-
--- a running store is within its limits, and a running queue
-abbrev pub IsRunningStore : Running DocStore → Type 0
-IsRunningStore = IsRunning (λ (s : DocStore). s.lines) (λ s. IsImageOfStore s.lines)
-
-abbrev pub IsRunningQueue : Running Fifo → Type 0
-IsRunningQueue = IsRunning (λ (f : Fifo). f.lines) (λ f. IsFifo f.lines)
-
--- what a closed store left, and a closed queue
-abbrev pub IsClosedStore : Running DocStore → Remains → Type 0
-IsClosedStore = IsClosedOf (λ (s : DocStore). s.lines) (λ s. IsImageOfStore s.lines) (λ s. store_step s.lines) (λ _. reads_in)
-
-abbrev pub IsClosedQueue : Running Fifo → Remains → Type 0
-IsClosedQueue = IsClosedOf (λ (f : Fifo). f.lines) (λ f. IsFifo f.lines) (λ f. fifo_step f.lines) (λ _. fifo_reads)
-
--- the same with these seats of its callers
-abbrev pub IsClosedStoreWith : Running DocStore → List Seated → Remains → Type 0
-IsClosedStoreWith = IsClosedWith (λ (s : DocStore). s.lines) (λ s. IsImageOfStore s.lines) (λ s. store_step s.lines) (λ _. reads_in)
-
-abbrev pub IsClosedQueueWith : Running Fifo → List Seated → Remains → Type 0
-IsClosedQueueWith = IsClosedWith (λ (f : Fifo). f.lines) (λ f. IsFifo f.lines) (λ f. fifo_step f.lines) (λ _. fifo_reads)
-
--- the result of closing a session of either
-abbrev pub ClosesStore : Session DocStore → Closing DocStore → Type 0
-ClosesStore = Closes (λ (s : DocStore). s.lines) (λ s. IsImageOfStore s.lines) (λ s. store_step s.lines) (λ _. reads_in)
-
-abbrev pub ClosesQueue : Session Fifo → Closing Fifo → Type 0
-ClosesQueue = Closes (λ (f : Fifo). f.lines) (λ f. IsFifo f.lines) (λ f. fifo_step f.lines) (λ _. fifo_reads)
-
--- and what closing the rest of either did
-abbrev pub ClosesStoreTo : Running DocStore → Handover DocStore → List Handed → Closing DocStore → Type 0
-ClosesStoreTo = ClosesTo (λ (s : DocStore). s.lines) (λ s. IsImageOfStore s.lines) (λ s. store_step s.lines) (λ _. reads_in)
-
-abbrev pub ClosesQueueTo : Running Fifo → Handover Fifo → List Handed → Closing Fifo → Type 0
-ClosesQueueTo = ClosesTo (λ (f : Fifo). f.lines) (λ f. IsFifo f.lines) (λ f. fifo_step f.lines) (λ _. fifo_reads)
-
--- a service was opened with results that keep replies of a store, or of a queue
-abbrev pub KeepsDocumentReplies : Running DocStore → Type 0
-KeepsDocumentReplies r = HoldsReplies IsDocumentReply r.base.words
-
-abbrev pub KeepsQueueReplies : Running Fifo → Type 0
-KeepsQueueReplies r = HoldsReplies IsQueueReply r.base.words
+use Rattle.doc_store.specs.ExactStep.{IsImageOfStore, first_format}
+use Rattle.fifo_object.specs.Fifo.{IsFifo}
+use Rattle.program_code.specs.Program.{instructions_of, program_words}
+use Rattle.program_object.specs.declared.object.ProgramObject.{ProgramObject}
+use Rattle.program_object.specs.Meaning.{IsProgramImage, old_of}
 
 -- what is taken up from words: what `c_images` takes up, in which each result with a number keeps a reply of this kind
 abbrev pub IsBaseWith : (List ℕ → Type 0) → (Base → Type 0) → Base → Type 0
@@ -92,3 +45,25 @@ IsQueueIn words = IsBaseWith IsQueueReply (IsTakenUp 16 (IsFifo (lines_in words)
 abbrev pub IsQueueFault : List ℕ → WordsFault → Type 0
 IsQueueFault words =
     IsFaultOr IsQueueReply (IsTakenUp 16 (IsFifo (lines_in words)) no_old_format words) (IsWordsFault 16 (IsFifo (lines_in words)) no_old_format words)
+
+-- and of the object of a program with this fingerprint, which has this old format in each number of lines
+abbrev pub IsProgramIn : ℕ → (ℕ → OldFormat) → List ℕ → Base → Type 0
+IsProgramIn version old words = IsBaseWith IsProgramReply (IsTakenUp version (IsProgramImage (lines_in words) version) (old (lines_in words)) words)
+
+abbrev pub IsProgramFault : ℕ → (ℕ → OldFormat) → List ℕ → WordsFault → Type 0
+IsProgramFault version old words =
+    IsFaultOr IsProgramReply (IsTakenUp version (IsProgramImage (lines_in words) version) (old (lines_in words)) words)
+    (IsWordsFault version (IsProgramImage (lines_in words) version) (old (lines_in words)) words)
+
+-- what an object of a program has as its old format, in this many lines
+abbrev pub old_in_lines : ProgramObject → ℕ → OldFormat
+old_in_lines o lines = old_of (instructions_of o.program) (program_words o.program) lines o.fuel o.version o.before
+
+-- the same of any object, which may have other lines than the words say
+abbrev pub IsObjectIn : {O : Type 0} → Ghosts O → ReplyKind → O → List ℕ → Base → Type 0
+IsObjectIn o replies object words = IsBaseWith (IsReplyOfKind replies) (IsTakenUp (o.version_number object) (o.lawful object) (o.old_format object) words)
+
+abbrev pub IsObjectFault : {O : Type 0} → Ghosts O → ReplyKind → O → List ℕ → WordsFault → Type 0
+IsObjectFault o replies object words =
+    IsFaultOr (IsReplyOfKind replies) (IsTakenUp (o.version_number object) (o.lawful object) (o.old_format object) words)
+    (IsWordsFault (o.version_number object) (o.lawful object) (o.old_format object) words)

@@ -1,22 +1,40 @@
 -- What became of a session's last operation, as the words of an image say.
-use Rattle.std.specs.Prelude.{◌≡◌, ◌⊎◌, ◌<◌, ◌≤◌, ℕ, ℤ, pos, List, replicate}
+use Rattle.std.specs.Prelude.{◌≡◌, ◌==◌, ◌⊎◌, ◌+◌, ◌*◌, ◌<◌, ◌≤◌, ℕ, ℤ, pos, List, replicate, slice_index, if◌then◌else◌}
+use Rattle.cx_base.specs.Codes.{root_replica_of}
+use Rattle.cx_base.specs.OldFormat.{no_old_format}
 use Rattle.cx_core.specs.declared.entry.Base.{Base}
+use Rattle.cx_core.specs.Region.{region_words}
 use Rattle.recovery.specs.Outcomes.{outcome_of}
 use Rattle.recovery.specs.declared.applied.Outcome.{Outcome}
 use Rattle.recovery.specs.declared.applied.Outcome.TheVariants.{Applied, Never}
-use Rattle.c_images.specs.Words.{IsHeadFault, IsHeaded, object_kind_in}
+use Rattle.c_images.specs.Words.{IsHeadFault, IsHeaded, callers_in, format_in, lines_in, object_kind_in, root_in}
 use Rattle.c_images.specs.declared.reader.WordsFault.{WordsFault}
 use Rattle.githoppu_c.specs.Codes.{fault_code}
-use Rattle.githoppu_c.specs.Objects.{IsQueueFault, IsQueueIn, IsStoreFault, IsStoreIn}
+use Rattle.githoppu_c.specs.Objects.{IsProgramFault, IsProgramIn, IsQueueFault, IsQueueIn, IsStoreFault, IsStoreIn}
 
--- the base that words say, of a store or of a queue, as their head has it
+-- where the object of the region begins that the root names
+abbrev pub object_start_in : List ℕ → ℕ
+object_start_in words = 1176 + (if format_in words == 2 then 0 else region_words (lines_in words) * root_replica_of (callers_in words) (root_in words))
+
+-- the fingerprint that words of a program's object name: its first word
+abbrev pub fingerprint_in : List ℕ → ℕ
+fingerprint_in words = slice_index words (object_start_in words)
+
+-- the base that words say, of a store, of a queue or of the program that they name, as their head has it
+abbrev pub IsBaseOfKind : ℕ → List ℕ → Base → Type 0
+IsBaseOfKind kind words base =
+    ((kind ≡ 1) × IsStoreIn words base) ⊎ (((kind ≡ 2) × IsQueueIn words base) ⊎ ((kind ≡ 3) × IsProgramIn (fingerprint_in words) (λ _. no_old_format) words base))
+
 abbrev pub IsBaseIn : List ℕ → Base → Type 0
-IsBaseIn words base = IsHeaded words × (((object_kind_in words ≡ 1) × IsStoreIn words base) ⊎ ((object_kind_in words ≡ 2) × IsQueueIn words base))
+IsBaseIn words base = IsHeaded words × IsBaseOfKind (object_kind_in words) words base
 
 -- why there is none: they begin with no head, or are refused as those of their kind
+abbrev pub IsFaultOfKind : ℕ → List ℕ → WordsFault → Type 0
+IsFaultOfKind kind words fault =
+    ((kind ≡ 1) × IsStoreFault words fault) ⊎ (((kind ≡ 2) × IsQueueFault words fault) ⊎ ((kind ≡ 3) × IsProgramFault (fingerprint_in words) (λ _. no_old_format) words fault))
+
 abbrev pub IsBaseFault : List ℕ → WordsFault → Type 0
-IsBaseFault words fault =
-    IsHeadFault (object_kind_in words) words fault ⊎ (IsHeaded words × (((object_kind_in words ≡ 1) × IsStoreFault words fault) ⊎ ((object_kind_in words ≡ 2) × IsQueueFault words fault)))
+IsBaseFault words fault = IsHeadFault (object_kind_in words) words fault ⊎ (IsHeaded words × IsFaultOfKind (object_kind_in words) words fault)
 
 -- what this base says of the session
 abbrev pub IsOutcomeIn : List ℕ → ℕ → Outcome → Type 0

@@ -7,8 +7,9 @@ use Rattle.cx_rule.specs.Running.{Running}
 use Rattle.c_images.specs.Words.{IsHeadFault}
 use Rattle.c_images.specs.declared.reader.WordsFault.{WordsFault}
 use Rattle.githoppu_c.specs.Codes.{IsOpenCode, fault_code}
-use Rattle.githoppu_c.specs.Contents.{AreBoxes}
-use Rattle.githoppu_c.specs.declared.content.Content.{Content}
+use Rattle.githoppu_c.specs.Contents.{AreBoxes, IsSessionIn}
+use Rattle.githoppu_c.specs.declared.content.AnyContent.{AnyContent}
+use Rattle.c_sessions.specs.declared.session.Session.{Session}
 
 -- 1 to 8 sessions
 pub record AreFew (count : ℕ) : Type 0 where
@@ -31,12 +32,12 @@ abbrev pub RefusesWords : ℕ → (WordsFault → Type 0) → List ℕ → ℕ �
 RefusesWords kind faulty words count code = ((¬ AreFew count) × (code ≡ pos 7)) ⊎ (AreFew count × (AreWordsRefusedBy kind faulty words code ⊎ IsOpenCode code))
 
 -- this many boxes of sessions of one service that opens from a base that these words say
-pub record AreRecovered {O : Type 0} (is : Running O → Content → Type 0) (taken : Base → Type 0) (count : ℕ) (boxes : List (Box Content Global)) : Type 0 where
+pub record AreRecovered {O : Type 0} (any : Session O → AnyContent) (taken : Base → Type 0) (count : ℕ) (boxes : List (Box AnyContent Global)) : Type 0 where
   pub few : AreFew count
   pub service : Running O
   pub callers_are : service.callers ≡ count
   pub said : taken service.base
-  pub of : AreBoxes (is service) count boxes
+  pub of : AreBoxes (IsSessionIn any service) count boxes
 
 -- what C is answered
 abbrev pub Recovers : ℕ → (Base → Type 0) → (WordsFault → Type 0) → List ℕ → ℕ → ℤ → Type 0

@@ -75,6 +75,9 @@ pub fn open_code(fault: OpenFault) -> i32
 /// The current place is below the one that a session was to catch up with.
 pub const BEHIND: i32 = 23;
 
+/// The words are no program.
+pub const BAD_PROGRAM: i32 = 25;
+
 /// The number of the result of catching up.
 pub fn sight_code(sight: Sight) -> i32
     ensures { result ≡ places.sight_code sight }

@@ -1,44 +1,181 @@
-//! What C holds.
+//! What C has of the library.
 
 ghost use Rattle.std.specs.Prelude.{◌≡◌};
-ghost use Rattle.githoppu_c.specs.Again.{ComesBack, TakenComesBack};
-ghost use Rattle.githoppu_c.specs.Closings.{ClosesAs, Images, queue_left, content_left};
-ghost use Rattle.githoppu_c.specs.Checkpoints.{CheckpointsSession};
+ghost use Rattle.githoppu_c.specs.Again.{ComesBack, ContentComesBack, ContentTakenBack, TakenComesBack};
+ghost use Rattle.githoppu_c.specs.Checkpoints.{CheckpointsSession, ContentCheckpoints};
+ghost use Rattle.githoppu_c.specs.Closings.{ClosesAs, ContentCloses, ContentImages, Images, content_left};
 ghost use Rattle.githoppu_c.specs.Codes.{closing_code};
-ghost use Rattle.githoppu_c.specs.Contents.{CallHasResult, FinishesSession, IsCallable};
-ghost use Rattle.githoppu_c.specs.Places.{MayHavePlace, Sees};
+ghost use Rattle.githoppu_c.specs.Contents.{CallHasResult, ContentCalls, ContentFinishes, FinishesSession, IsCallable, IsContentCallable};
+ghost use Rattle.githoppu_c.specs.Places.{ContentMayHavePlace, ContentSees, MayHavePlace, Sees};
 
-use crate::again::{
-    queues_are_taken_up_again, stores_are_taken_up_again, taken_queues_are_taken_up_again,
-    taken_stores_are_taken_up_again,
-};
 use crate::checkpoint::take_to;
 use crate::codes::{AGAIN, DONE, LOST, NO_MEMORY, OTHERS, OUT_OF_TURN};
-use crate::images::{DOCUMENTS, QUEUE, write_to};
+use crate::images::write_to;
+use crate::objects::OfC;
+use c_images::{
+    taken_images_are_taken_up, written_images_are_taken_up, written_images_keep_replies,
+};
 use c_sessions::{Called, Closing, Rest, Session, Sight, Tries, close_kept, close_rest};
-use cx_base::OpWords;
+use cx_base::{Object, OpWords};
 use cx_service::Kept;
 use cx_table::Remains;
 use doc_store::DocStore;
 use fifo_object::Fifo;
+use program_object::ProgramObject;
+use recovery::closed_tables_are_whole;
 use std::alloc::Global;
+use std::mem;
 
-/// A session of a document store or of a queue; a service that is to be closed with all its callers, once there is memory; what the last session
-/// found of one, which is to be closed with the others; what a closed one left; or nothing any more.
+/// A session of an object; a service that is to be closed with all its callers, once there is memory; what the last session found of one, which is to be
+/// closed with the others; what a closed one left; or nothing any more.
 #[derive(Drop)]
-pub enum Content {
-    Documents(Session<DocStore>),
-    Queue(Session<Fifo>),
-    KeptDocuments(Kept<DocStore>),
-    KeptQueue(Kept<Fifo>),
-    RestDocuments(Rest<DocStore>),
-    RestQueue(Rest<Fifo>),
-    ClosedDocuments(Remains),
-    ClosedQueue(Remains),
+pub enum Content<O: Object> {
+    Session(Session<O>),
+    Kept(Kept<O>),
+    Rest(Rest<O>),
+    Closed(Remains),
     Gone,
 }
 
-impl Content {
+/// What C has: a content of a document store, of a queue, or of a program's object.
+#[derive(Drop)]
+pub enum AnyContent {
+    Documents(Content<DocStore>),
+    Queue(Content<Fifo>),
+    Program(Content<ProgramObject>),
+}
+
+impl<O: OfC> Content<O> {
+    /// Does an operation, in at most the given number of tries.
+    pub fn call(&mut self, op: &OpWords, reply: &mut OpWords, tries: Tries) -> Called
+        requires callable { IsContentCallable O.Object O.replies_kept self.old }
+        ensures callable { IsContentCallable O.Object O.replies_kept self.new }
+        ensures calls { ContentCalls O.Object op.now tries.count result reply.new self.old self.new }
+    {
+        match self {
+            Content::Session(session) => session.call(op, reply, tries),
+            _ => Called::OutOfTurn,
+        }
+    }
+
+    /// Drives the linked entry to its answer, in at most the given number of turns.
+    pub fn finish(&mut self, reply: &mut OpWords, tries: Tries) -> Called
+        requires callable { IsContentCallable O.Object O.replies_kept self.old }
+        ensures callable { IsContentCallable O.Object O.replies_kept self.new }
+        ensures finishes { ContentFinishes tries.count result reply.new self.old self.new }
+    {
+        match self {
+            Content::Session(session) => session.finish(reply, tries),
+            _ => Called::OutOfTurn,
+        }
+    }
+
+    /// The place that a session tells; of what is no session none.
+    pub fn place(&self) -> Option<u64>
+        ensures { ContentMayHavePlace self.now result }
+    {
+        match self {
+            Content::Session(session) => Some(session.place()),
+            _ => None,
+        }
+    }
+
+    /// Has a session see a place that another one told.
+    pub fn catch_up(&mut self, place: u64) -> Sight
+        requires callable { IsContentCallable O.Object O.replies_kept self.old }
+        ensures callable { IsContentCallable O.Object O.replies_kept self.new }
+        ensures sees { ContentSees place result self.old self.new }
+    {
+        match self {
+            Content::Session(session) => session.catch_up(place),
+            _ => Sight::OutOfTurn,
+        }
+    }
+
+    /// Has a session take an image while others go on, where the buffer has as many words as one of one region, which is `needed`. What is taken is taken
+    /// up again where its results keep replies. What is no session is called out of turn, and `needed` is 0.
+    pub fn checkpoint(&mut self, words: &mut [u64], needed: &mut u64) -> i32
+        requires callable { IsContentCallable O.Object O.replies_kept self.old }
+        ensures callable { IsContentCallable O.Object O.replies_kept self.new }
+        ensures checkpoints { ContentCheckpoints O.Object O.KIND words.old words.new needed.new result self.old self.new }
+        ensures back { ContentTakenBack O.Object O.KIND words.new result self.old }
+    {
+        match self {
+            Content::Session(session) => {
+                taken_images_are_taken_up::<O>();
+                take_to(session, O::KIND, words, needed)
+            }
+            _ => {
+                *needed = 0;
+                OUT_OF_TURN
+            }
+        }
+    }
+
+    /// Closes a session, or what is still to be closed.
+    pub fn close(&mut self, alloc: Global) -> i32
+        requires callable { IsContentCallable O.Object O.replies_kept self.old }
+        ensures callable { IsContentCallable O.Object O.replies_kept self.new }
+        ensures closes { ContentCloses O.Object result self.old self.new }
+    {
+        let (after, code) = mem::replace(self, Content::Gone).closed(alloc);
+        *self = after;
+        code
+    }
+
+    fn closed(self, alloc: Global) -> (Content<O>, i32)
+        requires callable { IsContentCallable O.Object O.replies_kept self }
+        ensures callable { IsContentCallable O.Object O.replies_kept result.0 }
+        ensures closes { ContentCloses O.Object result.1 self result.0 }
+    {
+        match self {
+            Content::Session(session) => left(session.close(alloc)),
+            Content::Kept(kept) => match close_kept(alloc, kept) {
+                Ok(remains) => (Content::Closed(remains), DONE),
+                Err(kept) => (Content::Kept(kept), NO_MEMORY),
+            },
+            Content::Rest(rest) => left(close_rest(alloc, rest)),
+            other => (other, OUT_OF_TURN),
+        }
+    }
+
+    /// Writes what a crash leaves, by choice, where the buffer has as many words as an image, which is `needed`. What is written is taken up again. What is not
+    /// closed is called out of turn, and `needed` is 0.
+    pub fn image(&self, choice: u64, words: &mut [u64], needed: &mut u64) -> i32
+        requires callable { IsContentCallable O.Object O.replies_kept self.now }
+        ensures images { ContentImages O.KIND choice words.old words.new needed.new result self.now }
+        ensures back { ContentComesBack O.Object O.KIND O.replies_kept choice words.new result self.now }
+    {
+        match self {
+            Content::Closed(remains) => {
+                closed_tables_are_whole::<O>();
+                written_images_are_taken_up::<O>();
+                written_images_keep_replies::<O>();
+                write_to(remains, O::KIND, choice, words, needed)
+            }
+            _ => {
+                *needed = 0;
+                OUT_OF_TURN
+            }
+        }
+    }
+}
+
+/// What closing a session left.
+fn left<O: Object>(closing: Closing<O>) -> (Content<O>, i32)
+    ensures { (result.0 ≡ content_left closing) × (result.1 ≡ closing_code closing) }
+{
+    match closing {
+        Closing::Others => (Content::Gone, OTHERS),
+        Closing::Again(session) => (Content::Session(session), AGAIN),
+        Closing::Closed(remains, _) => (Content::Closed(remains), DONE),
+        Closing::Kept(kept, _) => (Content::Kept(kept), NO_MEMORY),
+        Closing::Missing(rest) => (Content::Rest(rest), LOST),
+        Closing::Shared(rest) => (Content::Rest(rest), AGAIN),
+    }
+}
+
+impl AnyContent {
     /// Does an operation, in at most the given number of tries.
     pub fn call(&mut self, op: &OpWords, reply: &mut OpWords, tries: Tries) -> Called
         requires callable { IsCallable self.old }
@@ -46,9 +183,9 @@ impl Content {
         ensures calls { CallHasResult op.now tries.count self.old result self.new reply.new }
     {
         match self {
-            Content::Documents(session) => session.call(op, reply, tries),
-            Content::Queue(session) => session.call(op, reply, tries),
-            _ => Called::OutOfTurn,
+            AnyContent::Documents(content) => content.call(op, reply, tries),
+            AnyContent::Queue(content) => content.call(op, reply, tries),
+            AnyContent::Program(content) => content.call(op, reply, tries),
         }
     }
 
@@ -59,9 +196,9 @@ impl Content {
         ensures finishes { FinishesSession tries.count self.old result self.new reply.new }
     {
         match self {
-            Content::Documents(session) => session.finish(reply, tries),
-            Content::Queue(session) => session.finish(reply, tries),
-            _ => Called::OutOfTurn,
+            AnyContent::Documents(content) => content.finish(reply, tries),
+            AnyContent::Queue(content) => content.finish(reply, tries),
+            AnyContent::Program(content) => content.finish(reply, tries),
         }
     }
 
@@ -70,9 +207,9 @@ impl Content {
         ensures { MayHavePlace self.now result }
     {
         match self {
-            Content::Documents(session) => Some(session.place()),
-            Content::Queue(session) => Some(session.place()),
-            _ => None,
+            AnyContent::Documents(content) => content.place(),
+            AnyContent::Queue(content) => content.place(),
+            AnyContent::Program(content) => content.place(),
         }
     }
 
@@ -83,14 +220,13 @@ impl Content {
         ensures sees { Sees place self.old result self.new }
     {
         match self {
-            Content::Documents(session) => session.catch_up(place),
-            Content::Queue(session) => session.catch_up(place),
-            _ => Sight::OutOfTurn,
+            AnyContent::Documents(content) => content.catch_up(place),
+            AnyContent::Queue(content) => content.catch_up(place),
+            AnyContent::Program(content) => content.catch_up(place),
         }
     }
 
-    /// Has a session take an image while others go on, where the buffer has as many words as one of one region, which is `needed`. What is taken is taken
-    /// up again where its results keep replies. What is no session is called out of turn, and `needed` is 0.
+    /// Has a session take an image while others go on.
     pub fn checkpoint(&mut self, words: &mut [u64], needed: &mut u64) -> i32
         requires callable { IsCallable self.old }
         ensures callable { IsCallable self.new }
@@ -98,105 +234,51 @@ impl Content {
         ensures back { TakenComesBack self.old words.new result }
     {
         match self {
-            Content::Documents(session) => {
-                taken_stores_are_taken_up_again();
-                take_to(session, DOCUMENTS, words, needed)
-            }
-            Content::Queue(session) => {
-                taken_queues_are_taken_up_again();
-                take_to(session, QUEUE, words, needed)
-            }
-            _ => {
-                *needed = 0;
-                OUT_OF_TURN
-            }
+            AnyContent::Documents(content) => content.checkpoint(words, needed),
+            AnyContent::Queue(content) => content.checkpoint(words, needed),
+            AnyContent::Program(content) => content.checkpoint(words, needed),
         }
     }
 
     /// Closes a session, or what is still to be closed.
-    pub fn close(self, alloc: Global) -> (Content, i32)
-        requires callable { IsCallable self }
-        ensures callable { IsCallable result.0 }
-        ensures closes { ClosesAs self result.0 result.1 }
+    pub fn close(&mut self, alloc: Global) -> i32
+        requires callable { IsCallable self.old }
+        ensures callable { IsCallable self.new }
+        ensures closes { ClosesAs self.old self.new result }
     {
         match self {
-            Content::Documents(session) => store_closed(session.close(alloc)),
-            Content::Queue(session) => queue_closed(session.close(alloc)),
-            Content::KeptDocuments(kept) => match close_kept(alloc, kept) {
-                Ok(remains) => (Content::ClosedDocuments(remains), DONE),
-                Err(kept) => (Content::KeptDocuments(kept), NO_MEMORY),
-            },
-            Content::KeptQueue(kept) => match close_kept(alloc, kept) {
-                Ok(remains) => (Content::ClosedQueue(remains), DONE),
-                Err(kept) => (Content::KeptQueue(kept), NO_MEMORY),
-            },
-            Content::RestDocuments(rest) => store_closed(close_rest(alloc, rest)),
-            Content::RestQueue(rest) => queue_closed(close_rest(alloc, rest)),
-            other => (other, OUT_OF_TURN),
+            AnyContent::Documents(content) => content.close(alloc),
+            AnyContent::Queue(content) => content.close(alloc),
+            AnyContent::Program(content) => content.close(alloc),
         }
     }
 
-    /// Writes what a crash leaves, by choice, where the buffer has as many words as an image, which is `needed`. What is written is taken up again. What is not
-    /// closed is called out of turn, and `needed` is 0.
+    /// Writes what a crash leaves of what is closed, by choice.
     pub fn image(&self, choice: u64, words: &mut [u64], needed: &mut u64) -> i32
         requires callable { IsCallable self.now }
         ensures images { Images self.now choice words.old words.new needed.new result }
         ensures back { ComesBack self.now choice words.new result }
     {
         match self {
-            Content::ClosedDocuments(remains) => {
-                stores_are_taken_up_again();
-                write_to(remains, DOCUMENTS, choice, words, needed)
-            }
-            Content::ClosedQueue(remains) => {
-                queues_are_taken_up_again();
-                write_to(remains, QUEUE, choice, words, needed)
-            }
-            _ => {
-                *needed = 0;
-                OUT_OF_TURN
-            }
+            AnyContent::Documents(content) => content.image(choice, words, needed),
+            AnyContent::Queue(content) => content.image(choice, words, needed),
+            AnyContent::Program(content) => content.image(choice, words, needed),
         }
-    }
-}
-
-/// What closing a session of a store left.
-fn store_closed(closing: Closing<DocStore>) -> (Content, i32)
-    ensures { (result.0 ≡ content_left closing) × (result.1 ≡ closing_code closing) }
-{
-    match closing {
-        Closing::Others => (Content::Gone, OTHERS),
-        Closing::Again(session) => (Content::Documents(session), AGAIN),
-        Closing::Closed(remains, _) => (Content::ClosedDocuments(remains), DONE),
-        Closing::Kept(kept, _) => (Content::KeptDocuments(kept), NO_MEMORY),
-        Closing::Missing(rest) => (Content::RestDocuments(rest), LOST),
-        Closing::Shared(rest) => (Content::RestDocuments(rest), AGAIN),
-    }
-}
-
-/// What closing a session of a queue left.
-fn queue_closed(closing: Closing<Fifo>) -> (Content, i32)
-    ensures { (result.0 ≡ queue_left closing) × (result.1 ≡ closing_code closing) }
-{
-    match closing {
-        Closing::Others => (Content::Gone, OTHERS),
-        Closing::Again(session) => (Content::Queue(session), AGAIN),
-        Closing::Closed(remains, _) => (Content::ClosedQueue(remains), DONE),
-        Closing::Kept(kept, _) => (Content::KeptQueue(kept), NO_MEMORY),
-        Closing::Missing(rest) => (Content::RestQueue(rest), LOST),
-        Closing::Shared(rest) => (Content::RestQueue(rest), AGAIN),
     }
 }
 
 const fn goes_to_a_thread<T: Send>() {}
 
-/// What C holds may go to another thread, in each of its cases.
+/// What C has may go to another thread, in each of its cases.
 pub const fn contents_cross_threads() {
     goes_to_a_thread::<Session<DocStore>>();
     goes_to_a_thread::<Session<Fifo>>();
+    goes_to_a_thread::<Session<ProgramObject>>();
     goes_to_a_thread::<Kept<DocStore>>();
     goes_to_a_thread::<Kept<Fifo>>();
+    goes_to_a_thread::<Kept<ProgramObject>>();
     goes_to_a_thread::<Rest<DocStore>>();
     goes_to_a_thread::<Rest<Fifo>>();
+    goes_to_a_thread::<Rest<ProgramObject>>();
     goes_to_a_thread::<Remains>();
 }

@@ -1,9 +1,9 @@
 //! What C holds.
 ghost use Rattle.std.specs.Prelude.{◌≡◌};
-ghost use Rattle.githoppu_c.specs.declared.content.Content.{Content};
+ghost use Rattle.githoppu_c.specs.declared.content.AnyContent.{AnyContent};
 ghost use Rattle.githoppu_c.specs.Sealed.{content_coded, handle_owns};
 
-use crate::content::Content;
+use crate::content::AnyContent;
 use crate::raw_box::RawBox;
 use std::alloc::Global;
 use std::marker::Model;
@@ -14,7 +14,7 @@ use std::marker::Model;
 pub struct Handle {
     at: *mut u8,
     alloc: Global,
-    pub ghost content: { Content } by { content_coded },
+    pub ghost content: { AnyContent } by { content_coded },
 }
 
 impl Model for Handle {
@@ -23,17 +23,17 @@ impl Model for Handle {
 
 impl Handle {
     /// The box that it was made of.
-    pub fn into_box(self) -> Box<Content>
+    pub fn into_box(self) -> Box<AnyContent>
         ensures { result.value ≡ self.content }
     {
         self.into_raw_box().into_box()
     }
 
-    fn into_raw_box(self) -> RawBox<Content, Global>
+    fn into_raw_box(self) -> RawBox<AnyContent, Global>
         ensures { result.value ≡ self.content }
     {
         RawBox {
-            ptr: self.at as *mut Content,
+            ptr: self.at as *mut AnyContent,
             alloc: self.alloc,
         }
     }

@@ -12,6 +12,8 @@ pub const DOCUMENTS: u64 = 1;
 
 pub const QUEUE: u64 = 2;
 
+pub const PROGRAM: u64 = 3;
+
 /// Writes what a crash leaves, by choice, where the buffer has as many words as an image, which is `needed`; else nothing is written.
 pub fn write_to(
     remains: &Remains,

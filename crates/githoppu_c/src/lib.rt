@@ -1,11 +1,12 @@
-//! The problem: programs in C, and in whatever calls C, want the proved store and the proved queue, though nothing is proved of such programs.
+//! The problem: programs in C, and in whatever calls C, want the proved store and the proved queue, and objects of their own, though nothing is proved of such
+//! programs.
 //!
 //! The idea: a call takes a handle, answers a number, and gives the handle back, so each call owns its session while it runs. All that these
 //! contracts ask of C is that handles and buffers are what the header says; whatever order the calls come in, one out of turn is refused and changes
 //! nothing. The bodies are thin: `c_sessions` has what a call does, `c_images` has images.
 //!
-//! The document store and the queue for C: `include/githoppu.h` says how each is called. A session is a caller with its share of a
-//! service, and C gives each to one call at a time.
+//! The document store, the queue and the object of a program for C: `include/githoppu.h` says how each is called. A session is a caller with its share of a
+//! service, and C gives each to one call at a time. What a call does is said once, for any object (`Content`), and matched once by object (`AnyContent`).
 #![tactic(auto)]
 
 ghost use Rattle.std.specs.Prelude.{◌≡◌, length};
@@ -17,36 +18,45 @@ ghost use Rattle.githoppu_c.specs.Places.{AnswersSight, TellsPlace};
 ghost use Rattle.githoppu_c.specs.Objects.{IsQueueFault, IsQueueIn, IsStoreFault, IsStoreIn};
 ghost use Rattle.githoppu_c.specs.Outcomes.{WritesOutcome};
 ghost use Rattle.githoppu_c.specs.Recoveries.{Recovers};
-ghost use Rattle.githoppu_c.specs.declared.content.Content as content_type;
+ghost use Rattle.githoppu_c.specs.Programs.{AnswersProgramOpening, RecoversProgram, TellsFault, TellsFingerprint};
+ghost use Rattle.githoppu_c.specs.declared.content.AnyContent as content_type;
 
-mod again;
+mod boxes;
 mod checkpoint;
 mod codes;
 mod content;
 mod handle;
 mod images;
+mod named_program;
+mod objects;
 mod open;
 mod outcomes;
+mod programs;
 mod raw_box;
 mod recovered_sessions;
 
-use crate::codes::{DONE, OTHERS, OUT_OF_TURN, code_of, sight_code};
-use crate::content::Content;
+use crate::codes::{
+    BAD_PROGRAM, BAD_SIZE, DONE, NO_MEMORY, OTHERS, OUT_OF_TURN, code_of, sight_code,
+};
 use crate::handle::Handle;
 use crate::open::{hand_out, open_documents, open_queue};
 use crate::outcomes::outcome_in;
+use crate::programs::{
+    MOST_FUEL, fingerprint_of, open_program, program_fault_number, recover_program,
+};
 use crate::recovered_sessions::{recover_documents, recover_queue};
 use c_sessions::Tries;
 use cx_base::{OP_WORDS, OpWords};
+use program_code::{FaultKind, Program};
 use recovery::Outcome;
 use std::alloc::Global;
-use std::{mem, ptr};
+use std::ptr;
 
 /// The most tries of a call.
 const MOST: u64 = 1 << 20;
 
-/// The version of the library: a million times the first number, a thousand times the second, and the third. Here 0.4.0.
-const VERSION: u64 = 4000;
+/// The version of the library: a million times the first number, a thousand times the second, and the third. Here 0.5.0.
+const VERSION: u64 = 5000;
 
 /// As many tries as are asked for, but at least one and not too many.
 fn tries_of(asked: u64) -> Tries
@@ -79,6 +89,79 @@ pub extern "C" fn githoppu_open_queue(alloc: Global, lines: u64, sessions: &mut 
     match open_queue(alloc, lines, sessions.len()) {
         Ok(made) => {
             hand_out(made, sessions);
+            DONE
+        }
+        Err(code) => code,
+    }
+}
+
+/// Opens an empty object in `lines` lines whose operations are runs of a program of at most `fuel` instructions each, and puts a session into each slot. The
+/// first `instructions` words of the program are instructions, the others constants. Where it is refused, no slot is written.
+#[unsafe(no_mangle)]
+pub extern "C" fn githoppu_open_program(
+    alloc: Global,
+    program: &[u64],
+    instructions: u64,
+    fuel: u64,
+    lines: u64,
+    sessions: &mut [*mut u8],
+) -> i32
+    ensures { AnswersProgramOpening program.now instructions fuel lines (length sessions.old) result }
+{
+    match open_program(alloc, program, instructions, fuel, lines, sessions.len()) {
+        Ok(made) => {
+            hand_out(made, sessions);
+            DONE
+        }
+        Err(code) => code,
+    }
+}
+
+/// Tells why words are no program: the number of the kind of the first fault, and the number of the instruction at fault; 0 and 0 where they are one.
+#[unsafe(no_mangle)]
+pub extern "C" fn githoppu_program_fault(
+    alloc: Global,
+    program: &[u64],
+    instructions: u64,
+    fault: &mut u64,
+    at: &mut u64,
+) -> i32
+    ensures { TellsFault program.now instructions fault.old fault.new at.old at.new result }
+{
+    match Program::of(alloc, program, instructions as usize) {
+        Ok(_) => {
+            *fault = 0;
+            *at = 0;
+            DONE
+        }
+        Err(found) => match found.kind {
+            FaultKind::Memory => NO_MEMORY,
+            kind => {
+                *fault = program_fault_number(kind);
+                *at = found.at;
+                BAD_PROGRAM
+            }
+        },
+    }
+}
+
+/// Tells the fingerprint of a program, which stands in its images.
+#[unsafe(no_mangle)]
+pub extern "C" fn githoppu_program_fingerprint(
+    alloc: Global,
+    program: &[u64],
+    instructions: u64,
+    fuel: u64,
+    fingerprint: &mut u64,
+) -> i32
+    ensures { TellsFingerprint program.now instructions fuel fingerprint.old fingerprint.new result }
+{
+    if fuel > MOST_FUEL {
+        return BAD_SIZE;
+    }
+    match fingerprint_of(alloc, program, instructions, fuel) {
+        Ok(found) => {
+            *fingerprint = found;
             DONE
         }
         Err(code) => code,
@@ -120,16 +203,15 @@ pub extern "C" fn githoppu_finish(
     code_of(called)
 }
 
-/// Closes a session. Its caller is handed in; the session of a store or a queue that is closed last closes it, and what it left stands at `out`. Where
+/// Closes a session. Its caller is handed in; the session of an object that is closed last closes it, and what it left stands at `out`. Where
 /// others are not closed, nothing stands there, and else what is to be closed again.
 #[unsafe(no_mangle)]
 pub extern "C" fn githoppu_close(alloc: Global, session: Handle, out: &mut *mut u8) -> i32
     requires { IsCallable session.content }
-    ensures { (after : content_type.Content) × IsCallable after × ClosesAs session.content after result }
+    ensures { (after : content_type.AnyContent) × IsCallable after × ClosesAs session.content after result }
 {
     let mut content = session.into_box();
-    let (after, code) = mem::replace(&mut *content, Content::Gone).close(alloc);
-    *content = after;
+    let code = content.close(alloc);
     if code == OTHERS {
         drop(content);
         *out = ptr::null_mut();
@@ -139,9 +221,9 @@ pub extern "C" fn githoppu_close(alloc: Global, session: Handle, out: &mut *mut 
     code
 }
 
-/// Writes what a crash leaves of a closed store or queue, by choice, where the buffer has as many words as an image, which is `needed`. Where it is
+/// Writes what a crash leaves of a closed object, by choice, where the buffer has as many words as an image, which is `needed`. Where it is
 /// done, a recovery of the words with 1 to 8 sessions answers DONE, or NO_MEMORY (`GITHOPPU_NO_MEMORY`) where memory runs out, or AGAIN where the new
-/// sessions' queue did not take its first entry; and what became of each session is told, or the answer is NO_MEMORY.
+/// sessions' queue did not take its first entry; and of a store or a queue what became of each session is told, or the answer is NO_MEMORY.
 #[unsafe(no_mangle)]
 pub extern "C" fn githoppu_image(
     closed: Handle,
@@ -160,7 +242,7 @@ pub extern "C" fn githoppu_image(
     code
 }
 
-/// Has a session take an image of its store or queue while others go on, where the buffer has as many words as one of one region, which is `needed`: the image
+/// Has a session take an image of its object while others go on, where the buffer has as many words as one of one region, which is `needed`: the image
 /// after all that was answered before. Where each result in the words keeps a reply, a recovery of them with 1 to 8 sessions answers DONE, or
 /// NO_MEMORY (`GITHOPPU_NO_MEMORY`) where memory runs out, or AGAIN where the new sessions' queue did not take its first entry. The session stands at `out`
 /// afterwards.
@@ -213,7 +295,38 @@ pub extern "C" fn githoppu_recover_queue(
     }
 }
 
-/// What became of the last operation of a session, as the words of an image of a store or a queue say: its number among the session's operations and its
+/// Takes up an object of this program from the words of an image, of either format, and puts a session into each slot. Images of the program with the
+/// fingerprint `before` are taken over, where that is not 0. Where it is refused, no slot is written.
+#[unsafe(no_mangle)]
+pub extern "C" fn githoppu_recover_program(
+    alloc: Global,
+    program: &[u64],
+    instructions: u64,
+    fuel: u64,
+    before: u64,
+    image: &[u64],
+    sessions: &mut [*mut u8],
+) -> i32
+    ensures { RecoversProgram program.now instructions fuel before image.now (length sessions.old) result }
+{
+    match recover_program(
+        alloc,
+        program,
+        instructions,
+        fuel,
+        before,
+        image,
+        sessions.len(),
+    ) {
+        Ok(made) => {
+            hand_out(made, sessions);
+            DONE
+        }
+        Err(code) => code,
+    }
+}
+
+/// What became of the last operation of a session, as the words of an image say: its number among the session's operations and its
 /// reply, or number 0 and no reply where it had none. Where it is refused, nothing is written.
 #[unsafe(no_mangle)]
 pub extern "C" fn githoppu_outcome(
@@ -248,7 +361,7 @@ pub extern "C" fn githoppu_outcome(
 /// The version of the library.
 #[unsafe(no_mangle)]
 pub extern "C" fn githoppu_version() -> u64
-    ensures { result ≡ 4000 }
+    ensures { result ≡ 5000 }
 {
     VERSION
 }
@@ -273,7 +386,7 @@ pub extern "C" fn githoppu_place_of(session: Handle, place: &mut u64, out: &mut 
     }
 }
 
-/// Has a session see a place that another session of the same store or queue told. The session stands at `out` afterwards.
+/// Has a session see a place that another session of the same object told. The session stands at `out` afterwards.
 #[unsafe(no_mangle)]
 pub extern "C" fn githoppu_see_place(session: Handle, place: u64, out: &mut *mut u8) -> i32
     requires { IsCallable session.content }
@@ -285,7 +398,7 @@ pub extern "C" fn githoppu_see_place(session: Handle, place: u64, out: &mut *mut
     sight_code(sight)
 }
 
-/// Releases what C holds. The last session of a store or a queue releases that too.
+/// Releases what C holds. The last session of an object releases that too.
 #[unsafe(no_mangle)]
 pub extern "C" fn githoppu_drop(session: Handle) {
     drop(session.into_box());

@@ -1,14 +1,19 @@
 //! What became of a session's last operation, as the words of an image say.
 
-ghost use Rattle.std.specs.Prelude.{◌≢◌, ◌≤◌, IfOk, MatchResult, length};
-ghost use Rattle.c_images.specs.Words.{IsHeaded, object_kind_in};
+ghost use Rattle.std.specs.Prelude.{◌≡◌, ◌≢◌, ◌≤◌, IfOk, MatchResult, length};
+ghost use Rattle.c_images.specs.Words.{IsHeaded, IsSaid, object_kind_in};
 ghost use Rattle.githoppu_c.specs.Outcomes.{IsBaseIn, IsOutcomeIn, RefusesBase, RefusesOutcome};
+ghost use Rattle.githoppu_c.specs.Outcomes as spec;
 
 use crate::codes::{BAD_SIZE, fault_code};
-use crate::images::{DOCUMENTS, QUEUE};
-use crate::recovered_sessions::{documents_in, queue_in};
-use c_images::{WordsFault, head_of};
+use crate::images::{DOCUMENTS, PROGRAM, QUEUE};
+use crate::named_program::NamedProgram;
+use crate::recovered_sessions::base_in;
+use c_images::{Head, ReplyKind, WordsFault, base_words, head_of};
+use cx_base::root_replica;
 use cx_core::{Base, OBJECT_START};
+use doc_store::DocStore;
+use fifo_object::Fifo;
 use recovery::{Outcome, outcome};
 use std::alloc::Global;
 
@@ -20,31 +25,71 @@ pub fn outcome_in(alloc: Global, words: &[u64], session: u64) -> Result<Outcome,
     if session >= 8 {
         return Err(BAD_SIZE);
     }
-    let base = base_in(alloc, words)?;
+    let base = any_base(alloc, words)?;
     Ok(outcome(&base, session as u32))
 }
 
-/// The base that words say, of a document store or of a queue.
-fn base_in(alloc: Global, words: &[u64]) -> Result<Base, i32>
+/// The base that words say, of whichever object.
+fn any_base(alloc: Global, words: &[u64]) -> Result<Base, i32>
     ensures told { MatchResult result (IsBaseIn words.now) (RefusesBase words.now) }
     ensures long { IfOk result (λ base. OBJECT_START ≤ length base.words) }
 {
     match head_of(words, DOCUMENTS) {
-        Ok(head) => documents_in(alloc, words, head),
-        Err(WordsFault::Kind { .. }) => queue_base(alloc, words),
+        Ok(head) => base_in(
+            alloc,
+            &DocStore::of(head.lines),
+            ReplyKind::Document,
+            words,
+            head,
+        ),
+        Err(WordsFault::Kind { .. }) => other_base(alloc, words),
         Err(fault) => Err(fault_code(fault)),
     }
 }
 
 /// The base that words of another kind than a store say.
-fn queue_base(alloc: Global, words: &[u64]) -> Result<Base, i32>
+fn other_base(alloc: Global, words: &[u64]) -> Result<Base, i32>
     requires headed { IsHeaded words.now }
     requires other { object_kind_in words.now ≢ 1 }
     ensures told { MatchResult result (IsBaseIn words.now) (RefusesBase words.now) }
     ensures long { IfOk result (λ base. OBJECT_START ≤ length base.words) }
 {
     match head_of(words, QUEUE) {
-        Ok(head) => queue_in(alloc, words, head),
+        Ok(head) => base_in(alloc, &Fifo::of(head.lines), ReplyKind::Queue, words, head),
+        Err(WordsFault::Kind { .. }) => program_base(alloc, words),
         Err(fault) => Err(fault_code(fault)),
+    }
+}
+
+/// The base that words of a program's object say, of the program that they name.
+fn program_base(alloc: Global, words: &[u64]) -> Result<Base, i32>
+    requires headed { IsHeaded words.now }
+    requires no_store { object_kind_in words.now ≢ 1 }
+    requires no_queue { object_kind_in words.now ≢ 2 }
+    ensures told { MatchResult result (IsBaseIn words.now) (RefusesBase words.now) }
+    ensures long { IfOk result (λ base. OBJECT_START ≤ length base.words) }
+{
+    match head_of(words, PROGRAM) {
+        Ok(head) => {
+            let object = NamedProgram::of(head.lines, fingerprint_in(words, head));
+            base_in(alloc, &object, ReplyKind::Program, words, head)
+        }
+        Err(fault) => Err(fault_code(fault)),
+    }
+}
+
+/// The fingerprint that the words of an image name: the first word of the object, where the root says that it is.
+fn fingerprint_in(words: &[u64], head: Head) -> u64
+    requires { IsSaid words.now head }
+    ensures { result ≡ spec.fingerprint_in words.now }
+{
+    let region = if head.format == 2 {
+        0
+    } else {
+        base_words(head.lines) * u64::from(root_replica(head.callers, head.root))
+    };
+    match words.get((8 + region + OBJECT_START) as usize) {
+        Some(word) => *word,
+        None => 0,
     }
 }

@@ -1,21 +1,22 @@
 //! Sessions of a service that is taken up from words.
 
-ghost use Rattle.std.specs.Prelude.{◌≤◌, ◌↔◌, IfOk, IsTrue, MatchResult, length};
+ghost use Rattle.std.specs.Prelude.{◌≡◌, ◌≤◌, ◌↔◌, ◌⊎◌, IfOk, IsTrue, MatchResult, length};
 ghost use Rattle.cx_core.specs.Base.{LawfulBase};
-ghost use Rattle.doc_store.specs.ExactStep.{IsImageOfStore};
-ghost use Rattle.fifo_object.specs.Fifo.{IsFifo};
 ghost use Rattle.c_images.specs.Replies.{IsReplyOfKind};
 ghost use Rattle.c_images.specs.Words.{IsSaid};
-ghost use Rattle.githoppu_c.specs.Contents.{IsQueueOf, IsStoreOf};
-ghost use Rattle.githoppu_c.specs.Objects.{IsNoneWith, IsQueueFault, IsQueueIn, IsSameWith, IsStoreFault, IsStoreIn};
+ghost use Rattle.githoppu_c.specs.Codes.{IsOpenCode};
+ghost use Rattle.githoppu_c.specs.Contents.{AreSessionsOf, queue_session, store_session};
+ghost use Rattle.githoppu_c.specs.Objects.{IsNoneWith, IsObjectFault, IsObjectIn, IsQueueFault, IsQueueIn, IsSameWith, IsStoreFault, IsStoreIn};
 ghost use Rattle.githoppu_c.specs.Recoveries.{AreFew, AreRecovered, IsRefusal, RefusesWords};
 
+use crate::boxes::boxed;
 use crate::codes::{BAD_SIZE, IMAGE_BODY, NO_MEMORY, fault_code, open_code};
-use crate::content::Content;
+use crate::content::AnyContent;
 use crate::images::{DOCUMENTS, QUEUE};
-use crate::open::{as_documents, as_queue};
+use crate::objects::OfC;
 use c_images::{Head, ReplyKind, base_of, head_of, holds_replies};
-use c_sessions::open_from;
+use c_sessions::{Session, open_from};
+use cx_base::Object;
 use cx_core::{Base, OBJECT_START};
 use doc_store::DocStore;
 use fifo_object::Fifo;
@@ -27,8 +28,8 @@ pub fn recover_documents(
     alloc: Global,
     words: &[u64],
     count: usize,
-) -> Result<Vec<Box<Content>>, i32>
-    ensures { MatchResult result (λ boxes. AreRecovered IsStoreOf (IsStoreIn words.now) count boxes.items) (RefusesWords 1 (IsStoreFault words.now) words.now count) }
+) -> Result<Vec<Box<AnyContent>>, i32>
+    ensures { MatchResult result (λ boxes. AreRecovered store_session (IsStoreIn words.now) count boxes.items) (RefusesWords 1 (IsStoreFault words.now) words.now count) }
 {
     if !are_few(count) {
         return Err(BAD_SIZE);
@@ -37,20 +38,17 @@ pub fn recover_documents(
         Ok(head) => head,
         Err(fault) => return Err(fault_code(fault)),
     };
-    let base = documents_in(alloc, words, head)?;
-    let sessions = match open_from(alloc, DocStore::of(head.lines), count as u32, &base) {
-        Ok(sessions) => sessions,
-        Err(fault) => return Err(open_code(fault)),
-    };
-    match as_documents(alloc, sessions) {
-        Ok(contents) => Ok(contents),
-        Err(_) => Err(NO_MEMORY),
-    }
+    let sessions = recovered(alloc, DocStore::of(head.lines), words, head, count)?;
+    boxed(alloc, sessions)
 }
 
 /// `count` sessions of the queue that words say. `Err` is the code of the refusal, as for a document store.
-pub fn recover_queue(alloc: Global, words: &[u64], count: usize) -> Result<Vec<Box<Content>>, i32>
-    ensures { MatchResult result (λ boxes. AreRecovered IsQueueOf (IsQueueIn words.now) count boxes.items) (RefusesWords 2 (IsQueueFault words.now) words.now count) }
+pub fn recover_queue(
+    alloc: Global,
+    words: &[u64],
+    count: usize,
+) -> Result<Vec<Box<AnyContent>>, i32>
+    ensures { MatchResult result (λ boxes. AreRecovered queue_session (IsQueueIn words.now) count boxes.items) (RefusesWords 2 (IsQueueFault words.now) words.now count) }
 {
     if !are_few(count) {
         return Err(BAD_SIZE);
@@ -59,37 +57,48 @@ pub fn recover_queue(alloc: Global, words: &[u64], count: usize) -> Result<Vec<B
         Ok(head) => head,
         Err(fault) => return Err(fault_code(fault)),
     };
-    let base = queue_in(alloc, words, head)?;
-    let sessions = match open_from(alloc, Fifo::of(head.lines), count as u32, &base) {
-        Ok(sessions) => sessions,
-        Err(fault) => return Err(open_code(fault)),
-    };
-    match as_queue(alloc, sessions) {
-        Ok(contents) => Ok(contents),
-        Err(_) => Err(NO_MEMORY),
+    let sessions = recovered(alloc, Fifo::of(head.lines), words, head, count)?;
+    boxed(alloc, sessions)
+}
+
+/// `count` sessions of the object, from the base that words with this head say of it. `Err` is what is wrong with the image, else NO_MEMORY, or AGAIN where
+/// the sessions' new queue did not take its first entry.
+pub(crate) fn recovered<O: OfC>(
+    alloc: Global,
+    object: O,
+    words: &[u64],
+    head: Head,
+    count: usize,
+) -> Result<Vec<Session<O>>, i32>
+    requires head { IsSaid words.now head }
+    requires lines { head.lines ≡ O.line_count object }
+    requires few { AreFew count }
+    ensures { MatchResult result
+        (λ sessions. AreSessionsOf object (O.line_count object) count (IsObjectIn O.Object O.replies_kept object words.now) sessions.items)
+        (λ code. IsRefusal (IsObjectFault O.Object O.replies_kept object words.now) code ⊎ IsOpenCode code) }
+{
+    let base = base_in(alloc, &object, O::reply_kind(), words, head)?;
+    match open_from(alloc, object, count as u32, &base) {
+        Ok(sessions) => Ok(sessions),
+        Err(fault) => Err(open_code(fault)),
     }
 }
 
-/// The base that words with this head say of a document store.
-pub(crate) fn documents_in(alloc: Global, words: &[u64], head: Head) -> Result<Base, i32>
-    requires { IsSaid words.now head }
-    ensures told { MatchResult result (IsStoreIn words.now) (IsRefusal (IsStoreFault words.now)) }
-    ensures lawful { IfOk result (LawfulBase head.lines (IsImageOfStore head.lines)) }
+/// The base that words with this head say of an object, where its results are replies of this kind.
+pub(crate) fn base_in<O: Object>(
+    alloc: Global,
+    object: &O,
+    kind: ReplyKind,
+    words: &[u64],
+    head: Head,
+) -> Result<Base, i32>
+    requires head { IsSaid words.now head }
+    requires lines { head.lines ≡ O.line_count object.now }
+    ensures told { MatchResult result (IsObjectIn O.Object kind object.now words.now) (IsRefusal (IsObjectFault O.Object kind object.now words.now)) }
+    ensures lawful { IfOk result (LawfulBase (O.line_count object.now) (O.lawful object.now)) }
 {
-    match base_of(alloc, &DocStore::of(head.lines), words, head) {
-        Ok(base) => with_replies(alloc, base, ReplyKind::Document),
-        Err(fault) => Err(fault_code(fault)),
-    }
-}
-
-/// The base that words with this head say of a queue.
-pub(crate) fn queue_in(alloc: Global, words: &[u64], head: Head) -> Result<Base, i32>
-    requires { IsSaid words.now head }
-    ensures told { MatchResult result (IsQueueIn words.now) (IsRefusal (IsQueueFault words.now)) }
-    ensures lawful { IfOk result (LawfulBase head.lines (IsFifo head.lines)) }
-{
-    match base_of(alloc, &Fifo::of(head.lines), words, head) {
-        Ok(base) => with_replies(alloc, base, ReplyKind::Queue),
+    match base_of(alloc, object, words, head) {
+        Ok(base) => with_replies(alloc, base, kind),
         Err(fault) => Err(fault_code(fault)),
     }
 }
@@ -107,7 +116,7 @@ fn with_replies(alloc: Global, base: Base, kind: ReplyKind) -> Result<Base, i32>
 }
 
 /// Whether there may be this many sessions.
-fn are_few(count: usize) -> bool
+pub(crate) fn are_few(count: usize) -> bool
     ensures { IsTrue result ↔ AreFew count }
 {
     count >= 1 && count <= 8

@@ -1,5 +1,5 @@
 -- What one instruction does: to registers, calls, the stack and the reply; or which word of the object it loads or stores.
-use Rattle.std.specs.Prelude.{◌==◌, ◌+◌, ◌-◌, ◌*◌, ◌/◌, ◌%◌, ◌^◌, ◌&&◌, ◌||◌, nat_lt, nat_le, ℕ, Bool, true, false, List, length, slice_index, slice_set, bit_and, bit_or, if◌then◌else◌}
+use Rattle.std.specs.Prelude.{◌==◌, ◌+◌, ◌-◌, ◌*◌, ◌/◌, ◌%◌, ◌^◌, ◌&&◌, ◌||◌, nat_lt, nat_le, ℕ, Bool, true, List, length, slice_index, slice_set, bit_and, bit_or, if◌then◌else◌}
 use Rattle.program_machine.specs.Arithmetic.{computed, test_holds, signed_8, signed_16, signed_32}
 use Rattle.program_code.specs.declared.instruction.Instruction as instruction_type
 use Rattle.program_code.specs.declared.instruction.Instruction.TheVariants.{Compute, Wide, Jump, Load, Store, Call, Exit, Rest}

@@ -298,14 +298,14 @@ impl Machine {
     #[inline(always)]
     pub fn wish(
         &mut self,
-        instruction: Instruction,
+        instruction: &Instruction,
         request: &[u64; 144],
         constants: &[u64],
         words: u64,
     ) -> Wish
-        ensures { (result, self.new) ≡ spec.wish self.old instruction request.now constants.now words }
+        ensures { (result, self.new) ≡ spec.wish self.old instruction.now request.now constants.now words }
     {
-        match instruction {
+        match *instruction {
             Instruction::Compute {
                 kind,
                 width,

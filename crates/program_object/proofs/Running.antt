@@ -2,8 +2,6 @@
 use Rattle.std.proofs.Common.{slice_index, ◌≡◌, ◌-◌, ◌+◌, ◌<◌, ℕ, suc, List, Option, None, Some, sym, ap, ◌∙◌, arith}
 use Rattle.program_machine.specs.Machine.{Machine}
 use Rattle.program_machine.specs.declared.machine.RunEnd.{RunEnd}
-use Rattle.program_machine.specs.declared.machine.RunEnd.TheVariants.{Fault}
-use Rattle.program_machine.specs.declared.machine.RunFault.TheVariants as fault_kind
 use Rattle.program_object.specs.Run.{Undo, Setting, Stepped, RunsToEnd, RunsOn, go_on, run, state, undone, put}
 
 -- what is left of a count, one less
@@ -24,15 +22,6 @@ at_end p fuel turn next end m m' m'' u u' u'' x y z l r s is = record {
   does = r.does ∙ ap (λ k. run k p (state m' u' y)) (one_left fuel turn l) ∙ ap (go_on (run (fuel - (turn + 1)) p)) (s.does ∙ ap (λ (n : Option RunEnd). (n, state m'' u'' z)) is);
   back = s.back ∙ r.back;
   still = λ no. s.still no ∙ r.still no;
-}
-
--- no fuel is left
-pub out_of_fuel : (p : Setting) (fuel left : ℕ) (m m' : Machine) (u u' : Undo) (x y : List ℕ) → left ≡ 0 →
-    RunsOn p fuel left m u x m' u' y → RunsToEnd p fuel m u x (Fault fault_kind.Fuel m'.at 0) m' u' y
-out_of_fuel p fuel left m m' u u' x y none r = record {
-  does = r.does ∙ ap (λ k. run k p (state m' u' y)) none;
-  back = r.back;
-  still = r.still;
 }
 
 -- one word more was put back

@@ -1,5 +1,5 @@
 -- The laws of a program's object.
-use Rattle.std.specs.Prelude.{◌≡◌, ◌≢◌, ◌-◌, ◌*◌, ◌%◌, ◌^◌, ◌<◌, ◌≤◌, ◌==◌, ◌||◌, ◌↔◌, nat_lt, nat_le, not, ℕ, zero, suc, Bool, true, false, cond, List, ◌∷◌, length, Option, None, Some, replicate, slice_get, slice_index, bit_and, IsTrue, refl}
+use Rattle.std.specs.Prelude.{◌≡◌, ◌≢◌, ◌-◌, ◌*◌, ◌%◌, ◌^◌, ◌<◌, ◌≤◌, ◌==◌, ◌||◌, ◌↔◌, nat_lt, nat_le, not, ℕ, zero, suc, Bool, true, false, cond, List, ◌∷◌, length, Option, None, Some, replicate, slice_get, slice_index, slice_set, bit_and, IsTrue, refl}
 use Rattle.std.proofs.Common.{sym, ap, subst, ◌∙◌, arith, lit<, eq-eqb, get_or-set_same}
 use Rattle.std.proofs.lemmas.Nat.{and_le_l, or_lt}
 use Rattle.std.proofs.lemmas.List.{get_or-set_other, length-replicate}
@@ -21,7 +21,7 @@ use Rattle.program_machine.specs.declared.machine.AddressPlace.TheVariants as pl
 use Rattle.program_machine.specs.declared.machine.Wish as wish_type
 use Rattle.program_machine.specs.declared.machine.Wish.TheVariants.{Goes, Ends, Loads, Stores}
 use Rattle.program_object.specs.Run.{RunState, Setting, fetched, go_on, granted, is_outside, run, setting, step}
-use Rattle.program_object.specs.Meaning.{IsProgramImage, run_outcome, old_of, is_other, faulted, fault_number, opening, program_step, reads, start}
+use Rattle.program_object.specs.Meaning.{IsProgramImage, run_outcome, old_of, is_other, faulted, fault_number, opening, program_step, reads, start, upgrade_request}
 
 -- a fact of a choice, where it is known which test was made
 by_test : {A : Type 0} (P : A → Type 0) (b : Bool) (x y : A) → (b ≡ true → P x) → (b ≡ false → P y) → P (cond b x y)
@@ -196,8 +196,12 @@ module _ (code : List instruction_type.Instruction) (constants : List ℕ) (line
   the_run_good : (image op : List ℕ) → IsProgramImage lines version image → IsLawfulRunState lines version (the_run image op).1
   the_run_good image op i = run_good lines version fuel (setting code constants (8 * lines) op (not (reads op))) (started lines image) (started_good lines version image i)
 
+  -- whatever the words of the operation are
+  step_keeps : (image op : List ℕ) → IsProgramImage lines version image → IsProgramImage lines version (program_step code constants lines fuel image op).0
+  step_keeps image op i = ended_keeps lines version image (the_run image op) i (the_run_good image op i)
+
   pub program_keeps : (image op : List ℕ) → IsProgramImage lines version image → Words 144 op → IsProgramImage lines version (program_step code constants lines fuel image op).0
-  program_keeps image op i w = ended_keeps lines version image (the_run image op) i (the_run_good image op i)
+  program_keeps image op i w = step_keeps image op i
 
   pub program_replies : (image op : List ℕ) → IsProgramImage lines version image → Words 144 op → Words 144 (program_step code constants lines fuel image op).1
   program_replies image op i w = ended_replies lines version image (the_run image op) (the_run_good image op i)
@@ -218,24 +222,31 @@ same_some old version e h = let s : old ≡ version = cc in not_other version (s
 some_words : (lines version : ℕ) (image : List ℕ) → 1 ≤ lines → IsProgramImage lines version image → 0 < length image
 some_words lines version image some i = let e : length image ≡ 8 * lines = i.words.long in omega (arith, e, some)
 
-pub program_takes_over : (lines version : ℕ) (before : Option ℕ) → 1 ≤ lines → version < 2 ^ 64 → is_other before version ≡ true → TakesOver lines version (IsProgramImage lines version) (old_of lines version before)
-program_takes_over lines version None some small other = takes_over_nothing lines version (IsProgramImage lines version)
-program_takes_over lines version (Some old) some small other = record {
+-- an image whose first word is replaced
+pub named : (lines old version : ℕ) (image : List ℕ) → 1 ≤ lines → version < 2 ^ 64 → IsProgramImage lines old image → IsProgramImage lines version (slice_set image 0 version)
+named lines old version image some small i = record {
+  words = Words-set (8 * lines) image 0 version small i.words;
+  version_is = get_or-set_same image 0 version 0 (some_words lines old image some i);
+}
+
+pub program_takes_over : (code : List instruction_type.Instruction) (constants : List ℕ) (lines version fuel : ℕ) (before : Option ℕ) → 1 ≤ lines → version < 2 ^ 64 → is_other before version ≡ true →
+    TakesOver lines version (IsProgramImage lines version) (old_of code constants lines fuel version before)
+program_takes_over code constants lines version fuel None some small other = takes_over_nothing lines version (IsProgramImage lines version)
+program_takes_over code constants lines version fuel (Some old) some small other = record {
   another = λ e. same_some old version e other;
   shape = λ image i. (i.words, ap (λ v. Some v) (sym i.version_is));
-  upgrades = λ image i. record {
-    words = Words-set (8 * lines) image 0 version small i.words;
-    version_is = get_or-set_same image 0 version 0 (some_words lines old image some i);
-  };
+  upgrades = λ image i. step_keeps code constants lines version fuel (slice_set image 0 version) (upgrade_request old) (named lines old version image some small i);
   unchanged = λ words none. absurd cc;
 }
 
--- words that may be upgraded, where there is a format before
-pub upgradable : (lines version old : ℕ) (before : Option ℕ) (words : List ℕ) → 1 ≤ lines → before ≡ Some old → CanUpgrade (old_of lines version before) words → 0 < length words
-upgradable lines version old None words some e can = absurd cc
-upgradable lines version old (Some other) words some e can = some_words lines other words some can
+-- words that may be upgraded, where there is a format before: there is a first one, and with it replaced they are an image
+pub upgradable : (code : List instruction_type.Instruction) (constants : List ℕ) (lines version fuel old : ℕ) (before : Option ℕ) (words : List ℕ) → 1 ≤ lines → version < 2 ^ 64 → before ≡ Some old →
+    CanUpgrade (old_of code constants lines fuel version before) words → (0 < length words) × IsProgramImage lines version (slice_set words 0 version)
+upgradable code constants lines version fuel old None words some small e can = absurd cc
+upgradable code constants lines version fuel old (Some other) words some small e can = (some_words lines other words some can, named lines other version words some small can)
 
 -- whether words are a lawful image of the format before
-pub old_lawful : (lines version old : ℕ) (before : Option ℕ) (words : List ℕ) (answer : Bool) → before ≡ Some old →
-    (IsTrue answer ↔ IsProgramImage lines old words) → IsTrue answer ↔ (old_of lines version before).lawful words
-old_lawful lines version old before words answer e h = subst (λ (x : Option ℕ). IsTrue answer ↔ (old_of lines version x).lawful words) (sym e) h
+pub old_lawful : (code : List instruction_type.Instruction) (constants : List ℕ) (lines version fuel old : ℕ) (before : Option ℕ) (words : List ℕ) (answer : Bool) → before ≡ Some old →
+    (IsTrue answer ↔ IsProgramImage lines old words) → IsTrue answer ↔ (old_of code constants lines fuel version before).lawful words
+old_lawful code constants lines version fuel old before words answer e h =
+    subst (λ (x : Option ℕ). IsTrue answer ↔ (old_of code constants lines fuel version x).lawful words) (sym e) h

@@ -1,5 +1,5 @@
 -- What an operation of a program's object means: a run of the program.
-use Rattle.std.specs.Prelude.{◌≡◌, ◌==◌, ◌-◌, ◌*◌, ◌%◌, ◌^◌, ◌&&◌, nat_le, not, ℕ, Bool, true, Option, None, Some, List, [], ◌∷◌, replicate, slice_index, slice_set}
+use Rattle.std.specs.Prelude.{◌≡◌, ◌==◌, ◌-◌, ◌*◌, ◌%◌, ◌^◌, ◌&&◌, nat_le, not, ℕ, Bool, true, Option, None, Some, List, [], ◌∷◌, replicate, slice_index, slice_set, IsFalse}
 use Rattle.cx_base.specs.Memory.{Words}
 use Rattle.cx_base.specs.OldFormat.{OldFormat, no_old_format}
 use Rattle.program_machine.specs.Machine.{Machine}
@@ -54,19 +54,37 @@ abbrev pub run_outcome : List ℕ → RunEnd × RunState → List ℕ × List �
 run_outcome image (Returned value, s) = (s.image, returned value s.machine.reply)
 run_outcome image (Fault kind at address, s) = (image, faulted (fault_number kind) at address)
 
+-- a run over an image, which stores to it only where it may
+abbrev pub run_over : List instruction_type.Instruction → List ℕ → ℕ → ℕ → Bool → List ℕ → List ℕ → List ℕ × List ℕ
+run_over code constants lines fuel writes image op =
+    run_outcome image (run fuel (setting code constants (8 * lines) op writes) (record { machine = start lines 0; stores = 0; image = image }))
+
 -- ONE STEP of the object
 abbrev pub program_step : List instruction_type.Instruction → List ℕ → ℕ → ℕ → List ℕ → List ℕ → List ℕ × List ℕ
-program_step code constants lines fuel image op =
-    run_outcome image (run fuel (setting code constants (8 * lines) op (not (reads op))) (record { machine = start lines 0; stores = 0; image = image }))
+program_step code constants lines fuel image op = run_over code constants lines fuel (not (reads op)) image op
 
--- THE FORMAT BEFORE: that of the program with another fingerprint. The words are taken over as they are, and the first one names the program.
+-- what a run left, and what it replied; one that may not store leaves the words
+pub record Operates (code : List instruction_type.Instruction) (constants : List ℕ) (lines fuel : ℕ) (writes : Bool) (op before now reply : List ℕ) : Type 0 where
+  pub does : run_over code constants lines fuel writes before op ≡ (now, reply)
+  pub still : IsFalse writes → now ≡ before
+
+-- THE FORMAT BEFORE: that of the program with another fingerprint.
 abbrev pub is_other : Option ℕ → ℕ → Bool
 is_other None version = true
 is_other (Some old) version = not (old == version)
 
-abbrev pub old_of : ℕ → ℕ → Option ℕ → OldFormat
-old_of lines version None = no_old_format
-old_of lines version (Some old) = record { version = Some old; lawful = IsProgramImage lines old; upgraded = λ image. slice_set image 0 version }
+-- what a program is asked once for each image that it takes over: an update that no caller's number says, and the fingerprint before
+unfoldable pub upgrade_request : ℕ → List ℕ
+upgrade_request old = (2 ^ 64 - 2) ∷ old ∷ replicate 142 0
+
+-- THE UPGRADE: the first word names the program, and then the program is run once. So a fault, or a program that knows no such operation and returns, leaves all the other words.
+abbrev pub upgraded_words : List instruction_type.Instruction → List ℕ → ℕ → ℕ → ℕ → ℕ → List ℕ → List ℕ
+upgraded_words code constants lines fuel version old image = (program_step code constants lines fuel (slice_set image 0 version) (upgrade_request old)).0
+
+abbrev pub old_of : List instruction_type.Instruction → List ℕ → ℕ → ℕ → ℕ → Option ℕ → OldFormat
+old_of code constants lines fuel version None = no_old_format
+old_of code constants lines fuel version (Some old) =
+    record { version = Some old; lawful = IsProgramImage lines old; upgraded = upgraded_words code constants lines fuel version old }
 
 -- whether the lines, the fuel and the fingerprint before fit: each word has an address, and the two fingerprints differ
 abbrev pub numbers_fit : ℕ → ℕ → ℕ → Option ℕ → Bool

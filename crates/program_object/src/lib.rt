@@ -5,7 +5,7 @@
 //!
 //! - It is an object: its calls do `program_step` over any memory, and its laws hold: `ProgramObject` (`impl Object`).
 //! - The first line of an image is the library's. Its first word is the program's fingerprint, so that an image of another program is refused; a program may name one fingerprint whose
-//!   images it takes over.
+//!   images it takes over: such a one gets the new fingerprint, and the program is run once over it (`upgraded_words`).
 //! - An operation only reads where the lowest bit of its first word is 1. A store to the object is a fault there.
 //! - The reply's first word is 1 where the run returned, and the second one is the value; else it is the fault's number, 2 to 8, with the instruction and the address after it.
 #![tactic(auto)]
@@ -13,6 +13,7 @@
 mod fingerprint;
 mod object;
 mod run;
+mod slice_memory;
 mod undo;
 
 pub use object::ProgramObject;

@@ -1,6 +1,8 @@
 //! The object whose operations are runs of a program.
 
-ghost use Rattle.std.specs.Prelude.{◌≡◌, ◌*◌, ◌+◌, ◌^◌, ◌<◌, ◌≤◌, ◌↔◌, IsTrue, MatchOption, true, false, length};
+ghost use Rattle.std.specs.Prelude.{◌≡◌, ◌*◌, ◌+◌, ◌^◌, ◌<◌, ◌≤◌, ◌↔◌, IsFalse, IsTrue, MatchOption, true, false, length};
+ghost use Rattle.cx_base.specs.Calls.{Changes};
+ghost use Rattle.cx_base.specs.Memory.{Becomes};
 ghost use Rattle.program_code.specs.Program.{instructions_of, program_words};
 ghost use Rattle.program_object.specs.Fingerprint as prints;
 ghost use Rattle.program_object.specs.Meaning as spec;
@@ -8,6 +10,7 @@ ghost use Rattle.program_object.specs.Laws as laws;
 
 use crate::fingerprint::fingerprint;
 use crate::run::to_end;
+use crate::slice_memory::SliceMemory;
 use crate::undo::{Undo, undo_all};
 use cx_base::{Halt, Memory, OP_WORDS, Object, OpWords};
 use program_code::Program;
@@ -54,6 +57,44 @@ impl ProgramObject {
         ensures { result ≡ self.now.version }
     {
         self.version
+    }
+
+    /// Runs the program once, and puts back what a run that a fault ends has stored. `Halt` comes only where no access is left.
+    fn operate<M: Memory>(
+        &self,
+        mem: &mut M,
+        op: &OpWords,
+        writes: bool,
+        reply: &mut OpWords,
+    ) -> Result<(), Halt>
+        requires size { M.size mem.old ≡ 8 * self.now.lines }
+        requires writable { IsTrue writes → IsTrue (M.writable mem.old) }
+        ensures done { Changes M.Memory mem.old mem.new result (λ _ before now. spec.Operates (instructions_of self.now.program) (program_words self.now.program) self.now.lines self.now.fuel writes op.now before now reply.new) }
+        ensures kept { IsFalse writes → Becomes (M.stands mem.old) (M.stands mem.new) ◌≡◌ }
+    {
+        let words = 8 * self.lines;
+        let mut machine = started(self.lines);
+        let mut undo = Undo::none();
+        match to_end(
+            self.program.code(),
+            self.program.words(),
+            words,
+            op,
+            writes,
+            self.fuel,
+            mem,
+            &mut machine,
+            &mut undo,
+        )? {
+            RunEnd::Returned(value) => *reply = returned(value, &machine.reply),
+            RunEnd::Fault { kind, at, address } => {
+                if writes {
+                    undo_all(mem, words, &undo)?;
+                }
+                *reply = faulted(kind, at, address);
+            }
+        }
+        Ok(())
     }
 }
 
@@ -151,6 +192,17 @@ fn faulted(kind: RunFault, at: u64, address: u64) -> OpWords
     words
 }
 
+/// What a program is asked once for each image that it takes over.
+#[tactic(auto, unfolding(crate::specs::Meaning::upgrade_request))]
+fn upgrade_request(old: u64) -> OpWords
+    ensures { result ≡ spec.upgrade_request old }
+{
+    let mut words = [0; OP_WORDS];
+    words[0] = u64::MAX - 1;
+    words[1] = old;
+    words
+}
+
 impl Object for ProgramObject {
     ghost line_count = { λ o. o.lines };
 
@@ -164,7 +216,7 @@ impl Object for ProgramObject {
 
     ghost only_reads = { λ _. spec.reads };
 
-    ghost old_format = { λ o. spec.old_of o.lines o.version o.before };
+    ghost old_format = { λ o. spec.old_of (instructions_of o.program) (program_words o.program) o.lines o.fuel o.version o.before };
 
     ghost opens = { λ o. laws.program_opens o.lines o.version o.some o.small };
 
@@ -176,7 +228,7 @@ impl Object for ProgramObject {
 
     ghost leaves = { λ o. laws.program_leaves (instructions_of o.program) (program_words o.program) o.lines o.version o.fuel };
 
-    ghost takes_over = { λ o. laws.program_takes_over o.lines o.version o.before o.some o.small o.other };
+    ghost takes_over = { λ o. laws.program_takes_over (instructions_of o.program) (program_words o.program) o.lines o.version o.fuel o.before o.some o.small o.other };
 
     fn lines(&self) -> u64 {
         self.lines
@@ -204,28 +256,7 @@ impl Object for ProgramObject {
         op: &OpWords,
         reply: &mut OpWords,
     ) -> Result<(), Halt> {
-        let writes = !self.reads(op);
-        let words = 8 * self.lines;
-        let mut machine = started(self.lines);
-        let mut undo = Undo::none();
-        match to_end(
-            self.program.code(),
-            self.program.words(),
-            words,
-            op,
-            writes,
-            self.fuel,
-            mem,
-            &mut machine,
-            &mut undo,
-        )? {
-            RunEnd::Returned(value) => *reply = returned(value, &machine.reply),
-            RunEnd::Fault { kind, at, address } => {
-                undo_all(mem, words, &undo)?;
-                *reply = faulted(kind, at, address);
-            }
-        }
-        Ok(())
+        self.operate(mem, op, !self.reads(op), reply)
     }
 
     fn query_into<M: Memory>(
@@ -234,24 +265,7 @@ impl Object for ProgramObject {
         op: &OpWords,
         reply: &mut OpWords,
     ) -> Result<(), Halt> {
-        let words = 8 * self.lines;
-        let mut machine = started(self.lines);
-        let mut undo = Undo::none();
-        match to_end(
-            self.program.code(),
-            self.program.words(),
-            words,
-            op,
-            false,
-            self.fuel,
-            mem,
-            &mut machine,
-            &mut undo,
-        )? {
-            RunEnd::Returned(value) => *reply = returned(value, &machine.reply),
-            RunEnd::Fault { kind, at, address } => *reply = faulted(kind, at, address),
-        }
-        Ok(())
+        self.operate(mem, op, false, reply)
     }
 
     fn check(&self, _alloc: Global, words: &[u64]) -> Result<bool, AllocError> {
@@ -272,7 +286,13 @@ impl Object for ProgramObject {
     fn upgrade(&self, words: &mut [u64]) {
         match self.before {
             None => {}
-            Some(_) => words[0] = self.version,
+            Some(old) => {
+                words[0] = self.version;
+                let mut mem = SliceMemory { words };
+                let mut reply = [0; OP_WORDS];
+                // it has no limit, so it does not halt
+                let _ = self.run_into(&mut mem, &upgrade_request(old), &mut reply);
+            }
         }
     }
 }

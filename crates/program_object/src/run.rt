@@ -100,7 +100,7 @@ fn step<M: Memory>(
     if machine.at >= code.len() as u64 {
         return Ok(end_by_fault(machine, RunFault::Place, 0));
     }
-    let instruction = code[machine.at as usize];
+    let instruction = &code[machine.at as usize];
     let wish = machine.wish(instruction, request, constants, words);
     grant(wish, writes, words, mem, machine, undo)
 }

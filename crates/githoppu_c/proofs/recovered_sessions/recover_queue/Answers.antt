@@ -1,37 +1,24 @@
-use Rattle.std.proofs.Common.{rules, ◌≡◌, ap, of_z, subst, sym, to_z, w32}
-use Rattle.cx_rule.specs.Running.{Running}
-use Rattle.fifo_object.specs.declared.fifo.Fifo.{Fifo}
-use Rattle.githoppu_c.specs.Codes.{open_code}
-use Rattle.githoppu_c.specs.Contents.{AreBoxes, IsQueueOf}
-use Rattle.githoppu_c.specs.Objects.{IsQueueFault, IsQueueIn}
+use Rattle.std.proofs.Common.{◌∙◌, rules}
+use Rattle.fifo_object.specs.contracts.fifo.FifoObject.TheImpl.{ghosts as queue_ghosts}
+use Rattle.c_images.specs.declared.replies.ReplyKind.TheVariants.{Queue as QueueReplies}
+use Rattle.githoppu_c.specs.Contents.{queue_session}
+use Rattle.githoppu_c.specs.Objects.{IsObjectFault, IsObjectIn, IsQueueFault, IsQueueIn}
 use Rattle.githoppu_c.specs.Recoveries.{AreFew, RefusesWords}
-use Rattle.githoppu_c.proofs.Refused.{handed_on, refused_opening, refused_words}
+use Rattle.githoppu_c.proofs.Openings.{ready_callable, recovered_boxes, refused_sessions}
+use Rattle.githoppu_c.proofs.Refused.{handed_on}
+use Rattle.githoppu_c.proofs.SameLines.{queue_base, queue_fault}
 use Rattle.githoppu_c.proofs.recovered_sessions.recover_queue.Goals as goal
 
-pub returns-in-Ok-as_queue : goal.returns-in-Ok-as_queue
-returns-in-Ok-as_queue c =
-    let words = c.args.words.now in
-    let ready = c.in-Ok-open_from.ensures in
-    let said = subst (IsQueueIn words) (sym (ap (λ (r : Running Fifo). r.base) ready.is)) c.in_ok-base.ensures.told in
-    record {
-      few = search rules;
-      service = ready.service;
-      callers_are = ap (λ (r : Running Fifo). r.callers) ready.is;
-      said = said;
-      of = subst (λ n. AreBoxes (IsQueueOf ready.service) n c.in-Ok-as_queue.contents.items) ready.all (c.in-Ok-as_queue.ensures ready.service said.1 ready.each);
-    }
-
-pub returns-in_err-base : goal.returns-in_err-base
-returns-in_err-base c =
+pub returns-in_err-sessions : goal.returns-in_err-sessions
+returns-in_err-sessions c =
     let words = c.args.words.now in
     let few : AreFew c.args.count = search rules in
     handed_on _ (RefusesWords 2 (IsQueueFault words) words c.args.count) c.from_residual.result _ c.from_residual.ensures.1
-    (refused_words 2 (IsQueueFault words) words c.args.count _ few c.in_err-base.ensures.told)
+    (refused_sessions 2 (IsQueueFault words) (IsObjectFault queue_ghosts QueueReplies c.of.result words) words c.args.count _ few (queue_fault words c.of.result (c.of.ensures ∙ c.in-Ok.ensures.1.lines)) c.in_err-sessions.ensures)
 
-pub returns-in-Err-open_from : goal.returns-in-Err-open_from
-returns-in-Err-open_from c =
+pub returns : goal.returns
+returns c =
     let words = c.args.words.now in
     let few : AreFew c.args.count = search rules in
-    let code = to_z w32 (of_z w32 c.open_code.result) in
-    let same : code ≡ open_code c.in-Err-open_from.fault = search rules in
-    refused_opening 2 (IsQueueFault words) words c.args.count code c.in-Err-open_from.fault few same
+    recovered_boxes queue_session QueueReplies (ready_callable queue_ghosts QueueReplies) c.of.result (queue_ghosts.line_count c.of.result) c.args.count (IsObjectIn queue_ghosts QueueReplies c.of.result words) (λ b said. said.1)
+    c.in_ok-sessions.sessions.items c.in_ok-sessions.ensures (λ v. v.items) 2 (IsQueueIn words) (IsQueueFault words) words (queue_base words c.of.result (c.of.ensures ∙ c.in-Ok.ensures.1.lines)) few c.boxed.result c.boxed.ensures

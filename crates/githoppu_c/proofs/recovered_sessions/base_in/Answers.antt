@@ -1,0 +1,12 @@
+use Rattle.c_images.specs.Replies.{IsReplyOfKind}
+use Rattle.c_images.specs.Words.{IsTakenUp, IsWordsFault}
+use Rattle.githoppu_c.proofs.Bases.{taken}
+use Rattle.githoppu_c.proofs.recovered_sessions.base_in.Goals as goal
+
+pub returns-in-Ok-clause-told : goal.returns-in-Ok-clause-told
+returns-in-Ok-clause-told g c =
+    let o = g.O.Object in
+    let object = c.args.object.now in
+    let words = c.args.words.now in
+    taken (IsReplyOfKind c.args.kind) (IsTakenUp (o.version_number object) (o.lawful object) (o.old_format object) words) (IsWordsFault (o.version_number object) (o.lawful object) (o.old_format object) words)
+    c.in-Ok.base c.with_replies.result c.in-Ok.ensures.told tt c.with_replies.ensures

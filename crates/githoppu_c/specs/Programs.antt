@@ -1,0 +1,139 @@
+-- What C is answered where it hands in a program.
+use Rattle.std.specs.Prelude.{◌≡◌, ◌==◌, ◌⊎◌, ◌≤◌, ◌||◌, ◌^◌, ℕ, ℤ, pos, List, Option, None, Some, if◌then◌else◌}
+use Rattle.std.specs.Global.{Global}
+use Rattle.std_alloc.specs.declared.boxed.Box.{Box}
+use Rattle.cx_core.specs.declared.entry.Base.{Base}
+use Rattle.c_images.specs.Words.{lines_in}
+use Rattle.c_images.specs.declared.reader.WordsFault.{WordsFault}
+use Rattle.program_code.specs.Program.{Decodes, IsFirstProgramFault, instructions_of, program_words}
+use Rattle.program_code.specs.declared.instruction.Instruction.{Instruction}
+use Rattle.program_code.specs.declared.program.ProgramFault.{ProgramFault}
+use Rattle.program_code.specs.declared.spelling.FaultKind.{FaultKind}
+use Rattle.program_code.specs.declared.spelling.FaultKind.TheVariants as fault_kind
+use Rattle.program_object.specs.Fingerprint.{fingerprint}
+use Rattle.program_object.specs.Meaning.{old_of}
+use Rattle.program_object.specs.declared.object.ProgramObject.{ProgramObject}
+use Rattle.githoppu_c.specs.Codes.{IsOpenCode}
+use Rattle.githoppu_c.specs.Contents.{AreOpened, MayOpen, program_session}
+use Rattle.githoppu_c.specs.Objects.{IsProgramFault, IsProgramIn}
+use Rattle.githoppu_c.specs.Recoveries.{AreFew, AreRecovered, Recovers, RefusesWords}
+use Rattle.githoppu_c.specs.declared.content.AnyContent.{AnyContent}
+
+-- words are a program: the first ones spell instructions
+abbrev pub IsProgram : List ℕ → ℕ → Type 0
+IsProgram words instructions = (code : List Instruction) × Decodes words instructions code
+
+-- the object of the program that these words are
+pub record IsObjectOf (words : List ℕ) (instructions fuel lines : ℕ) (before : Option ℕ) (o : ProgramObject) : Type 0 where
+  pub decodes : Decodes words instructions (instructions_of o.program)
+  pub words_are : program_words o.program ≡ words
+  pub lines_are : o.lines ≡ lines
+  pub fuel_is : o.fuel ≡ fuel
+  pub before_is : o.before ≡ before
+  pub version_is : o.version ≡ fingerprint words instructions fuel
+
+-- why there is none, as a number: an instruction is at fault, and none before it, or memory ran out
+abbrev pub RefusesProgram : List ℕ → ℕ → ℤ → Type 0
+RefusesProgram words instructions code = (((fault : ProgramFault) × IsFirstProgramFault words instructions fault) × (code ≡ pos 25)) ⊎ (code ≡ pos 8)
+
+-- at most 2^20 instructions an operation
+abbrev pub IsFuel : ℕ → Type 0
+IsFuel fuel = fuel ≤ 2 ^ 20
+
+-- the number of a kind of fault
+abbrev pub program_fault_number : FaultKind → ℕ
+program_fault_number fault_kind.Length = 1
+program_fault_number fault_kind.Opcode = 2
+program_fault_number fault_kind.Unused = 3
+program_fault_number fault_kind.Register = 4
+program_fault_number fault_kind.Target = 5
+program_fault_number fault_kind.End = 6
+program_fault_number fault_kind.Helper = 7
+program_fault_number fault_kind.Map = 8
+program_fault_number fault_kind.Atomic = 9
+program_fault_number fault_kind.Packet = 10
+program_fault_number fault_kind.Memory = 11
+
+-- the number of why words are no program
+abbrev pub program_code : FaultKind → ℤ
+program_code fault_kind.Memory = pos 8
+program_code kind = pos 25
+
+-- the first fault of words: 0 and 0 where there is none, and else its number and that of the instruction. Where memory ran out nothing is told.
+pub record TellsFirstFault (words : List ℕ) (instructions number at : ℕ) : Type 0 where
+  pub fault : ProgramFault
+  pub first : IsFirstProgramFault words instructions fault
+  pub number_is : number ≡ program_fault_number fault.kind
+  pub at_is : at ≡ fault.at
+
+abbrev pub TellsFault : List ℕ → ℕ → ℕ → ℕ → ℕ → ℕ → ℤ → Type 0
+TellsFault words instructions number_before number at_before at code =
+    (IsProgram words instructions × (number ≡ 0) × (at ≡ 0) × (code ≡ pos 0))
+    ⊎ ((TellsFirstFault words instructions number at × (code ≡ pos 25)) ⊎ ((number ≡ number_before) × (at ≡ at_before) × (code ≡ pos 8)))
+
+-- the fingerprint of a program is told, or what was there is left
+abbrev pub TellsFingerprint : List ℕ → ℕ → ℕ → ℕ → ℕ → ℤ → Type 0
+TellsFingerprint words instructions fuel before after code =
+    (IsFuel fuel × IsProgram words instructions × (after ≡ fingerprint words instructions fuel) × (code ≡ pos 0))
+    ⊎ ((after ≡ before) × (((¬ IsFuel fuel) × (code ≡ pos 7)) ⊎ (IsFuel fuel × RefusesProgram words instructions code)))
+
+-- what may be opened of a program
+abbrev pub MayOpenProgram : ℕ → ℕ → ℕ → Type 0
+MayOpenProgram fuel lines count = MayOpen lines count × IsFuel fuel
+
+-- why it is not: the sizes are wrong; they are right, and the words are no program, or memory ran out, or the sessions' new queue did not take its first entry
+abbrev pub RefusesProgramOpening : List ℕ → ℕ → ℕ → ℕ → ℕ → ℤ → Type 0
+RefusesProgramOpening words instructions fuel lines count code =
+    ((¬ MayOpenProgram fuel lines count) × (code ≡ pos 7))
+    ⊎ (MayOpenProgram fuel lines count × (RefusesProgram words instructions code ⊎ (IsProgram words instructions × IsOpenCode code)))
+
+abbrev pub AnswersProgramOpening : List ℕ → ℕ → ℕ → ℕ → ℕ → ℤ → Type 0
+AnswersProgramOpening words instructions fuel lines count code =
+    (MayOpenProgram fuel lines count × IsProgram words instructions × (code ≡ pos 0)) ⊎ RefusesProgramOpening words instructions fuel lines count code
+
+-- boxes of sessions of one service of the object of this program
+pub record AreProgramsOpened (words : List ℕ) (instructions fuel lines count : ℕ) (boxes : List (Box AnyContent Global)) : Type 0 where
+  pub opened : AreOpened program_session lines count boxes
+  pub fuel_fits : IsFuel fuel
+  pub object : IsObjectOf words instructions fuel lines None opened.service.object
+
+-- the fingerprint whose images a program takes over: none for 0, and its own images are its own
+abbrev pub before_of : ℕ → ℕ → Option ℕ
+before_of before version = if before == 0 || before == version then None else Some before
+
+-- what is taken up from an image by this program, which spells these instructions, and why nothing is
+abbrev pub IsTakenByProgram : List Instruction → List ℕ → ℕ → ℕ → ℕ → List ℕ → Base → Type 0
+IsTakenByProgram decoded words instructions fuel before image =
+    let version = fingerprint words instructions fuel in
+    IsProgramIn version (λ lines. old_of decoded words lines fuel version (before_of before version)) image
+
+abbrev pub IsFaultByProgram : List Instruction → List ℕ → ℕ → ℕ → ℕ → List ℕ → WordsFault → Type 0
+IsFaultByProgram decoded words instructions fuel before image =
+    let version = fingerprint words instructions fuel in
+    IsProgramFault version (λ lines. old_of decoded words lines fuel version (before_of before version)) image
+
+-- There would be no sessions or too many, or too much fuel; or the words are no program, or memory ran out; or else this, of words that spell these
+-- instructions.
+abbrev pub AfterProgram : List ℕ → ℕ → ℕ → ℕ → (List Instruction → ℤ → Type 0) → ℤ → Type 0
+AfterProgram words instructions fuel count then_ code =
+    ((¬ (AreFew count × IsFuel fuel)) × (code ≡ pos 7))
+    ⊎ (AreFew count × IsFuel fuel × (RefusesProgram words instructions code ⊎ ((is : IsProgram words instructions) × then_ is.0 code)))
+
+-- why nothing is recovered
+abbrev pub RefusesProgramRecovery : List ℕ → ℕ → ℕ → ℕ → List ℕ → ℕ → ℤ → Type 0
+RefusesProgramRecovery words instructions fuel before image count =
+    AfterProgram words instructions fuel count (λ decoded. RefusesWords 3 (IsFaultByProgram decoded words instructions fuel before image) image count)
+
+-- boxes of sessions of one service of the object of this program, which opens from a base that the image says
+pub record AreProgramsRecovered (words : List ℕ) (instructions fuel before : ℕ) (image : List ℕ) (count : ℕ) (boxes : List (Box AnyContent Global)) : Type 0 where
+  pub is : IsProgram words instructions
+  pub recovered : AreRecovered program_session (IsTakenByProgram is.0 words instructions fuel before image) count boxes
+  pub fuel_fits : IsFuel fuel
+  pub object : IsObjectOf words instructions fuel (lines_in image) (before_of before (fingerprint words instructions fuel)) recovered.service.object
+  pub decoded : instructions_of recovered.service.object.program ≡ is.0
+
+-- what C is answered
+abbrev pub RecoversProgram : List ℕ → ℕ → ℕ → ℕ → List ℕ → ℕ → ℤ → Type 0
+RecoversProgram words instructions fuel before image count =
+    AfterProgram words instructions fuel count
+    (λ decoded. Recovers 3 (IsTakenByProgram decoded words instructions fuel before image) (IsFaultByProgram decoded words instructions fuel before image) image count)

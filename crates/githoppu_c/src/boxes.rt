@@ -1,0 +1,72 @@
+//! Sessions as C has them.
+
+ghost use Rattle.std.specs.Prelude.{◌≡◌, IfOk, List, MatchResult, map, pos};
+ghost use Rattle.std.specs.Global.{Global as global};
+ghost use Rattle.std_alloc.specs.declared.boxed.Box.{Box as box_type};
+ghost use Rattle.githoppu_c.specs.Contents.{program_session, queue_session, store_session};
+ghost use Rattle.githoppu_c.specs.declared.content.AnyContent.{AnyContent as any_type};
+
+use crate::codes::NO_MEMORY;
+use crate::content::{AnyContent, Content};
+use c_sessions::Session;
+use doc_store::DocStore;
+use fifo_object::Fifo;
+use program_object::ProgramObject;
+use std::alloc::{AllocError, Global};
+
+/// A session of an object that C may have.
+pub trait SessionOfC: Drop {
+    /// The session as C has it.
+    ghost as_any: { Self → any_type };
+
+    /// The session as C has it.
+    fn any(self) -> AnyContent
+        ensures { result ≡ as_any self };
+}
+
+impl SessionOfC for Session<DocStore> {
+    ghost as_any = { store_session };
+
+    fn any(self) -> AnyContent {
+        AnyContent::Documents(Content::Session(self))
+    }
+}
+
+impl SessionOfC for Session<Fifo> {
+    ghost as_any = { queue_session };
+
+    fn any(self) -> AnyContent {
+        AnyContent::Queue(Content::Session(self))
+    }
+}
+
+impl SessionOfC for Session<ProgramObject> {
+    ghost as_any = { program_session };
+
+    fn any(self) -> AnyContent {
+        AnyContent::Program(Content::Session(self))
+    }
+}
+
+/// A box for each session. `Err` is NO_MEMORY.
+pub fn boxed<S: SessionOfC>(alloc: Global, sessions: Vec<S>) -> Result<Vec<Box<AnyContent>>, i32>
+    ensures { MatchResult result (λ boxes. map (λ (b : box_type any_type global). b.value) boxes.items ≡ map S.as_any sessions.items) (λ code. code ≡ pos 8) }
+{
+    match in_boxes(alloc, sessions) {
+        Ok(boxes) => Ok(boxes),
+        Err(_) => Err(NO_MEMORY),
+    }
+}
+
+fn in_boxes<S: SessionOfC>(
+    alloc: Global,
+    sessions: Vec<S>,
+) -> Result<Vec<Box<AnyContent>>, AllocError>
+    ensures { IfOk result (λ boxes. map (λ (b : box_type any_type global). b.value) boxes.items ≡ map S.as_any sessions.items) }
+{
+    let mut boxes = Vec::new(alloc);
+    for session in sessions {
+        boxes.push(Box::new(alloc, session.any())?)?;
+    }
+    Ok(boxes)
+}

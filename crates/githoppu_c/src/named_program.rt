@@ -1,0 +1,114 @@
+//! A program's object of which only the fingerprint is known.
+
+ghost use Rattle.std.specs.Prelude.{◌≡◌, ◌*◌, ◌^◌, ◌<◌, ◌≤◌, ◌↔◌, IsTrue, false, refl};
+ghost use Rattle.cx_base.specs.OldFormat.{no_old_format, takes_over_nothing};
+ghost use Rattle.program_object.specs.Meaning.{IsProgramImage, opening};
+ghost use Rattle.program_object.specs.Laws.{program_opens, program_shape};
+ghost use Rattle.githoppu_c.specs.Named as laws;
+
+use cx_base::{Halt, Memory, OP_WORDS, Object, OpWords};
+use std::alloc::{AllocError, Global};
+
+/// A program's object of which only the fingerprint is known, as an image tells it: enough to tell whether the image is one of such a program, and what became
+/// of a session's last operation. It does no operation: each is answered by zeros, and changes nothing.
+#[derive(Drop)]
+pub struct NamedProgram {
+    lines: u64,
+    version: u64,
+    ghost some: { 1 ≤ lines },
+    ghost few: { lines ≤ 2 ^ 26 },
+    ghost small: { version < 2 ^ 64 },
+}
+
+impl NamedProgram {
+    /// The object of a program with this fingerprint.
+    pub fn of(lines: u64, version: u64) -> NamedProgram
+        requires some { 1 ≤ lines }
+        requires few { lines ≤ 2 ^ 26 }
+        ensures { (result.lines ≡ lines) × (result.version ≡ version) }
+    {
+        NamedProgram { lines, version }
+    }
+}
+
+impl Object for NamedProgram {
+    ghost line_count = { λ o. o.lines };
+
+    ghost version_number = { λ o. o.version };
+
+    ghost lawful = { λ o. IsProgramImage o.lines o.version };
+
+    ghost opening = { λ o. opening o.lines o.version };
+
+    ghost step = { λ _. laws.idle_step };
+
+    ghost only_reads = { λ _ _. false };
+
+    ghost old_format = { λ _. no_old_format };
+
+    ghost opens = { λ o. program_opens o.lines o.version o.some o.small };
+
+    ghost keeps = { λ o image op i w. i };
+
+    ghost shape = { λ o. program_shape o.lines o.version };
+
+    ghost replies = { λ o image op i w. laws.zeros_are_words };
+
+    ghost leaves = { λ o image op i w reads. refl };
+
+    ghost takes_over = { λ o. takes_over_nothing o.lines o.version (IsProgramImage o.lines o.version) };
+
+    fn lines(&self) -> u64 {
+        self.lines
+    }
+
+    fn version(&self) -> u64 {
+        self.version
+    }
+
+    fn format<M: Memory>(&self, mem: &mut M) -> Result<(), Halt> {
+        mem.store(0, self.version)?;
+        for at in 1..8 * self.lines {
+            mem.store(at, 0)?;
+        }
+        Ok(())
+    }
+
+    fn reads(&self, _op: &OpWords) -> bool {
+        false
+    }
+
+    fn run_into<M: Memory>(
+        &self,
+        _mem: &mut M,
+        _op: &OpWords,
+        reply: &mut OpWords,
+    ) -> Result<(), Halt> {
+        *reply = [0; OP_WORDS];
+        Ok(())
+    }
+
+    fn query_into<M: Memory>(
+        &self,
+        _mem: &mut M,
+        _op: &OpWords,
+        reply: &mut OpWords,
+    ) -> Result<(), Halt> {
+        *reply = [0; OP_WORDS];
+        Ok(())
+    }
+
+    fn check(&self, _alloc: Global, words: &[u64]) -> Result<bool, AllocError> {
+        Ok(words.len() as u64 == 8 * self.lines && words[0] == self.version)
+    }
+
+    fn old_version(&self) -> Option<u64> {
+        None
+    }
+
+    fn check_old(&self, _alloc: Global, _words: &[u64]) -> Result<bool, AllocError> {
+        Ok(false)
+    }
+
+    fn upgrade(&self, _words: &mut [u64]) {}
+}

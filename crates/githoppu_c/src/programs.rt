@@ -1,0 +1,148 @@
+//! Sessions of an object whose operations are runs of a program.
+
+ghost use Rattle.std.specs.Prelude.{◌≡◌, MatchResult, true};
+ghost use Rattle.program_object.specs.Fingerprint as prints;
+ghost use Rattle.program_object.specs.Meaning.{numbers_fit};
+ghost use Rattle.githoppu_c.specs.Programs as spec;
+ghost use Rattle.githoppu_c.specs.Programs.{AreProgramsOpened, AreProgramsRecovered, IsFuel, IsObjectOf, IsProgram, RefusesProgram, RefusesProgramOpening, RefusesProgramRecovery};
+
+use crate::boxes::boxed;
+use crate::codes::{BAD_PROGRAM, BAD_SIZE, NO_MEMORY, fault_code};
+use crate::content::AnyContent;
+use crate::images::PROGRAM;
+use crate::open::{may_open, opened};
+use crate::recovered_sessions::{are_few, recovered};
+use c_images::head_of;
+use program_code::{FaultKind, Program};
+use program_object::ProgramObject;
+use std::alloc::Global;
+
+/// The most instructions of an operation.
+pub const MOST_FUEL: u64 = 1 << 20;
+
+/// The lines of an object that is made for its fingerprint alone.
+const FEW_LINES: u64 = 64;
+
+/// `count` sessions of an object of a program in `lines` lines, as it opens. `Err` is the code of the refusal: BAD_SIZE where the lines are not 64 to 16,384,
+/// the sessions not 1 to 8 or the fuel is above 2^20; BAD_PROGRAM where the words are no program; else NO_MEMORY, or AGAIN where the sessions' new queue did
+/// not take its first entry.
+pub fn open_program(
+    alloc: Global,
+    words: &[u64],
+    instructions: u64,
+    fuel: u64,
+    lines: u64,
+    count: usize,
+) -> Result<Vec<Box<AnyContent>>, i32>
+    ensures { MatchResult result (λ boxes. AreProgramsOpened words.now instructions fuel lines count boxes.items) (RefusesProgramOpening words.now instructions fuel lines count) }
+{
+    if !may_open(lines, count) || fuel > MOST_FUEL {
+        return Err(BAD_SIZE);
+    }
+    let object = object_of(alloc, words, instructions, fuel, lines, None)?;
+    let sessions = opened(alloc, object, count)?;
+    boxed(alloc, sessions)
+}
+
+/// `count` sessions of the object of this program that the words of an image say, or of the one with the fingerprint `before`, where that is not 0. `Err` is
+/// the code of the refusal: BAD_SIZE where the sessions are not 1 to 8 or the fuel is above 2^20; BAD_PROGRAM; and then as for a document store.
+pub fn recover_program(
+    alloc: Global,
+    words: &[u64],
+    instructions: u64,
+    fuel: u64,
+    before: u64,
+    image: &[u64],
+    count: usize,
+) -> Result<Vec<Box<AnyContent>>, i32>
+    ensures { MatchResult result (λ boxes. AreProgramsRecovered words.now instructions fuel before image.now count boxes.items) (RefusesProgramRecovery words.now instructions fuel before image.now count) }
+{
+    if !are_few(count) || fuel > MOST_FUEL {
+        return Err(BAD_SIZE);
+    }
+    let fingerprint = fingerprint_of(alloc, words, instructions, fuel)?;
+    let head = match head_of(image, PROGRAM) {
+        Ok(head) => head,
+        Err(fault) => return Err(fault_code(fault)),
+    };
+    let before = before_of(before, fingerprint);
+    let object = object_of(alloc, words, instructions, fuel, head.lines, before)?;
+    let sessions = recovered(alloc, object, image, head, count)?;
+    boxed(alloc, sessions)
+}
+
+/// The fingerprint of a program. `Err` is BAD_PROGRAM or NO_MEMORY.
+pub fn fingerprint_of(
+    alloc: Global,
+    words: &[u64],
+    instructions: u64,
+    fuel: u64,
+) -> Result<u64, i32>
+    requires { IsFuel fuel }
+    ensures { MatchResult result (λ found. IsProgram words.now instructions × (found ≡ prints.fingerprint words.now instructions fuel)) (RefusesProgram words.now instructions) }
+{
+    let object = object_of(alloc, words, instructions, fuel, FEW_LINES, None)?;
+    Ok(object.fingerprint())
+}
+
+/// The fingerprint whose images a program with this one takes over: none for 0, and its own images are its own.
+fn before_of(before: u64, fingerprint: u64) -> Option<u64>
+    ensures { result ≡ spec.before_of before fingerprint }
+{
+    if before == 0 || before == fingerprint {
+        None
+    } else {
+        Some(before)
+    }
+}
+
+/// The object of a program. `Err` is BAD_PROGRAM or NO_MEMORY.
+fn object_of(
+    alloc: Global,
+    words: &[u64],
+    instructions: u64,
+    fuel: u64,
+    lines: u64,
+    before: Option<u64>,
+) -> Result<ProgramObject, i32>
+    requires fits { numbers_fit lines fuel (prints.fingerprint words.now instructions fuel) before ≡ true }
+    ensures { MatchResult result (IsObjectOf words.now instructions fuel lines before) (RefusesProgram words.now instructions) }
+{
+    let program = match Program::of(alloc, words, instructions as usize) {
+        Ok(program) => program,
+        Err(fault) => return Err(program_code(fault.kind)),
+    };
+    match ProgramObject::of(program, lines, fuel, before) {
+        Some(object) => Ok(object),
+        None => unreachable!(),
+    }
+}
+
+/// The number of why words are no program.
+fn program_code(kind: FaultKind) -> i32
+    ensures { result ≡ spec.program_code kind }
+{
+    match kind {
+        FaultKind::Memory => NO_MEMORY,
+        _ => BAD_PROGRAM,
+    }
+}
+
+/// The number of a kind of fault.
+pub fn program_fault_number(kind: FaultKind) -> u64
+    ensures { result ≡ spec.program_fault_number kind }
+{
+    match kind {
+        FaultKind::Length => 1,
+        FaultKind::Opcode => 2,
+        FaultKind::Unused => 3,
+        FaultKind::Register => 4,
+        FaultKind::Target => 5,
+        FaultKind::End => 6,
+        FaultKind::Helper => 7,
+        FaultKind::Map => 8,
+        FaultKind::Atomic => 9,
+        FaultKind::Packet => 10,
+        FaultKind::Memory => 11,
+    }
+}
