@@ -17,6 +17,7 @@ import struct
 from pathlib import Path
 
 MASK = 2**64 - 1
+UPGRADE = 2**64 - 2
 STATE, REQUEST, REPLY, STACK, CONSTANTS = (n << 32 for n in range(1, 6))
 MOST_STORES, FRAMES, FRAME_BYTES, STACK_BYTES = 256, 8, 512, 4096
 (LENGTH, OPCODE, UNUSED, REGISTER, TARGET, END, HELPER, MAP, ATOMIC, PACKET) = range(1, 11)
@@ -333,6 +334,11 @@ class Object:
         self.image, reply = Run(self, self.image, request, request[0] % 2 == 0).all(self.fuel)
         return reply
 
+    def take_over(self, image):
+        """Takes an image of another program over: its first word becomes this program's fingerprint, and the program is run once."""
+        self.image = self.image[:1] + image[1:]
+        return self.call([UPGRADE, image[0]])
+
 
 def mixed(so_far, word):
     """One word more in a fingerprint or a digest."""
@@ -415,10 +421,20 @@ def faults(of, row):
     return tally
 
 
+def upgraded(of, row):
+    """A program that takes over an image of another one."""
+    tally = Tally()
+    whole = Object(of["UPGRADES"][row], 8, 4, 2000)
+    whole.take_over([5, *range(1, 32)])
+    tally.digest = folded(tally.digest, whole.image + [1])
+    return tally
+
+
 def lines(every=1):
     """What the tests' program writes, or one line of so many and None for the others."""
     of = rows()
     parts = [("opcode", of_opcode, 256), ("word", flipped, len(of["SAMPLE"])), ("fault", faults, len(of["FAULTS"]))]
+    parts.append(("upgrade", upgraded, len(of["UPGRADES"])))
     for number, (name, function, at) in enumerate((name, function, at) for name, function, count in parts for at in range(count)):
         if number % every:
             yield None

@@ -6,10 +6,11 @@ A fault is
 - more bare numbers of the table's layout in a file of src/ than tools/kept_counts.txt has for it, but in the file with the public constant of that value;
 - a public function that answers a `Result` and is not in that list, whose comment does not say when it fails: it has no `Err`, `Halt`, `None`, fails,
   refuses, fault, error, out of memory, and not the name of its error;
-- more phrases of the list of idioms (page_rules.py) in the comments of a file of src/ or specs/ than that list has for it.
-Crates of tests are left out. The counts are printed, and a line for each that may be lowered in the lists.
+- more phrases of the list of idioms (page_rules.py) in the comments of a file of src/ or specs/ than that list has for it;
+- a lemma of proofs/ that nothing cites (cited_lemmas.py).
+Crates of tests are left out, but of the last. The counts are printed, and a line for each that may be lowered in the lists.
 
-With --write the lists are made anew, also where files or crates got other names; it is refused where a count over all crates would rise. It takes 4 seconds.
+With --write the lists are made anew, also where files or crates got other names; it is refused where a count over all crates would rise. It takes 8 seconds.
 
 Example: python3 tools/check_names.py
 Status 0 where nothing is wrong, 1 where something is or a list may not be written, 2 where the words are others.
@@ -20,6 +21,7 @@ from collections import Counter
 from pathlib import Path
 
 import page_rules
+from cited_lemmas import uncited
 from source_text import COMMENT, Sources, tokens_of
 from told import asked_words
 
@@ -241,6 +243,7 @@ def main(words):
         faults = write(root)
     else:
         faults, lower, found = faults_of(root)
+        faults += [f"{lemma}: a lemma that nothing cites" for lemma in uncited(root)]
         print("\n".join(counted(found) + [f"may be lowered: {line}" for line in lower]))
     print("\n".join(faults), end="\n" if faults else "", file=sys.stderr)
     return 1 if faults else 0

@@ -1,9 +1,9 @@
-"""Prints a file that githoppu_save, or a save from Rust or Python, wrote: what it holds of a store or of a queue.
+"""Prints a file that githoppu_save, or a save from Rust or Python, wrote: what it holds of a store, of a queue or of a program's object.
 
     tools/dump FILE
 
 It prints the head, a line for each session with its last update and the reply to it, and each document by its key, with its revision, or each text of a queue
-in its order. The file is read by docs/FORMATS.md alone: no library is needed, and nothing is changed. A file that is refused is told with the reason: that
+in its order; of a program's object the fingerprint of the program, and each word of the state that is not 0, by its number. The file is read by docs/FORMATS.md alone: no library is needed, and nothing is changed. A file that is refused is told with the reason: that
 it is empty, that no save wrote it, that it was cut or changed; or with the word of the image that is wrong, with what was found there and wanted.
 
 It takes a second for a file of 1 MiB.
@@ -25,8 +25,9 @@ FILE_NAME, FILE_FORMAT, FILE_HEAD, FILE_END = b"githfile", 1, 32, 8
 IMAGE_NAME, HEAD_WORDS = b"githoppu", 8
 REPLICAS, ONE_REGION = 1, 2
 FORMATS = {REPLICAS: "of all replicas", ONE_REGION: "of one region"}
-STORE, QUEUE = 1, 2
-KINDS = {STORE: "a store", QUEUE: "a queue"}
+STORE, QUEUE, OBJECT = 1, 2, 3
+KINDS = {STORE: "a store", QUEUE: "a queue", OBJECT: "an object of a program"}
+CONTENTS = {STORE: "documents", QUEUE: "texts", OBJECT: "words"}
 QUEUE_VERSION = 16
 LONGEST_TEXT = 56
 QUEUE_REPLIES = {1: "pushed", 2: "full", 4: "empty"}
@@ -106,7 +107,7 @@ def head_of(data):
     words = [word_at(data, WORD * at) for at in range(HEAD_WORDS)]
     want(data[:WORD] == IMAGE_NAME, 0, "the name", words[0], '"githoppu" in bytes')
     want(words[1] in FORMATS, 1, "the format", words[1], "1 or 2")
-    want(words[2] in KINDS, 2, "the kind", words[2], "1, of a store, or 2, of a queue")
+    want(words[2] in KINDS, 2, "the kind", words[2], "1, of a store, 2, of a queue, or 3, of a program's object")
     want(1 <= words[3] <= 8, 3, "the sessions", words[3], "1 to 8")
     want(64 <= words[4] <= 16_384, 4, "the lines", words[4], "64 to 16,384")
     for at in (6, 7):
@@ -133,9 +134,9 @@ def read_image(data):
 
 
 def must_fit(image, versions):
-    """The checks of recovery that are the same of a store and of a queue."""
+    """The checks of recovery that are the same of each kind; an object's version is the fingerprint of its program, which is not known here."""
     version, place = (image.words.get(image.start + at, 0) for at in (PART, 0))
-    if version not in versions:
+    if versions and version not in versions:
         raise BadImage("version", image.start + PART, version, f"{versions[-1]}, the version of the object")
     if place != image.place:
         raise BadImage("place", image.start, place, f"{image.place}, the place that the root names")
@@ -157,6 +158,16 @@ def queue_reply(reply):
     return QUEUE_REPLIES[kind].encode()
 
 
+def run_reply(reply):
+    """The text of the reply of a program that 144 words are."""
+    if reply.get(0) != 1:
+        return b"fault %d at instruction %d, address 0x%x" % (reply.get(0), reply.get(1), reply.get(2))
+    words = [reply.get(at) for at in range(8, REPLY_WORDS)]
+    while words and words[-1] == 0:
+        words.pop()
+    return " ".join(["returned", str(reply.get(1)), *(f"{it}" for it in words)]).encode()
+
+
 def updates_in(image, kind):
     """Of each session that made one: its number, the number of its last update, and the reply, as text."""
     found = []
@@ -169,7 +180,7 @@ def updates_in(image, kind):
         elif not any(reply.get(at) for at in range(REPLY_WORDS)):
             found.append((session, number, b"malformed"))
         else:
-            found.append((session, number, queue_reply(reply) if kind == QUEUE else reply_of(reply)))
+            found.append((session, number, {STORE: reply_of, QUEUE: queue_reply, OBJECT: run_reply}[kind](reply)))
     return found
 
 
@@ -187,6 +198,23 @@ def texts_in(image):
         yield text_in(part, first + 1, part.packed(first + 1, 7), length, is_of_key, "a text")
 
 
+def words_in(image):
+    """The words of the state of a program's object that are not 0."""
+    part = Words(image, image.start + PART)
+    for at in range(LINE_WORDS, LINE_WORDS * image.lines):
+        if part.get(at):
+            yield b"word %d %d" % (at - LINE_WORDS, part.get(at))
+
+
+def contents_of(image, kind):
+    """What an object holds, each as a line."""
+    if kind == OBJECT:
+        return list(words_in(image))
+    if kind == QUEUE:
+        return [b"text " + text for text in texts_in(image)]
+    return [b"document %s rev %d %s" % (key, revision, text) for key, text, revision in Part(image).documents()]
+
+
 def printed(data):
     """What is printed of the bytes of a file; raises Refused."""
     words = image_in(data)
@@ -194,15 +222,14 @@ def printed(data):
     yield f"file format {FILE_FORMAT}, {len(data):,} bytes, checksums right".encode()
     yield f"image format {form}, {FORMATS[form]}: {KINDS[kind]}, {image.callers} sessions, {image.lines} lines".encode()
     try:
-        must_fit(image, (QUEUE_VERSION,) if kind == QUEUE else (OLD_VERSION, VERSION))
+        must_fit(image, {STORE: (OLD_VERSION, VERSION), QUEUE: (QUEUE_VERSION,), OBJECT: ()}[kind])
         yield f"place {image.place}, replica {image.replica}".encode()
         # the object first, as recovery looks at it
-        if kind == QUEUE:
-            contents = [b"text " + text for text in texts_in(image)]
-        else:
-            contents = [b"document %s rev %d %s" % (key, revision, text) for key, text, revision in Part(image).documents()]
+        contents = contents_of(image, kind)
+        if kind == OBJECT:
+            yield b"program 0x%016x" % image.words.get(image.start + PART, 0)
         yield from (b"session %d update %d = %s" % update for update in updates_in(image, kind))
-        yield f"{'texts' if kind == QUEUE else 'documents'} {len(contents)}".encode()
+        yield f"{CONTENTS[kind]} {len(contents)}".encode()
         yield from contents
     except BadImage as bad:
         where = place_of(image, bad.at)

@@ -186,7 +186,7 @@ def refusals():
 def bindings():
     """The programs and tests in C, Rust and Python."""
     ran = subprocess.run([TOOLS / "bindings"], stdin=subprocess.DEVNULL, capture_output=True, text=True, errors="replace", check=False)
-    tried = re.findall(r"(?m)^bindings: (the exports|C and C\+\+|the Rust .*|the Python tests|installed programs)$", ran.stderr)
+    tried = re.findall(r"(?m)^bindings: (the exports|C and C\+\+|data structures in C|the Rust .*|the Python tests.*|installed programs)$", ran.stderr)
     failed = re.findall(r"(?m)^bindings: failed: (.*)$", ran.stderr)
     if ran.returncode != 0:
         return max(len(tried), 1), [*failed, ran.stderr]

@@ -70,7 +70,25 @@ REFUSED = [
     ("uint64_t other(void); GITHOPPU_RUN { return other(); }", "other is of another file"),
     ("uint64_t run(void) { return 1; }", "there is no function githoppu_run"),
     ("GITHOPPU_RUN { return (uint64_t)((double)request[1] * 2); }", "clang refuses it"),
+    ("GITHOPPU_RUN { return (uint64_t)((int64_t)request[1] / (int64_t)request[2]); }", "wrong.c:2: a division of signed numbers"),
+    ("GITHOPPU_RUN { volatile uint64_t a[100]; a[request[1]] = 1; return a[request[2]]; }", "wrong.c:2:1: error: Looks like the BPF stack limit of 512 bytes"),
 ]
+# a sum in the first word of the state; and the same with a count before it, of which there was none
+SUM = """#include "githoppu_program.h"
+GITHOPPU_RUN { uint64_t *sum = state; return *sum += request[1]; }
+"""
+COUNTED = """#include "githoppu_program.h"
+GITHOPPU_RUN {
+    struct { uint64_t count, sum; } *s = state;
+    if (request[0] == GITHOPPU_UPGRADE) {
+        s->sum = s->count;
+        s->count = 1;
+        return request[1];
+    }
+    s->count++;
+    return s->sum += request[1];
+}
+"""
 
 
 def word(opcode, to=0, source=0, offset=0, number=0):
@@ -124,6 +142,27 @@ class Programs(unittest.TestCase):
                 self.assertEqual((0, ""), (done.returncode, done.stderr))
                 self.assertIn("are the same natively and interpreted", done.stdout)
 
+    def test_a_program_is_written_as_a_constant(self):
+        with tempfile.TemporaryDirectory() as folder:
+            source = Path(folder) / "of-mine.c"
+            named = "enum { ADD = GITHOPPU_UPDATE(3), LEAST = -2, NEXT, BIG = 1ull << 40 };"
+            source.write_text(f'#include "githoppu_program.h"\n{named}\nGITHOPPU_RUN {{ return 5; }}\n', encoding="utf-8")
+            made = {}
+            for ending in ("h", "rs", "words"):
+                done = tool(source, "-o", Path(folder) / f"it.{ending}", "--fuel", "77")
+                self.assertEqual((0, ""), (done.returncode, done.stderr))
+                made[ending] = (Path(folder) / f"it.{ending}").read_text(encoding="utf-8")
+            for line in ("#define OF_MINE_ADD 6", "#define OF_MINE_LEAST (-2)", "#define OF_MINE_NEXT (-1)", f"#define OF_MINE_BIG {1 << 40}u"):
+                self.assertIn(f"\n{line}\n", made["h"])
+            self.assertIn("static const githoppu_program of_mine = {of_mine_words, 2, 2, 77};", made["h"])
+            for line in ("pub const INSTRUCTIONS: u64 = 2;", "pub const FUEL: u64 = 77;", "pub const ADD: u64 = 6;", f"pub const LEAST: u64 = {2**64 - 2};"):
+                self.assertIn(f"\n{line}\n", made["rs"])
+            self.assertEqual(["2", str(0x5000000B7), str(EXIT)], made["words"].split())
+            for compiler in (["cc", "-x", "c", "-std=c11"], ["c++", "-x", "c++"]):
+                if shutil.which(compiler[0]):
+                    words = [*compiler, "-Wall", "-Wextra", "-Wpedantic", "-Werror", f"-I{ROOT / 'include'}", f"-I{folder}", "-fsyntax-only", "-"]
+                    subprocess.run(words, input='#include "it.h"\nint main(void) { return of_mine.count == 2; }\n', text=True, check=True)
+
     def test_what_is_no_program_is_refused_in_words(self):
         for text, reason in REFUSED:
             with self.subTest(reason), tempfile.TemporaryDirectory() as folder:
@@ -132,6 +171,29 @@ class Programs(unittest.TestCase):
                 done = tool(source)
                 self.assertEqual(1, done.returncode)
                 self.assertIn(reason, done.stderr)
+
+    def test_an_image_of_another_program_is_taken_over(self):
+        before, after = (self.object_of(text) for text in (SUM, COUNTED))
+        before.call([2, 40])
+        old = before.image[0]
+        self.assertEqual([1, old], after.take_over(before.image)[:2])
+        self.assertEqual([1, 42], after.call([2, 2])[:2])
+        self.assertEqual([2, 42], after.image[8:10])
+        # a fault leaves all words but the first one
+        wild = self.object_of('#include "githoppu_program.h"\nGITHOPPU_RUN { *(uint64_t *)state = 7; return *(uint64_t *)request[5]; }\n')
+        self.assertEqual(bpf_model.ADDRESS, wild.take_over(before.image)[0])
+        self.assertEqual(before.image[1:], wild.image[1:])
+        self.assertNotEqual(old, wild.image[0])
+
+    def object_of(self, text):
+        """A program of a source, over 64 lines."""
+        with tempfile.TemporaryDirectory() as folder:
+            source, to = Path(folder) / "one.c", Path(folder) / "one.words"
+            source.write_text(text, encoding="utf-8")
+            done = tool(source, "-o", to)
+            self.assertEqual((0, ""), (done.returncode, done.stderr))
+            count, *words = map(int, to.read_text(encoding="utf-8").split())
+        return bpf_model.Object(words, count, 64, 1000)
 
     def test_a_fault_names_its_line(self):
         with tempfile.TemporaryDirectory() as folder:

@@ -179,6 +179,19 @@ class Unproved(unittest.TestCase):
             list(unproved.as_library(module, "a", ["open", "shut"]))
         self.assertEqual("the module has no shut", str(caught.exception))
 
+    def test_what_sources_mark_is_inlined(self):
+        marked = unproved.marked_in(ROOT / "crates")
+        self.assertIn(("seat_memory", "follow"), marked)
+        self.assertNotIn(("seat_memory", "opening_summary"), marked)
+        module = [
+            'define internal void @"seat_memory::following::follow"(ptr %a0) #0 {\n',
+            'define internal { i8, i64 } @"cx_table::shared::Shared::made::<#00cda8ccad3b2dfd>"(ptr %a0) #0 {\n',
+            'define internal void @"cx_table::shared::Shared::run::<#00cda8ccad3b2dfd>"(ptr %a0) #0 {\n',
+            '  call void @"seat_memory::following::follow"(ptr %a0) #0\n',
+        ]
+        made = [line.replace(" #0 {", " alwaysinline #0 {") for line in module[:2]] + module[2:]
+        self.assertEqual(made, list(unproved.with_marks(module, marked)))
+
     def test_the_library_has_the_exports(self):
         """Each archive that is built, as `nm` reads it: both have the exports, and the one without a proof has no other name that is seen."""
         built = [path for path in (program.LIBRARY, program.UNPROVED_LIBRARY) if path.exists()]

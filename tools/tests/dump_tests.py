@@ -8,7 +8,7 @@ import unittest
 from pathlib import Path
 
 import dump_file
-from dump_file import FILE_NAME, HEAD_WORDS, IMAGE_NAME, ONE_REGION, QUEUE, REPLICAS, STORE, WORD, checksum
+from dump_file import FILE_NAME, HEAD_WORDS, IMAGE_NAME, OBJECT, ONE_REGION, QUEUE, REPLICAS, STORE, WORD, checksum
 from image_text import LINE_WORDS, PART, SLOT_WORDS
 
 TOOLS = Path(__file__).resolve().parent.parent
@@ -60,6 +60,17 @@ def queue_region():
     return words
 
 
+def object_region():
+    """A replica of a program's object: one session's run returned, and another's ended by a fault."""
+    words = [PLACE] + [0] * (REGION - 1)
+    put(words, slot(0), [2, 1, 7, 0, 0, 0, 0, 0, 0, 41, 0, 42])
+    put(words, slot(5), [1, 2, 12, 2**32 - 8])
+    put(words, PART, [99, 0])
+    put(words, line(1), [8, 0, 9])
+    words[-1] = 10
+    return words
+
+
 def image_of(region, kind, form):
     """The words of an image: of all replicas, of which the others have what nobody looks at, or of one."""
     head = [*packed(IMAGE_NAME), form, kind, SESSIONS, LINES, PLACE * 2 * SESSIONS + REPLICA, 0, 0]
@@ -81,12 +92,16 @@ OF_A_STORE = [
     'document fruit rev 4 "apple"',
     "document sold rev 3 -7",
 ]
+OF_AN_OBJECT = [
+    "place 5, replica 3", "program 0x0000000000000063", "session 0 update 2 = returned 7 41 0 42",
+    "session 5 update 1 = fault 2 at instruction 12, address 0xfffffff8", "words 3", "word 0 8", "word 2 9", f"word {8 * LINES - 9} 10",
+]
 OF_A_QUEUE = ["place 5, replica 3", "session 1 update 4 = text gone", "texts 3", "text one", "text " + "t" * 56, "text three"]
 # words of an image of a store that are changed, by their numbers: what is said then
 WRONG_HEADS = {
     0: "word 0, the name, is 7, and not \"githoppu\" in bytes",
     1: "word 1, the format, is 7, and not 1 or 2",
-    2: "word 2, the kind, is 7, and not 1, of a store, or 2, of a queue",
+    2: "word 2, the kind, is 7, and not 1, of a store, 2, of a queue, or 3, of a program's object",
     3: "word 3, the sessions, is 77, and not 1 to 8",
     4: "word 4, the lines, is 7, and not 64 to 16,384",
     6: "word 6, the end of the head, is 7, and not 0",
@@ -125,8 +140,9 @@ class Dumps(unittest.TestCase):
         self.assertEqual(0xE3069283, checksum(b"123456789"))
         self.assertEqual((0x8A9136AA, 0), (checksum(bytes(32)), checksum(b"")))
 
-    def test_stores_and_queues_of_both_formats(self):
-        for region, kind, name, wanted in ((store_region(), STORE, "a store", OF_A_STORE), (queue_region(), QUEUE, "a queue", OF_A_QUEUE)):
+    def test_each_kind_of_both_formats(self):
+        kinds = ((store_region(), STORE, "a store", OF_A_STORE), (queue_region(), QUEUE, "a queue", OF_A_QUEUE))
+        for region, kind, name, wanted in (*kinds, (object_region(), OBJECT, "an object of a program", OF_AN_OBJECT)):
             for form, of in ((REPLICAS, "of all replicas"), (ONE_REGION, "of one region")):
                 with self.subTest(name, form=form):
                     told = self.printed(image_of(region, kind, form))

@@ -3,10 +3,10 @@
 
     fresh_checkout.py
 
-Clones this repository, as it is committed, into a new folder, and runs there, one after another: the two commands of README.md, which run the main job
-and the quick test; a load of 8,000 updates; the library without a proof, from nothing; its install, and a C program that is linked with what that put
-out. Of each it prints the seconds of the clock and of all processors, and how many seconds of the clock it may take on four processors that do
-nothing else. More than that is told and is no failure, since other work makes it so.
+Clones this repository, as it is committed, into a new folder, and runs there, one after another: the commands of README.md, which run the main job and the
+quick test; a load of 8,000 updates; the library without a proof, from nothing; its install, and a C program that is linked with what that put out; and
+four threads that share a data structure in C. Of each it prints the seconds of the clock and of all processors, and how many seconds of the clock it may
+take on four processors that do nothing else. More than that is told and is no failure, since other work makes it so.
 
 It takes 6 minutes on four processors. The gate does not run it.
 
@@ -71,6 +71,8 @@ def begin(folder):
         ran(folder, ["tools/install", "installed"], 10)
         ran(folder, ["cc", "bindings/c/shop.c", "-Iinstalled/include", "installed/lib/libgithoppu.a", "-pthread", "-o", "shop"], 10)
         print(ran(folder, ["./shop"], 10).decode("utf-8", "replace"), end="")
+    if shutil.which("cc") and shutil.which("clang") and not ran(folder, ["make", "-s", "-C", "bindings/c", "jobs"], 20).endswith(b"800 jobs\n"):
+        raise Wrong("the jobs of four threads were not written")
 
 
 def main(words):

@@ -16,7 +16,8 @@ LIBRARIES = {"lib/libgithoppu.a", f"lib/libgithoppu.so.{VERSION}", f"lib/libgith
 TEXTS = {
     "include/githoppu.h", "include/githoppu_file.h", "lib/pkgconfig/githoppu.pc", "lib/cmake/githoppu/githoppuConfig.cmake",
     "lib/cmake/githoppu/githoppuConfigVersion.cmake", "share/githoppu/rust/Cargo.toml", "share/githoppu/rust/build.rs", "share/githoppu/rust/src/lib.rs",
-    "share/githoppu/python/githoppu.py",
+    "share/githoppu/python/githoppu.py", "share/githoppu/tools/program", "share/githoppu/tools/bpf_model.py", "share/githoppu/tools/link_program.py",
+    "share/githoppu/tools/native_program.c",
 }
 
 
@@ -58,7 +59,8 @@ class Installs(unittest.TestCase):
             # a link leads beside itself, and all that is text is whole
             self.assertEqual(f"libgithoppu.so.{SERIES}", os.readlink(prefix / "lib/libgithoppu.so"))
             self.assertEqual(f"libgithoppu.so.{SERIES}", (prefix / "lib/libgithoppu.so").read_text())
-            self.assertEqual((0o755, 0o644), tuple((prefix / name).stat().st_mode & 0o777 for name in (f"lib/libgithoppu.so.{VERSION}", "include/githoppu.h")))
+            modes = tuple((prefix / name).stat().st_mode & 0o777 for name in (f"lib/libgithoppu.so.{VERSION}", "share/githoppu/tools/program", "include/githoppu.h"))
+            self.assertEqual((0o755, 0o755, 0o644), modes)
             self.assertFalse([name for name in self.files(prefix) if "@" in (prefix / name).read_text("utf-8") and "cmake" in name])
 
     def test_a_program_that_runs_keeps_its_library(self):

@@ -93,9 +93,19 @@ with githoppu.Store(lines=64, sessions=3) as store:
         thread.join()
     print("sold", store[2].get("sold"))
 """
+STACK_IN_RUST = """mod stack;
+
+fn main() -> Result<(), Box<dyn std::error::Error>> {
+    let program = githoppu::Program::of(&stack::WORDS, stack::INSTRUCTIONS, stack::FUEL)?;
+    let mut sessions = program.open(1024, 4)?;
+    sessions[0].run(stack::PUSH, &[7])?;
+    println!("{}", sessions[1].run(stack::POP, &[])?.words[0]);
+    Ok(())
+}
+"""
 # the versions that find_package takes, and those that it does not
-TAKEN = ("", "0.4", "0.4.0", "0.4...<0.5", "0.3...0.4.0")
-NOT_TAKEN = ("0", "0.3", "0.5", "0.4.1", "1.0", "0.3...<0.4", "0.4.1...0.5")
+TAKEN = ("", "0.5", "0.5.0", "0.5...<0.6", "0.4...0.5.0")
+NOT_TAKEN = ("0", "0.4", "0.6", "0.5.1", "1.0", "0.4...<0.5", "0.5.1...0.6")
 
 
 class Wrong(Exception):
@@ -157,6 +167,11 @@ class Installed:
         written = ended(folder, [program], env)
         must(written == SOLD, f"{folder.name}: it wrote {written!r}")
         has_saved(folder)
+
+
+def shown_in(language):
+    """The files in a language that the page of objects in C shows."""
+    return re.findall(rf"^```{language}\n(.*?)^```$", (ROOT / "docs" / "OBJECTS_IN_C.md").read_text("utf-8"), re.M | re.S)
 
 
 def has_saved(folder):
@@ -223,10 +238,10 @@ def built_by_cmake(it, name, text, suffix="c"):
 def found_by_cmake(it):
     """A CMake project of six lines with find_package: with the shared library, and with the archive; in C and in C++."""
     needed("cc", "cmake")
-    built_by_cmake(it, "cmake shared", FOUND.format(language="C", version="0.4", suffix="c", target="githoppu::githoppu"))
-    built_by_cmake(it, "cmake static", FOUND.format(language="C", version="0.4", suffix="c", target="githoppu::static"))
+    built_by_cmake(it, "cmake shared", FOUND.format(language="C", version="0.5", suffix="c", target="githoppu::githoppu"))
+    built_by_cmake(it, "cmake static", FOUND.format(language="C", version="0.5", suffix="c", target="githoppu::static"))
     needed("c++")
-    built_by_cmake(it, "cmake in C++", FOUND.format(language="CXX", version="0.4", suffix="cc", target="githoppu::static"), "cc")
+    built_by_cmake(it, "cmake in C++", FOUND.format(language="CXX", version="0.5", suffix="cc", target="githoppu::static"), "cc")
 
 
 def versions_of_cmake(it):
@@ -255,6 +270,31 @@ def by_cargo(it):
     ran = subprocess.run(["cargo", "run", "-q", "--offline"], cwd=folder, capture_output=True, env=env, timeout=MOST_SECONDS, check=False)
     must((ran.returncode, ran.stdout) == (0, SOLD), f"cargo: status {ran.returncode}: {ran.stdout!r} {ran.stderr.decode('utf-8', 'replace')[-3_000:]}")
     has_saved(folder)
+
+
+def by_program(it):
+    """A data structure in C, made a program by the installed tool: from C with the shared library, from Python and from Rust."""
+    needed("cc", "clang", "pkg-config")
+    (tool,) = it.configured("--variable=program")
+    blocks = shown_in("c")
+    must(len(blocks) == 2, "docs/OBJECTS_IN_C.md shows another number of files in C than two")
+    folder = it.folder("object", stack_c=blocks[0], main_c=blocks[1])
+    ended(folder, [tool, "stack.c", "-o", "stack.h"])
+    ended(folder, ["cc", "-Wall", "-Wextra", "-Werror", "main.c", *it.configured("--cflags", "--libs"), "-o", "main"])
+    must(ended(folder, ["./main"], it.shared) == b"7\n", "the program over a stack wrote something else")
+    dumped = ended(folder, [ROOT / "tools" / "dump", "stack.githoppu"]).splitlines()
+    must(dumped[-1:] == [b"word 1 7"] and b"session 1 update 1 = returned 2 7" in dumped, f"tools/dump wrote {dumped}")
+    must(b"same natively and interpreted" in ended(folder, [tool, "stack.c", "--test", "--count", "200"]), "tools/program --test says something else")
+    (shown,) = shown_in("python")
+    ended(folder, [tool, "stack.c", "-o", "stack.words"])
+    env = {"PYTHONPATH": str(it.prefix / "share" / "githoppu" / "python"), "GITHOPPU_LIBRARY": "", "PYTHONDONTWRITEBYTECODE": "1"}
+    must(ended(folder, [sys.executable, "-c", f"import githoppu\n{shown}"], env) == b"7\n", "the program in Python wrote something else")
+    needed("cargo")
+    folder = it.folder("object in Rust", Cargo_toml=CARGO.format(prefix=it.prefix), main_rs=STACK_IN_RUST, stack_c=blocks[0])
+    (folder / "src").mkdir()
+    (folder / "main.rs").rename(folder / "src" / "main.rs")
+    ended(folder, [tool, "stack.c", "-o", "src/stack.rs"])
+    must(ended(folder, ["cargo", "run", "-q", "--offline"], {"GITHOPPU_LIBRARY": str(it.prefix / "lib")}) == b"7\n", "the program in Rust wrote something else")
 
 
 def by_python(it):
@@ -305,7 +345,7 @@ def installed_again(it):
     ended(it.room, [install, *way, "/dev/null/githoppu"], {"DESTDIR": ""}, 1)
 
 
-CASES = [nothing_names_a_place, shared, archive, static, found_by_cmake, versions_of_cmake, checked_by_cmake, by_cargo, by_python, installed_again]
+CASES = [nothing_names_a_place, shared, archive, static, found_by_cmake, versions_of_cmake, checked_by_cmake, by_cargo, by_python, by_program, installed_again]
 
 
 def main(words):

@@ -6,6 +6,7 @@ import unittest
 from pathlib import Path
 
 import check_names
+from cited_lemmas import uncited
 from source_text import Sources
 
 ROOT = Path(__file__).resolve().parent.parent.parent
@@ -45,6 +46,7 @@ class Names(unittest.TestCase):
         faults, _, found = check_names.faults_of(ROOT)
         self.assertEqual([], faults)
         self.assertGreater(sum(found.totals().values()), 0)
+        self.assertEqual([], uncited(ROOT))
 
     def test_a_name_in_two_crates(self):
         private, law = "double : ℕ\ndouble = 2\n", "pub double : (n : ℕ) → n ≡ n\ndouble n = refl\n"
@@ -109,6 +111,23 @@ class Names(unittest.TestCase):
             self.assertEqual((want, []), self.found({file: text}), text)
         self.assertEqual([], self.found({"two/src/lib.rt": 'fn two() -> &str {\n    "so many"\n}\n'})[0])
         self.assertEqual(1, len(self.found({"two/src/lib.rt": "/// Gives up.\nfn two() {}\n"})[0]))
+
+    def test_a_lemma_that_nothing_cites(self):
+        law = "use Rattle.one.specs.Words.{double}\n\n-- a law\npub law : (n : ℕ) → n ≡ n\nlaw n = refl\n\n"
+        rows = [
+            (law, "", ["crates/one/proofs/Laws.antt:4: law"]),
+            (law, "use Rattle.one.proofs.Laws.{law}\n", ["crates/one/proofs/Laws.antt:4: law"]),
+            (law, "two c = law 2\n", []),
+            (law, "-- by law\n", ["crates/one/proofs/Laws.antt:4: law"]),
+            (law + "next : (n : ℕ) → n ≡ n\nnext n = law n\n", "", ["crates/one/proofs/Laws.antt:4: law", "crates/one/proofs/Laws.antt:7: next"]),
+            (law + "next : (n : ℕ) → n ≡ n\nnext n = law n\n", "two c = next 2\n", []),
+            (law + "mutual\n", "", []),
+            ("pub ◌by◌ : ℕ → ℕ → ℕ\na by b = a\n", "", []),
+            ("module _ (n : ℕ) where\n  pub law : n ≡ n\n  law = refl\n", "", ["crates/one/proofs/Laws.antt:2: law"]),
+        ]
+        for laws, answers, want in rows:
+            with tempfile.TemporaryDirectory() as folder:
+                self.assertEqual(want, uncited(laid_out(folder, {"one/proofs/Laws.antt": laws, "one/proofs/two/Answers.antt": answers})), laws)
 
     def test_lists_are_made_anew_where_nothing_rises(self):
         with tempfile.TemporaryDirectory() as folder:

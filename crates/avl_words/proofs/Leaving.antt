@@ -305,19 +305,6 @@ rest_there ws mid nodes sides nodes_now sides_now depth node left right depth_no
     at_root Empty s e = absurd (n (sym e))
     at_root (Node l x r) s e = subst (IsWithin mid) e s.0.within
 
-pub out_header : (ws mid now nodes sides nodes_now sides_now : List ℕ) (depth node left right depth_now rest high top : ℕ) → HasTwo ws nodes sides depth node left right → RaisesNode nodes sides depth node left right nodes_now sides_now depth_now rest ws mid →
-    high_of rest mid ≡ high → Mends nodes_now sides_now depth_now depth rest high top mid now → IsWithin now 0
-out_header ws mid now nodes sides nodes_now sides_now depth node left right depth_now rest high top h u tall m =
-    let header = h.can.there.header in
-    let c = can_mend_out ws mid nodes sides nodes_now sides_now depth node left right depth_now rest high h u tall in
-    let long = (m c.way c.tree c.hung c.high_is c.settled_way).but.long in
-    let before = out_kept (spot h.can.order [] h.can.tree).1 (not_empty (spot h.can.order [] h.can.tree).1 node h.can.there.spot.node_is h.can.there.some) (u h.can.order h.can.tree h.can.there h.left_is h.right_is) in
-    omega arith
-  where
-    out_kept : (here : Tree ℕ) → here ≢ Empty → IsNodeOut ws mid nodes_now sides_now depth_now depth rest (spot h.can.order [] h.can.tree).0 here → length mid ≡ length ws
-    out_kept Empty n o = absurd (n refl)
-    out_kept (Node l x r) n o = o.but.long
-
 pub node_there : (ws nodes sides : List ℕ) (depth node : ℕ) → CanTakeNode ws nodes sides depth node → IsWithin ws node
 node_there ws nodes sides depth node c =
     let i = c.there in

@@ -49,23 +49,6 @@ once_more n k t none once =
       | inr ne ↦ (let o = times_other n k ne in omega (arith, once, o))
     ]
 
-pub line_some : (ws : List ℕ) (t : Tree ℕ) → Stands ws t → times 0 t ≡ 0
-line_some ws Empty s = refl
-line_some ws (Node l x r) s = (let a = line_some ws l s.1 in let b = line_some ws r s.2 in let some = s.0.some in let c = times_other x 0 (λ e. absurd (omega arith)) in omega (arith, c))
-
--- a tree that was made stands for the words once the header names its root
-pub made_tree : (ws now : List ℕ) (old new : Tree ℕ) (top : ℕ) → 8 ≤ length ws → IsTreeMade ws now old new top → Balanced new → ((line : ℕ) → times line new ≤ 1) → size new < 2 ^ 32 → IsTree (with_word 0 1 top now) new
-made_tree ws now old new top header m b once few =
-    let long = m.but.long in
-    record {
-      root_is = get_or-set_same now (8 * 0 + 1) top 0 (omega arith) ∙ sym m.root_is;
-      stands = stands_same now (with_word 0 1 top now) new (length-set now (8 * 0 + 1) top)
-          (λ line ne j l. get_or-set_other now (8 * 0 + 1) (8 * line + j) top 0 (let z : line ≢ 0 = λ e. ne (subst (λ k. times k new ≡ 0) (sym e) (line_some now new m.stands)) in omega arith)) m.stands;
-      balanced = b;
-      once = once;
-      few = few;
-    }
-
 -- its words are the only ones
 pub made_words : (ws now : List ℕ) (old new : Tree ℕ) (top : ℕ) → ((line : ℕ) → times line old ≤ times line new) → IsTreeMade ws now old new top → with_word 0 1 top now ≡ with_tree new ws
 unfolding with_tree
@@ -81,9 +64,6 @@ module _ (ws nodes sides : List ℕ) (order : ℕ → Ordering) (depth node : �
   gap_whole =
       let s = stands_at ws (spot order [] t).0 (spot order [] t).1 (subst (Stands ws) (sym (spot_whole order [] t)) i.stands) in
       ap (whole (spot order [] t).0) (sym (empty_root (spot order [] t).1 s o.node_is)) ∙ spot_whole order [] t
-
-  pub gap_empty : (spot order [] t).1 ≡ Empty
-  gap_empty = empty_root (spot order [] t).1 (stands_at ws (spot order [] t).0 (spot order [] t).1 (subst (Stands ws) (sym (spot_whole order [] t)) i.stands)) o.node_is
 
   -- the new node is to hang there
   pub hung_leaf : IsHung ws nodes sides depth (spot order [] t).0 (Node Empty node Empty) node
@@ -104,28 +84,6 @@ module _ (ws nodes sides : List ℕ) (order : ℕ → Ordering) (depth node : �
   -- the nodes of the way stand
   pub settled_leaf : Settled ws depth (spot order [] t).0
   settled_leaf = settled_of ws nodes sides depth (spot order [] t).0 Empty o.noted (subst (Stands ws) (sym gap_whole) i.stands) (subst Balanced (sym gap_whole) i.balanced)
-
-  new_times : (k : ℕ) → times k (with_new order node t) ≡ times k t + cond (eqb node k) 1 0
-  new_times k =
-      let m = mended_times k (spot order [] t).0 (Node Empty node Empty) in
-      let w = whole_times k (spot order [] t).0 Empty in
-      let e = ap (times k) gap_whole in
-      omega (arith, m, w, e)
-
-  pub new_size : size (with_new order node t) ≡ size t + 1
-  new_size =
-      let way = (spot order [] t).0 in
-      let p = size_is (with_new order node t) ∙ ap length (new_items order node t) in
-      let q = size_is t ∙ ap length (spot_items order t ∙ ap (λ h. before way ++ (items h ++ behind way)) gap_empty) in
-      let r = length-append (before way) (node ∷ behind way) in
-      let s = length-append (before way) (behind way) in
-      omega (arith, p, q, r, s)
-
-  pub new_tree : (now : List ℕ) (top : ℕ) → 8 ≤ length ws → size t + 1 < 2 ^ 32 → IsTreeMade ws now (whole (spot order [] t).0 (Node Empty node Empty)) (with_new order node t) top → IsTree (with_word 0 1 top now) (with_new order node t)
-  new_tree now top header room m =
-      made_tree ws now (whole (spot order [] t).0 (Node Empty node Empty)) (with_new order node t) top header m (new_balanced order node t gap_empty i.balanced)
-      (λ k. (let e = new_times k in let h = once_more node k t apart (i.once k) in omega (arith, e, h)))
-      (let e = new_size in omega arith)
 
   pub new_words : (now : List ℕ) (top : ℕ) → IsTreeMade ws now (whole (spot order [] t).0 (Node Empty node Empty)) (with_new order node t) top → with_word 0 1 top now ≡ with_tree (with_new order node t) ws
   new_words now top m =

@@ -111,11 +111,6 @@ module _ (ws nodes sides : List ℕ) (turn : Turn ℕ) (way : List (Turn ℕ)) (
     but = but_more ws now one (whole (turn ∷ way) t) (λ k. (let w = whole_times k (turn ∷ way) t in omega (arith, w))) but;
   }
 
--- as the code runs
-pub relinks_none : (ws nodes sides : List ℕ) (depth node : ℕ) → depth ≡ 0 → Relinks nodes sides depth node node ws ws
-relinks_none ws nodes sides depth node z [] t old h s level = record { stands = h.stands; root_is = h.root_is; but = record { long = refl; same = λ line i l n. refl } }
-relinks_none ws nodes sides depth node z (turn ∷ way) t old h s level = absurd (let l = h.long in omega arith)
-
 pub relinks : (ws now nodes sides : List ℕ) (depth node : ℕ) → 1 ≤ depth → now ≡ with_word (get_or nodes (depth - 1) 0) (get_or sides (depth - 1) 0) node ws → Relinks nodes sides depth node (get_or nodes 0 0) ws now
 relinks ws now nodes sides depth node some is [] t old h s level = absurd (let l = h.long in omega arith)
 relinks ws now nodes sides depth node some is (turn ∷ way) t old h s level =

@@ -24,10 +24,6 @@ noted_set nodes sides [] d a b le n = tt
 noted_set nodes sides (turn ∷ way) d a b le n =
     (get_or-set_other nodes d (length way) a 0 (omega arith) ∙ n.0, get_or-set_other sides d (length way) b 0 (omega arith) ∙ n.1, n.2, noted_set nodes sides way d a b (omega arith) n.3)
 
-here_within : (ws : List ℕ) (node : ℕ) (t : Tree ℕ) → Stands ws t → node ≡ root t → node ≢ 0 → IsWithin ws node
-here_within ws node Empty s e n = absurd (n e)
-here_within ws node (Node l x r) s e n = subst (IsWithin ws) (sym e) s.0.within
-
 root_none : (t : Tree ℕ) → height t ≡ 0 → root t ≡ 0
 root_none Empty e = refl
 root_none (Node l x r) e = absurd (omega arith)
@@ -39,12 +35,6 @@ high_here node (Node l x r) e n = omega arith
 module _ (ws : List ℕ) (order : ℕ → Ordering) (t : Tree ℕ) (i : IsTree ws t) where
   here_stands : (nodes sides : List ℕ) (d node : ℕ) (o : IsOnWay nodes sides order d node t) → Stands ws o.here
   here_stands nodes sides d node o = stands_at ws o.way o.here (subst (Stands ws) (sym o.whole_is) i.stands)
-
-  pub way_begins : (nodes sides : List ℕ) (node : ℕ) → word_of ws 0 1 ≡ node → IsOnWay nodes sides order 0 node t
-  way_begins nodes sides node e = record { way = []; here = t; whole_is = refl; same = refl; node_is = sym e ∙ i.root_is; noted = tt; long = refl }
-
-  pub way_within : (nodes sides : List ℕ) (d node : ℕ) → IsOnWay nodes sides order d node t → node ≢ 0 → IsWithin ws node
-  way_within nodes sides d node o n = here_within ws node o.here (here_stands nodes sides d node o) o.node_is n
 
   -- the way goes on
   -- a step to the right keeps what stands behind, and one to the left puts the node in front of it
@@ -146,12 +136,6 @@ module _ (ws : List ℕ) (order : ℕ → Ordering) (t : Tree ℕ) (i : IsTree w
       let e = ap height o.whole_is in
       let l = o.long in
       omega arith
-
-  pub way_ends_deep : (nodes sides : List ℕ) (d node : ℕ) → IsOnWay nodes sides order d node t → 64 ≤ d → IsSpot nodes sides order d node t
-  way_ends_deep nodes sides d node o deep =
-      let h = way_height nodes sides d node o in
-      let b = depth_bound t i.balanced i.few in
-      way_ends nodes sides d node o (o.node_is ∙ root_none o.here (omega arith))
 
   -- the bound on visits
   pub few_on_way : (nodes sides : List ℕ) (d node : ℕ) → IsOnWay nodes sides order d node t → 2 ^ d ≤ 2 * ((size t + 1) * (size t + 1))

@@ -16,11 +16,6 @@ pub record IsFront (all : List ℕ) (left : Option (List ℕ)) (bytes : List ℕ
 abbrev pub HasRead : Option (List ℕ) → Option (List ℕ) → List ℕ → Type 0
 HasRead told left bytes = IfSome told (λ all. IsFront all left bytes)
 
--- nothing was read yet
-pub read-none : (told : Option (List ℕ)) → HasRead told told []
-read-none None = tt
-read-none (Some all) = record { front = refl; rest = refl; within = omega arith }
-
 -- what a read gave moved behind the bytes
 pub moved : (before after : Option (List ℕ)) (n : ℕ) (buffer bytes longer : List ℕ) → Gave n before buffer after → longer ≡ bytes ++ take n buffer → Moved n before bytes longer after
 moved None after n buffer bytes longer gave e = tt
@@ -30,11 +25,6 @@ moved (Some rest) after n buffer bytes longer gave e = record {
   left = gave.left;
   end = gave.end;
 }
-
--- what was read was taken
-pub taken_by_read : (before after : Option (List ℕ)) (n most : ℕ) (buffer : List ℕ) → Gave n before buffer after → n ≤ most → TookAtMost most before after
-taken_by_read None after n most buffer gave few = tt
-taken_by_read (Some rest) after n most buffer gave few = record { count = n; few = few; left = gave.left }
 
 -- one more piece was read
 front-more : (all : List ℕ) (n : ℕ) (bytes longer : List ℕ) (left after : Option (List ℕ)) → IsFront all left bytes → Moves n (drop (length bytes) all) bytes longer after → IsFront all after longer
@@ -55,40 +45,9 @@ read-more (Some all) left after n bytes longer read moves =
     front-more all n bytes longer left after read
     (subst (λ (o : Option (List ℕ)). IfSome o (λ rest. Moves n rest bytes longer after)) read.rest moves)
 
--- all was read, where no byte came
-pub read-all : (told left after : Option (List ℕ)) (bytes longer : List ℕ) → HasRead told left bytes → Moved 0 left bytes longer after → IfSome told (λ all. longer ≡ all)
-read-all None left after bytes longer read moves = tt
-read-all (Some all) left after bytes longer read moves =
-    let m : Moves 0 (drop (length bytes) all) bytes longer after = subst (λ (o : Option (List ℕ)). IfSome o (λ rest. Moves 0 rest bytes longer after)) read.rest moves in
-    m.read
-    ∙ (ap (λ (xs : List ℕ). xs ++ []) read.front
-    ∙ (ap (λ (xs : List ℕ). take (length bytes) all ++ xs) (sym (m.end refl)) ∙ take-append-drop (length bytes) all))
-
--- an input has more bytes than it may, once so many were read
-pub read-past : (told left : Option (List ℕ)) (most : ℕ) (bytes : List ℕ) → HasRead told left bytes → most < length bytes → (input : List ℕ) × (most < length input) × IsInput true told input
-read-past None left most bytes read past = (bytes, past, tt)
-read-past (Some all) left most bytes read past = (all, omega (arith, read.within), refl)
-
--- what was read so far was taken
-pub read-taken : (told left : Option (List ℕ)) (most : ℕ) (bytes : List ℕ) → HasRead told left bytes → length bytes ≤ most → TookAtMost most told left
-read-taken None left most bytes read few = tt
-read-taken (Some all) left most bytes read few = record { count = length bytes; few = few; left = read.rest }
-
--- and so was a piece that was lost
-pub read-lost : (told left after : Option (List ℕ)) (most piece : ℕ) (bytes : List ℕ) → HasRead told left bytes → TookAtMost piece left after → length bytes + piece ≤ most → TookAtMost most told after
-read-lost None left after most piece bytes read lost few = tt
-read-lost (Some all) left after most piece bytes read lost few =
-    let takes : TakesBytes piece (drop (length bytes) all) after = subst (λ (o : Option (List ℕ)). IfSome o (λ rest. TakesBytes piece rest after)) read.rest lost in
-    record { count = length bytes + takes.count; few = omega (arith, takes.few); left = takes.left ∙ ap Some (drop-drop takes.count (length bytes) all) }
-
 -- the first n bytes of a text were written
 abbrev pub HasWritten : ℕ → List ℕ → Option (List ℕ) → Option (List ℕ) → Type 0
 HasWritten n text before after = IfSome before (λ written. after ≡ Some (written ++ take n text))
-
--- nothing was written yet
-pub written-none : (text : List ℕ) (told : Option (List ℕ)) → HasWritten 0 text told told
-written-none text None = tt
-written-none text (Some written) = ap Some (sym (append-nil written))
 
 -- one more piece was written
 pub written-more : (text : List ℕ) (at n : ℕ) (before now after : Option (List ℕ)) → HasWritten at text before now → Took n (drop at text) now after → HasWritten (at + n) text before after

@@ -28,9 +28,6 @@ pub record IsToldBelow (region : List ℕ) (n : ℕ) (outcomes : List Applied) :
   pub commands : All (IsLastCommand region) outcomes
   pub replies : (client : ℕ) → client < n → slot_number client region ≢ 0 → (reply : Reply) × IsReplyOf (slot_reply client region) reply
 
-pub told_none : (region : List ℕ) → IsToldBelow region 0 []
-told_none region = record { clients = refl; commands = All-nil (IsLastCommand region); replies = λ client below. absurd (omega (arith, below)) }
-
 range_more : (n : ℕ) → range_with_len 0 (n + 1) ≡ range_with_len 0 n ++ n ∷ []
 range_more n =
     sym (map-id (range_with_len 0 (n + 1))) ∙ map-range_with_len_more (λ x. x) 0 n n (omega arith)
@@ -67,10 +64,3 @@ told_more region n outcomes applied told mine some is =
         | inr other ↦ told.replies client (omega (arith, below, other)) has
       ];
     }
-
--- a slot with a number and words of no reply
-pub holds_none : (region : List ℕ) (client : ℕ) → client < 8 → slot_number client region ≢ 0 → AreOfNoReply (slot_reply client region)
-    → ¬ HoldsStoreReplies region
-holds_none region client within some none holds =
-    let (reply, is) = holds client within some in
-    none reply is.whole.limits is.whole.number is.has

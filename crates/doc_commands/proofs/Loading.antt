@@ -18,11 +18,6 @@ one_record lines store life [] are = absurd are
 one_record lines store life (told ∷ []) are = (told, refl)
 one_record lines store life (told ∷ other ∷ records) are = absurd are.1
 
--- where a life was run there is a base, and the next life begins with it
-pub has_base : (lines : ℕ) (begun : Begun RevisedStore) (life : Life Op) (lives : List (Life Op)) (image : Option Image) → HaveEnded (document_meaning lines) lines 2 (IsImageOfStore lines) begun (life ∷ lives) image None → ⊥
-has_base lines begun life lives None ended = cc
-has_base lines begun life lives (Some image) ended = ended
-
 pub base_begins : (lines : ℕ) (begun : Begun RevisedStore) (lives : List (Life Op)) (image : Option Image) (base : Base) → HaveEnded (document_meaning lines) lines 2 (IsImageOfStore lines) begun lives image (Some base)
     → BeginsLife (document_meaning lines) lines (IsImageOfStore lines) begun base
 base_begins lines begun lives None base ended = absurd ended

@@ -107,10 +107,6 @@ pub rest_zero : (words : List ℕ) (len : ℕ) → ((k : ℕ) → get_or words k
 rest_zero words len small padded k d within =
     get_or_default (drop (len / 8 + 1) words) k d 0 within ∙ get_or-drop (len / 8 + 1) words k 0 ∙ padded_behind words len small padded (len / 8 + 1 + k) (omega arith)
 
--- words past their end
-pub padded_short : (words : List ℕ) (len : ℕ) → length words ≤ len / 8 → IsPadded len words
-padded_short words len past = λ i from. zero_byte words i (get_or_past words (i / 8) 0 (omega arith))
-
 -- ---- the text is packed
 
 pub length_unpacked : (len : ℕ) (words : List ℕ) → length (unpacked len words) ≡ len

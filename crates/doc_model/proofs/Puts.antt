@@ -83,11 +83,3 @@ module _ {E : Type 0} (lines : ℕ) (store : RevisedStore) (key document : List 
 -- the least key of those above
 pub above_at : (triples : List ((List ℕ × List ℕ) × ℕ)) (key : List ℕ) (rest : List ((List ℕ × List ℕ) × ℕ)) → triples_above key triples ≡ rest → pairs_above key (pairs_of triples) ≡ pairs_of rest
 above_at triples key rest e = sym (kept_pairs (λ p. is_lt (key_cmp key p.0)) triples) ∙ ap pairs_of e
-
-pub none_above : (rest : List ((List ℕ × List ℕ) × ℕ)) → length rest < 1 → Absent ≡ least_key (pairs_of rest)
-none_above [] few = refl
-none_above (t ∷ rest) few = absurd (omega arith)
-
-pub one_above : (rest : List ((List ℕ × List ℕ) × ℕ)) (d : (List ℕ × List ℕ) × ℕ) → 1 ≤ length rest → Key (get_or rest 0 d).0.0 ≡ least_key (pairs_of rest)
-one_above [] d some = absurd (omega arith)
-one_above (t ∷ rest) d some = refl

@@ -69,10 +69,6 @@ unfolding front_words
 some_front x reply head count headed counted some told =
     told ∙ ap (λ h. words_of_item 3 (item_at x h)) (sym headed) ∙ ap (λ b. cond b (reply_words Empty) (words_of_item 3 (item_at x (queue_head x)))) (sym (ne_eqb (count_in x) 0 (λ e. some (sym counted ∙ e))))
 
--- the item that was loaded
-pub loaded_item : (x item : List ℕ) (place : ℕ) → length item ≡ 8 → AreAt (8 * (place + 1)) item x → item ≡ item_at x place
-loaded_item x item place long are = item_is x item place long (λ k below. are k (omega (arith, long, below)))
-
 -- a part of words that is an item
 part_is : (words : List ℕ) (place : ℕ) → 8 * (place + 1) + 8 ≤ length words → take 8 (drop (8 * (place + 1)) words) ≡ item_at words place
 part_is words place room =

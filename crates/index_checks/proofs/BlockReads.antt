@@ -40,12 +40,6 @@ word_within i count bytes lines l c e = omega arith
 pub line_within : (i lines : ℕ) → i < 7 * lines → i / 7 < lines
 line_within i lines l = omega arith
 
-pub next_within : (ws : List ℕ) (first count i line : ℕ) (into : List ℕ) → i < count → HasChainWords ws first count → ReadSoFar first count i line into ws → IsWithin ws line
-next_within ws first count i line into l h r =
-    let so = r h.lines h.bytes h.holds h.counted in
-    let inside = line_within i (length h.lines) (word_within i count (length h.bytes) (length h.lines) l h.counted h.holds.enough) in
-    subst (IsWithin ws) (sym so.at) (h.within (i / 7) 0 inside)
-
 -- nothing read
 pub read_none : (ws : List ℕ) (first count : ℕ) (into : List ℕ) → ReadSoFar first count 0 first into ws
 read_none ws first count into lines bytes h c = record { at = chain_first ws lines first h.chain; front = λ k l. absurd (omega arith) }

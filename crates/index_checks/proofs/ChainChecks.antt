@@ -45,9 +45,6 @@ pub record MarkedSoFar (ws : List ℕ) (first n line : ℕ) (old now : List Bool
   pub counted : length front ≡ n
   pub marks : Marks old front now
 
-pub marked_none : (ws : List ℕ) (first : ℕ) (marks : List Bool) → MarkedSoFar ws first 0 first marks marks
-marked_none ws first marks = record { front = []; path = refl; counted = refl; marks = marks_none marks }
-
 pub marked_more : (ws : List ℕ) (first n line next : ℕ) (old now after : List Bool) → MarkedSoFar ws first n line old now → Marks now (line ∷ []) after → word_of ws line 0 ≡ next →
     MarkedSoFar ws first (n + 1) next old after
 marked_more ws first n line next old now after s m e = record {

@@ -32,9 +32,6 @@ has_blocks ws node at t first len count f g e = record {
   within = t.text.within;
 }
 
-pub text_length : (ws : List ℕ) (node at len : ℕ) → HasPlainText ws node at → len ≡ word_of ws node (at + 1) → len ≤ 1024
-text_length ws node at len t g = (let short = t.short in let long = t.text.long in omega arith)
-
 content_packed : (ws lines content bytes : List ℕ) → IsContent ws lines content → ((i : ℕ) → i < 7 * length lines → word_of ws (get_or lines (i / 7) 0) (1 + i % 7) ≡ packed_at bytes i) → length lines ≡ (length bytes + 55) / 56 →
     content ≡ packed (length content) bytes
 content_packed ws lines content bytes c holds enough =
@@ -120,9 +117,6 @@ list_more ws more node pairs pair s is = record {
   all = append_assoc pairs (pair ∷ []) (map (triple_at ws) more) ∙ ap (λ q. pairs ++ (q ∷ map (triple_at ws) more)) is ∙ s.all;
   left = All-tail (NamesPair ws) node more s.left;
 }
-
-pub list_ends : (ws more : List ℕ) (pairs : List ((List ℕ × List ℕ) × ℕ)) → ListedSoFar ws more pairs → more ≡ [] → pairs ≡ (revised_in ws).triples
-list_ends ws more pairs s e = sym (append-nil pairs) ∙ ap (λ u. pairs ++ map (triple_at ws) u) (sym e) ∙ s.all
 
 pub index_tree : (ws : List ℕ) → IsIndex ws → HasTree ws (word_of ws 0 1) 0
 index_tree ws i =

@@ -15,10 +15,6 @@ pub by_test : (b : Bool) (F P Q : Type 0) → (IsTrue b ↔ F) → (F → P) →
 by_test true F P Q says p q = p (says.0 refl)
 by_test false F P Q says p q = q (λ f. false≢true (says.1 f))
 
-pub on_each : (b : Bool) (P Q R S : Type 0) → MatchBool b P Q → (P → R) → (Q → S) → MatchBool b R S
-on_each true P Q R S h p q = p h
-on_each false P Q R S h p q = q h
-
 pub in_line : (x n : ℕ) → x < n → ◌≡◌ {A = ℕ} (cond (ltb x n) 1 0) 1
 in_line x n l = grind (arith, nat_tests)
 

@@ -92,17 +92,6 @@ found_more ws more node last key old now after f h =
           (marks_then old now after (flat_map lines_at f.front) (lines_at h.place ++ []) f.marks (marks_same now after (lines_at h.place) (lines_at h.place ++ []) (sym (append-nil (lines_at h.place))) h.marks));
     }
 
-pub found_all : (ws more : List ℕ) (last : List ℕ) (old now : List Bool) → FoundSoFar ws more last old now → more ≡ [] → HasNodes ws old now
-found_all ws more last old now f e = record {
-  places = f.front;
-  store = f.lower;
-  placed = f.placed;
-  nodes = sym (append-nil (nodes_of f.front)) ∙ ap (λ u. nodes_of f.front ++ u) (sym e) ∙ f.nodes;
-  lawful = f.lawful;
-  revisions = f.revisions;
-  marks = f.marks;
-}
-
 -- what stands behind the nodes found, of any pairs at the tree's nodes
 next_is_no_pair : (ws more : List ℕ) (node : ℕ) (last : List ℕ) (old now : List Bool) (f : FoundSoFar ws (node ∷ more) last old now) → NoPair ws node last now → (places : List Place) (store : Store) → IsStore store → AreRevisions (head_in ws) places → CanMark old (flat_map lines_at places) →
     (b : IsFront ws (node ∷ more) f.front places f.lower store) (rest : List Place) (others : Store) → rest ≡ b.rest → others ≡ b.others → nodes_of rest ≡ node ∷ more → Placed ws rest others → ⊥

@@ -77,9 +77,6 @@ pub no_lines : (ws : List ℕ) (line : ℕ) → line ≡ 0 → nodes_in_order li
 unfolding nodes_in_order
 no_lines ws line z = ap items (no_tree ws 64 line z)
 
-level_low : (ws : List ℕ) (line level : ℕ) → HasTree ws line level → level ≤ 64
-level_low ws line level h = (let low = h.low in omega arith)
-
 -- there is room for another note
 some_high : (ws : List ℕ) (t : Tree ℕ) (line : ℕ) → root t ≡ line → line ≢ 0 → 1 ≤ height t
 some_high ws Empty line e n = absurd (n (sym e))
@@ -132,10 +129,6 @@ descend_more ws nodes depth node next from rest d n e =
 
 pub descend_ends : (ws nodes : List ℕ) (depth node from : ℕ) (rest : List ℕ) → IsDescending ws nodes depth node from rest → node ≡ 0 → to_come ws nodes depth ≡ nodes_in_order from ws ++ rest
 descend_ends ws nodes depth node from rest d z = ap (λ u. u ++ to_come ws nodes depth) (sym (no_lines ws node z)) ∙ d.lines
-
--- the next node
-pub first_to_come : (ws nodes : List ℕ) (depth : ℕ) → 1 ≤ depth → to_come ws nodes depth ≡ get_or nodes (depth - 1) 0 ∷ (nodes_in_order (word_of ws (get_or nodes (depth - 1) 0) 1) ws ++ to_come ws nodes (depth - 1))
-first_to_come ws nodes depth some = ap (to_come ws nodes) (let e : depth ≡ suc (depth - 1) = omega arith in e)
 
 -- a walk that has nodes left to reach has noted one
 pub some_noted : (ws nodes : List ℕ) (depth : ℕ) → 1 ≤ length (to_come ws nodes depth) → 1 ≤ depth

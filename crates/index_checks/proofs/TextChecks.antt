@@ -33,15 +33,6 @@ pub record ContentSoFar (ws lines content : List ℕ) (i line : ℕ) : Type 0 wh
 abbrev pub ReadsSoFar : List ℕ → ℕ → ℕ → List ℕ → ℕ → ℕ → Type 0
 ReadsSoFar ws first count content i line = (lines : List ℕ) → IsChain ws first lines → length lines ≡ count → ContentSoFar ws lines content i line
 
-pub content_none : (ws : List ℕ) (first count : ℕ) (content : List ℕ) → ReadsSoFar ws first count content 0 first
-content_none ws first count content lines c e = record { at = chain_first ws lines first c; front = λ k l. absurd (omega arith) }
-
-pub block_within : (ws : List ℕ) (first count : ℕ) (content : List ℕ) (i line : ℕ) → HasBlocks ws first count → ReadsSoFar ws first count content i line → i < 7 * count → IsWithin ws line
-block_within ws first count content i line h so l =
-    let s = so h.lines h.chain h.counted in
-    let inside : i / 7 < length h.lines = line_within i (length h.lines) (omega (arith, h.counted)) in
-    subst (IsWithin ws) (sym s.at) (h.within (i / 7) 0 inside)
-
 pub content_more : (ws : List ℕ) (first count : ℕ) (content : List ℕ) (i line next v : ℕ) → ReadsSoFar ws first count content i line → i < 7 * count → 7 * count ≤ length content → v ≡ word_of ws line (1 + i % 7) →
     (i % 7 ≡ 6 → next ≡ word_of ws line 0) → (i % 7 ≢ 6 → next ≡ line) → ReadsSoFar ws first count (set content i v) (i + 1) next
 content_more ws first count content i line next v so l room is last other lines c e =
@@ -57,35 +48,6 @@ content_more ws first count content i line next v so l room is last other lines 
 pub record ClearedSoFar (ws : List ℕ) (first count : ℕ) (content : List ℕ) (i : ℕ) : Type 0 where
   pub front : (lines : List ℕ) → IsChain ws first lines → length lines ≡ count → (k : ℕ) → k < 7 * count → get_or content k 0 ≡ word_of ws (get_or lines (k / 7) 0) (1 + k % 7)
   pub behind : (k : ℕ) → 7 * count ≤ k → k < i → get_or content k 0 ≡ 0
-
-pub cleared_none : (ws : List ℕ) (first count : ℕ) (content : List ℕ) (i line : ℕ) → ReadsSoFar ws first count content i line → 7 * count ≤ i → ClearedSoFar ws first count content (7 * count)
-cleared_none ws first count content i line so e = record {
-  front = λ lines c counted k l. (so lines c counted).front k (omega arith);
-  behind = λ k l b. absurd (omega arith);
-}
-
-pub cleared_more : (ws : List ℕ) (first count : ℕ) (content : List ℕ) (i : ℕ) → ClearedSoFar ws first count content i → 7 * count ≤ i → i < length content → ClearedSoFar ws first count (set content i 0) (i + 1)
-cleared_more ws first count content i s past room = record {
-  front = λ lines c counted k l. get_or-set_other content i k 0 0 (omega arith) ∙ s.front lines c counted k l;
-  behind = λ k l b. (
-      elim (cases_lt k i) [
-        | inl lt ↦ get_or-set_other content i k 0 0 (omega arith) ∙ s.behind k l lt
-        | inr ge ↦
-            let same : k ≡ i = omega arith in
-            subst (λ n. get_or (set content i 0) n 0 ≡ 0) (sym same) (get_or-set_same content i 0 0 room)
-      ]);
-}
-
-pub cleared_all : (ws : List ℕ) (first count : ℕ) (content : List ℕ) (i : ℕ) → ClearedSoFar ws first count content i → length content ≤ i →
-    (lines : List ℕ) → IsChain ws first lines → length lines ≡ count → IsContent ws lines content
-cleared_all ws first count content i s e lines c counted = record {
-  front = λ k l. s.front lines c counted k (omega (arith, counted));
-  behind = λ k l. (
-      elim (cases_lt k (length content)) [
-        | inl lt ↦ s.behind k (omega (arith, counted)) (omega arith)
-        | inr ge ↦ get_or_past content k 0 ge
-      ]);
-}
 
 -- the first bytes and the others
 pub filled : (bytes : List ℕ) (len least most : ℕ) → All (AreBytesBetween least most) (take len bytes) → All (λ b. b ≡ 0) (drop len bytes) → IsFilled bytes len least most
@@ -192,6 +154,3 @@ no_text ws first count len least most content bytes old r below none lines text 
           subst (AreBytesBetween least most) (sym (get_or-take len bytes i 0 within ∙ same i)) (limits i 0 (omega (arith, long)))));
       behind = λ i l. same i ∙ get_or_past text i 0 (omega (arith, long));
     })
-
-pub no_text_chain : (ws : List ℕ) (first count len least most : ℕ) (old : List Bool) → count ≡ (len + 55) / 56 → NoChain ws first count old → NoText ws first len least most old
-no_text_chain ws first count len least most old counted none lines text h long limits can = none lines h.chain (h.enough ∙ ap (λ n. (n + 55) / 56) long ∙ sym counted) can

@@ -23,20 +23,20 @@ module _ (pool : Pool Counters) where
   pub again : (a b c : Client) → IsBack pool a b → IsBack pool b c → IsBack pool a c
   again a b c first second = record { client = second.client; same = record { number = second.same.number ∙ first.same.number; limits = second.same.limits ∙ first.same.limits; closing = second.same.closing ∙ first.same.closing } }
 
-  pub updated : (op : List ℕ) (before after : Client) (pooled : Pooled) → UpdatesForClient pool.service pool.line.table.shared.table_id op before after pooled → IsBack pool before after
-  updated op before after (Done answer) u = record { client = u.0.made.client; same = u.0.made.same }
-  updated op before after (Full note) u = record { client = u.0.client; same = u.0.same }
-  updated op before after Worn u = record { client = u.0.client; same = u.0.same }
-  updated op before after (Stopped linked) u = record { client = u.0.client; same = u.0.same }
-  updated op before after Memory u = record { client = u.0.client; same = u.0.same }
+  pub updated : (op reply : List ℕ) (before after : Client) (pooled : Pooled) → UpdatesForClient pool.service pool.line.table.shared.table_id op reply before after pooled → IsBack pool before after
+  updated op reply before after (Done ticket) u = record { client = u.0.made.client; same = u.0.made.same }
+  updated op reply before after (Full note) u = record { client = u.0.client; same = u.0.same }
+  updated op reply before after Worn u = record { client = u.0.client; same = u.0.same }
+  updated op reply before after (Stopped linked) u = record { client = u.0.client; same = u.0.same }
+  updated op reply before after Memory u = record { client = u.0.client; same = u.0.same }
 
-  pub looked : (op : List ℕ) (before after : Client) (pooled : PooledRead) → ReadsForClient pool.service pool.line.table.shared.table_id op before after pooled → IsBack pool before after
-  looked op before after (ReadSeen seen) u = record { client = u.0.made.client; same = u.0.made.same }
-  looked op before after (Queued answer) u = record { client = u.0.made.client; same = u.0.made.same }
-  looked op before after (FullRead note) u = record { client = u.0.client; same = u.0.same }
-  looked op before after WornRead u = record { client = u.0.client; same = u.0.same }
-  looked op before after (StoppedRead linked) u = record { client = u.0.client; same = u.0.same }
-  looked op before after MemoryRead u = record { client = u.0.client; same = u.0.same }
+  pub looked : (op reply : List ℕ) (before after : Client) (pooled : PooledRead) → ReadsForClient pool.service pool.line.table.shared.table_id op reply before after pooled → IsBack pool before after
+  looked op reply before after (ReadSeen seen) u = record { client = u.0.made.client; same = u.0.made.same }
+  looked op reply before after (Queued ticket) u = record { client = u.0.made.client; same = u.0.made.same }
+  looked op reply before after (FullRead note) u = record { client = u.0.client; same = u.0.same }
+  looked op reply before after WornRead u = record { client = u.0.client; same = u.0.same }
+  looked op reply before after (StoppedRead linked) u = record { client = u.0.client; same = u.0.same }
+  looked op reply before after MemoryRead u = record { client = u.0.client; same = u.0.same }
 
   pub followed : (place : ℕ) (before after : Client) (pooled : PooledCatchUp) → ClientCatchesUp pool.service pool.line.table.shared.table_id place before after pooled → IsBack pool before after
   followed place before after Caught u = record { client = u.made.client; same = u.made.same }

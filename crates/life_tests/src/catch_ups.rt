@@ -8,6 +8,7 @@ use crate::holds::holds;
 use crate::pool_starts::opened;
 use bounded_counters::{Counters, add_words, operations_are_read, read_words};
 use client_pool::{Client, Pool, Pooled, PooledCatchUp, PooledRead};
+use cx_base::OP_WORDS;
 use std::alloc::{AllocError, Global};
 use std::sync::Wait;
 use std::test::Fail;
@@ -35,7 +36,8 @@ fn added<R: Wait>(rt: &R, pool: &Pool<Counters>, client: &mut Client) -> Option<
     requires client { IsOf pool.now client.old × (is_live client.old.lent.kept ≡ true) }
     ensures { IsBack pool.now client.old client.new }
 {
-    let pooled = pool.update(rt, client, &add_words(0, 1));
+    let mut reply = [0; OP_WORDS];
+    let pooled = pool.update(rt, client, &add_words(0, 1), &mut reply);
     match pooled {
         Pooled::Done(_) => Some(client.place()),
         _ => None,
@@ -48,9 +50,10 @@ fn read<R: Wait>(rt: &R, pool: &Pool<Counters>, client: &mut Client) -> Option<(
     ensures { IsBack pool.now client.old client.new }
 {
     operations_are_read();
-    let pooled = pool.read(rt, client, &read_words(0));
+    let mut reply = [0; OP_WORDS];
+    let pooled = pool.read(rt, client, &read_words(0), &mut reply);
     match pooled {
-        PooledRead::Read(seen) => Some((seen.place, seen.reply[1])),
+        PooledRead::Read(place) => Some((place, reply[1])),
         _ => None,
     }
 }

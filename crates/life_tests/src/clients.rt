@@ -7,6 +7,7 @@ ghost use Rattle.life_tests.specs.Tests.{AreAll, Counts, IsBack, IsOf};
 
 use bounded_counters::{Counters, add_words, operations_are_read, read_words};
 use client_pool::{Client, Pool, Pooled, PooledRead};
+use cx_base::OP_WORDS;
 use std::alloc::{AllocError, Global};
 use std::sync::Wait;
 use std::thread::{self, Threads, map_vec};
@@ -17,7 +18,8 @@ fn adds<R: Wait>(rt: &R, pool: &Pool<Counters>, client: &mut Client) -> bool
     requires client { IsOf pool.now client.old × (is_live client.old.lent.kept ≡ true) }
     ensures { IsBack pool.now client.old client.new }
 {
-    let pooled = pool.update(rt, client, &add_words(0, 1));
+    let mut reply = [0; OP_WORDS];
+    let pooled = pool.update(rt, client, &add_words(0, 1), &mut reply);
     match pooled {
         Pooled::Full(_) => true,
         _ => false,
@@ -30,7 +32,8 @@ fn reads<R: Wait>(rt: &R, pool: &Pool<Counters>, client: &mut Client) -> bool
     ensures { IsBack pool.now client.old client.new }
 {
     operations_are_read();
-    let pooled = pool.read(rt, client, &read_words(0));
+    let mut reply = [0; OP_WORDS];
+    let pooled = pool.read(rt, client, &read_words(0), &mut reply);
     match pooled {
         PooledRead::Full(_) => true,
         _ => false,

@@ -6,6 +6,7 @@ ghost use Rattle.fifo_object.specs.Queue.{IsOp};
 
 use crate::holds::holds;
 use crate::queue_lives::{is_reply, op_of};
+use cx_base::OP_WORDS;
 use cx_core::Base;
 use cx_service::{Caller, Service, Updated};
 use fifo_object::{Fifo, FifoFault, FifoOp, FifoReply, fifo_reply_of, fifo_words};
@@ -52,8 +53,9 @@ fn asked<R: Wait>(
     requires op { IsOp op.now }
     ensures { IfOk result (λ r. IfSome r (λ answered. IsCallerOf service.now answered.0)) }
 {
-    match service.update(rt, caller, &fifo_words(op)) {
-        Updated::Done(back, answer) => match fifo_reply_of(alloc, &answer.reply) {
+    let mut words = [0; OP_WORDS];
+    match service.update(rt, caller, &fifo_words(op), &mut words) {
+        Updated::Done(back, _) => match fifo_reply_of(alloc, &words) {
             Ok(reply) => Ok(Some((back, reply))),
             Err(FifoFault::Memory) => Err(AllocError),
             Err(FifoFault::BadOp) => Ok(None),

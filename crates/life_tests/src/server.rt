@@ -9,6 +9,7 @@ use crate::pool_starts::opened;
 use crate::shared_pools::last;
 use bounded_counters::{Counters, add_words};
 use client_pool::{Client, Pool, Pooled};
+use cx_base::OP_WORDS;
 use std::alloc::{AllocError, Global};
 use std::sync::Wait;
 use std::sync::atomic::{AtomicUsize, Ordering};
@@ -32,9 +33,10 @@ fn answer<R: Wait>(rt: &R, pool: &Pool<Counters>, client: &mut Client, amount: u
     requires client { IsOf pool.now client.old × (is_live client.old.lent.kept ≡ true) }
     ensures { IsBack pool.now client.old client.new }
 {
-    let pooled = pool.update(rt, client, &add_words(0, amount));
+    let mut reply = [0; OP_WORDS];
+    let pooled = pool.update(rt, client, &add_words(0, amount), &mut reply);
     match pooled {
-        Pooled::Done(answer) => Told::Sum(answer.reply[1]),
+        Pooled::Done(_) => Told::Sum(reply[1]),
         // another caller needs the cells of the one that this client keeps, or there is no room for one answer more
         Pooled::Full(_) | Pooled::Memory => Told::Busy,
         // no ticket is left, or this client's caller is stopped

@@ -1,4 +1,4 @@
-//! Programs that are run: each opcode, each bit of a program turned, and each fault. What is printed is compared with `tools/bpf_model.py`, which was written from the standard alone.
+//! Programs that are run: each opcode, each bit of a program turned, each fault, and images of another program. What is printed is compared with `tools/bpf_model.py`, which was written from the standard alone.
 //!
 //! A line has a number, how many words were refused as no program, and a digest of all that was answered: for a program that is none the kind and the instruction, for the others each
 //! reply and each image.
@@ -7,8 +7,8 @@
 mod rows;
 mod runs;
 
-use crate::rows::{FAULTS, SAMPLE};
-use crate::runs::{Tally, faults, flipped, of_opcode};
+use crate::rows::{FAULTS, SAMPLE, UPGRADES};
+use crate::runs::{Tally, faults, flipped, of_opcode, upgraded};
 use std::io;
 
 fn main(rt: HostRuntime) -> io::Result<()> {
@@ -24,6 +24,10 @@ fn main(rt: HostRuntime) -> io::Result<()> {
     for row in 0..FAULTS.len() {
         let tally = faults(alloc, row);
         println!(rt; "fault {row}: {} {}", tally.refused, tally.digest)?;
+    }
+    for row in 0..UPGRADES.len() {
+        let tally = upgraded(alloc, row);
+        println!(rt; "upgrade {row}: {} {}", tally.refused, tally.digest)?;
     }
     Ok(())
 }

@@ -3,7 +3,7 @@
 ghost use Rattle.std.specs.Prelude.{◌≡◌, ◌*◌, IfOk, IfSome, length};
 ghost use Rattle.cx_base.specs.Memory.{Always, Known};
 
-use crate::rows::{FAULTS, NUMBERS, OFFSETS, PAIRS, REGISTERS, SAMPLE};
+use crate::rows::{FAULTS, NUMBERS, OFFSETS, PAIRS, REGISTERS, SAMPLE, UPGRADES};
 use cx_base::{Halt, OP_WORDS, Object, OpWords, VecMemory};
 use program_code::{FaultKind, Program, ProgramFault};
 use program_object::ProgramObject;
@@ -91,6 +91,40 @@ pub fn faults(alloc: Global, row: usize) -> Tally {
         run(alloc, &FAULTS[row], 8, &[2, 3], &mut tally);
     }
     tally
+}
+
+/// A program that takes over an image of another one.
+pub fn upgraded(alloc: Global, row: usize) -> Tally {
+    let mut tally = Tally::none();
+    if row < UPGRADES.len() {
+        if take_over(alloc, &UPGRADES[row], &mut tally).is_err() {
+            tally.told(u64::MAX);
+        }
+    }
+    tally
+}
+
+/// What an image of the program with the fingerprint 5 becomes.
+fn take_over(alloc: Global, words: &[u64], tally: &mut Tally) -> Result<(), AllocError> {
+    let Ok(program) = Program::of(alloc, words, 8) else {
+        return Err(AllocError);
+    };
+    let Some(object) = ProgramObject::of(program, 4, 2_000, Some(5)) else {
+        return Err(AllocError);
+    };
+    let mut image = [5; 32];
+    for at in 1..32 {
+        image[at] = at as u64;
+    }
+    if !object.check_old(alloc, &image)? {
+        return Err(AllocError);
+    }
+    object.upgrade(&mut image);
+    tell(&image, tally);
+    if object.check(alloc, &image)? {
+        tell(&[1], tally);
+    }
+    Ok(())
 }
 
 /// Makes a program of words and does operations.

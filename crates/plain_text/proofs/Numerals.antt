@@ -138,10 +138,6 @@ signed_decimal-integer_of text z h = elim (cases_Bool (starts_with_minus text)) 
       (back.0 ∙ ap signed_decimal (sym was.2), ap is_i64 was.2 ∙ was.3)
 ]
 
-pub some_is_signed : (text : List ℕ) (r : Option ℤ) → r ≡ integer_of text → IfSome r (λ z. text ≡ signed_decimal z)
-some_is_signed text None e = tt
-some_is_signed text (Some z) e = (signed_decimal-integer_of text z (sym e)).0
-
 pub none_is_signed : (text : List ℕ) (r : Option ℤ) → r ≡ integer_of text → IfNone r ((z : ℤ) → is_i64 z ≡ true → text ≢ signed_decimal z)
 none_is_signed text None e = λ z h is. let read = integer_of-signed_decimal z h in let same = ap integer_of is in cc
 none_is_signed text (Some z) e = tt

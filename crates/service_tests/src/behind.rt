@@ -28,12 +28,8 @@ fn updated<O: Object>(
     let Submitted::Linked(linked) = service.submit(caller, op, 1) else {
         return None;
     };
-    match service.drive(linked, 1) {
-        Driven::Done(caller, answer) => {
-            let reply = answer.reply;
-            *into = reply;
-            Some(caller)
-        }
+    match service.drive(linked, into, 1) {
+        Driven::Done(caller, _) => Some(caller),
         Driven::Pending(_) | Driven::Halted(_) => None,
     }
 }

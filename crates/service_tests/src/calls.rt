@@ -205,14 +205,14 @@ fn driven<O: Object>(service: &Service<O>, linked: Linked) -> (Handed, Told)
     requires { IsLinkedOf service.now linked }
     ensures { IsBack service.now linked result.0 }
 {
-    match service.drive(linked, 1) {
+    let mut reply = [0; 144];
+    match service.drive(linked, &mut reply, 1) {
         Driven::Pending(linked) => {
             let told = noted(Came::Pending, linked.steps());
             (Handed::Linked(linked), told)
         }
-        Driven::Done(caller, answer) => {
-            let reply = answer.reply;
-            let told = replied(Came::Updated(answer.ticket), caller.steps(), &reply);
+        Driven::Done(caller, ticket) => {
+            let told = replied(Came::Updated(ticket), caller.steps(), &reply);
             (Handed::Idle(caller), told)
         }
         Driven::Halted(stopped) => {
@@ -228,14 +228,14 @@ fn looked<O: Object>(service: &Service<O>, caller: Caller, op: &[u64; 144]) -> (
     requires reads { IsTrue (O.only_reads service.now.object op.now) }
     ensures { IsBack service.now caller result.0 }
 {
-    match service.try_read(caller, op, 1) {
+    let mut reply = [0; 144];
+    match service.try_read(caller, op, &mut reply, 1) {
         ReadTried::Pending(caller) => {
             let told = noted(Came::Pending, caller.steps());
             (Handed::Idle(caller), told)
         }
-        ReadTried::Read(caller, seen) => {
-            let reply = seen.reply;
-            let told = replied(Came::Read(seen.place), caller.steps(), &reply);
+        ReadTried::Read(caller, place) => {
+            let told = replied(Came::Read(place), caller.steps(), &reply);
             (Handed::Idle(caller), told)
         }
         ReadTried::Halted(stopped) => {

@@ -7,8 +7,8 @@ ghost use Rattle.cx_service.specs.Callers.{IsCallerOf};
 
 use crate::checkpoints_alone::WORDS;
 use crate::holds::holds;
-use cx_base::Items;
 use cx_base::tally::Tally;
+use cx_base::{Items, OP_WORDS};
 use cx_core::Base;
 use cx_service::{Caller, Checkpointed, Driven, Service, Submitted};
 use recovery::{Outcome, outcome};
@@ -27,8 +27,9 @@ fn added(service: &Service<Tally>, caller: Caller, amount: u64) -> Option<(Calle
     let Submitted::Linked(linked) = service.submit(caller, &op, 1) else {
         return None;
     };
-    match service.drive(linked, 1) {
-        Driven::Done(back, answer) => Some((back, answer.reply[0])),
+    let mut reply = [0; OP_WORDS];
+    match service.drive(linked, &mut reply, 1) {
+        Driven::Done(back, _) => Some((back, reply[0])),
         Driven::Pending(_) | Driven::Halted(_) => None,
     }
 }

@@ -42,9 +42,10 @@ fn updated<R: Wait>(
     let mut op = [0; 144];
     op[0] = amount;
     let mut caller = caller;
+    let mut reply = [0; 144];
     for _try in 0..TURNS {
-        match service.update(rt, caller, &op) {
-            Updated::Done(back, answer) => return Some((back, answer.ticket)),
+        match service.update(rt, caller, &op, &mut reply) {
+            Updated::Done(back, ticket) => return Some((back, ticket)),
             Updated::Full(back, _) => caller = back,
             Updated::Worn(_) | Updated::Halted(_) => return None,
         }

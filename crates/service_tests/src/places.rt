@@ -28,11 +28,11 @@ fn added(service: &Service<Tally>, caller: Caller) -> Option<(Caller, Stood)>
     let Submitted::Linked(linked) = service.submit(caller, &adds(1), 2) else {
         return None;
     };
-    match service.drive(linked, 1) {
-        Driven::Done(back, answer) => {
-            let at = answer.ticket;
+    let mut reply = [0; 144];
+    match service.drive(linked, &mut reply, 1) {
+        Driven::Done(back, at) => {
             let place = at.wrapping_add(1);
-            let sum = answer.reply[0];
+            let sum = reply[0];
             Some((back, Stood { at, place, sum }))
         }
         Driven::Pending(_) | Driven::Halted(_) => None,
@@ -48,10 +48,10 @@ fn summed(service: &Service<Tally>, caller: Caller) -> Option<(Caller, Stood)>
     if !service.object().reads(&op) {
         return None;
     }
-    match service.try_read(caller, &op, 1) {
-        ReadTried::Read(back, seen) => {
-            let at = seen.place;
-            let sum = seen.reply[0];
+    let mut reply = [0; 144];
+    match service.try_read(caller, &op, &mut reply, 1) {
+        ReadTried::Read(back, at) => {
+            let sum = reply[0];
             Some((back, Stood { at, place: at, sum }))
         }
         ReadTried::Pending(_) | ReadTried::Halted(_) => None,

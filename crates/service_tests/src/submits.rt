@@ -149,8 +149,9 @@ fn note_within<R: Wait>(
     requires { IsCallerOf service.now caller }
 {
     let mut caller = caller;
+    let mut reply = [0; 144];
     for _ in 0..times {
-        match service.update(rt, caller, &[5; 144]) {
+        match service.update(rt, caller, &[5; 144], &mut reply) {
             Updated::Done(back, _) => caller = back,
             Updated::Full(_, note) => return Some(note),
             Updated::Worn(_) | Updated::Halted(_) => return None,

@@ -20,7 +20,8 @@ fn updated<O: Object>(service: &Service<O>, caller: Caller, op: &[u64; 144]) -> 
     let Submitted::Linked(linked) = service.submit(caller, op, 1) else {
         return None;
     };
-    match service.drive(linked, 1) {
+    let mut reply = [0; 144];
+    match service.drive(linked, &mut reply, 1) {
         Driven::Done(caller, _) => Some(caller),
         Driven::Pending(_) | Driven::Halted(_) => None,
     }

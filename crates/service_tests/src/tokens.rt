@@ -84,8 +84,9 @@ fn write_once<R: Wait>(
     requires { IsCallerOf service.now caller }
     ensures { MatchResult result (λ r. IsBack service.now caller r.0) (IsStoppedIn service.now caller) }
 {
-    match ask(rt, service, caller, &adds(1)) {
-        Asked::Told(back, reply, place) => {
+    let mut reply = [0; 144];
+    match ask(rt, service, caller, &adds(1), &mut reply) {
+        Asked::Told(back, place) => {
             let is_handed = sender.send(rt, place).is_ok();
             Ok((back, is_handed && reply[0] == place))
         }
@@ -139,8 +140,9 @@ fn read_once<R: Wait>(
     ensures { MatchResult result (λ r. IsBack service.now caller r.0) (IsStoppedIn service.now caller) }
 {
     let back = follow(rt, service, caller, place)?;
-    match ask(rt, service, back, &sum()) {
-        Asked::Told(back, reply, at) => Ok((back, at >= place && reply[0] == at)),
+    let mut reply = [0; 144];
+    match ask(rt, service, back, &sum(), &mut reply) {
+        Asked::Told(back, at) => Ok((back, at >= place && reply[0] == at)),
         Asked::Worn(back) => Ok((back, false)),
         Asked::Stopped(stopped) => Err(stopped),
     }

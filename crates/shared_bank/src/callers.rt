@@ -4,6 +4,7 @@ ghost use Rattle.cx_service.specs.Callers.{IsCallerOf};
 ghost use Rattle.service_parts.specs.Callers.{IsHandedBy};
 
 use bank::{Bank, Op, Reply};
+use cx_base::OP_WORDS;
 use cx_core::Base;
 use cx_service::{Caller, Handed, Service};
 use service_parts::{Asked, Worked, Worker, ask, recovered, serve};
@@ -130,9 +131,16 @@ impl Worker<Bank> for Mover {
         let number = caller.number();
         let mut caller = caller;
         let mut told = NOTHING;
+        let mut reply = [0; OP_WORDS];
         for step in self.from..EACH + 90 {
-            match ask(rt, service, caller, &operation(number, step).words()) {
-                Asked::Told(back, reply, _) => {
+            match ask(
+                rt,
+                service,
+                caller,
+                &operation(number, step).words(),
+                &mut reply,
+            ) {
+                Asked::Told(back, _) => {
                     told = told.with(Reply::of(&reply));
                     caller = back;
                 }
@@ -176,8 +184,9 @@ fn value<R: Wait>(rt: &R, service: &Service<Bank>, caller: Caller, op: Op) -> Wo
     requires { IsCallerOf service.now caller }
     ensures { IsHandedBy service.now caller result.caller }
 {
-    match ask(rt, service, caller, &op.words()) {
-        Asked::Told(back, reply, _) => {
+    let mut reply = [0; OP_WORDS];
+    match ask(rt, service, caller, &op.words(), &mut reply) {
+        Asked::Told(back, _) => {
             let caller = Handed::Idle(back);
             let told = match Reply::of(&reply) {
                 Reply::Value(has) => has,

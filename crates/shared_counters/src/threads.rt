@@ -1,7 +1,7 @@
 //! Counters that four threads share, over a crash.
 
 use bounded_counters::{Counters, Reply, add_words};
-use cx_base::OpWords;
+use cx_base::{OP_WORDS, OpWords};
 use cx_core::Base;
 use cx_service::{Caller, Handed, Service};
 use service_parts::{Asked, Worked, Worker, ask, recovered, serve};
@@ -45,9 +45,10 @@ impl Worker<Counters> for Adder {
     fn work<R: Wait>(&self, rt: &R, service: &Service<Counters>, caller: Caller) -> Worked<u64> {
         let mut caller = caller;
         let mut told = 0;
+        let mut reply = [0; OP_WORDS];
         for _ in 0..10 {
-            match ask(rt, service, caller, &add_words(0, 1)) {
-                Asked::Told(back, reply, _) => {
+            match ask(rt, service, caller, &add_words(0, 1), &mut reply) {
+                Asked::Told(back, _) => {
                     told = value_of(&reply, told);
                     caller = back;
                 }

@@ -22,26 +22,14 @@ words_kept : (o : Option HeldExclusive) → option_map (λ (h : HeldExclusive). 
 words_kept None = refl
 words_kept (Some h) = refl
 
-loads_kept : (o : Option HeldShared) → option_map (λ (h : HeldShared). h.replica) (option_map but_shared_loads o) ≡ option_map (λ (h : HeldShared). h.replica) o
-loads_kept None = refl
-loads_kept (Some h) = refl
-
 loaded_kept : (r : ℕ) (o : Option HeldShared) → option_map (λ (h : HeldShared). h.replica) (option_map (but_loaded r) o) ≡ option_map (λ (h : HeldShared). h.replica) o
 loaded_kept r None = refl
 loaded_kept r (Some h) = refl
-
-beside_rights : (s : Seated) → all_rights (beside_replay s) ≡ all_rights s
-beside_rights s =
-    ap (λ o. (let x : AllRights = record (all_rights s) { exclusive = o; shared = shared_on (beside_replay s).known.local } in x)) (words_kept s.known.local.exclusive)
-    ∙ ap (λ o. (let x : AllRights = record (all_rights s) { shared = o } in x)) (loads_kept s.known.local.shared)
 
 held_rights : (r : ℕ) (s : Seated) → all_rights (beside_held r s) ≡ all_rights s
 held_rights r s =
     ap (λ o. (let x : AllRights = record (all_rights s) { exclusive = o; shared = shared_on (beside_held r s).known.local } in x)) (words_kept s.known.local.exclusive)
     ∙ ap (λ o. (let x : AllRights = record (all_rights s) { shared = o } in x)) (loaded_kept r s.known.local.shared)
-
-pub work_rights : (before after : Seated) → beside_replay after ≡ beside_replay before → all_rights after ≡ all_rights before
-work_rights before after same = sym (beside_rights after) ∙ ap all_rights same ∙ beside_rights before
 
 pub access_rights : (r : ℕ) (before after : Seated) → beside_held r after ≡ beside_held r before → all_rights after ≡ all_rights before
 access_rights r before after same = sym (held_rights r after) ∙ ap all_rights same ∙ held_rights r before

@@ -24,25 +24,6 @@ one_of [] y (suc n) x at = absurd (none-some x at)
 one_of (z ∷ zs) y zero x at = inl at
 one_of (z ∷ zs) y (suc n) x at = elim (one_of zs y n x at) [ inl there ↦ inl there | inr (last, same) ↦ inr (omega (arith, last), same) ]
 
-length-more : {X : Type 0} (xs : List X) (y : X) → length (xs ++ y ∷ []) ≡ length xs + 1
-length-more [] y = refl
-length-more (x ∷ xs) y = (let rest = length-more xs y in omega arith)
-
-pub step_kept : (trace : Trace) (what : TraceWhat) → length trace.steps < 10000 → IsTraceWithin trace → IsTraceWithin (with_step trace what)
-step_kept trace what few kept =
-    let last : TraceLine = record { line = length trace.steps + 2; what = what } in
-    record {
-      some = kept.some;
-      few = kept.few;
-      enough = kept.enough;
-      small = kept.small;
-      short = omega (arith, few, length-more trace.steps last);
-      numbered = λ n x at. elim (one_of trace.steps last n x at) [
-        | inl there ↦ kept.numbered n x there
-        | inr (at_end, same) ↦ ap (λ (y : TraceLine). y.line) same ∙ ap (λ k. k + 2) (sym at_end)
-      ];
-    }
-
 begun_stays : (trace : Trace) (lines : List (List ℕ)) (after : TraceLines) → AddsAll trace_grammar (Begun trace) lines after → (found : Trace) × (after ≡ Begun found)
 begun_stays trace [] after same = (trace, same)
 begun_stays trace (line ∷ lines) after (between, (what, is, few, same), more) =

@@ -140,9 +140,6 @@ module _ (pair : List ℕ × List ℕ) (revision : ℕ) (x : List ℕ) (is : IsP
   room_for_all : CanTake x (1 + (blocks pair.0 + blocks pair.1))
   room_for_all = room_less x (pair_lines pair) (1 + (blocks pair.0 + blocks pair.1)) (omega arith) can
 
-  key_written : ℕ × List ℕ
-  key_written = with_text (packed 8 pair.0) (blocks pair.0) 0 (with_line_taken x)
-
   room_for_key : CanTake (with_line_taken x) (blocks pair.0 + blocks pair.1)
   room_for_key = room_after_line x (with_line_taken x) (line_to_take x) (blocks pair.0 + blocks pair.1) room_for_all (line_is_taken x)
 

@@ -28,9 +28,6 @@ use Rattle.word_index.proofs.Frames.{all_nodes}
 use Rattle.word_index.proofs.NodeReads.{node_key}
 use Rattle.word_index.proofs.Splits.{all_above, document_there, document_missing}
 
-pub less_not_greater : (o : Ordering) → o ≡ Less → o ≡ Greater → ⊥
-less_not_greater o e f = (let g : Less ≡ Greater = sym e ∙ f in cc)
-
 -- how the node of a place compares with a key
 pub order_at_place : (ws key : List ℕ) (place : Place) (pair : List ℕ × List ℕ) → IsAt ws place pair → IsKey pair.0 → order_in key ws place.node ≡ key_cmp pair.0 key
 order_at_place ws key place pair is limits = ap (λ k. key_cmp k key) (text_is ws place.node 3 place.key_lines pair.0 is.key is.key_length (key_small pair.0 limits))

@@ -46,9 +46,6 @@ pub unpacks : (n len : ℕ) (words bytes : List ℕ) → IsPackOf n len words by
 unpacks n len words bytes is small short =
     ap (λ k. unpacked k words) is.long ∙ ap (λ ws. unpacked (length bytes) ws) is.packs ∙ unpacked-packed n bytes small short
 
-pub unpacked_key : (len : ℕ) (words key : List ℕ) → IsPackOf 8 len words key → IsKey key → unpacked len words ≡ key
-unpacked_key len words key is limits = unpacks 8 len words key is (key_small key limits) limits.short
-
 pub node_within : (ws : List ℕ) (node : ℕ) → HasNode ws node → IsWithin ws node
 node_within ws node h = (key_text ws node h.pair h.is).node_within
 
