@@ -3,6 +3,7 @@
  * updates. The Makefile builds this with a patience of 300 ms and no end of rounds, and with 3 rounds and a minute. */
 #include "githoppu.h"
 #include <pthread.h>
+#include <sched.h>
 #include <semaphore.h>
 #include <signal.h>
 #include <stdatomic.h>
@@ -10,10 +11,12 @@
 #include <stdlib.h>
 #include <unistd.h>
 
-enum { MOST_UPDATES = 16, TRIES = 20000 };
+enum { MOST_UPDATES = 16, TRIES = 20000, PLACES = 4096 };
 
 static sem_t stopped, go_on;
 static atomic_int is_over;
+/* the updates that the writer has made */
+static atomic_ulong written;
 
 static void must(int right, const char *what) {
     if (!right) {
@@ -40,8 +43,19 @@ static void *write_on(void *at) {
     while (!atomic_load(&is_over)) {
         int status = githoppu_add(session, "written", 1, &reply);
         must(status == GITHOPPU_DONE || status == GITHOPPU_FULL, githoppu_status_text(status));
+        atomic_fetch_add(&written, 1);
     }
     return NULL;
+}
+
+/* Waits until the writer has made an update since, and then a time that differs from try to try, so that a stop comes at any step of an update. A writer that
+ * is stopped again and again within one call loses every try to link, and is rightly answered AGAIN: with an update between two stops that cannot be. */
+static void let_write(unsigned long since, int tries) {
+    int i;
+    while (atomic_load(&written) == since)
+        sched_yield();
+    for (i = 0; i < tries * 37 % PLACES; i++)
+        (void)atomic_load(&written);
 }
 
 static long now_ms(void) {
@@ -56,6 +70,7 @@ int main(void) {
     pthread_t writer;
     struct sigaction action;
     long waited = -1;
+    unsigned long since = 0;
     int tries, updates = 0, status = GITHOPPU_DONE;
     /* where neither ends it */
     alarm(300);
@@ -66,6 +81,7 @@ int main(void) {
     must(pthread_create(&writer, NULL, write_on, &sessions[0]) == 0, "no thread");
     /* the signal comes at any step of an update, and cells are held at some of them only */
     for (tries = 0; tries < TRIES && status != GITHOPPU_FULL; tries++) {
+        let_write(since, tries);
         must(pthread_kill(writer, SIGUSR1) == 0, "no signal");
         wait_for(&stopped);
         for (updates = 0; updates < 4 * MOST_UPDATES; updates++) {
@@ -80,6 +96,7 @@ int main(void) {
             must(githoppu_get(&sessions[1], "read", &reply) == GITHOPPU_DONE && reply.word[0] == GITHOPPU_DOC, "a read does not go on");
         }
         must(status == GITHOPPU_DONE || status == GITHOPPU_FULL, githoppu_status_text(status));
+        since = atomic_load(&written);
         sem_post(&go_on);
     }
     must(status == GITHOPPU_FULL, "no update was answered FULL");
