@@ -9,14 +9,14 @@
 #include <time.h>
 
 /* Nanoseconds of processor time of the calling thread. */
-static double thread_ns(void) {
+static inline double thread_ns(void) {
     struct timespec now;
     clock_gettime(CLOCK_THREAD_CPUTIME_ID, &now);
     return 1e9 * (double)now.tv_sec + (double)now.tv_nsec;
 }
 
 /* Nanoseconds of one turn of eight additions in registers, over so many: 20,000 take 16 us at 2.5 GHz, of fewer the clock's own time shows. */
-static double core_probe(int turns) {
+static inline double core_probe(int turns) {
     unsigned long a = 0, b = 0, c = 0, d = 0, e = 0, f = 0, g = 0, h = 0;
     double from = thread_ns();
     for (int turn = 0; turn < turns; turn++) {
@@ -30,7 +30,7 @@ static double core_probe(int turns) {
 /* What a loop before and one after some work say of the core meanwhile, by the least turn that was seen. */
 enum core_mode { CORE_ALONE, CORE_SHARED, CORE_MIXED };
 
-static enum core_mode core_mode(double least, double before, double after) {
+static inline enum core_mode core_mode(double least, double before, double after) {
     double low = before < after ? before : after, high = before < after ? after : before;
     if (high <= 1.15 * least)
         return CORE_ALONE;

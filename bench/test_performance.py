@@ -1,9 +1,11 @@
 #!/usr/bin/env python3
-"""Tests of the tables, the words and the plot of performance.py, queue_performance.py, queue_turns.py and aims.py, without a measurement.
+"""Tests of the tables, the words and the plot of performance.py, queue_performance.py, queue_turns.py, versions.py and aims.py, without a measurement.
 
 Example: python3 bench/test_performance.py
 Status 0 where all passed, else 1.
 """
+import contextlib
+import io
 import itertools
 import os
 import re
@@ -20,6 +22,7 @@ import performance_words
 import queue_performance
 import queue_turns
 import service
+import versions
 from performance import FORMS, OURS, REGION, Ran, Setting
 
 SVG = "{http://www.w3.org/2000/svg}"
@@ -314,6 +317,46 @@ class Pictures(unittest.TestCase):
 
     def test_no_text_is_small(self):
         self.assertGreaterEqual(min(float(size) for size in re.findall(r"font-size: ([0-9.]+)px", performance_plot.STYLE)), 12)
+
+
+
+class Versions(unittest.TestCase):
+    def slices(self, call, others=0, turn=1.0, count=versions.LEAST_SLICES):
+        return [versions.Slice(turn, turn, call, others)] * count
+
+    def mode(self, least, before, after):
+        return core_probe.ALONE if max(before, after) <= least else core_probe.SHARED
+
+    def test_versions_begin_in_turn(self):
+        began = []
+
+        def work(program, *_):
+            began.append(program)
+            return self.slices(1.0, count=1)
+
+        found = versions.rounds_of({"a": 1, "b": 2, "c": 3}, 64, 0, versions.ALONE, 3, work)
+        self.assertEqual([1, 2, 3, 2, 3, 1, 3, 1, 2], began)
+        self.assertEqual({"a": 3, "b": 3, "c": 3}, {name: len(slices) for name, slices in found.items()})
+
+    def test_a_shared_core_and_a_part_of_the_time_are_left_out(self):
+        found = {name: self.slices(call) + self.slices(7.0, turn=2.0) + self.slices(9.0, others=-1) for name, call in (("a", 3.0), ("b", 4.0))}
+        self.assertEqual({0: {"a": 3.0, "b": 4.0}}, versions.medians(found, self.mode))
+
+    def test_rows_are_by_how_many_others_ran_and_want_slices_of_each_version(self):
+        found = {"a": self.slices(3.0) + self.slices(5.0, others=2), "b": self.slices(4.0) + self.slices(6.0, others=2)[1:]}
+        self.assertEqual([0], list(versions.medians(found, self.mode)))
+
+    def test_rows_are_ratios_to_the_last_version(self):
+        self.assertEqual("| 1,024 | put | 750 | 900 | 1,000 | 0.75, 0.90 |", versions.row(["1,024", "put"], {"a": 750.0, "b": 900.0, "c": 1000.0}))
+
+    def test_lines_of_the_program(self):
+        self.assertEqual([versions.Slice(0.74, 0.75, 1068.5, -1)], versions.slices_of("0.740 0.750 1068.5 -1\n"))
+
+    def test_two_versions_at_least(self):
+        with self.assertRaises(SystemExit), contextlib.redirect_stderr(io.StringIO()):
+            versions.options_of(["HEAD"])
+        with self.assertRaises(SystemExit), contextlib.redirect_stderr(io.StringIO()):
+            versions.options_of(["HEAD", "HEAD"])
 
 
 if __name__ == "__main__":
