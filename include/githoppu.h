@@ -164,8 +164,8 @@ int32_t githoppu_program_fault(const uint64_t *program, size_t words, uint64_t i
 int32_t githoppu_program_fingerprint(const uint64_t *program, size_t words, uint64_t instructions, uint64_t fuel, uint64_t *fingerprint);
 
 /* Does an operation, with the given number of tries (0 counts as 1, and more than 2^20 as 2^20). DONE, PENDING, AGAIN, FULL, WORN, STOPPED or
- * OUT_OF_TURN. The reply is written where it is DONE; after any other answer its words may be anything. A malformed operation is DONE with a reply of 144
- * zeros, and changes nothing. */
+ * OUT_OF_TURN. The reply is written where it is DONE; nothing is promised of its words after any other answer. A malformed operation is DONE with a reply of
+ * 144 zeros, and changes nothing. */
 int32_t githoppu_call(githoppu_session_handle session, const uint64_t op[144], uint64_t reply[144], uint64_t tries, githoppu_session **out);
 
 /* Goes on with the pending operation, for the given number of turns. DONE, PENDING, STOPPED or OUT_OF_TURN. The reply is written where it is DONE, as of
