@@ -164,10 +164,12 @@ int32_t githoppu_program_fault(const uint64_t *program, size_t words, uint64_t i
 int32_t githoppu_program_fingerprint(const uint64_t *program, size_t words, uint64_t instructions, uint64_t fuel, uint64_t *fingerprint);
 
 /* Does an operation, with the given number of tries (0 counts as 1, and more than 2^20 as 2^20). DONE, PENDING, AGAIN, FULL, WORN, STOPPED or
- * OUT_OF_TURN. The reply is written where it is DONE. A malformed operation is DONE with a reply of 144 zeros, and changes nothing. */
+ * OUT_OF_TURN. The reply is written where it is DONE; nothing is promised of its words after any other answer. A malformed operation is DONE with a reply of
+ * 144 zeros, and changes nothing. */
 int32_t githoppu_call(githoppu_session_handle session, const uint64_t op[144], uint64_t reply[144], uint64_t tries, githoppu_session **out);
 
-/* Goes on with the pending operation, for the given number of turns. DONE, PENDING, STOPPED or OUT_OF_TURN. The reply is written where it is DONE. */
+/* Goes on with the pending operation, for the given number of turns. DONE, PENDING, STOPPED or OUT_OF_TURN. The reply is written where it is DONE, as of
+ * githoppu_call. */
 int32_t githoppu_finish(githoppu_session_handle session, uint64_t reply[144], uint64_t tries, githoppu_session **out);
 
 /* The place that tells another session of the store what this one has seen: behind the operation that it was answered last, of a read the place
@@ -766,7 +768,8 @@ static inline void githoppu_append(char *text, size_t size, const char *more) {
     text[at] = 0;
 }
 
-/* Writes in one line why a program is refused, with the number of the instruction, or that it is none of that: DONE, BAD_PROGRAM or NO_MEMORY. */
+/* Writes in one line why a program is refused, with the number of the instruction, or that the words are a program, and cuts the line to `size` bytes with
+ * the 0 behind it; where the size is 0 nothing is written, and the text may be null. DONE, BAD_PROGRAM or NO_MEMORY. */
 static inline int githoppu_program_why(const githoppu_program *program, char *text, size_t size) {
     uint64_t fault = 0, at = 0;
     char number[24];
@@ -793,7 +796,8 @@ static inline int githoppu_open_object(const githoppu_program *program, uint64_t
     return githoppu_open_program(program->words, program->count, program->instructions, program->fuel, lines, sessions, count);
 }
 
-/* Opens it from the words of an image: what githoppu_recover_program answers. `before` is another program whose images are taken over, or null for none. */
+/* Opens it from the words of an image: what githoppu_recover_program answers. `before` is another program whose images are taken over, or null for none;
+ * where it is no program, or its fuel is above 2^20, that is answered first, by the same statuses. */
 static inline int githoppu_recover_object(const githoppu_program *program, const githoppu_program *before, const uint64_t *image, size_t image_words,
                                           githoppu_session **sessions, size_t count) {
     uint64_t fingerprint = 0;

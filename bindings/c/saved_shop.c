@@ -116,6 +116,11 @@ int main(int count, char **words) {
         if (child == 0)
             run(words[1], &saved, ends[1]);
         close(ends[1]);
+        /* the first one is killed only after its first save, however slow the machine is */
+        if (saves == 0 && read(ends[0], &told, sizeof told) == (ssize_t)sizeof told) {
+            saved = told;
+            saves++;
+        }
         seed = seed * 1103515245u + 12345u;
         rest(50 + (long)(seed >> 16) % 200);
         kill(child, SIGKILL);

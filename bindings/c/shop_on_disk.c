@@ -109,13 +109,17 @@ int main(int count, char **words) {
     unlink(words[1]);
     for (kills = 0; kills < KILLS; kills++) {
         unsigned long long before = sales->openings;
-        pid_t child = fork();
+        pid_t child = fork(), ended = 0;
         must(child >= 0, "no process");
         if (child == 0)
             run(words[1]);
         seed = seed * 1103515245u + 12345u;
-        while (sales->openings == before && waitpid(child, &status, WNOHANG) == 0)
+        /* the first one is killed only after a sale, however slow the disk is */
+        while ((sales->openings == before || sales->answered[0] == 0) && ended == 0) {
             rest(1);
+            ended = waitpid(child, &status, WNOHANG);
+        }
+        must(ended == 0, "a shop ended by itself");
         rest((long)(seed >> 16) % 100);
         kill(child, SIGKILL);
         must(waitpid(child, &status, 0) == child && WIFSIGNALED(status) && WTERMSIG(status) == SIGKILL, "a shop ended by itself");

@@ -1028,8 +1028,6 @@ static void test_catching_up(void) {
     githoppu_give_up(&lie, 1);
 }
 
-/* ---- memory ---- */
-
 /* ---- an object of a program ---- */
 
 /* tools/program wrote these words of a counter: ADD adds a word to the first one of the state, GET reads it, and LOOP stores 99 and never ends. */
@@ -1205,6 +1203,8 @@ static void test_counter_images(void) {
 }
 
 static int32_t open_counter(uint64_t lines, githoppu_session **sessions, size_t count) { return githoppu_open_object(&counter, lines, sessions, count); }
+
+/* ---- memory ---- */
 
 /* Refuses each block of an open in turn: NO_MEMORY, nothing is kept, and no slot is written. */
 static void test_refused(int32_t (*open)(uint64_t, githoppu_session **, size_t), size_t count) {

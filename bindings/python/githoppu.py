@@ -82,7 +82,7 @@ LONGEST_KEY, LONGEST_DOCUMENT, LONGEST_TEXT = 64, 1024, 56
 
 DONE, PENDING, AGAIN, FULL, WORN, STOPPED, OUT_OF_TURN, BAD_SIZE, NO_MEMORY, NO_SESSION, TOO_LONG, OTHERS, LOST = range(13)
 NOT_AN_IMAGE, OTHER_KIND, IMAGE_SIZE, IMAGE_ROOT, IMAGE_VERSION, IMAGE_PLACE, IMAGE_BODY, IMAGE_NUMBERS = range(13, 21)
-BEHIND, MALFORMED, BAD_PROGRAM = 23, 24, 25
+BEHIND, MALFORMED, BAD_PROGRAM, FAULTED = 23, 24, 25, 26
 (NOT_OPENED, NOT_READ, FILE_FOREIGN, FILE_LENGTH, FILE_CHANGED, FILE_FORMAT, NOT_MADE, NOT_WRITTEN, NOT_SYNCED, NOT_RENAMED, FOLDER_NOT_SYNCED, FILE_EMPTY,
  NOT_REGULAR) = range(32, 45)
 # the kinds of operations and of replies of a store, and of a queue
@@ -319,7 +319,7 @@ class Fault(Error):
     githoppu.Fault: instruction 0: more instructions than an operation may take
     """
 
-    status = DONE
+    status = FAULTED
 
     def __init__(self, kind: int, instruction: int, address: int) -> None:
         why = _FAULTS.get(kind, f"fault {kind}") + (f": {address:#x}" if kind in (2, 3) else "")

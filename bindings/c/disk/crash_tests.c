@@ -276,7 +276,7 @@ static void one_life(const char *folder, const char *after, uint64_t round, uint
     uint64_t seed = next(state), pause = 500 + next(state) % 100000, before = told->openings;
     long calls = (long)(next(state) % (next(state) % 4 == 0 ? 40 : 900));
     int threads = 1 + (int)(round % WRITERS), opens_first = next(state) % 10 != 0, tries;
-    pid_t child = fork();
+    pid_t child = fork(), ended = 0;
     CHECK(child >= 0);
     if (child == 0) {
         if (way != KILL) {
@@ -291,8 +291,11 @@ static void one_life(const char *folder, const char *after, uint64_t round, uint
         CHECK(rename(after, folder) == 0);
         return;
     }
-    for (tries = 0; opens_first && told->openings == before && tries < 50000 && waitpid(child, NULL, WNOHANG) == 0; tries++)
+    for (tries = 0; opens_first && told->openings == before && tries < 50000 && ended == 0; tries++) {
         usleep(200);
+        ended = waitpid(child, NULL, WNOHANG);
+    }
+    CHECK(ended == 0);
     usleep((useconds_t)pause);
     kill(child, SIGKILL);
     ended_badly(child, SIGKILL);

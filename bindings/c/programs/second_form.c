@@ -14,10 +14,13 @@ static void upgrade(struct numbers *n) {
 }
 GITHOPPU_RUN {
     struct numbers *n = state;
-    switch (request[0]) {
-    case GITHOPPU_UPGRADE:
+    if (request[0] == GITHOPPU_UPGRADE) {
         upgrade(n);
         return 1;
+    }
+    if (n->form != FORM && n->form != 0) /* the upgrade ended by a fault: words of the first form are not taken for others */
+        return 0;
+    switch (request[0]) {
     case ADD:
         n->form = FORM;
         n->count++;

@@ -19,6 +19,8 @@ from githoppu import (
     BadImage, BadSize, Error, FileFault, Image, Lost, Malformed, NoRoom, NotClosed, NotNumber, OutOfTurn, Queue, Stale, Store, SumOverflow, TooLong,
 )
 
+# on a slow machine that does other work a thread may be off its processor for long in the middle of a call
+githoppu.PATIENCE = 60.0
 OF_C = Path(__file__).resolve().parents[2] / "c" / "out" / "files"
 
 

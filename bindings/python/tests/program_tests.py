@@ -23,6 +23,8 @@ import bpf_model  # noqa: E402
 import githoppu  # noqa: E402
 from githoppu import BadProgram, BadSize, Fault, Image, Object, Program, Store, TooLong  # noqa: E402
 
+# on a slow machine that does other work a thread may be off its processor for long in the middle of a call
+githoppu.PATIENCE = 60.0
 LINES, FUEL = 64, 2000
 # what tools/program wrote of a counter: ADD adds a word to the first one of the state, GET reads it, and LOOP stores 99 and never ends
 COUNTER = [
@@ -101,7 +103,7 @@ class Programs(unittest.TestCase):
             self.assertEqual((1, 5), (counter[0].run(ADD, 5).value, counter[1].read(2).words[0]))
             with self.assertRaises(Fault) as caught:
                 counter[1].run(LOOP)
-            self.assertEqual((6, 15, 0), (caught.exception.kind, caught.exception.instruction, caught.exception.address))
+            self.assertEqual((6, 15, 0, 26), (caught.exception.kind, caught.exception.instruction, caught.exception.address, caught.exception.status))
             self.assertEqual("instruction 15: more instructions than an operation may take", str(caught.exception))
             self.assertEqual((5, True), (counter[0].run(GET).words[0], counter[0].catch_up(counter[1].place)))
             self.assertRaises(TooLong, counter[0].run, ADD, *[1] * 144)
@@ -110,12 +112,21 @@ class Programs(unittest.TestCase):
 
     def test_threads(self):
         with Object(Program(COUNTER, 16), LINES, 4) as counter:
-            threads = [threading.Thread(target=lambda one=one: [one.run(ADD, 1) for _ in range(500)]) for one in counter]
+            wrong = []
+
+            def add(session):
+                try:
+                    for _ in range(500):
+                        session.run(ADD, 1)
+                except githoppu.Error as why:
+                    wrong.append(why)
+
+            threads = [threading.Thread(target=add, args=[one]) for one in counter]
             for thread in threads:
                 thread.start()
             for thread in threads:
                 thread.join()
-            self.assertEqual(2000, counter[0].run(GET).words[0])
+            self.assertEqual(([], 2000), (wrong, counter[0].run(GET).words[0]))
             closed = counter.close()
         for choice in range(3):
             self.assertEqual(2000, Object.recover(Program(COUNTER, 16), closed.image(choice), 2)[1].run(GET).words[0])

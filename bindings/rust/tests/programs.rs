@@ -1,6 +1,9 @@
 //! Objects of programs: what words are refused, what a run answers, threads, images and files.
 
+mod patiently;
+
 use githoppu::{Closing, Error, Fault, FaultKind, FileError, Program, ProgramFault, ProgramSession, Refusal, Reply, Store};
+use patiently::patiently;
 use std::thread;
 
 /// `tools/program` wrote these words of a counter: ADD adds a word to the first one of the state, GET reads it, and LOOP stores 99 and never ends.
@@ -76,7 +79,7 @@ fn threads_count_and_an_image_keeps_it() {
         .map(|mut session| {
             thread::spawn(move || {
                 for _ in 0..ADDS {
-                    session.run(ADD, &[1]).unwrap();
+                    patiently(|| session.run(ADD, &[1])).unwrap();
                 }
                 session
             })

@@ -1,6 +1,9 @@
 //! What each operation answers, wrong use, and threads.
 
+mod patiently;
+
 use githoppu::{Add, Closed, Closing, Error, Put, Queue, QueueSession, Session, Store};
+use patiently::patiently;
 use std::thread;
 
 const THREADS: usize = 4;
@@ -85,8 +88,8 @@ fn a_queue_is_first_in_first_out() {
 fn add_and_read(session: &mut Session) {
     let mut last = 0;
     for i in 1..=ADDS {
-        assert!(matches!(session.add("sold", 1), Ok(Add::Sum(_))));
-        let found: i64 = session.get("sold").unwrap().unwrap().parse().unwrap();
+        assert!(matches!(patiently(|| session.add("sold", 1)), Ok(Add::Sum(_))));
+        let found: i64 = patiently(|| session.get("sold")).unwrap().unwrap().parse().unwrap();
         assert!(found > last && found >= i && found <= THREADS as i64 * ADDS);
         last = found;
     }
@@ -111,7 +114,7 @@ fn four_threads_queue() {
         for (i, session) in producers.iter_mut().enumerate() {
             scope.spawn(move || {
                 for k in 0..TEXTS {
-                    while !session.push(&format!("{i}:{k}")).unwrap() {}
+                    while !patiently(|| session.push(&format!("{i}:{k}"))).unwrap() {}
                 }
             });
         }
@@ -121,7 +124,7 @@ fn four_threads_queue() {
                 scope.spawn(move || {
                     let mut texts = Vec::new();
                     while texts.len() < TEXTS {
-                        texts.extend(session.pop().unwrap());
+                        texts.extend(patiently(|| session.pop()).unwrap());
                     }
                     texts
                 })
@@ -142,7 +145,7 @@ fn closed_by_threads(sessions: Vec<Session>) -> Closed {
             .into_iter()
             .map(|mut session| {
                 scope.spawn(move || {
-                    assert!(matches!(session.add("sold", 1), Ok(Add::Sum(_))));
+                    assert!(matches!(patiently(|| session.add("sold", 1)), Ok(Add::Sum(_))));
                     session.close()
                 })
             })
@@ -229,14 +232,14 @@ fn a_session_catches_up_with_another() {
     let (send, receive) = std::sync::mpsc::channel();
     let written = thread::spawn(move || {
         for _ in 0..10_000 {
-            writer.add("sold", 1).unwrap();
+            patiently(|| writer.add("sold", 1)).unwrap();
             send.send(writer.place()).unwrap();
         }
     });
     for (i, place) in receive.iter().enumerate() {
         assert_eq!(reader.catch_up(place), Ok(true));
         assert!(reader.place() >= place);
-        let sold: usize = reader.get("sold").unwrap().unwrap().parse().unwrap();
+        let sold: usize = patiently(|| reader.get("sold")).unwrap().unwrap().parse().unwrap();
         assert!(sold > i);
         assert!(reader.place() >= place);
     }
