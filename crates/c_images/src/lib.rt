@@ -15,8 +15,9 @@
 //!   `words_are_answered_exactly`: which of these is answered for words of either format, unless memory runs out.
 //! - `written_images_are_taken_up`: what `write_image` wrote is refused only where memory runs out, and what is taken up of it holds each
 //!   answer (`IsKeptBy`).
-//! - `holds_replies`: whether its results keep replies of a document store, of a queue, or of a program's object. Those of a closed service do where those of the base did that it
-//!   was opened from: `written_images_keep_replies`; and those of an image that was taken before the closing: `taken_images_keep_replies`.
+//! - `holds_replies`: whether its results keep replies of a document store, of a queue, or of a program's object. Those of a closed service do where
+//!   those of the base did that it was opened from: `written_images_keep_replies`; and those of an image that was taken before the closing:
+//!   `taken_images_keep_replies`.
 #![tactic(auto)]
 
 mod head;

@@ -12,9 +12,9 @@
 //!   answers stand at or above it (`SessionStands`, `Sees`).
 //! - `Session::checkpoint`: the session takes an image of the object while the others go on, as the service's caller does.
 //! - `Session::close`, `close_rest`, `close_kept`: the callers of one service lie in a queue, each with its share of it, under the rule that it is one service
-//!   and that each of its callers is there once: still with its session, in the queue, or taken out by one session (`KeepsOrIsNew`). Who comes last takes all out and
-//!   closes the service: what it hands out is what the service leaves (`IsClosedWith`), whose callers are those that the sessions handed in, as they were then
-//!   (`AreAccounted`). Where a caller is missing it keeps those that it took out (`IsCallerMissing`), and may be closed again. Nobody waits.
+//!   and that each of its callers is there once: still with its session, in the queue, or taken out by one session (`KeepsOrIsNew`). Who comes last takes all
+//!   out and closes the service: what it hands out is what the service leaves (`IsClosedWith`), whose callers are those that the sessions handed in, as they
+//!   were then (`AreAccounted`). Where a caller is missing it keeps those that it took out (`IsCallerMissing`), and may be closed again. Nobody waits.
 #![tactic(auto)]
 
 mod catch_up;

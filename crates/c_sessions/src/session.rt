@@ -43,7 +43,7 @@ impl<O: Object> Session<O> {
         }
     }
 
-    /// Does an operation, in at most the given number of tries. The reply is written where the call is done, and nothing of it else.
+    /// Does an operation, in at most the given number of tries. The reply is written where the call is done; else nothing is said of its words.
     ///
     /// From `crates/githoppu_c/src/content.rt`:
     /// ```rattle

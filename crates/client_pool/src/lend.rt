@@ -121,8 +121,8 @@ pub(crate) fn keep_stopped(lent: &mut Lent, stopped: Stopped) -> Option<u64>
     linked
 }
 
-/// Takes a caller that has seen all below the floor, by reads into a buffer. The client keeps one whose step limit was reached: the result is then its linked entry that no
-/// call has answered.
+/// Takes a caller that has seen all below the floor, by reads into a buffer. The client keeps one whose step limit was reached: the result is then its
+/// linked entry that no call has answered.
 pub(crate) fn begin<O: Object, R: Wait>(
     rt: &R,
     pool: &Pool<O>,

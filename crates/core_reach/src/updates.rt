@@ -18,17 +18,17 @@ pub fn linked_updates_can_be_answered()
         0 < length instance.base.words → ReachesAnswers instance s caller (history_in instance s) l.own }
 {}
 
-/// From each lawful state, whatever the callers hold, some run links an update of a caller, of the words of any operation, and answers it with the
-/// object's reply after all entries before it. It takes a further ticket, and a cell with no ticket or one of the history. The run opens the cells: each
-/// caller takes its protection back, and this one raises FREE. Of the base, the caller's number in it is at most its place.
+/// From each lawful state over a base with words, whatever the callers hold, some run links an update of a caller, of the words of any operation, and
+/// answers it with the object's reply after all entries before it. It takes a further ticket, and a cell with no ticket or one of the history. The run opens
+/// the cells: each caller takes its protection back, and this one raises FREE. Of the base, the caller's number in it is at most its place.
 pub fn updates_can_be_answered()
     ensures { (instance : Instance) (s : State) (caller : ℕ) (l : _) (op : List ℕ) → Lawful instance s → slice_get s.locals caller ≡ Some l →
         HasCellAndTicket instance s l → 0 < length instance.base.words → slot_number caller instance.base.words ≤ instance.base.place →
         AreOpWords op → ReachesUpdate instance s caller l op }
 {}
 
-/// So it is in each state that a run reaches, of any object with a lawful base, as long as there is a further ticket: there is no such state from which
-/// an update of some caller can't be answered any more.
+/// In each state that a run from the opening reaches, over any object with a lawful base, some run answers an update of any caller, as long as there is a
+/// further ticket.
 pub fn every_update_can_be_answered<O: Object>(object: &O, base: &Base)
     requires { LawfulBase (O.line_count object.now) (O.lawful object.now) base.now }
     ensures { (callers : ℕ) (events : _) (s : State) (caller : ℕ) (l : _) (op : List ℕ) →

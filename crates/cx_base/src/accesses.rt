@@ -24,7 +24,7 @@ pub fn store_words<M: Memory>(mem: &mut M, at: u64, words: &[u64]) -> Result<(),
     Ok(())
 }
 
-/// Does as `store_words` for at most a reply, whose words are loaded at once.
+/// Does as `store_words` for as many words as a reply has, or fewer: those that are there are loaded in one go, and compared before any is stored.
 fn store_few<M: Memory>(mem: &mut M, at: u64, words: &[u64]) -> Result<(), Halt>
     requires few { length words.now ≤ OP_WORDS }
     requires within { at + length words.now ≤ M.size mem.old }

@@ -51,9 +51,9 @@ pub enum ReadDone {
 impl<O: Object> Service<O> {
     /// Enters an operation into the queue and drives it to its answer, whose reply it writes into the caller's buffer; where it is not
     /// done nothing is said of the buffer. It tries again as long as others link before it, or hold all
-    /// replicas, and so it may wait for them; before it does, other threads may run. `Full` comes only where the count of scans rose in this call and another caller,
-    /// which the note names, needs the entries in the caller's cells. `Halted` comes exactly where a further step is to be made, of the submit that
-    /// was begun last or of driving the linked entry, and the steps equal the limit.
+    /// replicas, and so it may wait for them; before it does, other threads may run. `Full` comes only where the count of scans rose in this call and another
+    /// caller, which the note names, needs the entries in the caller's cells. `Halted` comes exactly where a further step is to be made, of the submit that was
+    /// begun last or of driving the linked entry, and the steps equal the limit.
     ///
     /// From `crates/life_tests/src/queue_service.rt`:
     /// ```rattle

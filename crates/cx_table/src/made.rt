@@ -1,6 +1,6 @@
-//! A step as data: its kind, its word, and its instruction or the word that it stores. What the seat keeps in plain memory follows by the kind,
-//! which each step call names: so of all that is done for some kind its own alone is left in the code. `Halt` comes exactly where the seat's
-//! steps equal its limit, and then nothing changes.
+//! A step as data: its kind, its word, and its instruction or the word that it stores. What the seat keeps in plain memory follows by the kind. Each
+//! step call names its kind, and these functions are inlined there, so that the compiled step has the code of its kind alone. `Halt` comes exactly
+//! where the seat's steps equal its limit, and then nothing changes.
 
 ghost use Rattle.std.specs.Prelude.{◌≡◌, ◌<◌, ℕ};
 ghost use Rattle.cx_core.specs.declared.local.Local.{Local};

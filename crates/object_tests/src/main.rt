@@ -1,7 +1,8 @@
-//! Programs that are run: each opcode, each bit of a program turned, each fault, and images of another program. What is printed is compared with `tools/bpf_model.py`, which was written from the standard alone.
+//! Programs that are run: each opcode, each bit of a program turned, each fault, and images of another program. What is printed is compared with
+//! `tools/bpf_model.py`, which was written from the standard alone.
 //!
-//! A line has a number, how many words were refused as no program, and a digest of all that was answered: for a program that is none the kind and the instruction, for the others each
-//! reply and each image.
+//! A line has a number, how many words were refused as no program, and a digest of all that was answered: for a program that is none the kind and the
+//! instruction, for the others each reply and each image.
 #![tactic(auto)]
 
 mod rows;

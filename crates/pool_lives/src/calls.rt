@@ -21,7 +21,8 @@ pub(crate) enum Asked {
     Worn,
 }
 
-/// Asks for an operation, whose reply is written into the buffer, again as often as no cell is idle: those who keep the cells release them in time. `Err` means out of memory.
+/// Asks for an operation, whose reply is written into the buffer, again as often as no cell is idle: those who keep the cells release them in time. `Err`
+/// means out of memory.
 pub(crate) fn ask<O: Object, R: Wait>(
     rt: &R,
     pool: &Pool<O>,

@@ -21,8 +21,8 @@ use typed_object::TypedObject;
 /// Runs a life whose clients share `seats` callers of one service, from the object's opening on: one worker for each client, on a thread of its own, makes the
 /// client's commands in order, and tries again where no cell is idle. A worker whose thread cannot be started is run by the calling thread. Then the pool is
 /// closed, and the life ends in a crash. The life's choice takes the code whose place ends what is kept, as in `cx_lives::run_lives`; so it does with the gate.
-/// Where a client is lent a caller that has not seen all that the client was answered before, the caller reads the probe until it has: the probe is an operation
-/// that only reads.
+/// Where a client is lent a caller that has not seen all that the client was answered before, the caller reads the probe until it has: the probe is an
+/// operation that only reads.
 ///
 /// Gives the record of the life, and what its service left. `Err` means out of memory, and gives nothing back. The call waits: it does not return where the
 /// gate holds a worker for good.

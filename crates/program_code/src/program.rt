@@ -26,7 +26,8 @@ pub struct Program {
 }
 
 impl Program {
-    /// The program of words: the first `instructions` of them are instructions, the others are constants. `Err` is the first fault, or says that memory ran out.
+    /// The program of words: the first `instructions` of them are instructions, the others are constants. `Err` is the first fault, or says that memory ran
+    /// out.
     pub fn of(alloc: Global, words: &[u64], instructions: usize) -> Result<Program, ProgramFault>
         ensures made { MatchResult result (λ program. Decodes words.now instructions (instructions_of program)) (λ fault. (fault.kind ≡ FaultKind.Memory) ⊎ IsFirstProgramFault words.now instructions fault) }
         ensures kept { MatchResult result (λ program. program_words program ≡ words.now) (λ _. Unit {0}) }

@@ -15,8 +15,8 @@ ghost use Rattle.seat_pool.specs.declared.hand.Hand as hand_hand;
 use cx_base::Object;
 use cx_service::Service;
 
-/// A caller that an update answered may be given back by the pass that took it last, also where it made calls without an answer before: what the pass is told in
-/// that push is the update's entry with its answer, and nothing else.
+/// A caller that an update answered may be given back by the pass that took it last, also where it made calls without an answer before: what the pass is told
+/// in that push is the update's entry with its answer, and nothing else.
 pub fn answers_are_told<O: Object>(service: &Service<O>)
     ensures { (op : List ℕ) (taken before after : Seated) (rest : List Seated) (answer : local_answer.Answer) (v : hand_hand.Hand) → v.held ≡ taken ∷ rest → StaysIdle service.now taken before → UpdateDone service.now op before after answer →
         IsFirstOf v.held after × (hand_told v after ≡ v.told ++ told_with before.known.local.number (next_entry service.now before.known.local op answer.ticket) answer ∷ []) }

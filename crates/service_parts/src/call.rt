@@ -45,8 +45,8 @@ pub fn ask<O: Object, R: Wait>(
 }
 
 /// Has a caller see a place that another one was told, by which it catches up: from then on its entries and its reads stand at or above it. Where
-/// the current place is below it, which is where nobody was answered at it yet, it is tried again once others have run. `Err` is the caller whose limit of steps
-/// was reached.
+/// the current place is below it, which is where nobody was answered at it yet, it is tried again once others have run. `Err` is the caller whose limit of
+/// steps was reached.
 pub fn follow<O: Object, R: Wait>(
     rt: &R,
     service: &Service<O>,
