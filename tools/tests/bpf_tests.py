@@ -145,14 +145,14 @@ class Programs(unittest.TestCase):
     def test_a_program_is_written_as_a_constant(self):
         with tempfile.TemporaryDirectory() as folder:
             source = Path(folder) / "of-mine.c"
-            named = "enum { ADD = GITHOPPU_UPDATE(3), LEAST = -2, NEXT, BIG = 1ull << 40 };"
+            named = "enum { ADD = GITHOPPU_UPDATE(3), LEAST = -2, NEXT, BIG = 1ull << 40 }; struct within { enum { INNER = 9 } it; };"
             source.write_text(f'#include "githoppu_program.h"\n{named}\nGITHOPPU_RUN {{ return 5; }}\n', encoding="utf-8")
             made = {}
             for ending in ("h", "rs", "words"):
                 done = tool(source, "-o", Path(folder) / f"it.{ending}", "--fuel", "77")
                 self.assertEqual((0, ""), (done.returncode, done.stderr))
                 made[ending] = (Path(folder) / f"it.{ending}").read_text(encoding="utf-8")
-            for line in ("#define OF_MINE_ADD 6", "#define OF_MINE_LEAST (-2)", "#define OF_MINE_NEXT (-1)", f"#define OF_MINE_BIG {1 << 40}u"):
+            for line in ("#define OF_MINE_ADD 6", "#define OF_MINE_LEAST (-2)", "#define OF_MINE_NEXT (-1)", f"#define OF_MINE_BIG {1 << 40}u", "#define OF_MINE_INNER 9"):
                 self.assertIn(f"\n{line}\n", made["h"])
             self.assertIn("static const githoppu_program of_mine = {of_mine_words, 2, 2, 77};", made["h"])
             for line in ("pub const INSTRUCTIONS: u64 = 2;", "pub const FUEL: u64 = 77;", "pub const ADD: u64 = 6;", f"pub const LEAST: u64 = {2**64 - 2};"):
@@ -171,6 +171,21 @@ class Programs(unittest.TestCase):
                 done = tool(source)
                 self.assertEqual(1, done.returncode)
                 self.assertIn(reason, done.stderr)
+
+    def test_names_that_the_other_language_has_not_are_refused(self):
+        for name, ending, named, reason in (
+            ("2q", "h", "A", "a name that begins with a digit"),
+            ("q", "rs", "FUEL", "an enumerator FUEL can be no constant"),
+            ("q", "rs", "match", "an enumerator match can be no constant"),
+            ("q", "nowhere/h", "A", "it cannot be written"),
+        ):
+            with self.subTest(reason), tempfile.TemporaryDirectory() as folder:
+                source = Path(folder) / f"{name}.c"
+                source.write_text(f'#include "githoppu_program.h"\nenum {{ {named} }};\nGITHOPPU_RUN {{ return 5; }}\n', encoding="utf-8")
+                done = tool(source, "-o", Path(folder) / f"to.{ending}")
+                self.assertEqual(1, done.returncode)
+                self.assertIn(reason, done.stderr)
+                self.assertNotIn("Traceback", done.stderr)
 
     def test_an_image_of_another_program_is_taken_over(self):
         before, after = (self.object_of(text) for text in (SUM, COUNTED))
