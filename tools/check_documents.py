@@ -22,7 +22,7 @@ import sys
 from pathlib import Path
 
 import page_rules
-from told import asked_words
+from commands import asked_words
 
 PAGES = ("README.md", "CHANGELOG.md", "CONTRIBUTING.md", "docs/*.md", "crates/README.md", "examples/README.md", "tools/README.md")
 HEADS = "crates/*/src/lib.rt"

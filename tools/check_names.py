@@ -22,8 +22,8 @@ from pathlib import Path
 
 import page_rules
 from cited_lemmas import uncited
+from commands import asked_words
 from source_text import COMMENT, Sources, tokens_of
-from told import asked_words
 
 NAMES, COUNTS = "tools/shared_names.txt", "tools/kept_counts.txt"
 NUMBERS = ("144", "145", "513", "1024", "1168")

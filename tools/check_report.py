@@ -17,12 +17,11 @@ import bisect
 import sys
 from collections import defaultdict
 
+from commands import helped
 from plain_queue import opening
-from pool_text import read_pool_script
 from queue_text import read_queue_script
 from report_text import UNANSWERED, Fault, read_report
-from script_text import LARGEST_INPUT, Refusal, TooLong, read_script
-from told import helped
+from script_text import LARGEST_INPUT, Refusal, TooLong, read_pool_script, read_script
 
 CELLS = 16
 OTHER_SCRIPTS = {"--fifo": read_queue_script, "--pool": read_pool_script}

@@ -27,8 +27,8 @@ import tarfile
 import tempfile
 from pathlib import Path
 
+from commands import asked_words
 from source_text import NAME, Sources
-from told import asked_words
 
 TOP = Path(__file__).resolve().parent.parent
 # words of the languages before which a text is put on a line of its own

@@ -22,8 +22,8 @@ from dataclasses import dataclass, replace
 from pathlib import Path
 from xml.sax.saxutils import escape, quoteattr
 
+from commands import helped
 from report_text import UNANSWERED, Entry, Fault, Full, Read, Stop, read_report, split_reply
-from told import helped
 
 WIDTH = 800
 MARGIN = 16

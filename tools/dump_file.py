@@ -14,9 +14,9 @@ Status 0 where it is printed, 1 where the file cannot be read or is refused, 2 w
 import sys
 from pathlib import Path
 
+from commands import helped
 from image_text import GREATEST_PLACE, LINE_WORDS, OLD_VERSION, PART, REPLY_WORDS, SLOT_WORDS, SLOTS, VERSION
 from image_text import BadImage, Image, Part, Words, is_of_key, place_of, reply_of, text_in
-from told import helped
 
 WORD = 8
 # of a file: its name, its format, the bytes before the image and after it
@@ -255,7 +255,3 @@ def main(words):
         return 1
     sys.stdout.buffer.write(b"".join(line + b"\n" for line in lines))
     return 0
-
-
-if __name__ == "__main__":
-    sys.exit(main(sys.argv[1:]))

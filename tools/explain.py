@@ -21,12 +21,10 @@ import sys
 import unicodedata
 from pathlib import Path
 
+from commands import HOW_TO_BUILD, built, helped
 from image_text import BadImage, place_of, read_image, recovered
-from pool_text import read_pool_script
-from program import HOW_TO_BUILD, built
 from queue_text import read_queue_script
-from script_text import LARGEST_INPUT, Refusal, TooLong, raw_lines, read_script, words_of
-from told import helped
+from script_text import LARGEST_INPUT, Refusal, TooLong, raw_lines, read_pool_script, read_script, words_of
 
 SHOWN = 72
 REFUSAL = re.compile(rb"refused line ([1-9][0-9]{0,8}): ([a-z0-9]+)\n")

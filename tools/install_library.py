@@ -35,8 +35,7 @@ from pathlib import Path
 import build_library
 import build_program
 import unproved
-from program import LIBRARY, LIBRARY_CRATE
-from told import helped
+from commands import LIBRARY, LIBRARY_CRATE, helped
 from unproved import NotBuilt
 
 ROOT = Path(__file__).resolve().parent.parent
@@ -196,7 +195,3 @@ def main(words):
         return 1
     print(f"tools/install: version {version}, {built}, in {to}")
     return 0
-
-
-if __name__ == "__main__":
-    sys.exit(main(sys.argv[1:]))

@@ -16,7 +16,7 @@ Status 0 where each key has a linearization, or with --falsify where each false 
 import sys
 from typing import NamedTuple
 
-from told import helped
+from commands import helped
 
 
 class Call(NamedTuple):

@@ -28,8 +28,7 @@ ROOT = TOOLS.parent
 sys.path[:0] = [str(TOOLS), str(TESTS)]
 
 import build_program
-from program import SLOW, UNPROVED
-from told import helped
+from commands import SLOW, UNPROVED, helped
 from unproved import processors
 
 SCRIPTS = 300
@@ -245,7 +244,3 @@ def main(words):
                 print("    " + why.strip().replace("\n", "\n    ")[:4_000], flush=True)
     print(f"{passed} passed, {failed} failed")
     return 1 if failed else 0
-
-
-if __name__ == "__main__":
-    sys.exit(main(sys.argv[1:]))

@@ -396,3 +396,25 @@ def refuse_deep_or_halved(text, start):
         halved = first == '"' and "\\u" in token[0] and re.search("[\ud800-\udfff]", json.loads(token[0]))
         if depth > DEEPEST_DOCUMENT or halved:
             raise Refusal("json", start + token.start(), start + token.end())
+
+
+@dataclass
+class PoolScript(Script):
+    """A script of clients that share callers."""
+
+
+class PoolReader(Reader):
+    """Takes the lines of such a script."""
+
+    form = PoolScript
+    most_clients = 64
+    most_lives = 1
+    life_too_many = "life"
+
+    def take_cut(self, words):
+        raise words[0].refusal("cut")
+
+
+def read_pool_script(data):
+    """The script that the bytes are; raises Refusal at the first line that is at fault, or TooLong."""
+    return read_by(PoolReader(), data)

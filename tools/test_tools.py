@@ -28,10 +28,8 @@ EXAMPLES = ROOT / "examples"
 sys.path[:0] = [str(TOOLS), str(TESTS)]
 
 import check_report
-import clauses
 import draw_life
 import explain
-import gate_minutes
 import held_reader
 import plain_judge
 import random_faults
@@ -41,11 +39,10 @@ import random_queues
 import record_trace
 import stacks
 import stopped_clients
-import told
 from bpf_tests import Interpreter, Programs
 from build_tests import Builds, Runs, Unproved
 from check_tests import QuickChecks
-from clause_tests import ClauseComparisons
+from commands import FOR_THE_GATE, PROVED, helped, is_tested
 from document_tests import Documents, Examples, PageRules
 from dump_tests import Dumps
 from end_tests import Ends
@@ -53,24 +50,24 @@ from help_tests import Helps
 from history_tests import Histories
 from image_tests import ImageExplanations, ProgramOnImages, ReadImages, usage
 from install_tests import Installs
+from measure_tests import Clauses, GateMinutes, HouseNumbers, Words
 from name_tests import Names, SourceItems
-from number_tests import HouseNumbers
 from page_code_tests import PageCode
 from picture_tests import Pictures
 from plain_core import Core
 from pool_tests import PoolTexts, ProgramOnPools, pool_rows
-from pool_text import read_pool_script
-from program import FOR_THE_GATE, PROVED, is_tested
 from queue_tests import ProgramOnQueues, QueueTexts
 from queue_text import read_queue_script
 from report_text import Fault, read_report, split_reply
-from row_files import ROWS, legal_rows, row
-from script_text import Refusal, TooLong, read_script
+from script_text import Refusal, TooLong, read_pool_script, read_script
 from trace_tests import PlainTraces, ProgramOnTraces
 from tutorial_tests import Tutorial
-from wrong_reports import WRONG
+from wrong_reports import ROWS, WRONG, legal_rows, row
 
 MUST_RUN = FOR_THE_GATE in sys.argv
+if not MUST_RUN:
+    # the gate compares no two revisions
+    from clause_tests import ClauseComparisons
 
 HEAD = b"lines 64\nlife 1 power 0\n"
 # rows whose report is one of many: clients that are stopped or give up, and reads whose places are free
@@ -667,70 +664,6 @@ class Program(unittest.TestCase):
                     self.assertEqual(random_lives.Refused(line, reason), random_lives.answer_of_program(random_lives.PROGRAM, script))
 
 
-class ClausesTest(unittest.TestCase):
-    """What contracts say is counted."""
-
-    def test_clauses_are_their_functions(self):
-        source = "//! What it is.\n\npub fn one() -> u64\n    ensures { result ≡ 1 }\n{\n    1\n}\n\nimpl A {\n    fn two(&self)\n        requires few { a\n            (λ x. x) }\n"
-        source += "        ensures done { b };\n}\n"
-        self.assertEqual([("one", ["ensures { result ≡ 1 }"]), ("two", ["requires few { a (λ x. x) }", "ensures done { b };"])], clauses.functions_of(source))
-        with tempfile.TemporaryDirectory() as folder:
-            Path(folder, "lib.rt").write_text(source, encoding="utf-8")
-            self.assertEqual(13, clauses.lines_under(Path(folder)))
-
-
-class GateMinutesTest(unittest.TestCase):
-    """What a crate cost, by what its provers took."""
-
-    PROVER = ["/opt/rattle/bin/rattle", "check", "--crate-name", "publish", "src/lib.rt", "--jobs", "1"]
-
-    def test_what_a_prover_is_for(self):
-        rows = [
-            (self.PROVER, "/work/main/crates/publish", ("publish", "proof", None)),
-            (["rattle", "build", *self.PROVER[2:], "--test"], "/work/main/crates/publish", ("publish", "tests", None)),
-            ([*self.PROVER, "--incremental", "/tmp/rt-edits-7-def/seed"], "/tmp/rt-edit-7-abc", ("publish", "edits", None)),
-            ([*self.PROVER, "--incremental", "/tmp/rt-edits-7-def/2"], "/tmp/rt-edit-7-abc", ("publish", "edits", 2)),
-            (self.PROVER, "/tmp/rt-edit-7-abc", ("publish", "edits", None)),
-            (["rattle", "fmt", "--check", "src/lib.rt"], "/work/main/crates/publish", None),
-            (["python3", *self.PROVER[1:]], "/work/main/crates/publish", None),
-            (["rattle", "check", "--crate-name"], "/work/main/crates/publish", None),
-            ([], "/", None),
-        ]
-        for words, folder, want in rows:
-            self.assertEqual(gate_minutes.kind_of(words, folder), want, words)
-
-    def test_a_process_tells_its_parent_and_its_seconds(self):
-        stat = "17 (a ) name) S 5 17 17 0 -1 4194560 900 0 0 0 {0} {1} {2} {3} 20 0 1 0 9".format(*(
-            seconds * gate_minutes.TICKS for seconds in (3, 1, 4, 2)
-        ))
-        self.assertEqual(gate_minutes.seconds_of(stat), (5, 10))
-
-    def test_the_dearest_crate_stands_first(self):
-        seen = {
-            (1, ("line_lanes", "proof", None)): 20.0,
-            (2, ("publish", "proof", None)): 30.0,
-            (3, ("publish", "edits", None)): 2.0,
-            (4, ("publish", "edits", 90)): 18.0,
-        }
-        lines = [line.split() for line in gate_minutes.table(seen, 90)]
-        self.assertEqual(lines[1:4], [
-            ["publish", "30", "0", "20", "50"],
-            ["line_lanes", "20", "0", "0", "20"],
-            ["all", "crates", "50", "0", "20", "70"],
-        ])
-        self.assertEqual(lines[4], "publish/edit 90 took 18 seconds".split())
-        self.assertEqual(lines[5], "left 20 seconds; all 1.5 processor minutes".split())
-
-    def test_the_whole_gate_is_asked_for_in_the_toolchain_s_words(self):
-        self.assertEqual(gate_minutes.whole_gate("rt ci [--anew] [NAME..]  the merge gate"), ["rt", "ci", "--anew"])
-        self.assertEqual(gate_minutes.whole_gate("rt ci  the merge gate"), ["rt", "ci"])
-
-    def test_a_command_s_status_is_handed_on(self):
-        with contextlib.redirect_stderr(io.StringIO()) as told:
-            self.assertEqual(gate_minutes.main([sys.executable, "-c", "raise SystemExit(3)"]), 3)
-        self.assertIn("processor minutes", told.getvalue())
-
-
 class TracesTest(unittest.TestCase):
     """Traces as the plain model of the core judges them."""
 
@@ -761,7 +694,7 @@ class TracesTest(unittest.TestCase):
 
 
 if __name__ == "__main__":
-    if told.helped(__doc__, sys.argv[1:]):
+    if helped(__doc__, sys.argv[1:]):
         sys.exit(0)
     if not (MUST_RUN or is_tested(random_lives.PROGRAM)):
         print("there is no program (tools/build): the tests that run it are skipped", file=sys.stderr)

@@ -221,7 +221,3 @@ class Programs(unittest.TestCase):
             self.assertIn("an address that is no place", done.stderr)
             if shutil.which("llvm-objdump"):
                 self.assertIn("wild.c:4", done.stderr)
-
-
-if __name__ == "__main__":
-    unittest.main()

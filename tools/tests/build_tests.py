@@ -13,7 +13,7 @@ from unittest import mock
 
 import build_library
 import build_program
-import program
+import commands
 import unproved
 from unproved import NotBuilt, Steps
 
@@ -116,16 +116,16 @@ class Builds(unittest.TestCase):
 
     def test_the_tools_run_the_newer_one(self):
         """And test it where it is the proved one, or one that was built for speed, but for the gate the proved one alone."""
-        with mock.patch.multiple(program, PROVED=self.proved, UNPROVED=self.unproved, SLOW=self.slow), mock.patch.object(sys, "argv", []):
-            self.assertEqual((self.proved, False), (program.built(), program.is_tested(self.proved)))
+        with mock.patch.multiple(commands, PROVED=self.proved, UNPROVED=self.unproved, SLOW=self.slow), mock.patch.object(sys, "argv", []):
+            self.assertEqual((self.proved, False), (commands.built(), commands.is_tested(self.proved)))
             self.put(self.unproved, 30)
-            self.assertEqual((self.unproved, True), (program.built(), program.is_tested(self.unproved)))
-            with mock.patch.object(sys, "argv", [program.FOR_THE_GATE]):
-                self.assertFalse(program.is_tested(self.unproved))
+            self.assertEqual((self.unproved, True), (commands.built(), commands.is_tested(self.unproved)))
+            with mock.patch.object(sys, "argv", [commands.FOR_THE_GATE]):
+                self.assertFalse(commands.is_tested(self.unproved))
             self.slow.touch()
-            self.assertFalse(program.is_tested(self.unproved))
+            self.assertFalse(commands.is_tested(self.unproved))
             self.put(self.proved, 30)
-            self.assertEqual((self.proved, True), (program.built(), program.is_tested(self.proved)))
+            self.assertEqual((self.proved, True), (commands.built(), commands.is_tested(self.proved)))
 
 
 class Unproved(unittest.TestCase):
@@ -151,7 +151,7 @@ class Unproved(unittest.TestCase):
     def test_the_exports_are_those_of_the_header(self):
         """Each function that the header declares and does not write itself is exported, and no other."""
         declared = set(re.findall(r"(?m)^[a-z][\w ]*[ *](githoppu_\w+)\([^{;]*\);", HEADER.read_text("utf-8")))
-        exports = unproved.exports_of((program.LIBRARY_CRATE / "src" / "lib.rt").read_text("utf-8"))
+        exports = unproved.exports_of((commands.LIBRARY_CRATE / "src" / "lib.rt").read_text("utf-8"))
         self.assertGreaterEqual(len(exports), 9)
         self.assertEqual(declared, set(exports))
         self.assertEqual(3, exports["githoppu_open"])
@@ -194,15 +194,15 @@ class Unproved(unittest.TestCase):
 
     def test_the_library_has_the_exports(self):
         """Each archive that is built, as `nm` reads it: both have the exports, and the one without a proof has no other name that is seen."""
-        built = [path for path in (program.LIBRARY, program.UNPROVED_LIBRARY) if path.exists()]
+        built = [path for path in (commands.LIBRARY, commands.UNPROVED_LIBRARY) if path.exists()]
         if not built or shutil.which("nm") is None:
             self.skipTest("no library is built (tools/build --library), or there is no nm")
-        exports = sorted(unproved.exports_of((program.LIBRARY_CRATE / "src" / "lib.rt").read_text("utf-8")))
+        exports = sorted(unproved.exports_of((commands.LIBRARY_CRATE / "src" / "lib.rt").read_text("utf-8")))
         for path in built:
             with self.subTest(path.relative_to(ROOT)):
                 ran = subprocess.run(["nm", "-g", "--defined-only", "-f", "posix", path], capture_output=True, text=True, check=True)
                 seen = sorted(line.split()[0] for line in ran.stdout.splitlines() if len(line.split()) > 2)
-                self.assertEqual(exports, [name for name in seen if path == program.UNPROVED_LIBRARY or name in exports])
+                self.assertEqual(exports, [name for name in seen if path == commands.UNPROVED_LIBRARY or name in exports])
 
     def test_a_library_that_is_none_is_told(self):
         for name in ("nonsense", "cx_base"):

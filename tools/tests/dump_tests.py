@@ -8,7 +8,7 @@ import unittest
 from pathlib import Path
 
 import dump_file
-from dump_file import FILE_NAME, HEAD_WORDS, IMAGE_NAME, OBJECT, ONE_REGION, QUEUE, REPLICAS, STORE, WORD, checksum
+from dump_file import FILE_NAME, IMAGE_NAME, OBJECT, ONE_REGION, QUEUE, REPLICAS, STORE, WORD, checksum
 from image_text import LINE_WORDS, PART, SLOT_WORDS
 
 TOOLS = Path(__file__).resolve().parent.parent

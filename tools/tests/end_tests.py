@@ -7,7 +7,7 @@ from pathlib import Path
 import random_lives
 import real_ends
 import refused_memory
-from program import is_tested
+from commands import is_tested
 
 TOOLS = Path(__file__).resolve().parent.parent
 

@@ -28,9 +28,9 @@ sys.path[:0] = [str(TESTS.parent), str(TESTS)]
 
 import check_report
 import random_loads
+from commands import asked_words
 from report_text import Fault, read_report
 from script_text import read_script
-from told import asked_words
 
 SCRIPT = ROOT / "examples" / "two_lives.script"
 

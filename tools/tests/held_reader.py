@@ -27,10 +27,9 @@ TESTS = Path(__file__).resolve().parent
 sys.path[:0] = [str(TESTS), str(TESTS.parent)]
 
 import check_report
-from program import PROVED, needed
+from commands import PROVED, asked_words, needed
 from report_text import Fault, read_report
 from script_text import read_script
-from told import asked_words
 
 CLIENTS = 8
 # of each client that adds, and of the reader, which reads until the others go and it is held

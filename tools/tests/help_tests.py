@@ -7,17 +7,24 @@ from concurrent.futures import ThreadPoolExecutor
 from pathlib import Path
 
 ROOT = Path(__file__).resolve().parent.parent.parent
-IN_SHELLS = ("tools/run", "tools/build", "tools/check", "tools/bindings", "tools/install", "tools/dump", "tools/program")
+FOLDERS = ("tools", "tools/tests", "bench")
 TIME = re.compile(r"\btakes?\b.* (?:seconds?|minutes?|hours?)\b", re.DOTALL)
+MAIN = 'if __name__ == "__main__":'
 
 
-def tools():
-    """The words that start each tool: scripts in Python, and those in a shell."""
-    for folder in ("tools", "tools/tests", "bench"):
-        for path in sorted((ROOT / folder).glob("*.py")):
-            if path.read_text(encoding="utf-8").startswith("#!"):
-                yield [sys.executable, "-B", str(path)]
-    yield from ([str(ROOT / tool)] for tool in IN_SHELLS)
+def texts():
+    """Each script and module, with its text."""
+    for folder in FOLDERS:
+        for path in sorted((ROOT / folder).iterdir()):
+            if path.is_file() and path.suffix in ("", ".py", ".sh"):
+                yield path, path.read_text(encoding="utf-8")
+
+
+def commands():
+    """The words that start each command: what begins with a line for the system, in Python or in a shell."""
+    for path, text in texts():
+        if text.startswith("#!"):
+            yield [sys.executable, "-B", str(path)] if path.suffix == ".py" else [str(path)]
 
 
 def asked(words):
@@ -25,9 +32,16 @@ def asked(words):
 
 
 class Helps(unittest.TestCase):
-    def test_each_tool_says_what_it_is_for(self):
+    def test_what_is_no_command_does_nothing_by_itself(self):
+        """A module is only imported; a command in Python begins and ends as one."""
+        for path, text in texts():
+            if path.suffix == ".py" or text.startswith("#!/usr/bin/env python3"):
+                with self.subTest(path.name):
+                    self.assertEqual(text.startswith("#!"), MAIN in text.splitlines())
+
+    def test_each_command_says_what_it_is_for(self):
         """Its words, an example that names what there is, its statuses, and how long it takes; with the program or without it."""
-        found = list(tools())
+        found = list(commands())
         self.assertGreaterEqual(len(found), 30)
         with ThreadPoolExecutor() as pool:
             for words, ended in zip(found, pool.map(asked, found)):

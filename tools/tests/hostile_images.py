@@ -21,10 +21,9 @@ from pathlib import Path
 TOOLS = Path(__file__).resolve().parent.parent
 sys.path[:0] = [str(TOOLS)]
 
+from commands import asked_words, needed
 from image_text import OLD_VERSION, PART, SLOT_WORDS, VERSION, BadImage, Image, image_text, read_image, recovered, recovered_text
-from program import needed
 from script_text import Refusal
-from told import asked_words
 
 OLD_IMAGES = Path(__file__).resolve().parent / "old_images"
 MOST_SECONDS = 20

@@ -11,10 +11,10 @@ from pathlib import Path
 import explain
 import hostile_images
 import random_lives
-from hostile_images import SLOTS, TEXTS, TREES, answer_of, answer_to, good_image, image_text
+from commands import is_tested
+from hostile_images import SLOTS, TEXTS, answer_of, answer_to, good_image, image_text
 from image_text import BadImage, read_image, recovered
 from plain_store import Store
-from program import is_tested
 from script_text import Refusal, TooLong, read_script
 
 ROWS = Path(__file__).resolve().parent / "rows"

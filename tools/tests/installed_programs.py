@@ -27,7 +27,7 @@ sys.path[:0] = [str(TESTS.parent)]
 
 import install_library
 import unproved
-from told import asked_words
+from commands import asked_words
 
 MOST_SECONDS = 300
 SOLD = b"sold 42\n"

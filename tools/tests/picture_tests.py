@@ -12,8 +12,8 @@ import random_pools
 import random_queues
 from check_report import judge
 from report_text import Fault, read_report
-from row_files import legal_rows
 from script_text import read_script
+from wrong_reports import legal_rows
 
 PICTURES = Path(__file__).resolve().parent.parent.parent / "docs" / "pictures"
 HEAD = b"lines 64\nlife 1 power 0\n"

@@ -10,11 +10,10 @@ import draw_life
 import plain_judge
 import random_faults
 import random_pools
-from pool_text import read_pool_script
-from program import is_tested
+from commands import is_tested
 from random_lives import PROGRAM, Refused, Seen, answer_of_program
 from report_text import Fault, read_report
-from script_text import Refusal, read_script
+from script_text import Refusal, read_pool_script, read_script
 
 ROWS = Path(__file__).resolve().parent / "rows"
 # scripts, the lines in which they are refused, and the reasons

@@ -11,7 +11,7 @@ import explain
 import plain_judge
 import random_faults
 import random_queues
-from program import is_tested
+from commands import is_tested
 from queue_text import read_queue_script
 from random_lives import PROGRAM, Refused, Seen, answer_of_program
 from report_text import Fault, read_report, split_reply

@@ -1,5 +1,4 @@
 """Reports with random faults: each is a legal report in which a line or a part of one was changed, or several were."""
-import random
 import re
 
 REPLIES = ["new", "replaced", "deleted", "none", "unanswered", "noroom", "notnumber", "overflow", "sum 3", "count 1", "key a", "0", "set 2", "stale 0", "rev 1"]

@@ -22,12 +22,11 @@ TOOLS = Path(__file__).resolve().parent.parent
 sys.path.insert(0, str(TOOLS))
 
 import check_report
+from commands import asked_words, built, needed
 from plain_queue import opening
 from plain_store import Store
-from program import built, needed
 from report_text import UNANSWERED, Fault, read_report
 from script_text import Refusal, raw_lines, read_script
-from told import asked_words
 
 PROGRAM = built()
 MOST_COMMANDS = 200

@@ -15,9 +15,8 @@ from pathlib import Path
 TESTS = Path(__file__).resolve().parent
 sys.path[:0] = [str(TESTS), str(TESTS.parent)]
 
-from program import needed
+from commands import asked_words, needed
 from random_lives import MOST_SECONDS, PROGRAM
-from told import asked_words
 
 KEYS = 100
 AMOUNTS = 1_000

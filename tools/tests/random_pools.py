@@ -18,10 +18,9 @@ from pathlib import Path
 TESTS = Path(__file__).resolve().parent
 sys.path[:0] = [str(TESTS), str(TESTS.parent)]
 
-from pool_text import read_pool_script
-from program import needed
+from commands import asked_words, needed
 from random_lives import PROGRAM, Asked, Seen, disagreement, report_text, script_text, spoiled
-from told import asked_words
+from script_text import read_pool_script
 
 MOST_SEATS = 8
 MOST_COMMANDS = 1_600

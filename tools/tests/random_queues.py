@@ -18,10 +18,9 @@ from pathlib import Path
 TESTS = Path(__file__).resolve().parent
 sys.path[:0] = [str(TESTS), str(TESTS.parent)]
 
-from program import needed
+from commands import asked_words, needed
 from queue_text import read_queue_script
 from random_lives import PROGRAM, Asked, Seen, disagreement, report_text, spoiled
-from told import asked_words
 
 FIFO = Asked("fifo", read_queue_script)
 MOST_COMMANDS = 1_600

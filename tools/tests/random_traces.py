@@ -19,10 +19,9 @@ from pathlib import Path
 TOOLS = Path(__file__).resolve().parent.parent
 sys.path.insert(0, str(TOOLS))
 
+from commands import asked_words, built, needed
 from plain_core import WORD, Core
-from program import built, needed
 from record_trace import NUMBERS, Recorder, found_in, wrong
-from told import asked_words
 
 PROGRAM = built()
 MOST_SECONDS = 120

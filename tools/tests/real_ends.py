@@ -22,8 +22,7 @@ from pathlib import Path
 TESTS = Path(__file__).resolve().parent
 sys.path[:0] = [str(TESTS.parent)]
 
-from program import needed
-from told import asked_words
+from commands import asked_words, needed
 
 MOST_SECONDS = 30
 SCRIPT = (TESTS / "rows" / "written_read_back.script").read_bytes()

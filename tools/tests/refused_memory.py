@@ -23,15 +23,13 @@ sys.path[:0] = [str(TESTS.parent), str(TESTS)]
 
 import check_report
 import hostile_images
+from commands import asked_words, needed
 from image_text import read_image, recovered
 from plain_core import Core
-from pool_text import read_pool_script
-from program import needed
 from queue_text import read_queue_script
 from record_trace import Recorder, found_in
 from report_text import Fault, read_report
-from script_text import read_script
-from told import asked_words
+from script_text import read_pool_script, read_script
 
 MOST_SECONDS = 20
 TWO_SHOPS = (TESTS / "rows" / "ordinary_use.script").read_bytes()

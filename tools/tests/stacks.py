@@ -23,10 +23,9 @@ TOOLS = TESTS.parent
 ROOT = TOOLS.parent
 sys.path[:0] = [str(TOOLS), str(TESTS)]
 
+from commands import PROVED, built, helped, needed
 from plain_core import Core
-from program import PROVED, built, needed
 from record_trace import Recorder
-from told import helped
 
 FAQ = ROOT / "docs" / "FAQ.md"
 KIB = 1024

@@ -25,11 +25,10 @@ TESTS = Path(__file__).resolve().parent
 sys.path[:0] = [str(TESTS), str(TESTS.parent)]
 
 import check_report
-from program import needed
+from commands import asked_words, needed
 from random_lives import MOST_SECONDS, PROGRAM
 from report_text import Fault, read_report
 from script_text import read_script
-from told import asked_words
 
 CHOICES = range(4)
 AMOUNTS = (1, 2)

@@ -6,7 +6,7 @@ from pathlib import Path
 
 import random_lives
 import random_traces
-from program import FOR_THE_GATE, is_tested
+from commands import FOR_THE_GATE, is_tested
 from record_trace import MOST_LINES, explanation, found_in
 
 ROWS = Path(__file__).resolve().parent / "rows"
@@ -89,7 +89,3 @@ class ProgramOnTraces(unittest.TestCase):
         seen = random_traces.Seen()
         self.assertIsNone(random_traces.compare(random_traces.texts_of_arguments(), seen))
         self.assertEqual({"yes", "guard"}, set(seen.found))
-
-
-if __name__ == "__main__":
-    unittest.main()

@@ -1,5 +1,20 @@
-"""Reports with one thing wrong each: the row, the text changed, the text put in its place, the line refused, and why."""
+"""The rows that the program is run on, as files: scripts with their reports. And reports of theirs with one thing wrong each."""
+from pathlib import Path
 
+ROWS = Path(__file__).resolve().parent / "rows"
+
+
+def row(name):
+    return tuple((ROWS / f"{name}.{kind}").read_bytes() for kind in ("script", "report"))
+
+
+def legal_rows():
+    """Each report of a row, with its name and its script."""
+    for path in sorted(ROWS.glob("*.report")):
+        yield path.stem, (ROWS / f"{path.name.split('.')[0]}.script").read_bytes(), path.read_bytes()
+
+
+# the row, the text changed, the text put in its place, the line refused, and why
 WRONG = [
     # a life's first line
     ("written_read_back", "life 0 clients 1", "life 1 clients 1", 1, "the number of the life is 0, not 1"),

@@ -64,13 +64,12 @@ pub fn closed<O: Object>(
 /// closed. What each told, of caller 0 first, and what is left: what the worker says of a telling is so of each caller. `Err` means out of memory,
 /// and gives nothing back.
 ///
-/// Two lives with a crash between them. From `crates/shared_counters/src/threads.rt`:
+/// A life of four callers, and after a crash one of a caller alone. From `crates/shared_bank/src/callers.rt`:
 /// ```rattle
-/// let counters = Counters::of(64, 1_000_000);
-/// let base = Base::fresh(alloc, &counters)?;
-/// let (before, remains) = serve(rt, alloc, counters.duplicate(), 4, &base, &Adder)?;
-/// let kept = recovered(alloc, &counters, &remains, 0)?;
-/// let (after, _remains) = serve(rt, alloc, counters.duplicate(), 4, &kept, &Adder)?;
+/// let base = Base::fresh(alloc, &bank)?;
+/// let (told, remains) = serve(rt, alloc, bank, 4, &base, &Mover { from: 0 })?;
+/// let base = recovered(alloc, &bank, &remains, 0)?;
+/// let (found, _remains) = serve(rt, alloc, bank, 1, &base, &Looker)?;
 /// ```
 pub fn serve<O: Object + Send + Sync, R: Threads + Wait + Sync, W: Worker<O> + Sync>(
     rt: &R,

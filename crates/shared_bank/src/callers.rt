@@ -27,11 +27,18 @@ pub struct Counts {
     pub right: u64,
 }
 
-/// What the last caller found.
+/// What a caller found that looked.
 #[derive(Clone, Copy, Debug)]
 pub struct Found {
     pub first: u64,
     pub all: u64,
+}
+
+/// What the callers of a life were answered, and what was found after the loss of power that followed.
+#[derive(Clone, Copy, Debug)]
+pub struct BankLife {
+    pub told: Counts,
+    pub found: Found,
 }
 
 const NOT_FOUND: Found = Found { first: 0, all: 0 };
@@ -74,21 +81,32 @@ impl Counts {
     }
 }
 
-/// Four callers work, the power is lost, they go on, it is lost again, and one caller looks: what the four did in each life, and what the
-/// last one found. `Err` means out of memory.
+impl BankLife {
+    /// What all callers were answered, and what the only one that looked found.
+    fn of(told: &[Counts], found: &[Found]) -> BankLife {
+        BankLife {
+            told: Counts::of_all(told),
+            found: found.first().copied().unwrap_or(NOT_FOUND),
+        }
+    }
+}
+
+/// Four callers work, the power is lost, and one caller looks; then the four go on from there, it is lost again, and one looks again. Of transfers
+/// that are there once each, the first finds 2,575 in account 0, and the second 4,150. `Err` means out of memory.
 pub fn two_losses<R: Wait + Threads + Sync>(
     rt: &R,
     alloc: Global,
-) -> Result<(Counts, Counts, Found), AllocError> {
+) -> Result<(BankLife, BankLife), AllocError> {
     let bank = Bank::of(64, ACCOUNTS, ALL);
     let base = Base::fresh(alloc, &bank)?;
-    let (first, remains) = serve(rt, alloc, bank, 4, &base, &Mover { from: 0 })?;
-    let base = recovered(alloc, &bank, &remains, 0)?;
-    let (second, remains) = serve(rt, alloc, bank, 4, &base, &Mover { from: EACH })?;
+    let (told, remains) = serve(rt, alloc, bank, 4, &base, &Mover { from: 0 })?;
     let base = recovered(alloc, &bank, &remains, 0)?;
     let (found, _remains) = serve(rt, alloc, bank, 1, &base, &Looker)?;
-    let found = found.first().copied().unwrap_or(NOT_FOUND);
-    Ok((Counts::of_all(&first), Counts::of_all(&second), found))
+    let first = BankLife::of(&told, &found);
+    let (told, remains) = serve(rt, alloc, bank, 4, &base, &Mover { from: EACH })?;
+    let base = recovered(alloc, &bank, &remains, 0)?;
+    let (found, _remains) = serve(rt, alloc, bank, 1, &base, &Looker)?;
+    Ok((first, BankLife::of(&told, &found)))
 }
 
 /// A caller's operations: first it pays out 1,000 to each of its accounts, of what account 0 began with. Then five times it moves 5 from each

@@ -5,7 +5,7 @@
 //! operation like a transfer: it sees all of a transfer or nothing.
 //!
 //! 64 accounts that four threads share: money is paid out and moved, overdrafts are refused, and whoever adds up all accounts in between
-//! finds the same sum. The power is lost twice, and in a last life one caller looks at what is there.
+//! finds the same sum. The power is lost twice, and each time one caller looks at what is there.
 #![tactic(auto)]
 
 mod callers;
@@ -15,18 +15,22 @@ use std::io;
 
 fn main(rt: HostRuntime) -> io::Result<()> {
     match two_losses(&rt, rt.alloc()) {
-        Ok((first, second, last)) => {
+        Ok((first, second)) => {
             println!(rt;
                 "four callers: {} transfers, {} overdrafts refused, {} audits found 64000",
-                first.moved, first.refused, first.right
+                first.told.moved, first.told.refused, first.told.right
             )?;
             println!(rt;
-                "after a loss of power: {} transfers, {} overdrafts refused, {} audits found 64000",
-                second.moved, second.refused, second.right
+                "after a loss of power: account 0 has {}, all have {}",
+                first.found.first, first.found.all
+            )?;
+            println!(rt;
+                "four callers: {} transfers, {} overdrafts refused, {} audits found 64000",
+                second.told.moved, second.told.refused, second.told.right
             )?;
             println!(rt;
                 "after another: account 0 has {}, all have {}",
-                last.first, last.all
+                second.found.first, second.found.all
             )?;
         }
         Err(_) => println!(rt; "no memory")?,

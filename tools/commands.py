@@ -1,7 +1,8 @@
-"""Where the program and the library stand that the tools run and link."""
+"""What the tools share as commands: what each is for, told to who asks, and where the program and the library stand that they run and link."""
 import sys
 from pathlib import Path
 
+ASKED = ("-h", "--help")
 CRATES = Path(__file__).resolve().parent.parent / "crates"
 CRATE = CRATES / "cx_tool"
 # left by the gate, and by `rt run`
@@ -16,6 +17,24 @@ UNPROVED_LIBRARY = LIBRARY_CRATE / "out" / "unproved" / "libgithoppu_c.a"
 HOW_TO_BUILD = "build it: tools/build"
 # the word of tools/test_tools.py by which the gate asks for the proved program
 FOR_THE_GATE = "--with-program"
+
+
+def helped(text, words):
+    """Whether the first word asks what the tool is for; then it is printed."""
+    if words[:1] and words[0] in ASKED:
+        print(text.strip())
+        return True
+    return False
+
+
+def asked_words(text, words, counts):
+    """The words, where there are as many as one of the counts; else ends with what the tool is for: 0 where that was asked, 2 else."""
+    if helped(text, words):
+        sys.exit(0)
+    if len(words) not in counts:
+        print(text.strip(), file=sys.stderr)
+        sys.exit(2)
+    return words
 
 
 def built():
