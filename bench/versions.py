@@ -35,7 +35,7 @@ sys.path.insert(0, str(ROOT / "tools"))
 import unproved  # noqa: E402
 from build_library import below, lines_of  # noqa: E402
 from install_library import merge  # noqa: E402
-from program import LIBRARY_CRATE  # noqa: E402
+from commands import LIBRARY_CRATE  # noqa: E402
 
 LINES = (1_024, 16_384)
 READS = (0, 100, 50)

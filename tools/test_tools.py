@@ -634,15 +634,17 @@ class Program(unittest.TestCase):
     def test_a_held_reader_enters_the_queue(self):
         if random_lives.PROGRAM != PROVED:
             self.skipTest("of the programs the proved one alone is fast enough beside a reader that is held")
-        not_held = []
-        for _ in range(8):
+        held, not_held = 0, None
+        for _ in range(12):
             try:
                 if held_reader.queued_reads():
                     return
+                held += 1
             except held_reader.NotHeld as why:
-                not_held.append(why)
-        if len(not_held) == 8:
-            self.skipTest(not_held[0])
+                not_held = why
+        # where the scheduler seldom held one, the rest tells nothing
+        if held < 4:
+            self.skipTest(not_held)
         self.fail("no read entered the queue")
 
     def test_stopped_clients(self):

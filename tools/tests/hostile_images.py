@@ -26,7 +26,7 @@ from image_text import OLD_VERSION, PART, SLOT_WORDS, VERSION, BadImage, Image, 
 from script_text import Refusal
 
 OLD_IMAGES = Path(__file__).resolve().parent / "old_images"
-MOST_SECONDS = 20
+MOST_SECONDS = 120
 VALUES = (0, 1, 2**63, 2**64 - 1)
 PAIRS = [(b"apple", b"7"), (b"k" * 57, b"[" + b"1," * 64 + b"2]"), (b"plum", b'"' + b"\xc3\xa9" * 30 + b'"')]
 SEVEN = [(key, b"%d" % at) for at, key in enumerate((b"a", b"b", b"c", b"d", b"e", b"f", b"g"))]

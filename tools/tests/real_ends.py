@@ -24,7 +24,7 @@ sys.path[:0] = [str(TESTS.parent)]
 
 from commands import asked_words, needed
 
-MOST_SECONDS = 30
+MOST_SECONDS = 120
 SCRIPT = (TESTS / "rows" / "written_read_back.script").read_bytes()
 REPORT = (TESTS / "rows" / "written_read_back.report").read_bytes()
 TOO_LONG = b"refused: input over 16777216 bytes\n"

@@ -31,7 +31,7 @@ from record_trace import Recorder, found_in
 from report_text import Fault, read_report
 from script_text import read_pool_script, read_script
 
-MOST_SECONDS = 20
+MOST_SECONDS = 120
 TWO_SHOPS = (TESTS / "rows" / "ordinary_use.script").read_bytes()
 QUEUE = b"lines 64\nlife 2 power 1\n0 push a\n1 push b\n0 pop\n1 len\nlife 1 power 0\n0 pop\n0 push c\n0 peek\n"
 POOL = b"lines 64\nlife 5 power 1\n0 add n 1\n1 add n 1\n2 put a [1]\n3 get n\n4 count\n0 get n\n"
