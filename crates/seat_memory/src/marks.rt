@@ -104,7 +104,7 @@ fn make_room(listed: &mut Vec<u64>, lines: &mut [bool], first: &mut usize)
     }
 }
 
-/// The last address listed that is marked. Those listed behind it are taken off the list.
+/// The last address listed that is marked, which stays on the list. Those listed behind it, whose marks were taken away, are taken off.
 fn last_marked(marks: &[bool], listed: &mut Vec<u64>) -> Option<u64>
     requires { All (λ at. at < length marks.now) listed.old.items }
     ensures capacity { vec_capacity listed.new ≡ vec_capacity listed.old }
@@ -113,11 +113,11 @@ fn last_marked(marks: &[bool], listed: &mut Vec<u64>) -> Option<u64>
     ensures some { IfSome result (λ at. slice_get marks.now at ≡ Some true) }
     ensures none { IfNone result (listed.new.items ≡ []) }
 {
-    while let Some(at) = listed.pop() {
+    while let Some(at) = listed.last().copied() {
         if marks[at as usize] {
-            listed.push_reserved(at);
             return Some(at);
         }
+        listed.pop();
     }
     None
 }
