@@ -1,5 +1,5 @@
 -- What an access of a held replica does to the seat.
-use Rattle.std.proofs.Common.{◌≡◌, ◌⊎◌, ◌+◌, ◌*◌, ◌<◌, ◌==◌, inl, inr, ℕ, Bool, true, false, cond, All, List, [], ◌∷◌, ◌++◌, length, refl, ap, sym, subst, ◌∙◌, arith, append-nil, eq-eqb, Option, Some, None, Result, Ok, Err, IfOk, OnOk}
+use Rattle.std.proofs.Common.{◌≡◌, ◌⊎◌, ◌+◌, ◌*◌, ◌<◌, ◌==◌, inl, inr, ℕ, Bool, true, false, cond, All, List, [], ◌∷◌, ◌++◌, length, refl, ap, sym, subst, ◌∙◌, arith, append-nil, eq-eqb, Option, Some, None, Result, Ok, Err, IfOk, IfSome, OnOk, OnSome}
 use Rattle.std.proofs.lemmas.List.Elements.{All-append, All-cons, All-nil}
 use Rattle.std.proofs.lemmas.Option.{none-some, same_Some}
 use Rattle.std.specs.Option.{option_map}
@@ -190,6 +190,12 @@ module _ {O : Type 0} (lines : ℕ) (r : Running O) (lawful : List ℕ → Type 
   pub shared_guard : q ≡ held.replica → IsHeldShared lines r lawful seat held → at < region_words lines → (q < 2 * r.callers) × (at < length r.base.words) × ((exclusive_on seat.known.local ≡ Some q) ⊎ (shared_on seat.known.local ≡ Some q))
   shared_guard is of below =
       (let few = of.right.few in omega (arith, is), let long = of.sized.region in omega arith, inr (of.right.holds ∙ ap Some (sym is)))
+
+module _ {O : Type 0} (lines : ℕ) (r : Running O) (step : O → List ℕ → List ℕ → List ℕ × List ℕ) (reads : O → List ℕ → Bool) (lawful : List ℕ → Type 0) (held : Right) (q at : ℕ) where
+  pub at_once_by_shared_load : (before after : Seated) (result : Option ℕ) → q ≡ held.replica → IsHeldShared lines r lawful before held → IfSome result (λ found. Steps r step reads (LoadWord q at false) found before after) → OnSome result (Fitting r.lines lawful r.base (step r.object) after.known) →
+      IfSome result (λ v. LoadsShared lines r lawful held at v before after)
+  at_once_by_shared_load before after (Some v) is of made fits = load_shared_loads lines r step reads lawful held at v before after of (subst (λ k. Steps r step reads (LoadWord k at false) v before after) is made) fits
+  at_once_by_shared_load before after None is of made fits = tt
 
 module _ {O E : Type 0} (lines : ℕ) (r : Running O) (step : O → List ℕ → List ℕ → List ℕ × List ℕ) (reads : O → List ℕ → Bool) (lawful : List ℕ → Type 0) (held : Right) (q at : ℕ) where
   pub made_by_load : (before after : Seated) (result : Result ℕ E) → q ≡ held.replica → IsHeld lines r lawful (step r.object) before held → IfOk result (λ found. Steps r step reads (LoadWord q at false) found before after) → OnOk result (Fitting r.lines lawful r.base (step r.object) after.known) →

@@ -102,7 +102,17 @@ impl<T: HeldWords> Memory for ReadRegion<'_, T> {
     ghost words = { λ r. read_words (T.line_count r.table.now) (T.lawful r.table.now) (T.running r.table.now).base (loaded_of r.seat.now.known.local.shared) };
 
     fn load(&mut self, at: u64) -> Result<u64, Halt> {
-        self.table.load_shared(self.seat, self.held, self.start, at)
+        match self
+            .table
+            .load_shared_at_once(self.seat, self.held, self.start, at)
+        {
+            Some(found) => Ok(found),
+            // the token is looked at, and the answer tested, in this case alone
+            None => Ok(
+                self.table
+                    .load_shared(self.seat, self.held, self.start, at)?,
+            ),
+        }
     }
 
     fn load_words(&mut self, at: u64, into: &mut [u64]) -> Result<(), Halt> {

@@ -1,8 +1,9 @@
 //! What a region stands on: a running table that lends the accesses of a replica held.
 
-ghost use Rattle.std.specs.Prelude.{◌≡◌, ◌+◌, ◌^◌, ◌<◌, ◌≤◌, ℕ, List, true, false, OnErr, OnOk, IfOk, MatchResult, length};
+ghost use Rattle.std.specs.Prelude.{◌≡◌, ◌+◌, ◌^◌, ◌<◌, ◌≤◌, ℕ, List, true, false, IfNone, IfSome, OnErr, OnOk, OnSome, IfOk, MatchResult, length};
 ghost use Rattle.cx_core.specs.Region.{region_words};
 ghost use Rattle.cx_core.specs.RegionEvents.{CanLoad};
+ghost use Rattle.cx_rule.specs.Fitting.{Fitting};
 ghost use Rattle.cx_rule.specs.Running.{IsSeatOf, Running};
 ghost use Rattle.cx_rule.specs.Steps.{Halts, Steps};
 ghost use Rattle.cx_core.specs.declared.kinds.Kind.TheVariants.{LoadWord};
@@ -85,6 +86,21 @@ pub trait HeldWords {
         ensures made { OnOk result (Accesses (line_count self.now) (running self.now) (lawful self.now) (step self.now) held.now (true, at, v) seat.old seat.new) }
         ensures halted { OnErr result (Halts (running self.now) seat.old seat.new) };
 
+    /// Loads a word of the replica held shared by the shorter call: one after the place, where the limit leaves a step. Where it answers none,
+    /// nothing was loaded.
+    fn load_shared_at_once(
+        &self,
+        seat: &mut CallerSeat,
+        held: &SharedHold,
+        start: usize,
+        at: u64,
+    ) -> Option<u64>
+        requires held { IsHeldShared (line_count self.now) (running self.now) (lawful self.now) seat.old held.now }
+        requires start { StartsAt (running self.now) held.now.replica start }
+        requires at { at < region_words (line_count self.now) }
+        ensures made { IfSome result (λ v. LoadsShared (line_count self.now) (running self.now) (lawful self.now) held.now at v seat.old seat.new) }
+        ensures none { IfNone result (seat.new ≡ seat.old) };
+
     /// Loads a word of the replica held shared. `Halt` comes exactly where the seat's steps equal its limit.
     fn load_shared(
         &self,
@@ -145,7 +161,11 @@ impl<O: Object> HeldWords for Shared<O> {
         start: usize,
         at: u64,
     ) -> Result<u64, Halt> {
-        load_one(self, seat, held.replica() as u64, start, at)
+        match load_at_once(self, seat, held.replica() as u64, start, at) {
+            Some(found) => Ok(found),
+            // the answer is tested in this case alone
+            None => Ok(load_alone(self, seat, held.replica() as u64, at)?),
+        }
     }
 
     fn load_held_words(
@@ -170,6 +190,18 @@ impl<O: Object> HeldWords for Shared<O> {
     }
 
     #[inline]
+    fn load_shared_at_once(
+        &self,
+        seat: &mut CallerSeat,
+        held: &SharedHold,
+        start: usize,
+        at: u64,
+    ) -> Option<u64> {
+        load_at_once(self, seat, held.replica() as u64, start, at)
+    }
+
+    #[cold]
+    #[inline(never)]
     fn load_shared(
         &self,
         seat: &mut CallerSeat,
@@ -177,7 +209,10 @@ impl<O: Object> HeldWords for Shared<O> {
         start: usize,
         at: u64,
     ) -> Result<u64, Halt> {
-        load_one(self, seat, held.replica() as u64, start, at)
+        match load_at_once(self, seat, held.replica() as u64, start, at) {
+            Some(found) => Ok(found),
+            None => load_alone(self, seat, held.replica() as u64, at),
+        }
     }
 
     fn load_shared_words(
@@ -192,25 +227,28 @@ impl<O: Object> HeldWords for Shared<O> {
     }
 }
 
-/// Loads a word of a replica that the caller holds exclusively or shared: one after the place by the shorter call, where the limit leaves
-/// a step. This is inlined into the code of each walk, and the longer call is not.
+/// Loads a word of a replica that the caller holds exclusively or shared by the shorter call: one after the place, where the limit leaves
+/// a step. Where it answers none, nothing was loaded. This is inlined into the code of each walk, and the longer call is not: what that
+/// alone needs, as the replica's number and a test of its answer, stands where it is called.
 #[inline]
-fn load_one<O: Object>(
+fn load_at_once<O: Object>(
     shared: &Shared<O>,
     seat: &mut CallerSeat,
     r: u64,
     start: usize,
     i: u64,
-) -> Result<u64, Halt>
+) -> Option<u64>
     requires may { MayStep O.Object shared.now (LoadWord r i false) seat.old }
     requires start { StartsAt shared.now r start }
-    ensures { MakesFittingStep O.Object shared.now seat.old seat.new result (λ found. Steps shared.now O.step O.only_reads (LoadWord r i false) found seat.old seat.new) }
+    ensures made { IfSome result (λ found. Steps shared.now O.step O.only_reads (LoadWord r i false) found seat.old seat.new) }
+    ensures fits { OnSome result (Fitting shared.now.lines (O.lawful shared.now.object) shared.now.base (O.step shared.now.object) seat.new.known) }
+    ensures none { IfNone result (seat.new ≡ seat.old) }
 {
     let mut one = [0; 1];
     if i > 0 && shared.load_words(seat, r, start, i, &mut one) {
-        return Ok(one[0]);
+        return Some(one[0]);
     }
-    load_alone(shared, seat, r, i)
+    None
 }
 
 /// Loads a word of a replica by the longer call, which may also load the place.
