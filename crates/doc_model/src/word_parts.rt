@@ -133,6 +133,7 @@ impl<'a, const N: usize> Text<'a, N> {
         self.len == 0
     }
 
+    #[inline(always)]
     pub(crate) fn is_key(&self) -> bool
         ensures { result ≡ kinds.is_key self.now }
     {
@@ -163,6 +164,7 @@ impl<'a, const N: usize> Text<'a, N> {
 }
 
 /// Whether some parts have these words: the lengths are within the limits, and what no part uses is 0.
+#[inline(always)]
 fn have_parts(words: &OpWords) -> bool
     ensures { MatchBool result (kinds.HaveParts words.now) (kinds.HaveNoParts words.now) }
 {
@@ -190,7 +192,8 @@ pub(crate) struct Parts<'a> {
 }
 
 impl<'a> Parts<'a> {
-    /// The parts that have these words. None exactly where no parts have them.
+    /// The parts that have these words. None exactly where no parts have them. Inlined, no parts are written to memory and read back at once.
+    #[inline(always)]
     pub(crate) fn of(words: &'a OpWords) -> Option<Parts<'a>>
         ensures some { IfSome result (λ p. words.now ≡ spec.words_with p.kind p.key p.document p.number) }
         ensures small { IfSome result (λ p. p.number < 2 ^ 64) }
