@@ -14,10 +14,10 @@ use Rattle.cx_core.specs.State.{Instance, State}
 use Rattle.core_runs.proofs.ImageLaws.{image_shared}
 use Rattle.cx_core.proofs.Claims.{shared_below}
 use Rattle.cx_core.proofs.ReplicaWords.{replica_at}
-use Rattle.core_queue.specs.NotedSets.{OwnSetsHold, SetNotesHold}
+use Rattle.core_queue.specs.NotedSets.{OwnSetsHold}
 use Rattle.cx_rule.specs.declared.rule.Known.{Known}
 use Rattle.cx_rule.specs.Fitting.{loads_of}
-use Rattle.cx_rule.specs.Rule.{IsBehindNotes, IsOrigin, IsTraced, NotesHold}
+use Rattle.cx_rule.specs.Rule.{IsBehindNotes, IsOrigin, IsTraced, NotesHold, SetsHold}
 use Rattle.cx_rule.proofs.Traced.{image_origin}
 use Rattle.cx_rule.proofs.Entries.{entries_from}
 use Rattle.cx_rule.proofs.Having.{has_of_history}
@@ -44,7 +44,7 @@ shared_there instance s law some caller l at h mine =
 
 pub behind_notes : (instance : Instance) (s : State) (law : Lawful instance s) → 0 < length instance.base.words → (l : Local) (k : Known) → slice_get s.locals k.local.number ≡ Some l →
     k.local ≡ shown l → NotesHold instance law.history k.noted → IsTraced instance law.history k.accesses l →
-    SetNotesHold instance s law.history k.sets → OwnSetsHold instance law.history l.cells → IsBehindNotes instance k
+    SetsHold instance s law.history k → OwnSetsHold instance law.history l.cells → IsBehindNotes instance k
 behind_notes instance s law some l k at shows noted traced sets own = record {
   history = law.history;
   small = law.tickets.below;

@@ -107,7 +107,7 @@ learns_copied instance r known word small on at agree words within locals law l 
       shows = plain.shows;
       notes = plain.notes;
       traced = record { first = there.0; now = there.0; origin = there.1; leads = leads; held = λ x has. sym now ∙ t.held x has };
-      sets = plain.sets;
+      sets = record { noted = plain.sets.noted; kept = plain.sets.kept };
       timed = plain.timed;
       imaged = plain.imaged;
       fits = plain.fits;
@@ -150,7 +150,7 @@ learns_taking instance r image known word small on at tells words within locals 
       shows = plain.shows;
       notes = plain.notes;
       traced = plain.traced;
-      sets = plain.sets;
+      sets = record { noted = plain.sets.noted; kept = plain.sets.kept };
       timed = record {
         linked = plain.timed.linked;
         answered = plain.timed.answered;

@@ -15,12 +15,12 @@ use Rattle.cx_core.specs.State.{Instance, State}
 use Rattle.cx_core.specs.WriteSet.{stored}
 use Rattle.cx_core.proofs.HistoryLemmas.{ObjectLaws}
 use Rattle.cx_core.proofs.MergeLemmas.{history_is}
-use Rattle.core_queue.specs.NotedSets.{OwnSetsHold, SetNotesHold}
+use Rattle.core_queue.specs.NotedSets.{OwnSetsHold}
 use Rattle.cx_rule.specs.declared.rule.Known.{Known}
 use Rattle.cx_rule.specs.Fitting.{has_of}
 use Rattle.cx_rule.specs.Learns.{LearnsBy}
 use Rattle.cx_rule.specs.Listed.{TellsGap}
-use Rattle.cx_rule.specs.Rule.{IsTraced, NotesHold}
+use Rattle.cx_rule.specs.Rule.{IsTraced, NotesHold, SetsHold}
 use Rattle.cx_rule.specs.Seats.{unseen}
 use Rattle.cx_rule.proofs.Entries.{entries_from}
 use Rattle.cx_rule.proofs.Fitting.{chain_on, full_at, origin_full}
@@ -31,7 +31,7 @@ use Rattle.cx_rule.proofs.Keeps.{learns_there}
 module _ (lines : ℕ) (lawful : List ℕ → Type 0) (instance : Instance) (laws : ObjectLaws lines lawful instance.step) (base : LawfulBase lines lawful instance.base) where
   -- a gap that is told is one of the history
   told_gap : (s : State) (law : Lawful instance s) (known : Known) (l : Local) (g : Gap) (pairs : List ℕ) → slice_get s.locals known.local.number ≡ Some l → known.local ≡ shown l →
-      NotesHold instance law.history known.noted → IsTraced instance law.history known.accesses l → SetNotesHold instance s law.history known.sets → OwnSetsHold instance law.history l.cells →
+      NotesHold instance law.history known.noted → IsTraced instance law.history known.accesses l → SetsHold instance s law.history known → OwnSetsHold instance law.history l.cells →
       TellsGap lines lawful instance.base instance.step known g pairs → IsGap instance law.history g
   told_gap s law known l g pairs of_caller shows noted traced sets own tells =
       let history = law.history in

@@ -24,11 +24,11 @@ use Rattle.cx_core.specs.State.{Instance, State, one_more}
 use Rattle.cx_core.proofs.HistoryLemmas.{ObjectLaws}
 use Rattle.cx_core.proofs.MergeLemmas.{history_is}
 use Rattle.cx_core.proofs.HeldLists.{at_true, mapped}
-use Rattle.core_queue.specs.NotedSets.{OwnSetsHold, SetNotesHold}
+use Rattle.core_queue.specs.NotedSets.{OwnSetsHold}
 use Rattle.cx_rule.specs.declared.rule.Known.{Known}
 use Rattle.cx_rule.specs.Fitting.{IsReplayed, IsReplayedToPlace, ReplayedTo, TellsWord, has_of}
 use Rattle.cx_rule.specs.Learns.{LearnsBy}
-use Rattle.cx_rule.specs.Rule.{IsTraced, NotesHold, RuleHolds}
+use Rattle.cx_rule.specs.Rule.{IsTraced, NotesHold, RuleHolds, SetsHold}
 use Rattle.cx_rule.specs.Steps.{IsBlind, IsLearned, Teaches}
 use Rattle.cx_rule.specs.Seats.{is_outdated, kind_found, known_after, known_local, known_of, marked_load, place_noted, unseen}
 use Rattle.cx_rule.proofs.Fitting.{chain_full}
@@ -89,7 +89,7 @@ module _ (lines : ℕ) (lawful : List ℕ → Type 0) (instance : Instance) (law
   -- where what the seat has leads to whatever fits, it leads to the words of the replica that is held
   held_full : (words : List ℕ) (locals : List Local) (law : Lawful instance (record { words = words; locals = locals })) (known : Known) (l : Local) (h : HeldExclusive) →
       slice_get locals known.local.number ≡ Some l → known.local ≡ shown l → l.exclusive ≡ Some h → NotesHold instance law.history known.noted → (traced : IsTraced instance law.history known.accesses l) →
-      SetNotesHold instance (record { words = words; locals = locals }) law.history known.sets → OwnSetsHold instance law.history l.cells → (place : ℕ) → ReplayedTo instance.step (has_of known) traced.first place traced.now →
+      SetsHold instance (record { words = words; locals = locals }) law.history known → OwnSetsHold instance law.history l.cells → (place : ℕ) → ReplayedTo instance.step (has_of known) traced.first place traced.now →
       IsFull instance law.history h.words × (place_of h.words ≡ place)
   held_full words locals law known l h of_caller shows has noted traced sets own place chain =
       let state : State = record { words = words; locals = locals } in

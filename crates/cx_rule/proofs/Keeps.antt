@@ -1,5 +1,5 @@
 -- Each event of the core keeps the rule of the table.
-use Rattle.std.proofs.Common.{length, arith, ◌≡◌, ◌≢◌, ◌<◌, inl, ⊎_elim, ℕ, Bool, zero, suc, List, [], ◌∷◌, ◌++◌, set, slice_index, refl, ap, sym, subst, ◌∙◌, Some}
+use Rattle.std.proofs.Common.{length, length-append, arith, ◌≡◌, ◌≢◌, ◌<◌, inl, ⊎_elim, ℕ, Bool, zero, suc, List, [], ◌∷◌, ◌++◌, set, slice_index, refl, ap, sym, subst, ◌∙◌, Some}
 use Rattle.std.proofs.lemmas.Option.{same_Some, none-some, slice_get_within}
 use Rattle.std.specs.List.{slice_get}
 use mathlib.Core.Option.{some, some-ne-none}
@@ -8,6 +8,7 @@ use Rattle.atomic_table.specs.Seated.{TableId}
 use Rattle.atomic_table.specs.Table as atomic
 use Rattle.atomic_table.proofs.Lists.{at_set, set_here}
 use Rattle.cx_core.specs.declared.entry.Base.{Base}
+use Rattle.cx_core.specs.declared.entry.Entry.{Entry}
 use Rattle.cx_core.specs.declared.kinds.Event.{Event}
 use Rattle.cx_core.specs.declared.kinds.Kind.{Kind}
 use Rattle.cx_core.specs.declared.kinds.Kind.TheVariants.{Raise, ReadSet}
@@ -21,14 +22,13 @@ use Rattle.cx_core.specs.Shown.{shown}
 use Rattle.cx_core.specs.State.{EachLocal, Instance, Scene, State}
 use Rattle.cx_core.proofs.ListLemmas.{slice_get-set_same, slice_get-set_other}
 use Rattle.cx_core.proofs.MergeLemmas.{goes_on, still_linked}
-use Rattle.core_queue.specs.declared.notes.SetNoted.{SetNoted}
 use Rattle.core_queue.specs.NotedSets.{OwnSetsHold, SetNotesHold}
 use Rattle.core_queue.proofs.OwnSets.{own_event}
 use Rattle.core_queue.proofs.QueueFrames.{queue_of}
-use Rattle.core_queue.proofs.SetNotes.{notes_event, notes_read}
+use Rattle.core_queue.proofs.SetNotes.{notes_event, notes_read, set_grows}
 use Rattle.cx_rule.specs.declared.rule.Known.{Known}
 use Rattle.cx_rule.specs.Learns.{Learns, LearnsAnyway, LearnsBy}
-use Rattle.cx_rule.specs.Rule.{RuleHolds, AreImages, IsBehindNotes, IsImageOfSome, IsKnown, IsLawfulLocal, IsTraced, NotesHold, opening_limited}
+use Rattle.cx_rule.specs.Rule.{RuleHolds, AreImages, IsBehindNotes, IsImageOfSome, IsKnown, IsLawfulLocal, IsTraced, KeptHolds, NotesHold, SetsHold, opening_limited}
 use Rattle.cx_rule.specs.Running.{Running, instance_at}
 use Rattle.cx_rule.specs.Seats.{IsByShown, WordFits, accesses_after, known_after, known_local, known_of, noted_by, sets_after, times_by, unseen}
 use Rattle.core_runs.proofs.Keeps.{bounds_of, kind_kept}
@@ -58,6 +58,14 @@ pub record Sees (instance : Instance) (scene : Scene) (kind : Kind) (known : Kno
 pub only_item : (x : Known) (i : ℕ) (y : Known) → slice_get (x ∷ []) i ≡ Some y → (i ≡ 0) × (x ≡ y)
 only_item x zero y at = (refl, same_Some x y at)
 only_item x (suc i) y at = absurd (none-some y at)
+
+-- the sets that a caller kept are those of a longer history
+kept_longer : (instance : Instance) (history more : List Entry) (k : Known) → KeptHolds instance history k.kept → KeptHolds instance (history ++ more) k.kept
+kept_longer instance history more k hold ticket pairs has =
+    let is = hold ticket pairs has in
+    let below = is.0 in
+    let longer = length-append history more in
+    (omega (arith, below, longer), set_grows instance history more ticket pairs below is.1)
 
 -- an event of a caller, made by its seat, keeps the rule, and stands then at the end of the list of steps
 pub event_recorded : (instance : Instance) (kind : Kind) (s : atomic.State ℕ (List Known)) (id : ℕ) (known after : Known) (word new : ℕ) (held : RuleHolds instance s) → get_elem? s.views id ≡ some (known ∷ []) →
@@ -89,8 +97,11 @@ event_recorded instance kind s id known after word new held at learns =
     let opening = opening_limited instance held.reached.limits in
     let events = held.reached.events in
     let ran = run_push instance opening events event state state' held.reached.ran makes in
-    let moved : (notes : List SetNoted) → SetNotesHold instance state law.history notes → SetNotesHold instance state' law'.history notes =
-    λ notes hold. subst (λ h. SetNotesHold instance state' h notes) (sym more.1) (notes_event instance law.history more.0 state state' event notes (queue_of law) makes hold) in (
+    let moved : (k : Known) → SetsHold instance state law.history k → SetsHold instance state' law'.history k = λ k hold.
+    subst (λ h. SetsHold instance state' h k) (sym more.1) (record {
+      noted = notes_event instance law.history more.0 state state' event k.sets (queue_of law) makes hold.noted;
+      kept = kept_longer instance law.history more.0 k hold.kept;
+    }) in (
       record {
         locals = locals';
         place_of = held.place_of;
@@ -142,8 +153,8 @@ event_recorded instance kind s id known after word new held at learns =
         sets = λ seat i view k view_at item. ⊎_elim
             (λ (e : (seat ≡ id) × (after ∷ [] ≡ view)). (
             let only = only_item after i k (ap (λ v. slice_get v i) e.1 ∙ item) in
-            subst (λ (x : Known). SetNotesHold instance state' law'.history x.sets) only.1 (moved after.sets learnt.sets)))
-            (λ (e : (seat ≢ id) × (get_elem? s.views seat ≡ some view)). moved k.sets (held.sets seat i view k e.1 item))
+            subst (SetsHold instance state' law'.history) only.1 (moved after learnt.sets)))
+            (λ (e : (seat ≢ id) × (get_elem? s.views seat ≡ some view)). moved k (held.sets seat i view k e.1 item))
             (at_set s.views id seat (after ∷ []) view view_at);
         some = held.some;
       },
@@ -164,7 +175,7 @@ sets_next instance s law caller l at known kind guard hold = hold
 -- an event whose guard and whose word put are known in a state teaches its seat so there
 pub learns_there : (instance : Instance) (kind : Kind) (known : Known) (words : List ℕ) (word new : ℕ) → WordFits kind → word ≡ step_word instance kind known.local →
     (locals : List Local) (law : Lawful instance (record { words = words; locals = locals })) (l : Local) → slice_get locals known.local.number ≡ Some l → known.local ≡ shown l → NotesHold instance law.history known.noted →
-    IsTraced instance law.history known.accesses l → SetNotesHold instance (record { words = words; locals = locals }) law.history known.sets → 0 < length instance.base.words →
+    IsTraced instance law.history known.accesses l → SetsHold instance (record { words = words; locals = locals }) law.history known → 0 < length instance.base.words →
     Sees instance (scene_of instance (record { words = words; locals = locals })) kind known l new (slice_index words word) →
     Learns instance (record { words = words; locals = locals }) law.history kind l known word new (known_after instance kind known (slice_index words word))
 learns_there instance kind known words word new fits at locals law l of_caller shows noted traced sets full seen =
@@ -183,7 +194,10 @@ learns_there instance kind known words word new fits at locals law l of_caller s
           (subst (λ (n : ℕ). NotesHold instance law.history (noted_by kind n)) same (noted_hold instance kind state law caller l of_caller seen.guard));
       traced = subst (λ (n : ℕ). IsTraced instance law.history (accesses_after kind known n) (local_after instance scene kind l)) same
           (traced_next instance state law caller l of_caller known shows traced full kind seen.guard fits);
-      sets = subst (λ (n : ℕ). SetNotesHold instance state law.history (sets_after kind known n)) same (sets_next instance state law caller l of_caller known kind seen.guard sets);
+      sets = record {
+        noted = subst (λ (n : ℕ). SetNotesHold instance state law.history (sets_after kind known n)) same (sets_next instance state law caller l of_caller known kind seen.guard sets.noted);
+        kept = sets.kept;
+      };
       timed = subst (λ (x : Local). AddTimes instance.callers l (local_after instance scene kind l) known.times (times_by kind x known.times found)) (sym shows)
           (subst (λ (n : ℕ). AddTimes instance.callers l (local_after instance scene kind l) known.times (times_by kind (shown l) known.times n)) same (times_next instance scene kind l (found_by instance kind l words) known.times seen.timed));
       imaged = inl refl;

@@ -16,6 +16,7 @@ pub mod Moves
 pub mod Replies
 pub mod Raising
 pub mod Offering
+pub mod Keeping
 pub mod Having
 pub mod HasMore
 pub mod GapCopies

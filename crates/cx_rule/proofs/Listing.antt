@@ -69,7 +69,7 @@ learns_listed instance r known word lines from to lists small on at long agree w
       shows = plain.shows;
       notes = plain.notes;
       traced = record { first = there.0; now = there.0; origin = there.1; leads = leads; held = λ x has. sym now ∙ t.held x has };
-      sets = plain.sets;
+      sets = record { noted = plain.sets.noted; kept = plain.sets.kept };
       timed = plain.timed;
       imaged = plain.imaged;
       fits = plain.fits;

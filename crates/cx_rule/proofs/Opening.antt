@@ -17,10 +17,9 @@ use Rattle.cx_core.specs.Region.{place_of}
 use Rattle.cx_core.specs.State.{Instance, State, opening_local, opening_locals, opening_words}
 use Rattle.cx_core.proofs.HistoryLemmas.{begins}
 use Rattle.cx_core.proofs.ListLemmas.{slice_get-set_same, slice_get-set_other}
-use Rattle.core_queue.specs.NotedSets.{SetNotesHold}
 use Rattle.core_queue.proofs.Opening.{cell_blank}
 use Rattle.cx_rule.specs.declared.rule.Known.{Known}
-use Rattle.cx_rule.specs.Rule.{AreImages, RuleHolds, IsKnown, IsOrigin, opening_limited}
+use Rattle.cx_rule.specs.Rule.{AreImages, RuleHolds, IsKnown, IsOrigin, opening_limited, SetsHold}
 use Rattle.cx_rule.specs.Seats.{opening_known, opening_view}
 use Rattle.cx_rule.specs.Timing.{AreTimes}
 use Rattle.core_runs.proofs.Keeps.{lawful_local, opening_lawful}
@@ -170,7 +169,10 @@ opening_held instance limits one few place at_place full =
       sets = λ seat i v known view_at item. (
           let first = only_view view v seat view_at in
           let at = mapped_at f instance.callers i known (ap (λ (w : List Known). slice_get w i) first.1 ∙ item) in
-          subst (λ (x : Known). SetNotesHold instance (record { words = opening_words instance.callers instance.base; locals = all.locals }) all.law.history x.sets) (sym at.1)
-          (record { stand = λ n note there. absurd (none-some note there); whole = λ t set read. (let p = read.each 0 (omega arith) in absurd (none-some _ p.1)) }));
+          subst (SetsHold instance (record { words = opening_words instance.callers instance.base; locals = all.locals }) all.law.history) (sym at.1)
+          (record {
+            noted = record { stand = λ n note there. absurd (none-some note there); whole = λ t set read. (let p = read.each 0 (omega arith) in absurd (none-some _ p.1)) };
+            kept = λ t set has. absurd (none-some _ has.1);
+          }));
       some = full;
     }

@@ -27,11 +27,11 @@ use Rattle.cx_core.specs.Shown.{shown}
 use Rattle.cx_core.specs.State.{Instance, Scene, State, one_more}
 use Rattle.cx_core.proofs.HistoryLemmas.{ObjectLaws}
 use Rattle.cx_core.proofs.MergeLemmas.{history_is}
-use Rattle.core_queue.specs.NotedSets.{OwnSetsHold, SetNotesHold}
+use Rattle.core_queue.specs.NotedSets.{OwnSetsHold}
 use Rattle.cx_rule.specs.declared.rule.Known.{Known}
 use Rattle.cx_rule.specs.Fitting.{FitsKnown, FitsOn, Has, ReadFits, ReplayedTo, has_of, loaded_of, loads_of}
 use Rattle.cx_rule.specs.Raises.{AnswersOf, IsRaiseLearned, TeachesRaised, TellsAnswers, TellsReads, TellsReply, answered_local, known_answered, read_op_in, read_at, times_raised}
-use Rattle.cx_rule.specs.Rule.{IsTraced, NotesHold, RuleHolds}
+use Rattle.cx_rule.specs.Rule.{IsTraced, NotesHold, RuleHolds, SetsHold}
 use Rattle.cx_rule.specs.Seats.{place_noted}
 use Rattle.cx_rule.specs.Timing.{AddTimes}
 use Rattle.cx_rule.proofs.Behind.{shared_there}
@@ -93,7 +93,7 @@ raise_adds instance scene code known l shows answers given count read can = reco
 module _ (lines : ℕ) (lawful : List ℕ → Type 0) (instance : Instance) (laws : ObjectLaws lines lawful instance.step) (base : LawfulBase lines lawful instance.base) where
   module _ (words : List ℕ) (locals : List Local) (law : Lawful instance (record { words = words; locals = locals })) (known : Known) (l : Local) (of_caller : slice_get locals known.local.number ≡ Some l) (shows : known.local ≡ shown l)
       (noted : NotesHold instance law.history known.noted) (traced : IsTraced instance law.history known.accesses l)
-      (sets : SetNotesHold instance (record { words = words; locals = locals }) law.history known.sets) (own : OwnSetsHold instance law.history l.cells) where
+      (sets : SetsHold instance (record { words = words; locals = locals }) law.history known) (own : OwnSetsHold instance law.history l.cells) where
     abbrev state : State
     state = record { words = words; locals = locals }
 
@@ -179,7 +179,7 @@ module _ (lines : ℕ) (lawful : List ℕ → Type 0) (instance : Instance) (law
             ∙ ap (λ (told : List Answer). answered_local instance code told (reads_at instance scene.history place (length l.answered + length told) (read_op_in read)) (shown l)) given;
         notes = noted;
         traced = record { first = traced.first; now = traced.now; origin = traced.origin; leads = traced.leads; held = λ h has. traced.held h has };
-        sets = sets;
+        sets = record { noted = sets.noted; kept = sets.kept };
         imaged = inl refl;
         timed = raise_adds instance scene code known l shows answers given (length known.local.answered + length answers) read can;
         fits = tt;

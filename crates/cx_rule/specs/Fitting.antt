@@ -13,6 +13,7 @@ use Rattle.cx_core.specs.Region.{place_of}
 use Rattle.cx_core.specs.Step.{full_step_of}
 use Rattle.cx_core.specs.WriteSet.{stored}
 use Rattle.core_queue.specs.NotedSets.{IsNotedSet}
+use Rattle.cx_rule.specs.declared.rule.KeptSet.{KeptSet}
 use Rattle.cx_rule.specs.declared.rule.Known.{Known}
 use Rattle.cx_rule.specs.declared.rule.Noted.{Noted}
 use Rattle.cx_rule.specs.Seats.{place_noted}
@@ -103,11 +104,15 @@ pub record IsOwnSet (cells : List Cell) (ticket : ℕ) (set : List ℕ) : Type 0
   pub offered : cell.offer ≡ ticket + 1
   pub is : cell.set ≡ set
 
+-- this set was kept with the ticket
+abbrev pub IsKeptSet : List KeptSet → ℕ → List ℕ → Type 0
+IsKeptSet kept ticket set = (n : ℕ) × (slice_get kept n ≡ Some (record { ticket = ticket; set = set }))
+
 -- what a seat has: what it read whole, and what is its caller's own
 abbrev pub has_of : Known → Has
 has_of known = record {
   entry = HasEntry (entries_of known);
-  set = λ t s. IsNotedSet known.sets t s ⊎ IsOwnSet known.local.cells t s;
+  set = λ t s. IsNotedSet known.sets t s ⊎ (IsOwnSet known.local.cells t s ⊎ IsKeptSet known.kept t s);
 }
 
 -- from the first words on, what a seat has leads to the words now, which are at this place

@@ -8,14 +8,14 @@ use Rattle.cx_core.specs.Lawful.{Lawful}
 use Rattle.cx_core.specs.Merge.{scene_of}
 use Rattle.cx_core.specs.Shown.{shown}
 use Rattle.cx_core.specs.State.{Instance, State}
-use Rattle.core_queue.specs.NotedSets.{OwnSetsHold, SetNotesHold}
+use Rattle.core_queue.specs.NotedSets.{OwnSetsHold}
 use Rattle.cx_rule.specs.declared.rule.Known.{Known}
-use Rattle.cx_rule.specs.Rule.{AddsImage, IsTraced, NotesHold}
+use Rattle.cx_rule.specs.Rule.{AddsImage, IsTraced, NotesHold, SetsHold}
 use Rattle.cx_rule.specs.Seats.{WordFits, known_after}
 use Rattle.cx_rule.specs.Timing.{AddTimes}
 
 -- An event of a caller with this local state is allowed in this state, is on this word and puts that one, and what the
--- caller's seat knows afterwards is so: it shows the local state after the event, what it notes of entries and of write sets is the
+-- caller's seat knows afterwards is so: it shows the local state after the event, what it knows of entries and of write sets is the
 -- history's, its accesses are those of the replica held exclusively, the times of its operations go on, and where
 -- it took an image more, that is the history's.
 pub record Learns (instance : Instance) (s : State) (history : List Entry) (kind : Kind) (l : Local) (known : Known) (word new : ℕ) (after : Known) : Type 0 where
@@ -25,7 +25,7 @@ pub record Learns (instance : Instance) (s : State) (history : List Entry) (kind
   pub shows : after.local ≡ shown (local_after instance (scene_of instance s) kind l)
   pub notes : NotesHold instance history after.noted
   pub traced : IsTraced instance history after.accesses (local_after instance (scene_of instance s) kind l)
-  pub sets : SetNotesHold instance s history after.sets
+  pub sets : SetsHold instance s history after
   pub timed : AddTimes instance.callers l (local_after instance (scene_of instance s) kind l) known.times after.times
   pub imaged : AddsImage instance history known.images after.images
   pub fits : WordFits kind
@@ -34,7 +34,7 @@ pub record Learns (instance : Instance) (s : State) (history : List Entry) (kind
 abbrev pub LearnsAnyway : Instance → List ℕ → Kind → Known → ℕ → ℕ → Known → Type 0
 LearnsAnyway instance words kind known word new after =
     (locals : List Local) (law : Lawful instance (record { words = words; locals = locals })) (l : Local) → slice_get locals known.local.number ≡ Some l → known.local ≡ shown l →
-    NotesHold instance law.history known.noted → IsTraced instance law.history known.accesses l → SetNotesHold instance (record { words = words; locals = locals }) law.history known.sets →
+    NotesHold instance law.history known.noted → IsTraced instance law.history known.accesses l → SetsHold instance (record { words = words; locals = locals }) law.history known →
     OwnSetsHold instance law.history l.cells → 0 < length instance.base.words → Learns instance (record { words = words; locals = locals }) law.history kind l known word new after
 
 -- what an event teaches, by the word found, of which its kind and the word put may depend on it

@@ -24,10 +24,12 @@ use Rattle.cx_core.specs.Merge.{IsLinked}
 use Rattle.cx_core.specs.Region.{place_of, slot_number}
 use Rattle.cx_core.specs.Shown.{shown}
 use Rattle.cx_core.specs.State.{EachLocal, Instance, State, opening_words}
+use Rattle.cx_core.specs.WriteSet.{IsWriteSetOf}
 use Rattle.core_queue.specs.NotedSets.{OwnSetsHold, SetNotesHold}
+use Rattle.cx_rule.specs.declared.rule.KeptSet.{KeptSet}
 use Rattle.cx_rule.specs.declared.rule.Known.{Known}
 use Rattle.cx_rule.specs.declared.rule.Noted.{Noted}
-use Rattle.cx_rule.specs.Fitting.{has_of, loads_of}
+use Rattle.cx_rule.specs.Fitting.{IsKeptSet, has_of, loads_of}
 use Rattle.cx_rule.specs.Having.{IsOfHistory}
 use Rattle.cx_rule.specs.Seats.{opening_view}
 use Rattle.cx_rule.specs.Timing.{AreTimes}
@@ -138,6 +140,15 @@ pub record IsReached (instance : Instance) (words : List ℕ) (locals : List Loc
   pub events : List Event
   pub ran : Run instance (opening_limited instance limits) events (record { words = words; locals = locals })
 
+-- each set that a caller kept is a write set of its ticket, which is linked
+abbrev pub KeptHolds : Instance → List Entry → List KeptSet → Type 0
+KeptHolds instance history kept = (ticket : ℕ) (set : List ℕ) → IsKeptSet kept ticket set → (ticket < instance.base.place + length history) × IsWriteSetOf instance history ticket set
+
+-- what a seat knows of write sets is so: what it noted of those that it read, and those that its caller kept
+pub record SetsHold (instance : Instance) (s : State) (history : List Entry) (known : Known) : Type 0 where
+  pub noted : SetNotesHold instance s history known.sets
+  pub kept : KeptHolds instance history known.kept
+
 pub record RuleHolds (instance : Instance) (s : atomic.State ℕ (List Known)) : Type 0 where
   pub locals : List Local
   -- the seat, and the place in its view, that have a caller's local state
@@ -152,6 +163,6 @@ pub record RuleHolds (instance : Instance) (s : atomic.State ℕ (List Known)) :
   pub images : (seat i : ℕ) (view : List Known) (known : Known) → get_elem? s.views seat ≡ some view → slice_get view i ≡ Some known → AreImages instance law.history known.images
   -- each cell that is offered with the ticket that it still has has a write set of it
   pub own : EachLocal locals (λ _ l. OwnSetsHold instance law.history l.cells)
-  -- what is noted of write sets is so
-  pub sets : (seat i : ℕ) (view : List Known) (known : Known) → get_elem? s.views seat ≡ some view → slice_get view i ≡ Some known → SetNotesHold instance (record { words = s.words; locals = locals }) law.history known.sets
+  -- what is known of write sets is so
+  pub sets : (seat i : ℕ) (view : List Known) (known : Known) → get_elem? s.views seat ≡ some view → slice_get view i ≡ Some known → SetsHold instance (record { words = s.words; locals = locals }) law.history known
   pub some : 0 < length instance.base.words

@@ -74,7 +74,7 @@ images_of k = (k.images, k.times.images)
 
 -- what a caller knows that made no step: its opening local state, with its limit of steps
 abbrev pub opening_known : ℕ → ℕ → List ℕ → ℕ → Known
-opening_known callers place limits caller = record { local = record (opening_local callers place caller) { limit = slice_index limits caller }; noted = []; accesses = []; sets = []; times = no_times; images = [] }
+opening_known callers place limits caller = record { local = record (opening_local callers place caller) { limit = slice_index limits caller }; noted = []; accesses = []; sets = []; times = no_times; images = []; kept = [] }
 
 -- what the first seat knows: the openings of all callers, in order
 abbrev pub opening_view : ℕ → ℕ → List ℕ → List Known
@@ -82,7 +82,7 @@ opening_view callers place limits = map (opening_known callers place limits) (ra
 
 -- the caller of a seat with one caller
 abbrev pub nobody : Known
-nobody = record { local = opening_local 1 0 0; noted = []; accesses = []; sets = []; times = no_times; images = [] }
+nobody = record { local = opening_local 1 0 0; noted = []; accesses = []; sets = []; times = no_times; images = []; kept = [] }
 
 abbrev pub known_of : List Known → Known
 known_of [] = nobody
@@ -136,7 +136,12 @@ known_after instance kind k found = record {
   sets = sets_after kind k found;
   times = times_by kind k.local k.times found;
   images = k.images;
+  kept = k.kept;
 }
+
+-- what a caller knows that kept this set more, of its own entry with a ticket
+abbrev pub known_kept : ℕ → List ℕ → Known → Known
+known_kept ticket set known = record known { kept = known.kept ++ record { ticket = ticket; set = set } ∷ [] }
 
 -- whether the place word of a replica held shared, which the code last loaded from CUR names, was found to be another place
 abbrev pub is_outdated : Instance → ℕ → ℕ → Local → ℕ → Bool

@@ -14,7 +14,7 @@ use Rattle.cx_rule.specs.Fitting.{loaded_of, loads_of}
 use Rattle.cx_rule.specs.Learns.{LearnsAnyway, LearnsBy}
 use Rattle.cx_rule.specs.Rule.{IsBehindNotes, IsImageOfSome, IsLawfulLocal}
 use Rattle.cx_rule.specs.Running.{IsSeatOf, Running, instance_at}
-use Rattle.cx_rule.specs.Seats.{IsAtLimit, IsByShown, IsWithinLimit, Seated, WordFits, kind_found, known_after, known_of, stepped, unseen}
+use Rattle.cx_rule.specs.Seats.{IsAtLimit, IsByShown, IsWithinLimit, Seated, WordFits, kind_found, known_after, known_kept, known_of, stepped, unseen}
 use Rattle.cx_rule.specs.Told.{KnownOfLoad}
 
 -- an event of this kind is allowed for the caller of a seat of this table, and this is the word that it is on
@@ -127,6 +127,16 @@ pub record TeachesImage (instance : Instance) (kind : Kind) (image : List ℕ) (
 pub record StepsTaking {O : Type 0} (r : Running O) (step : O → List ℕ → List ℕ → List ℕ × List ℕ) (reads : O → List ℕ → Bool) (replica found : ℕ) (image : List ℕ) (before after : Seated) : Type 0 where
   pub event : Steps r step reads (BackOff replica) found before (stepped (instance_at r step reads) (BackOff replica) before found)
   pub made : after ≡ record before { known = known_taken (instance_at r step reads) (BackOff replica) image before.known found }
+  pub seat : IsSeatOf r after
+
+-- what a caller's seat is taught by no event, where the caller keeps this set of its own entry with a ticket
+pub record TeachesKept (instance : Instance) (ticket : ℕ) (set : List ℕ) (known : Known) (after : Me ℕ (List Known)) : Type 0 where
+  pub knows : after ≡ (known_kept ticket set known ∷ [], [])
+  pub behind : IsBehindNotes instance (known_kept ticket set known)
+
+-- The set of an own entry with a ticket was kept: no step was made, and nothing else is changed.
+pub record KeepsSet {O : Type 0} (r : Running O) (ticket : ℕ) (set : List ℕ) (before after : Seated) : Type 0 where
+  pub made : after ≡ record before { known = known_kept ticket set before.known }
   pub seat : IsSeatOf r after
 
 -- No step was made, since the steps equal the limit: nothing is changed.

@@ -1,6 +1,6 @@
 //! The laws of the rule.
 
-ghost use Rattle.std.specs.Prelude.{◌≡◌, ◌++◌, ◌*◌, ◌^◌, ◌<◌, ℕ, List, length, Some, [], ◌∷◌, slice_get};
+ghost use Rattle.std.specs.Prelude.{◌≡◌, ◌++◌, ◌*◌, ◌^◌, ◌<◌, ℕ, List, length, Some, [], ◌∷◌, slice_get, slice_index};
 ghost use mathlib.Core.Option.{some};
 ghost use lib.ListN.{get_elem?};
 ghost use Rattle.atomic_table.specs.Table.{State, keeps, stepped};
@@ -17,9 +17,10 @@ ghost use Rattle.cx_rule.specs.declared.rule.Known.{Known};
 ghost use Rattle.cx_rule.specs.Having.{FitsThere};
 ghost use Rattle.cx_rule.specs.Learns.{LearnsAnyway, LearnsBy};
 ghost use Rattle.cx_rule.specs.Listed.{AgreeListed, TellsGap};
-ghost use Rattle.cx_rule.specs.Offers.{TellsOffer};
+ghost use Rattle.cx_rule.specs.Offers.{TellsOffer, TellsSet};
 ghost use Rattle.cx_rule.specs.Rule.{RuleHolds};
 ghost use Rattle.cx_rule.specs.Fitting.{TellsWords};
+ghost use Rattle.cx_rule.specs.Seats.{known_kept};
 ghost use Rattle.cx_rule.specs.Steps.{IsCopyLearned, IsImageLearned};
 
 use cx_base::Object;
@@ -54,6 +55,15 @@ pub fn told_sets_may_be_offered<O: Object>(object: &O, base: &Base)
     ensures { (callers j : ℕ) (known : Known) → let instance : Instance = record { callers = callers; base = base.now; step = O.step object.now; reads = O.only_reads object.now } in
         CanWriteSet known.local j → TellsOffer (O.line_count object.now) (O.lawful object.now) base.now (O.step object.now) known j →
         LearnsBy instance (λ _. Offer j) known (step_word instance (Offer j) known.local) (λ _. offer_of (cell_of known.local j).ticket (cell_of known.local j).offer) }
+{}
+
+/// A set may be kept by the caller of its entry, where whatever fits what the caller's seat knows tells that the set is one of the ticket. No event is
+/// made, and each word of the table stays as it is.
+pub fn told_sets_may_be_kept<O: Object>(object: &O, base: &Base)
+    requires { LawfulBase (O.line_count object.now) (O.lawful object.now) base.now }
+    ensures { (callers ticket word : ℕ) (set : List ℕ) (s : State ℕ _) (seat : ℕ) (known : Known) → let instance : Instance = record { callers = callers; base = base.now; step = O.step object.now; reads = O.only_reads object.now } in
+        RuleHolds instance s → get_elem? s.views seat ≡ some (known ∷ []) → TellsSet (O.line_count object.now) (O.lawful object.now) base.now (O.step object.now) known ticket set →
+        RuleHolds instance (stepped s word (slice_index s.words word) seat [] (known_kept ticket set known ∷ []) keeps) }
 {}
 
 /// A gap of a ticket may be noted in the ring, where whatever fits what a caller's seat knows tells a write set of the ticket that has no address

@@ -14,7 +14,8 @@
 //! - What is really there fits what a seat knows, and stays lawful through each entry and each write set that the seat has, which are those
 //!   that it read whole and its caller's own: `what_is_there_fits` (`FitsThere`).
 //! - A set in the cell of an own entry may be offered where whatever fits tells that it leads from the image at the entry's ticket to the next:
-//!   `told_sets_may_be_offered` (`TellsOffer`).
+//!   `told_sets_may_be_offered` (`TellsOffer`). Where nobody else reads it, it may be kept in its caller's own memory instead, by no event:
+//!   `told_sets_may_be_kept` (`TellsSet`).
 //! - Each step call is the event of its name, of its seat's caller, by one atomic instruction, and afterwards the seat knows what the event
 //!   teaches; it tells what the lawful state says of the caller by itself, before and after, and of the word found: `write_cell`, `link`,
 //!   `look`, `read_cell`, `load_free` (`made`: `Steps`); `try_exclusive`, `try_shared`, `back_off`, `downgrade`, `release_exclusive`;
@@ -40,7 +41,7 @@ mod rule;
 
 pub use laws::{
     events_are_recorded, events_keep_the_rule, listed_copies_are_learned,
-    loaded_images_are_learned, told_gaps_may_be_noted, told_sets_may_be_offered,
-    what_is_there_fits,
+    loaded_images_are_learned, told_gaps_may_be_noted, told_sets_may_be_kept,
+    told_sets_may_be_offered, what_is_there_fits,
 };
-pub use rule::{CoreRule, ImageTimes, Key, Known, Noted, Times, View};
+pub use rule::{CoreRule, ImageTimes, KeptSet, Key, Known, Noted, Times, View};

@@ -46,9 +46,16 @@ pub struct Times {
     pub images: Items<ImageTimes>,
 }
 
+/// A write set of the caller's own entry with a ticket, which the caller kept in its own memory and offered to nobody. It exists in proofs alone.
+#[derive(Drop)]
+pub struct KeptSet {
+    pub ticket: u64,
+    pub set: Items<u64>,
+}
+
 /// What a seat knows of one caller: its local state, the words of entries that it read, in order the loads (false) and stores
 /// (true) of words of the replica that it holds exclusively, the words of write sets that it read, when its operations began and were answered,
-/// and the images that it took: all words of a replica that it held shared. It exists in proofs alone.
+/// the images that it took: all words of a replica that it held shared; and the write sets that it kept. It exists in proofs alone.
 #[derive(Drop)]
 pub struct Known {
     pub local: Local,
@@ -57,6 +64,7 @@ pub struct Known {
     pub sets: Items<SetNoted>,
     pub times: Times,
     pub images: Items<Items<u64>>,
+    pub kept: Items<KeptSet>,
 }
 
 /// What a seat of the table knows: one item for each caller whose seat it is. A caller's seat has one item, the first

@@ -3,6 +3,7 @@ pub mod GapLoads
 mod GapSteps
 pub mod GapWalks
 mod Handing
+mod Keeping
 mod MadeSteps
 mod Marking
 mod Opening

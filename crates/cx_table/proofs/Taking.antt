@@ -23,7 +23,7 @@ use Rattle.seat_memory.proofs.SummaryLaws.{IsSeat, seated}
 
 -- Plain memory has nothing of the images that were taken.
 copy_taken : (instance : Instance) (kind : Kind) (image : List ℕ) (found : ℕ) (k : Known) (c : Copied) → IsCopied (known_after instance kind k found) c → IsCopied (known_taken instance kind image k found) c
-copy_taken instance kind image found k c is = record { long = is.long; place = is.place; marks = is.marks; cells = is.cells; sets = is.sets; words = is.words }
+copy_taken instance kind image found k c is = record { long = is.long; place = is.place; marks = is.marks; cells = is.cells; sets = is.sets; words = is.words; kept = λ x there. (let was = is.kept x there in record { known_as = was.known_as; within = was.within }) }
 
 module _ {O : Type 0} (r : Running O) (step : O → List ℕ → List ℕ → List ℕ × List ℕ) (reads : O → List ℕ → Bool) (replica found : ℕ) (image : List ℕ) (me me' : Me ℕ (List Known)) (summary summary' : Summary) (copy : Copied) (table table' : TableId) (before : ℕ) where
   pub taken_made : (callers : ℕ) (old : Seated) → IsSeat me summary before copy → seated table me before copy ≡ old → ((l : Local) → summary ≡ summary_of l → ¬ IsAtLimit l) → IsSeatOf r old →

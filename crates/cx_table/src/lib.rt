@@ -51,6 +51,7 @@ mod gap_marks;
 mod gap_steps;
 mod gap_words;
 mod gather;
+mod kept_sets;
 mod lock_steps;
 mod made;
 mod make;

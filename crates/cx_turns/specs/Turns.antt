@@ -68,9 +68,9 @@ beside_turn s = record s {
   };
 }
 
--- a seat but for what work with write sets changes: the sets and the offers of the caller's cells, the offer last seen, and what is noted of sets
+-- a seat but for what work with write sets changes: the sets and the offers of the caller's cells, the offer last seen, and what is noted of sets and kept
 abbrev pub but_sets : Seated → Seated
-but_sets s = record s { known = record s.known { local = record s.known.local { cells = map but_set s.known.local.cells; seen_offer = None }; sets = [] } }
+but_sets s = record s { known = record s.known { local = record s.known.local { cells = map but_set s.known.local.cells; seen_offer = None }; sets = []; kept = [] } }
 
 -- what no step of a turn that prepares a replica changes: of what no other step changes all but that
 abbrev pub beside_prepare : Seated → Seated

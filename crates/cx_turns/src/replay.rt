@@ -131,7 +131,7 @@ fn replay_next<O: Object>(
     ensures counted { OnOk result (CountsEntries scratch.old.taken seat.old scratch.new.taken seat.new) }
     ensures keeps { KeepsSeat shared.now beside_replay seat.old seat.new }
 {
-    let done = replay_own(shared, seat, held, at)?;
+    let done = replay_own(shared, seat, held, at, &mut scratch.set)?;
     if done {
         return Ok(false);
     }

@@ -87,13 +87,16 @@ module _ (s : Seated) (j : ℕ) (can : CanWriteSet s.known.local j) (cells : Has
     entry = λ ticket e had. subst (λ (x : Seated). HasEntry (entries_of x.known) ticket e) (sym is) had;
     set = λ ticket x had. subst (λ (y : Seated). (has_of y.known).set ticket x) (sym is) (elim had [
       | inl read ↦ inl read
-      | inr mine ↦ inr (elim (cases_eq mine.j j) [
-        | inl e ↦ (
-            let same : old ≡ mine.cell = ap (λ i. get_or s.known.local.cells i no_cell) (sym e) ∙ get_or_from_slice_get s.known.local.cells mine.j mine.cell no_cell mine.at in
-            let un = unoffered_parts s.known.local.own old.ticket old.offer can.1 in
-            let named : un.t ≡ ticket = same_Some un.t ticket (sym un.is ∙ ap (λ (c : Cell). c.ticket) same ∙ mine.named) in
-            absurd (un.ne (ap (λ (c : Cell). c.offer) same ∙ mine.offered ∙ ap (λ n. n + 1) (sym named))))
-        | inr ne ↦ record { j = mine.j; cell = mine.cell; at = slice_get-set_other s.known.local.cells j mine.j (put words offer) ne ∙ mine.at; named = mine.named; offered = mine.offered; is = mine.is }
+      | inr mine ↦ inr (elim mine [
+        | inl own ↦ inl (elim (cases_eq own.j j) [
+          | inl e ↦ (
+              let same : old ≡ own.cell = ap (λ i. get_or s.known.local.cells i no_cell) (sym e) ∙ get_or_from_slice_get s.known.local.cells own.j own.cell no_cell own.at in
+              let un = unoffered_parts s.known.local.own old.ticket old.offer can.1 in
+              let named : un.t ≡ ticket = same_Some un.t ticket (sym un.is ∙ ap (λ (c : Cell). c.ticket) same ∙ own.named) in
+              absurd (un.ne (ap (λ (c : Cell). c.offer) same ∙ own.offered ∙ ap (λ n. n + 1) (sym named))))
+          | inr ne ↦ record { j = own.j; cell = own.cell; at = slice_get-set_other s.known.local.cells j own.j (put words offer) ne ∙ own.at; named = own.named; offered = own.offered; is = own.is }
+        ])
+        | inr kept ↦ inr kept
       ])
     ]);
   }

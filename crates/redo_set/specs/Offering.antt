@@ -9,7 +9,7 @@ use Rattle.cx_rule.specs.declared.rule.Known.{Known}
 use Rattle.cx_rule.specs.Fitting.{has_of}
 use Rattle.cx_rule.specs.Running.{IsSeatOf, Running}
 use Rattle.cx_rule.specs.Seats.{Seated, StepsOn}
-use Rattle.cx_rule.specs.Steps.{Steps}
+use Rattle.cx_rule.specs.Steps.{KeepsSet, Steps}
 use Rattle.cx_rule.specs.Stores.{FittingIn}
 
 -- the set of the own entry with a ticket may be written in a cell and offered
@@ -38,6 +38,11 @@ pub record OffersFitting {O : Type 0} (o : Ghosts O) (r : Running O) (j ticket :
   pub offers : OffersSet j ticket pairs before after
   pub fits : FittingIn o r after.known
 
+-- a set of a ticket was kept by no step, and what really is there fits what its caller then knows
+pub record KeepsFitting {O : Type 0} (o : Ghosts O) (r : Running O) (ticket : ℕ) (pairs : List ℕ) (before after : Seated) : Type 0 where
+  pub keeps : KeepsSet r ticket pairs before after
+  pub fits : FittingIn o r after.known
+
 -- a word that differed from the one in a cell's set was written by a step, and for one that did not nothing was done
 abbrev pub WritesDiffering : {O : Type 0} → Running O → (O → List ℕ → List ℕ → List ℕ × List ℕ) → (O → List ℕ → Bool) → ℕ → ℕ → ℕ → Seated → Seated → Type 0
 WritesDiffering r step reads j i v before after =
@@ -48,7 +53,7 @@ pub record HasStill (before after : Known) : Type 0 where
   pub entry : (ticket : ℕ) (entry : Entry) → (has_of before).entry ticket entry → (has_of after).entry ticket entry
   pub set : (ticket : ℕ) (set : List ℕ) → (has_of before).set ticket set → (has_of after).set ticket set
 
--- what an offer leaves: what the seat had it has, it is one of the table, and no step is taken back
+-- what an offer leaves, and so does a set that is kept: what the seat had it has, it is one of the table, and no step is taken back
 pub record LeavesOffering {O : Type 0} (r : Running O) (before after : Seated) : Type 0 where
   pub has : HasStill before.known after.known
   pub of : IsSeatOf r after

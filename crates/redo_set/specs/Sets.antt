@@ -1,11 +1,6 @@
 -- Write sets as words, as they lie in a cell: word 0 is the number of pairs, words 2m + 1 and 2m + 2 are the address and the value of pair m.
-use Rattle.std.specs.Prelude.{◌≡◌, ◌+◌, ◌*◌, ◌<◌, ◌≤◌, ℕ, List, length, slice_index, slice_set}
+use Rattle.std.specs.Prelude.{◌≡◌, ◌+◌, ◌*◌, ◌<◌, ◌≤◌, ℕ, List, slice_index, slice_set}
 use Rattle.cx_core.specs.WriteSet.{stored}
-
--- room for 256 pairs, and no more of them
-pub record IsSet (set : List ℕ) : Type 0 where
-  pub long : length set ≡ 513
-  pub few : slice_index set 0 ≤ 256
 
 -- a set with one pair more, after the others
 abbrev pub set_with_pair : ℕ → ℕ → List ℕ → List ℕ

@@ -19,6 +19,8 @@
 //! - A set that whatever fits tells to be one of an own entry's ticket is written beside the entry's cell, each word that differs from the one
 //!   there, and offered. What the seat had it has still, and what really is there fits; with `Halt` nothing is offered: `offer` (`offered`:
 //!   `OffersFitting`; `leaves`: `LeavesOffering`; `halts`: `WritesSet`).
+//! - Where no other caller reads it, such a set is kept in the seat's memory instead, by no step, and handed out again by its ticket: `keep` (`kept`:
+//!   `KeepsFitting`; `leaves`), `take_kept` (`taken`).
 //! - The gaps that a set leaves between the lines of its addresses are noted for its ticket in the ring of gaps, where the table keeps gaps and they are
 //!   16 at most: as many steps are made as there are gaps, and fewer only where the limit ends it; else none (`note_gaps`: `noted`, `none`). Nothing of the
 //!   seat changes but the steps (`leaves`: `LeavesNoting`), so no clause says which gaps the words name; each names one that the set leaves untouched.
@@ -29,12 +31,14 @@
 
 mod apply;
 mod gaps;
+mod kept;
 mod offers;
 mod set;
 mod taken;
 
 pub use apply::apply_set;
 pub use gaps::note_gaps;
+pub use kept::{keep, take_kept};
 pub use offers::offer;
 pub use set::WriteSet;
 pub use taken::take;

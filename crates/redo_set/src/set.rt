@@ -19,13 +19,13 @@ pub struct WriteSet {
 
 impl Model for WriteSet {
     ghost use Rattle.std.specs.Prelude.{List, ℕ};
-    ghost use Rattle.redo_set.specs.Sets.{IsSet};
+    ghost use Rattle.seat_memory.specs.Copies.{IsSetList};
 
     ghost Value = { List ℕ };
 
     ghost view = { λ s. s.words.items };
 
-    ghost invariant = { λ s. IsSet s.words.items };
+    ghost invariant = { λ s. IsSetList s.words.items };
 }
 
 impl WriteSet {

@@ -29,7 +29,7 @@ at_itself r = eq-eqb r r refl
 
 -- the seat but for what an access changes, with these notes of entries, this exclusive right and this shared one
 abbrev pub beside : Seated → List Noted → Option HeldExclusive → Option HeldShared → Seated
-beside s noted exclusive shared = record s { known = record { local = record s.known.local { exclusive = exclusive; shared = shared; steps = 0 }; noted = noted; accesses = []; sets = s.known.sets; times = s.known.times; images = s.known.images } }
+beside s noted exclusive shared = record s { known = record { local = record s.known.local { exclusive = exclusive; shared = shared; steps = 0 }; noted = noted; accesses = []; sets = s.known.sets; times = s.known.times; images = s.known.images; kept = s.known.kept } }
 
 unloaded : (r i found : ℕ) (o : Option HeldShared) → option_map (but_loaded r) (option_map (loaded_into r i found) o) ≡ option_map (but_loaded r) o
 unloaded r i found None = refl
@@ -145,7 +145,7 @@ module _ {O : Type 0} (lines : ℕ) (r : Running O) (step : O → List ℕ → L
   pub load_shared_loads : (at found : ℕ) (before after : Seated) → IsHeldShared lines r lawful before held → Steps r step reads (LoadWord held.replica at false) found before after → Fitting r.lines lawful r.base (step r.object) after.known → LoadsShared lines r lawful held at found before after
   load_shared_loads at found before after of s fits =
       let with : List Noted → Option HeldShared → List Note → Seated =
-      λ noted shared accesses. record before { known = record { local = record before.known.local { shared = shared; steps = 0 }; noted = noted; accesses = accesses; sets = before.known.sets; times = before.known.times; images = before.known.images } } in
+      λ noted shared accesses. record before { known = record { local = record before.known.local { shared = shared; steps = 0 }; noted = noted; accesses = accesses; sets = before.known.sets; times = before.known.times; images = before.known.images; kept = before.known.kept } } in
       let q = held.replica in
       let l = before.known.local in
       let here = is_at q (exclusive_on l) in

@@ -12,9 +12,10 @@ use Rattle.cx_core.proofs.ListLemmas.{slice_get-append_left}
 use Rattle.core_queue.specs.declared.notes.SetNoted.{SetNoted}
 use Rattle.core_queue.specs.NotedSets.{IsNotedSet}
 use Rattle.cx_rule.specs.declared.rule.Known.{Known}
-use Rattle.cx_rule.specs.Fitting.{Fitting, FitsKnown, FitsOn, Has, IsOwnSet, HasEntry, SomeFits, entries_of, has_of}
+use Rattle.cx_rule.specs.Fitting.{Fitting, FitsKnown, FitsOn, Has, IsKeptSet, IsOwnSet, HasEntry, SomeFits, entries_of, has_of}
 use Rattle.cx_rule.specs.Running.{IsSeatOf, Running}
-use Rattle.cx_rule.specs.Seats.{Seated, StepsOn}
+use Rattle.cx_rule.specs.Seats.{Seated, StepsOn, known_kept}
+use Rattle.cx_rule.specs.Steps.{KeepsSet}
 use Rattle.cx_rule.proofs.HasMore.{HasMore, fits_more, fits_same, some_same}
 use Rattle.cx_rule.proofs.Stepping.{on_one, on_then}
 use Rattle.cx_table.specs.Right.{Right}
@@ -31,7 +32,7 @@ use Rattle.replica_sets.specs.Own.{HasApplied, LeavesOwn, beside_own, but_set}
 
 -- what a seat has, with these notes of sets
 abbrev has_with : Known → List SetNoted → Has
-has_with known sets = record { entry = HasEntry (entries_of known); set = λ t pairs. IsNotedSet sets t pairs ⊎ IsOwnSet known.local.cells t pairs }
+has_with known sets = record { entry = HasEntry (entries_of known); set = λ t pairs. IsNotedSet sets t pairs ⊎ (IsOwnSet known.local.cells t pairs ⊎ IsKeptSet known.kept t pairs) }
 
 -- where further words of sets are noted, what is had is had still
 sets_more : (known : Known) (more : List SetNoted) → HasMore (has_of known) (has_of (record known { sets = known.sets ++ more }))
@@ -129,13 +130,13 @@ module _ {O : Type 0} (r : Running O) (replica : ℕ) where
   pub leaves_stored : (before mid after : Seated) → LeavesOffered r replica before mid → IsSeatOf r after → beside_held replica after ≡ beside_held replica mid → StepsOn mid after → LeavesOffered r replica before after
   leaves_stored before mid after was of same on = record { seat = of; rest = ap beside_both same ∙ was.rest; since = on_then before mid after was.since on }
 
--- a seat but for the sets and the offers of the caller's cells
+-- a seat but for the sets and the offers of the caller's cells, and for what it keeps
 abbrev beside_cells : Seated → Seated
-beside_cells b = record b { known = record b.known { local = record b.known.local { cells = map but_set b.known.local.cells } } }
+beside_cells b = record b { known = record b.known { local = record b.known.local { cells = map but_set b.known.local.cells }; kept = [] } }
 
 -- the same with these as its cells
 abbrev own_with : ℕ → Seated → List Cell → Seated
-own_with replica s cells = (let b = beside_held replica s in record b { known = record b.known { local = record b.known.local { cells = cells } } })
+own_with replica s cells = (let b = beside_held replica s in record b { known = record b.known { local = record b.known.local { cells = cells }; kept = [] } })
 
 module _ {O : Type 0} (r : Running O) (replica : ℕ) where
   pub leaves_held : (before after : Seated) → IsSeatOf r after → beside_held replica after ≡ beside_held replica before → StepsOn before after → LeavesOwn r replica before after
@@ -148,6 +149,35 @@ module _ {O : Type 0} (r : Running O) (replica : ℕ) where
       let same : map but_set (slice_set mid.known.local.cells j cell) ≡ map but_set mid.known.local.cells =
       map-set_same but_set mid.known.local.cells j cell (record { words = []; ticket = None; set = []; offer = 0 }) refl in
       record { seat = of; rest = ap (beside_own replica) is ∙ ap (own_with replica mid) same ∙ was.rest; since = on_then before mid after was.since on }
+
+  -- an own set was kept
+  pub leaves_kept : (before mid after : Seated) (ticket : ℕ) (set : List ℕ) → LeavesOwn r replica before mid → KeepsSet r ticket set mid after → StepsOn mid after → LeavesOwn r replica before after
+  leaves_kept before mid after ticket set was keeps on = record { seat = keeps.seat; rest = ap (beside_own replica) keeps.made ∙ was.rest; since = on_then before mid after was.since on }
+
+-- an own set was kept
+pub applied_kept : {O : Type 0} (o : Ghosts O) (r : Running O) (held : Right) (at caller : ℕ) (reply : List ℕ) (before after : Seated) (ticket : ℕ) (set : List ℕ) → KeepsSet r ticket set before after →
+    HasStill before.known after.known → Fitting r.lines (o.lawful r.object) r.base (o.step r.object) after.known → HasApplied o r held at caller reply before → HasApplied o r held at caller reply after
+applied_kept o r held at caller reply before after ticket set keeps still fits was =
+    let lines = o.line_count r.object in
+    let held_before = was.ready.is_held in
+    let is = keeps.made in
+    let more : HasMore (has_of before.known) (has_of after.known) = record { entry = still.entry; set = still.set } in
+    let accesses : after.known.accesses ≡ before.known.accesses = ap (λ (s : Seated). s.known.accesses) is in
+    let kept : Seated = record before { known = known_kept ticket set before.known } in
+    record {
+      ready = record {
+        is_held = record {
+          sized = held_before.sized;
+          of = keeps.seat;
+          right = subst (λ s. IsExclusiveOf r.callers s held) (sym is) (let right : IsExclusiveOf r.callers kept held = record { few = held_before.right.few; caller = held_before.right.caller; holds = held_before.right.holds } in right);
+          some = subst (λ n. SomeFits n (o.lawful r.object) r.base (o.step r.object) after.known) held_before.sized.lines_are fits.exclusive;
+          dirty = subst (λ (s : Seated). All (λ i. i < region_words lines) (held_dirty s.known.local.exclusive)) (sym is) held_before.dirty;
+        };
+        image = image_more lines (o.lawful r.object) r.base (o.step r.object) before.known after.known more accesses was.ready.image;
+        place = ap noted_place is ∙ was.ready.place;
+      };
+      replied = λ first now f. was.replied first now (fits_more lines (o.lawful r.object) r.base (o.step r.object) (has_of before.known) (has_of after.known) more before.known.accesses first now (subst (λ xs. FitsOn lines (o.lawful r.object) r.base (o.step r.object) (has_of after.known) xs first now) accesses f));
+    }
 
 -- an own set was offered
 pub applied_offered : {O : Type 0} (o : Ghosts O) (r : Running O) (held : Right) (at caller : ℕ) (reply : List ℕ) (before after : Seated) (j : ℕ) (set : List ℕ) (offer steps : ℕ) → IsSeatOf r after → after ≡ seat_with_set j set offer steps before →

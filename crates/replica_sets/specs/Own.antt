@@ -1,4 +1,4 @@
--- The caller's own entry is done on a replica held exclusively, and its write set offered.
+-- The caller's own entry is done on a replica held exclusively, and its write set offered, or kept by the caller.
 use Rattle.std.specs.Prelude.{◌≡◌, ℕ, List, [], map}
 use Rattle.cx_base.specs.declared.object.Object.{Ghosts}
 use Rattle.cx_core.specs.declared.local.Cell.{Cell}
@@ -17,9 +17,9 @@ pub record HasApplied {O : Type 0} (o : Ghosts O) (r : Running O) (held : Right)
 abbrev pub but_set : Cell → Cell
 but_set c = record { words = c.words; ticket = c.ticket; set = []; offer = 0 }
 
--- what no such work changes: the seat but for the steps, the sets and the offers of the caller's cells, and what is noted of the replica
+-- what no such work changes: the seat but for the steps, the sets and the offers of the caller's cells, the sets that it keeps, and what is noted of the replica
 abbrev pub beside_own : ℕ → Seated → Seated
-beside_own replica s = (let b = beside_held replica s in record b { known = record b.known { local = record b.known.local { cells = map but_set s.known.local.cells } } })
+beside_own replica s = (let b = beside_held replica s in record b { known = record b.known { local = record b.known.local { cells = map but_set s.known.local.cells }; kept = [] } })
 
 -- whatever was made of it, the seat is one of the table, what no such work changes is as it was, and no step is taken back
 pub record LeavesOwn {O : Type 0} (r : Running O) (replica : ℕ) (before after : Seated) : Type 0 where

@@ -22,11 +22,12 @@ use Rattle.cx_core.specs.SetEvents.{offer_of}
 use Rattle.cx_core.specs.State.{Instance, one_more}
 use Rattle.cx_core.proofs.ListLemmas.{slice_get-set_same, slice_get-set_other}
 use Rattle.cx_core.proofs.HeldLists.{Contains-filter, Contains-still, Contains-with, is_none, other_passes}
+use Rattle.cx_rule.specs.declared.rule.KeptSet.{KeptSet}
 use Rattle.cx_rule.specs.declared.rule.Known.{Known}
-use Rattle.cx_rule.specs.Fitting.{TellsWord}
+use Rattle.cx_rule.specs.Fitting.{IsKeptSet, TellsWord}
 use Rattle.cx_rule.specs.Seats.{HasCells, SeenGuard, known_after, known_local, place_noted, unseen}
 use Rattle.cx_rule.proofs.Copying.{leads_length}
-use Rattle.seat_memory.specs.Copies.{Copied, HasCellWords, HasRows, HasSetWords, IsCopied, copied_after}
+use Rattle.seat_memory.specs.Copies.{Copied, HasCellWords, HasRows, HasSetWords, IsCopied, IsKeptAs, copied_after}
 use Rattle.seat_memory.proofs.Rows.{row_before, same_row}
 
 -- the place after one access more
@@ -164,11 +165,19 @@ row_put n row l l' rows j i v new count small below long is put has =
 shape_of : (l : Local) (j : ℕ) → HasCells l → j < 16 → CellShape (cell_of l j)
 shape_of l j shape small = shape.each j (cell_of l j) (slice_get-get_or l.cells j no_cell (omega (arith, small, shape.count)))
 
+abbrev KeepsAs : ℕ → Known → Option KeptSet → Type 0
+KeepsAs size k kept = (set : KeptSet) → kept ≡ Some set → IsKeptAs size k set
+
+-- the same sets are kept
+kept_still : (k k' : Known) (size : ℕ) (kept : Option KeptSet) → k'.kept ≡ k.kept → KeepsAs size k kept → KeepsAs size k' kept
+kept_still k k' size kept same is set there = (let was = is set there in record { known_as = subst (λ ks. IsKeptSet ks set.ticket set.set) (sym same) was.known_as; within = was.within })
+
 -- the same dirty words, and the same accesses
-still : (k k' : Known) (c : Copied) → k'.accesses ≡ k.accesses → dirty_of k'.local ≡ dirty_of k.local → SameCells k.local k'.local → IsCopied k c → IsCopied k' c
-still k k' c accesses dirty cells is = record {
+still : (k k' : Known) (c : Copied) → k'.kept ≡ k.kept → k'.accesses ≡ k.accesses → dirty_of k'.local ≡ dirty_of k.local → SameCells k.local k'.local → IsCopied k c → IsCopied k' c
+still k k' c same accesses dirty cells is = record {
   cells = same_cells k.local k'.local c.cells cells is.cells;
   sets = same_sets k.local k'.local c.sets cells is.sets;
+  kept = kept_still k k' (length c.words) c.kept same is.kept;
   long = is.long;
   place = is.place ∙ ap (place_noted 0) (sym accesses);
   marks = λ i below. subst (λ ds. (slice_get c.dirty i ≡ Some true) ↔ Contains ds i) (sym dirty) (is.marks i below);
@@ -176,10 +185,11 @@ still k k' c accesses dirty cells is = record {
 }
 
 -- a replica taken, or none: nothing is noted of it
-begun : (k k' : Known) (c : Copied) → k'.accesses ≡ [] → dirty_of k'.local ≡ [] → dirty_of k.local ≡ [] → SameCells k.local k'.local → IsCopied k c → IsCopied k' (record c { place = 0 })
-begun k k' c accesses none clean cells is = record {
+begun : (k k' : Known) (c : Copied) → k'.kept ≡ k.kept → k'.accesses ≡ [] → dirty_of k'.local ≡ [] → dirty_of k.local ≡ [] → SameCells k.local k'.local → IsCopied k c → IsCopied k' (record c { place = 0 })
+begun k k' c same accesses none clean cells is = record {
   cells = same_cells k.local k'.local c.cells cells is.cells;
   sets = same_sets k.local k'.local c.sets cells is.sets;
+  kept = kept_still k k' (length c.words) c.kept same is.kept;
   long = is.long;
   place = ap (place_noted 0) (sym accesses);
   marks = λ i below. subst (λ ds. (slice_get c.dirty i ≡ Some true) ↔ Contains ds i) (clean ∙ sym none) (is.marks i below);
@@ -187,10 +197,11 @@ begun k k' c accesses none clean cells is = record {
 }
 
 -- a word loaded
-loaded : (k k' : Known) (c : Copied) (i found : ℕ) → k'.accesses ≡ k.accesses ++ (false, i, found) ∷ [] → dirty_of k'.local ≡ dirty_of k.local → SameCells k.local k'.local → IsCopied k c → IsCopied k' (record c { place = cond (i == 0) found c.place })
-loaded k k' c i found accesses dirty cells is = record {
+loaded : (k k' : Known) (c : Copied) (i found : ℕ) → k'.kept ≡ k.kept → k'.accesses ≡ k.accesses ++ (false, i, found) ∷ [] → dirty_of k'.local ≡ dirty_of k.local → SameCells k.local k'.local → IsCopied k c → IsCopied k' (record c { place = cond (i == 0) found c.place })
+loaded k k' c i found same accesses dirty cells is = record {
   cells = same_cells k.local k'.local c.cells cells is.cells;
   sets = same_sets k.local k'.local c.sets cells is.sets;
+  kept = kept_still k k' (length c.words) c.kept same is.kept;
   long = is.long;
   place = ap (λ p. cond (i == 0) found p) is.place ∙ sym (place_more 0 k.accesses false i found) ∙ ap (place_noted 0) (sym accesses);
   marks = λ j below. subst (λ ds. (slice_get c.dirty j ≡ Some true) ↔ Contains ds j) (sym dirty) (is.marks j below);
@@ -199,9 +210,9 @@ loaded k k' c i found accesses dirty cells is = record {
 }
 
 -- a word stored
-stored : (k k' : Known) (c : Copied) (i v : ℕ) → i < length c.words → k'.accesses ≡ k.accesses ++ (true, i, v) ∷ [] → dirty_of k'.local ≡ with_number (dirty_of k.local) i → SameCells k.local k'.local → IsCopied k c →
-    IsCopied k' (record { words = set c.words i v; dirty = set c.dirty i true; place = cond (i == 0) v c.place; cells = c.cells; sets = c.sets })
-stored k k' c i v small accesses dirty cells is =
+stored : (k k' : Known) (c : Copied) (i v : ℕ) → i < length c.words → k'.kept ≡ k.kept → k'.accesses ≡ k.accesses ++ (true, i, v) ∷ [] → dirty_of k'.local ≡ with_number (dirty_of k.local) i → SameCells k.local k'.local → IsCopied k c →
+    IsCopied k' (record { words = set c.words i v; dirty = set c.dirty i true; place = cond (i == 0) v c.place; cells = c.cells; sets = c.sets; kept = c.kept })
+stored k k' c i v small same accesses dirty cells is =
     let n = length c.words in
     let n' = length-set c.words i v in
     let ds = dirty_of k.local in
@@ -211,6 +222,7 @@ stored k k' c i v small accesses dirty cells is =
     record {
       cells = same_cells k.local k'.local c.cells cells is.cells;
       sets = same_sets k.local k'.local c.sets cells is.sets;
+      kept = subst (λ m. KeepsAs m k' c.kept) (sym n') (kept_still k k' n c.kept same is.kept);
       long = length-set c.dirty i true ∙ is.long ∙ sym n';
       place = ap (λ p. cond (i == 0) v p) is.place ∙ sym (place_more 0 k.accesses true i v) ∙ ap (place_noted 0) (sym accesses);
       marks = λ j below. subst (λ xs. (slice_get (set c.dirty i true) j ≡ Some true) ↔ Contains xs j) (sym dirty) (elim (cases_eq j i) [
@@ -233,15 +245,16 @@ stored k k' c i v small accesses dirty cells is =
     }
 
 -- a word persisted
-cleaned : (k k' : Known) (c : Copied) (i : ℕ) → i < length c.words → k'.accesses ≡ k.accesses → dirty_of k'.local ≡ filter (λ x. cond (x == i) false true) (dirty_of k.local) → SameCells k.local k'.local → IsCopied k c →
+cleaned : (k k' : Known) (c : Copied) (i : ℕ) → i < length c.words → k'.kept ≡ k.kept → k'.accesses ≡ k.accesses → dirty_of k'.local ≡ filter (λ x. cond (x == i) false true) (dirty_of k.local) → SameCells k.local k'.local → IsCopied k c →
     IsCopied k' (record c { dirty = set c.dirty i false })
-cleaned k k' c i small accesses dirty cells is =
+cleaned k k' c i small same accesses dirty cells is =
     let ds = dirty_of k.local in
     let p : ℕ → Bool = λ x. cond (x == i) false true in
     let within : i < length c.dirty = omega (arith, is.long) in
     record {
       cells = same_cells k.local k'.local c.cells cells is.cells;
       sets = same_sets k.local k'.local c.sets cells is.sets;
+      kept = kept_still k k' (length c.words) c.kept same is.kept;
       long = length-set c.dirty i false ∙ is.long;
       place = is.place ∙ ap (place_noted 0) (sym accesses);
       marks = λ j below. subst (λ xs. (slice_get (set c.dirty i false) j ≡ Some true) ↔ Contains xs j) (sym dirty) (elim (cases_eq j i) [
@@ -287,13 +300,14 @@ copy_kept instance (WriteCell j i v) k found c guard shape long is = (
     place = is.place;
     marks = is.marks;
     words = is.words;
+    kept = λ x there. (let was = is.kept x there in record { known_as = was.known_as; within = was.within });
     cells = row_put 145 words_in k.local _ c.cells j i v (record (cell_of k.local j) { words = set (cell_of k.local j).words i v; ticket = None }) shape.count guard.0 guard.1 (shape_of k.local j shape guard.0).words refl refl is.cells;
     sets = same_rows 513 set_in k.local _ c.sets (λ n. row_kept set_in k.local.cells j n (λ x. record x { words = set x.words i v; ticket = None }) (λ x. refl)) is.sets;
   },
 )
 copy_kept instance (Link j) k found c guard shape long is = (
   refl,
-  still k _ c refl (elim (found == seen_word k.local.seen_slot) as (λ b. dirty_of (cond b (linked k.local j) (lost instance.callers k.local found)) ≡ dirty_of k.local) [ true ↦ refl | false ↦ refl ])
+  still k _ c refl refl (elim (found == seen_word k.local.seen_slot) as (λ b. dirty_of (cond b (linked k.local j) (lost instance.callers k.local found)) ≡ dirty_of k.local) [ true ↦ refl | false ↦ refl ])
       (elim (found == seen_word k.local.seen_slot) as (λ b. SameCells k.local (cond b (linked k.local j) (lost instance.callers k.local found))) [
         | true ↦ (λ i. (row_kept words_in k.local.cells j i (λ x. record x { ticket = Some k.local.front }) (λ x. refl), row_kept set_in k.local.cells j i (λ x. record x { ticket = Some k.local.front }) (λ x. refl)))
         | false ↦ (λ i. (refl, refl))
@@ -302,38 +316,38 @@ copy_kept instance (Link j) k found c guard shape long is = (
 copy_kept instance (TryExclusive r) k found c guard shape long is =
     let none : dirty_of k.local ≡ [] = ap held_dirty (is_none k.local.exclusive guard.1) in (
       refl,
-      begun k _ c refl (elim (found == 0) as (λ b. dirty_of (cond b (taken instance unseen r k.local) (refused_by instance.callers r k.local found)) ≡ []) [ true ↦ refl | false ↦ none ]) none
+      begun k _ c refl refl (elim (found == 0) as (λ b. dirty_of (cond b (taken instance unseen r k.local) (refused_by instance.callers r k.local found)) ≡ []) [ true ↦ refl | false ↦ none ]) none
           (elim (found == 0) as (λ b. SameCells k.local (cond b (taken instance unseen r k.local) (refused_by instance.callers r k.local found))) [ true ↦ (λ j. (refl, refl)) | false ↦ (λ j. (refl, refl)) ]) is,
     )
 copy_kept instance (TryShared r) k found c guard shape long is = (
   refl,
-  still k _ c refl (elim (nat_lt found exclusive_mark) as (λ b. dirty_of (cond b (shared_by r k.local found) (passing instance.callers r k.local found)) ≡ dirty_of k.local) [ true ↦ refl | false ↦ refl ])
+  still k _ c refl refl (elim (nat_lt found exclusive_mark) as (λ b. dirty_of (cond b (shared_by r k.local found) (passing instance.callers r k.local found)) ≡ dirty_of k.local) [ true ↦ refl | false ↦ refl ])
       (elim (nat_lt found exclusive_mark) as (λ b. SameCells k.local (cond b (shared_by r k.local found) (passing instance.callers r k.local found))) [ true ↦ (λ j. (refl, refl)) | false ↦ (λ j. (refl, refl)) ]) is,
 )
-copy_kept instance (BackOff r) k found c guard shape long is = (let b = backed (is_at r (shared_on k.local)) (is_at r k.local.passer) in (refl, still k _ c refl b.0 b.1 is))
+copy_kept instance (BackOff r) k found c guard shape long is = (let b = backed (is_at r (shared_on k.local)) (is_at r k.local.passer) in (refl, still k _ c refl refl b.0 b.1 is))
   where
     backed : (a b : Bool) → (dirty_of (backed_off_by a b k.local) ≡ dirty_of k.local) × SameCells k.local (backed_off_by a b k.local)
     backed true b = (refl, λ j. (refl, refl))
     backed false true = (refl, λ j. (refl, refl))
     backed false false = (refl, λ j. (refl, refl))
-copy_kept instance (Downgrade r) k found c guard shape long is = (refl, still k _ c refl (sym guard.3) (λ j. (refl, refl)) is)
-copy_kept instance (ReleaseExclusive r) k found c guard shape long is = (refl, still k _ c refl (sym guard.3) (λ j. (refl, refl)) is)
+copy_kept instance (Downgrade r) k found c guard shape long is = (refl, still k _ c refl refl (sym guard.3) (λ j. (refl, refl)) is)
+copy_kept instance (ReleaseExclusive r) k found c guard shape long is = (refl, still k _ c refl refl (sym guard.3) (λ j. (refl, refl)) is)
 copy_kept instance (LoadWord r i refused) k found c guard shape long is =
-    let known' : Bool → Known = λ b. record { local = known_local instance (LoadWord r i refused) k found; noted = k.noted ++ []; accesses = cond b (k.accesses ++ (false, i, found) ∷ []) k.accesses; sets = k.sets; times = k.times; images = k.images } in
+    let known' : Bool → Known = λ b. record { local = known_local instance (LoadWord r i refused) k found; noted = k.noted ++ []; accesses = cond b (k.accesses ++ (false, i, found) ∷ []) k.accesses; sets = k.sets; times = k.times; images = k.images; kept = k.kept } in
     let after : Bool → Copied = λ b. cond b (record c { place = cond (i == 0) found c.place }) c in
     elim (is_at r (exclusive_on k.local)) as (λ b. (length (after b).words ≡ length c.words) × IsCopied (known' b) (after b)) [
-      | true ↦ (refl, loaded k (known' true) c i found refl refl (λ j. (refl, refl)) is)
-      | false ↦ (refl, still k (known' false) c refl refl (λ j. (refl, refl)) is)
+      | true ↦ (refl, loaded k (known' true) c i found refl refl refl (λ j. (refl, refl)) is)
+      | false ↦ (refl, still k (known' false) c refl refl refl (λ j. (refl, refl)) is)
     ]
 copy_kept instance (StoreWord r i v) k found c guard shape long is =
     let below = guard.1 in
-    (length-set c.words i v, stored k _ c i v (omega arith) refl (dirty_stored k.local.exclusive r i v guard.2) (λ j. (refl, refl)) is)
+    (length-set c.words i v, stored k _ c i v (omega arith) refl refl (dirty_stored k.local.exclusive r i v guard.2) (λ j. (refl, refl)) is)
 copy_kept instance (Persist r i) k found c guard shape long is =
     let below = guard.0.1 in
-    (refl, cleaned k _ c i (omega arith) refl (dirty_persisted k.local.exclusive i) (λ j. (refl, refl)) is)
+    (refl, cleaned k _ c i (omega arith) refl refl (dirty_persisted k.local.exclusive i) (λ j. (refl, refl)) is)
 copy_kept instance Publish k found c guard shape long is = (
   refl,
-  still k _ c refl (elim (found == k.local.seen_cur) as (λ b. dirty_of (cond b (published instance.callers k.local) (outrun instance.callers k.local found)) ≡ dirty_of k.local) [ true ↦ refl | false ↦ refl ])
+  still k _ c refl refl (elim (found == k.local.seen_cur) as (λ b. dirty_of (cond b (published instance.callers k.local) (outrun instance.callers k.local found)) ≡ dirty_of k.local) [ true ↦ refl | false ↦ refl ])
       (elim (found == k.local.seen_cur) as (λ b. SameCells k.local (cond b (published instance.callers k.local) (outrun instance.callers k.local found))) [ true ↦ (λ j. (refl, refl)) | false ↦ (λ j. (refl, refl)) ]) is,
 )
 copy_kept instance (WriteSet j i v) k found c guard shape long is = (
@@ -343,12 +357,13 @@ copy_kept instance (WriteSet j i v) k found c guard shape long is = (
     place = is.place;
     marks = is.marks;
     words = is.words;
+    kept = λ x there. (let was = is.kept x there in record { known_as = was.known_as; within = was.within });
     cells = same_rows 145 words_in k.local _ c.cells (λ n. row_kept words_in k.local.cells j n (λ x. record x { set = set x.set i v }) (λ x. refl)) is.cells;
     sets = row_put 513 set_in k.local _ c.sets j i v (record (cell_of k.local j) { set = set (cell_of k.local j).set i v }) shape.count guard.0.0 guard.1 (shape_of k.local j shape guard.0.0).set refl refl is.sets;
   },
 )
 copy_kept instance (Offer j) k found c guard shape long is = (
   refl,
-  still k _ c refl refl (λ n. (row_kept words_in k.local.cells j n (λ x. record x { offer = offer_of x.ticket x.offer }) (λ x. refl), row_kept set_in k.local.cells j n (λ x. record x { offer = offer_of x.ticket x.offer }) (λ x. refl))) is,
+  still k _ c refl refl refl (λ n. (row_kept words_in k.local.cells j n (λ x. record x { offer = offer_of x.ticket x.offer }) (λ x. refl), row_kept set_in k.local.cells j n (λ x. record x { offer = offer_of x.ticket x.offer }) (λ x. refl))) is,
 )
-copy_kept instance kind k found c guard shape long is = (refl, still k _ c refl refl (λ j. (refl, refl)) is)
+copy_kept instance kind k found c guard shape long is = (refl, still k _ c refl refl refl (λ j. (refl, refl)) is)

@@ -48,6 +48,7 @@ copy_moved instance r found k c long copies behind is =
       marks = is.marks;
       cells = is.cells;
       sets = is.sets;
+      kept = λ x there. (let was = is.kept x there in record { known_as = was.known_as; within = was.within });
       words = λ i below there. (
           let a = copies.dirty i below (subst (λ (x : Option HeldExclusive). Contains (held_dirty x) i) kept there) in
           let n = length c.words in

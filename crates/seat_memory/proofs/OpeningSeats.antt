@@ -76,6 +76,7 @@ opening_copied me copy callers place number region limits is blank =
       words = λ i below there. (let none : there.0 < 0 = there.1 in absurd (omega arith));
       cells = blank_rows 145 (λ (c : Cell). c.words) (opening_known callers place limits number).local refl refl;
       sets = blank_rows 513 (λ (c : Cell). c.set) (opening_known callers place limits number).local refl refl;
+      kept = λ x there. absurd (none-some x there);
     }))
   where
     unmarked : (n i : ℕ) → slice_get (replicate n false) i ≡ Some true → ⊥

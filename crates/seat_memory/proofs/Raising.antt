@@ -104,7 +104,7 @@ module _ {O : Type 0} (r : Running O) (step : O → List ℕ → List ℕ → Li
         own = old.0.own;
         within = λ few. one_step l old.0.within allowed few;
       } in
-      let copied : IsCopied k' copy = record { long = old.1.long; place = old.1.place; marks = old.1.marks; words = old.1.words; cells = record { long = old.1.cells.long; each = old.1.cells.each }; sets = record { long = old.1.sets.long; each = old.1.sets.each } } in
+      let copied : IsCopied k' copy = record { long = old.1.long; place = old.1.place; marks = old.1.marks; words = old.1.words; cells = record { long = old.1.cells.long; each = old.1.cells.each }; sets = record { long = old.1.sets.long; each = old.1.sets.each }; kept = λ x there. (let was = old.1.kept x there in record { known_as = was.known_as; within = was.within }) } in
       let stands : IsSeatOf r (seated table' now before copy) = record { table = same_table ∙ of.table; caller = of.caller; before = of.before; region = of.region } in
       let whole : seated table' now before copy ≡ record (seated table me before copy) { known = k' } = (λ i. record { table = same_table i; before = before; region = length copy.words; known = k' }) in
       subst (λ (x : Me ℕ (List Known)). IsSeat x summary' before copy × Raises r step reads code answers read (seated table me before copy) (seated table' x before copy)) (sym taught.knows) (

@@ -2,9 +2,10 @@
 //! replica held exclusively that are to be persisted have to be known without a load, and so have those of the caller's
 //! cells and of their write sets, of which only the words that differ are written.
 
-ghost use Rattle.std.specs.Prelude.{◌≡◌, ◌≢◌, ◌+◌, ◌*◌, ◌<◌, ◌≤◌, ◌==◌, ℕ, IfOk, IfSome, IfNone, false, true, if◌then◌else◌, length, slice_get, slice_index, slice_range, slice_set, Some};
-ghost use Rattle.seat_memory.specs.Copies.{blank_copy};
+ghost use Rattle.std.specs.Prelude.{◌≡◌, ◌≢◌, ◌+◌, ◌*◌, ◌<◌, ◌≤◌, ◌==◌, ◌⊎◌, ℕ, IfOk, IfSome, IfNone, IsTrue, false, true, if◌then◌else◌, length, slice_get, slice_index, slice_range, slice_set, None, Some};
+ghost use Rattle.seat_memory.specs.Copies.{IsSetList, blank_copy};
 
+use crate::kept::Kept;
 use crate::marks::Marks;
 use cx_base::{ENTRY_WORDS, OP_WORDS, OpWords, SET_WORDS};
 use cx_core::Entry;
@@ -19,7 +20,7 @@ const ALL_CELL_WORDS: usize = 16 * ENTRY_WORDS;
 const ALL_SET_WORDS: usize = 16 * SET_WORDS;
 
 /// The words stored, by address, which of them are dirty, the place last loaded or stored, and the words of the cells, one
-/// cell after another, and so those of the cells' sets.
+/// cell after another, and so those of the cells' sets, and the set that the caller keeps.
 #[derive(Debug, Drop)]
 pub struct Copies {
     words: Vec<u64>,
@@ -27,6 +28,7 @@ pub struct Copies {
     place: u64,
     cells: Vec<u64>,
     sets: Vec<u64>,
+    kept: Kept,
 }
 
 impl Model for Copies {
@@ -34,7 +36,7 @@ impl Model for Copies {
 
     ghost Value = { Copied };
 
-    ghost view = { λ c. record { words = c.words.items; dirty = c.dirty; place = c.place; cells = c.cells.items; sets = c.sets.items } };
+    ghost view = { λ c. record { words = c.words.items; dirty = c.dirty; place = c.place; cells = c.cells.items; sets = c.sets.items; kept = c.kept } };
 }
 
 impl Copies {
@@ -48,6 +50,7 @@ impl Copies {
             place: 0,
             cells: Vec::from_elem(alloc, 0, ALL_CELL_WORDS)?,
             sets: Vec::from_elem(alloc, 0, ALL_SET_WORDS)?,
+            kept: Kept::empty(alloc)?,
         })
     }
 
@@ -71,7 +74,7 @@ impl Copies {
     pub fn store(&mut self, i: u64, v: u64)
         requires word { i < length self.old.words }
         requires mark { i < length self.old.dirty }
-        ensures { self.new ≡ record { words = slice_set self.old.words i v; dirty = slice_set self.old.dirty i true; place = if i == 0 then v else self.old.place; cells = self.old.cells; sets = self.old.sets } }
+        ensures { self.new ≡ record { words = slice_set self.old.words i v; dirty = slice_set self.old.dirty i true; place = if i == 0 then v else self.old.place; cells = self.old.cells; sets = self.old.sets; kept = self.old.kept } }
     {
         self.words[i as usize] = v;
         self.dirty.mark(i);
@@ -110,6 +113,25 @@ impl Copies {
         ensures { result ≡ slice_index self.now.sets (SET_WORDS * j + i) }
     {
         self.sets[(SET_WORDS as u64 * j + i) as usize]
+    }
+
+    /// Keeps the set of an own entry with a ticket, in place of the one before. What is given back is room for a set.
+    pub fn keep(&mut self, ticket: u64, words: &mut Vec<u64>)
+        requires { IsSetList words.old.items }
+        ensures kept { self.new ≡ record self.old { kept = Some (record { ticket = ticket; set = words.old.items }) } }
+        ensures room { IsSetList words.new.items }
+    {
+        self.kept.put(ticket, words);
+    }
+
+    /// Hands the set that the caller keeps out, where it is that of a ticket: none is kept then.
+    pub fn take_kept(&mut self, ticket: u64, words: &mut Vec<u64>) -> bool
+        requires { IsSetList words.old.items }
+        ensures taken { IsTrue result → self.old.kept ≡ Some (record { ticket = ticket; set = words.new.items }) }
+        ensures left { (self.new ≡ record self.old { kept = None }) ⊎ (self.new ≡ self.old) }
+        ensures room { IsSetList words.new.items }
+    {
+        self.kept.take(ticket, words)
     }
 
     /// The first place from one on at which an operation's words differ from those of a cell behind its first, 144 where that is none.

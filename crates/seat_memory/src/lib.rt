@@ -13,6 +13,7 @@
 mod at_close;
 mod copies;
 mod following;
+mod kept;
 mod marks;
 mod ring;
 mod sets;

@@ -1,7 +1,7 @@
-use Rattle.std.proofs.Common.{inr, refl, subst, sym}
+use Rattle.std.proofs.Common.{inl, inr, refl, subst, sym}
 use Rattle.cx_core.specs.QueueEvents.{cell_of}
 use Rattle.cx_rule.specs.Fitting.{has_of}
-use Rattle.replica_sets.proofs.own.replay_own.Goals as goal
+use Rattle.replica_sets.proofs.own.replay_cell.Goals as goal
 
 pub store_own_set-requires : goal.store_own_set-requires
 store_own_set-requires g c =
@@ -12,7 +12,7 @@ store_own_set-requires g c =
       next = record {
         few = offered.0;
         comes = record {
-          had = subst (λ p. (has_of c.args.seat.now.known).set p (cell_of c.args.seat.now.known.local c.in-Some.cell).set) (sym ready.place) (inr offered.1);
+          had = subst (λ p. (has_of c.args.seat.now.known).set p (cell_of c.args.seat.now.known.local c.in-Some.cell).set) (sym ready.place) (inr (inl offered.1));
           within = c.is_within.ensures c.if-not-is_within.false;
         };
       };
