@@ -1,6 +1,6 @@
 //! A program's object of which only the fingerprint is known.
 
-ghost use Rattle.std.specs.Prelude.{◌≡◌, ◌*◌, ◌^◌, ◌<◌, ◌≤◌, ◌↔◌, IsTrue, false, refl};
+ghost use Rattle.std.specs.Prelude.{◌≡◌, ◌*◌, ◌^◌, ◌<◌, ◌≤◌, ◌↔◌, IsTrue, true, refl};
 ghost use Rattle.cx_base.specs.OldFormat.{no_old_format, takes_over_nothing};
 ghost use Rattle.program_object.specs.Meaning.{IsProgramImage, opening};
 ghost use Rattle.program_object.specs.Laws.{program_opens, program_shape};
@@ -42,7 +42,7 @@ impl Object for NamedProgram {
 
     ghost step = { λ _. laws.idle_step };
 
-    ghost only_reads = { λ _ _. false };
+    ghost only_reads = { λ _ _. true };
 
     ghost old_format = { λ _. no_old_format };
 
@@ -75,7 +75,7 @@ impl Object for NamedProgram {
     }
 
     fn reads(&self, _op: &OpWords) -> bool {
-        false
+        true
     }
 
     fn run_into<M: Memory>(
