@@ -12,9 +12,9 @@ use Rattle.c_images.specs.declared.reader.WordsFault.{WordsFault}
 use Rattle.githoppu_c.specs.Codes.{fault_code}
 use Rattle.githoppu_c.specs.Objects.{IsProgramFault, IsProgramIn, IsQueueFault, IsQueueIn, IsStoreFault, IsStoreIn}
 
--- where the object of the region begins that the root names
+-- where the object of the region begins that the root names: behind the 8 words of the head, and those of the region before its object part
 abbrev pub object_start_in : List ℕ → ℕ
-object_start_in words = 1176 + (if format_in words == 2 then 0 else region_words (lines_in words) * root_replica_of (callers_in words) (root_in words))
+object_start_in words = 8 + 1168 + (if format_in words == 2 then 0 else region_words (lines_in words) * root_replica_of (callers_in words) (root_in words))
 
 -- the fingerprint that words of a program's object name: its first word
 abbrev pub fingerprint_in : List ℕ → ℕ

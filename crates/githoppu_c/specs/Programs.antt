@@ -40,30 +40,30 @@ RefusesProgram words instructions code = (((fault : ProgramFault) × IsFirstProg
 abbrev pub IsFuel : ℕ → Type 0
 IsFuel fuel = fuel ≤ 2 ^ 20
 
--- the number of a kind of fault
-abbrev pub program_fault_number : FaultKind → ℕ
-program_fault_number fault_kind.Length = 1
-program_fault_number fault_kind.Opcode = 2
-program_fault_number fault_kind.Unused = 3
-program_fault_number fault_kind.Register = 4
-program_fault_number fault_kind.Target = 5
-program_fault_number fault_kind.End = 6
-program_fault_number fault_kind.Helper = 7
-program_fault_number fault_kind.Map = 8
-program_fault_number fault_kind.Atomic = 9
-program_fault_number fault_kind.Packet = 10
-program_fault_number fault_kind.Memory = 11
+-- the number of a kind of fault that words may have; memory that runs out is no fault of theirs
+abbrev pub program_fault_number : FaultKind → Option ℕ
+program_fault_number fault_kind.Length = Some 1
+program_fault_number fault_kind.Opcode = Some 2
+program_fault_number fault_kind.Unused = Some 3
+program_fault_number fault_kind.Register = Some 4
+program_fault_number fault_kind.Target = Some 5
+program_fault_number fault_kind.End = Some 6
+program_fault_number fault_kind.Helper = Some 7
+program_fault_number fault_kind.Map = Some 8
+program_fault_number fault_kind.Atomic = Some 9
+program_fault_number fault_kind.Packet = Some 10
+program_fault_number fault_kind.Memory = None
 
 -- the number of why words are no program
-abbrev pub program_code : FaultKind → ℤ
-program_code fault_kind.Memory = pos 8
-program_code kind = pos 25
+abbrev pub refusal_code : FaultKind → ℤ
+refusal_code fault_kind.Memory = pos 8
+refusal_code kind = pos 25
 
 -- the first fault of words: 0 and 0 where there is none, and else its number and that of the instruction. Where memory ran out nothing is told.
 pub record TellsFirstFault (words : List ℕ) (instructions number at : ℕ) : Type 0 where
   pub fault : ProgramFault
   pub first : IsFirstProgramFault words instructions fault
-  pub number_is : number ≡ program_fault_number fault.kind
+  pub number_is : program_fault_number fault.kind ≡ Some number
   pub at_is : at ≡ fault.at
 
 abbrev pub TellsFault : List ℕ → ℕ → ℕ → ℕ → ℕ → ℕ → ℤ → Type 0

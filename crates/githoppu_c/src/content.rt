@@ -1,4 +1,4 @@
-//! What C has of the library.
+//! What stands behind a pointer that C holds, and what each call does with it.
 
 ghost use Rattle.std.specs.Prelude.{◌≡◌};
 ghost use Rattle.githoppu_c.specs.Again.{ComesBack, ContentComesBack, ContentTakenBack, TakenComesBack};

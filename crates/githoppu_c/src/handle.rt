@@ -1,4 +1,5 @@
-//! What C holds.
+//! A pointer as C hands it in.
+
 ghost use Rattle.std.specs.Prelude.{◌≡◌};
 ghost use Rattle.githoppu_c.specs.declared.content.AnyContent.{AnyContent};
 ghost use Rattle.githoppu_c.specs.Sealed.{content_coded, handle_owns};
@@ -8,7 +9,7 @@ use crate::raw_box::RawBox;
 use std::alloc::Global;
 use std::marker::Model;
 
-/// What C holds of the library: a pointer to a box.
+/// What C holds of the library: a pointer to the box of a content.
 #[repr(C)]
 #[derive(Drop)]
 pub struct Handle {

@@ -47,7 +47,7 @@ use crate::programs::{
 use crate::recovered_sessions::{recover_documents, recover_queue};
 use c_sessions::Tries;
 use cx_base::{OP_WORDS, OpWords};
-use program_code::{FaultKind, Program};
+use program_code::Program;
 use recovery::Outcome;
 use std::alloc::Global;
 use std::ptr;
@@ -134,13 +134,13 @@ pub extern "C" fn githoppu_program_fault(
             *at = 0;
             DONE
         }
-        Err(found) => match found.kind {
-            FaultKind::Memory => NO_MEMORY,
-            kind => {
-                *fault = program_fault_number(kind);
+        Err(found) => match program_fault_number(found.kind) {
+            Some(number) => {
+                *fault = number;
                 *at = found.at;
                 BAD_PROGRAM
             }
+            None => NO_MEMORY,
         },
     }
 }
@@ -168,7 +168,8 @@ pub extern "C" fn githoppu_program_fingerprint(
     }
 }
 
-/// Does an operation, in at most `tries` tries, which counts as 1 to 2^20. The reply is written where it is done. The session stands at `out` afterwards.
+/// Does an operation, in at most `tries` tries, which counts as 1 to 2^20. The reply is written where the call is done; else nothing is said of its words. The
+/// session stands at `out` afterwards.
 #[unsafe(no_mangle)]
 pub extern "C" fn githoppu_call(
     session: Handle,
@@ -186,7 +187,8 @@ pub extern "C" fn githoppu_call(
     code_of(called)
 }
 
-/// Drives the linked entry to its answer, in at most `tries` turns, which counts as 1 to 2^20. The session stands at `out` afterwards.
+/// Drives the linked entry to its answer, in at most `tries` turns, which counts as 1 to 2^20. The reply is written where the call is done; else nothing is said
+/// of its words. The session stands at `out` afterwards.
 #[unsafe(no_mangle)]
 pub extern "C" fn githoppu_finish(
     session: Handle,

@@ -110,7 +110,7 @@ fn object_of(
 {
     let program = match Program::of(alloc, words, instructions as usize) {
         Ok(program) => program,
-        Err(fault) => return Err(program_code(fault.kind)),
+        Err(fault) => return Err(refusal_code(fault.kind)),
     };
     match ProgramObject::of(program, lines, fuel, before) {
         Some(object) => Ok(object),
@@ -119,8 +119,8 @@ fn object_of(
 }
 
 /// The number of why words are no program.
-fn program_code(kind: FaultKind) -> i32
-    ensures { result ≡ spec.program_code kind }
+fn refusal_code(kind: FaultKind) -> i32
+    ensures { result ≡ spec.refusal_code kind }
 {
     match kind {
         FaultKind::Memory => NO_MEMORY,
@@ -128,21 +128,21 @@ fn program_code(kind: FaultKind) -> i32
     }
 }
 
-/// The number of a kind of fault.
-pub fn program_fault_number(kind: FaultKind) -> u64
+/// The number of a kind of fault that words may have. Memory that runs out is no fault of theirs, and has none.
+pub fn program_fault_number(kind: FaultKind) -> Option<u64>
     ensures { result ≡ spec.program_fault_number kind }
 {
     match kind {
-        FaultKind::Length => 1,
-        FaultKind::Opcode => 2,
-        FaultKind::Unused => 3,
-        FaultKind::Register => 4,
-        FaultKind::Target => 5,
-        FaultKind::End => 6,
-        FaultKind::Helper => 7,
-        FaultKind::Map => 8,
-        FaultKind::Atomic => 9,
-        FaultKind::Packet => 10,
-        FaultKind::Memory => 11,
+        FaultKind::Length => Some(1),
+        FaultKind::Opcode => Some(2),
+        FaultKind::Unused => Some(3),
+        FaultKind::Register => Some(4),
+        FaultKind::Target => Some(5),
+        FaultKind::End => Some(6),
+        FaultKind::Helper => Some(7),
+        FaultKind::Map => Some(8),
+        FaultKind::Atomic => Some(9),
+        FaultKind::Packet => Some(10),
+        FaultKind::Memory => None,
     }
 }
