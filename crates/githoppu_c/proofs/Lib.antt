@@ -4,6 +4,7 @@ pub mod Checkpointed
 pub mod Closed
 pub mod InBoxes
 pub mod Openings
+pub mod OtherBefore
 pub mod ProgramsMade
 pub mod Refused
 pub mod Replies

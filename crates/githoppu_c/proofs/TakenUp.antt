@@ -1,11 +1,14 @@
 -- Words that no check refuses are refused by no call, but for want of memory.
-use Rattle.std.proofs.Common.{◌≡◌, ◌<◌, ◌⊎◌, ◌∙◌, inl, inr, ap, arith, ℕ, ℤ, List, Option, Result, Err, Ok, pos, refl, subst, sym}
+use Rattle.std.proofs.Common.{◌≡◌, ◌<◌, ◌⊎◌, ◌∙◌, inl, inr, ap, arith, ℕ, ℤ, List, Result, Err, Ok, pos, refl, subst, sym}
 use Rattle.std.specs.Arc.{arc_value}
 use Rattle.std.specs.Prelude.{MatchResult}
 use Rattle.cx_base.specs.OldFormat.{OldFormat, no_old_format}
 use Rattle.cx_base.specs.declared.object.Object.{Ghosts}
 use Rattle.cx_core.specs.declared.entry.Base.{Base}
-use Rattle.cx_rule.specs.Running.{Running}
+use Rattle.cx_core.specs.Base.{LawfulBase}
+use Rattle.cx_rule.specs.Running.{IsRunning, Running, instance_at}
+use Rattle.cx_rule.specs.Seats.{Seated}
+use Rattle.cx_table.specs.Remains.{Leaves}
 use Rattle.cx_table.specs.declared.remains.Remains.{Remains}
 use Rattle.doc_store.specs.contracts.store.DocStoreObject.TheImpl.{ghosts as store_ghosts}
 use Rattle.doc_store.specs.declared.store.DocStore.{DocStore}
@@ -18,7 +21,8 @@ use Rattle.program_object.specs.declared.object.ProgramObject.{ProgramObject}
 use Rattle.program_object.specs.Meaning.{IsProgramImage}
 use Rattle.recovery.specs.declared.recovered_base.ImageFault.TheVariants.{Memory}
 use Rattle.c_images.specs.Replies.{HoldsReplies, IsDocumentReply, IsProgramReply, IsQueueReply, IsReplyOfKind, RepliesGoOn}
-use Rattle.c_images.specs.Taken.{base_at}
+use Rattle.c_images.specs.Taken.{IsWrittenOf, base_at}
+use Rattle.recovery.specs.Kept.{IsOpened}
 use Rattle.c_images.specs.Words.{IsHeadFault, IsHeaded, IsTakenUp, IsWordsFault, AreRemainsWritten, object_kind_in, lines_in}
 use Rattle.c_images.specs.declared.reader.WordsFault.{WordsFault}
 use Rattle.c_images.specs.declared.reader.WordsFault.TheVariants.{Head, Kind, Image, Numbers}
@@ -35,6 +39,7 @@ use Rattle.githoppu_c.specs.Recoveries.{AreFew, Recovers}
 use Rattle.githoppu_c.specs.declared.content.AnyContent.TheVariants.{Documents, Queue, Program}
 use Rattle.githoppu_c.specs.declared.content.Content.{Content}
 use Rattle.githoppu_c.specs.declared.content.Content.TheVariants.{Closed, Gone, Kept, Rest, Session}
+use Rattle.githoppu_c.proofs.OtherBefore.{kept_with, leaves_of, opened_with, running_with, with_before}
 use Rattle.githoppu_c.proofs.Replies.{queues_give_replies, stores_give_replies}
 
 -- Where the words are refused for want of memory alone, and the base that they say keeps replies, they are so with the replies looked at.
@@ -164,6 +169,7 @@ left_image o kind replies choice before words needed code r table closed opened 
     closed = closed;
     opened = opened;
     of = record { headed = (head w.2).0; kind_is = (head w.2).1; lines_are = w.2.head.lines_are ∙ closed.is.leaves.lines ∙ closed.is.opened.lines };
+    written = w.2;
     up = λ answer. up answer w.2;
     goes_on = λ base. goes base w.2;
   }
@@ -190,13 +196,28 @@ module _ (choice : ℕ) (words : List ℕ) where
             (λ base took. left.goes_on base took (queues_give_replies left.table.object.lines (omega (arith, enough, of))) left.opened);
       }
 
-  program_left : (r : Remains) → IsLeftImage program_ghosts 3 ProgramReplies choice words r → IsProgramAgain r choice words
-  program_left r left = record {
-    table = left.table;
-    closed = left.closed;
-    again = program_again words left.table.object.lines left.of.lines_are (IsKeptOfClosed program_ghosts left.table left.closed.seats r choice) left.table.object.version (old_in_lines left.table.object)
-        (left.of.headed, left.of.kind_is) left.up;
-  }
+  -- what is taken up of the image by choice of any service of a program's object that was closed
+  abbrev pub WrittenIsTakenUp : Type 0
+  WrittenIsTakenUp =
+      (table : Running ProgramObject) (seats : List Seated) (r : Remains) (answer : Result Base WordsFault) → IsOpened program_ghosts.line_count program_ghosts.lawful table
+      → Leaves table (instance_at table program_ghosts.step program_ghosts.only_reads) seats r → AreRemainsWritten 3 r choice words
+      → MatchResult answer (IsTakenUp (program_ghosts.version_number table.object) (program_ghosts.lawful table.object) (program_ghosts.old_format table.object) words)
+      (IsWordsFault (program_ghosts.version_number table.object) (program_ghosts.lawful table.object) (program_ghosts.old_format table.object) words)
+      → MatchResult answer (IsKeptOfClosed program_ghosts table seats r choice) (λ fault. fault ≡ Image Memory)
+
+  program_left : WrittenIsTakenUp → (r : Remains) → IsLeftImage program_ghosts 3 ProgramReplies choice words r → IsProgramAgain r choice words
+  program_left law r left =
+      let table = left.table in
+      let closed = left.closed in
+      record {
+        table = table;
+        closed = closed;
+        again = λ before other. program_again words table.object.lines left.of.lines_are (IsKeptOfClosed program_ghosts table closed.seats r choice) table.object.version (old_in_lines table.object before)
+            (left.of.headed, left.of.kind_is)
+            (λ answer told. kept_with before table other closed.seats r choice (λ fault. fault ≡ Image Memory) answer
+            (law (with_before before table other) closed.seats r answer (opened_with before table other closed.is.opened)
+            (leaves_of table (with_before before table other).object (instance_at table program_ghosts.step program_ghosts.only_reads) closed.seats r closed.is.leaves) left.written told));
+      }
 
   module _ (code : ℤ) where
     pub store_comes_back : (content : Content DocStore) → ContentComesBack store_ghosts 1 Document choice words code content → ComesBack (Documents content) choice words code
@@ -213,12 +234,13 @@ module _ (choice : ℕ) (words : List ℕ) where
     queue_comes_back (Rest rest) back = tt
     queue_comes_back Gone back = tt
 
-    pub program_comes_back : (content : Content ProgramObject) → ContentComesBack program_ghosts 3 ProgramReplies choice words code content → ComesBack (Program content) choice words code
-    program_comes_back (Closed r) back = λ done. program_left r (back done)
-    program_comes_back (Session session) back = tt
-    program_comes_back (Kept kept) back = tt
-    program_comes_back (Rest rest) back = tt
-    program_comes_back Gone back = tt
+    pub program_comes_back : WrittenIsTakenUp → (content : Content ProgramObject) → ContentComesBack program_ghosts 3 ProgramReplies choice words code content
+        → ComesBack (Program content) choice words code
+    program_comes_back law (Closed r) back = λ done. program_left law r (back done)
+    program_comes_back law (Session session) back = tt
+    program_comes_back law (Kept kept) back = tt
+    program_comes_back law (Rest rest) back = tt
+    program_comes_back law Gone back = tt
 
 -- ---- and one that a session took
 
@@ -241,11 +263,24 @@ module _ (words : List ℕ) where
             (λ b took. subst (λ (x : Base). HoldsReplies IsQueueReply x.words) (sym (image.up (Ok b) took)) holds);
       }
 
-  program_taken : (r : Running ProgramObject) → IsTakenImage program_ghosts 3 words r → IsTakenProgramAgain r words
-  program_taken r image = record {
-    has = image.has;
-    again = program_again words r.object.lines image.of.lines_are (λ b. b ≡ base_at image.has.place image.has.region) r.object.version (old_in_lines r.object) (image.of.headed, image.of.kind_is) image.up;
-  }
+  -- what is taken up of the image that a session took of any running service of a program's object
+  abbrev pub TakenIsTakenUp : Type 0
+  TakenIsTakenUp =
+      (table : Running ProgramObject) (place : ℕ) (region : List ℕ) (answer : Result Base WordsFault) → IsRunning program_ghosts.line_count program_ghosts.lawful table
+      → LawfulBase table.lines (program_ghosts.lawful table.object) (base_at place region) → IsWrittenOf 3 table.callers table.lines place region words
+      → MatchResult answer (IsTakenUp (program_ghosts.version_number table.object) (program_ghosts.lawful table.object) (program_ghosts.old_format table.object) words)
+      (IsWordsFault (program_ghosts.version_number table.object) (program_ghosts.lawful table.object) (program_ghosts.old_format table.object) words)
+      → MatchResult answer (λ base. base ≡ base_at place region) (λ fault. fault ≡ Image Memory)
+
+  program_taken : TakenIsTakenUp → (r : Running ProgramObject) → IsTakenImage program_ghosts 3 words r → IsTakenProgramAgain r words
+  program_taken law r image =
+      let has = image.has in
+      record {
+        has = has;
+        again = λ before other. program_again words r.object.lines image.of.lines_are (λ b. b ≡ base_at has.place has.region) r.object.version (old_in_lines r.object before)
+            (image.of.headed, image.of.kind_is)
+            (λ answer. law (with_before before r other) has.place has.region answer (running_with before r other image.running) has.base has.written);
+      }
 
   module _ (code : ℤ) where
     pub store_taken_back : (content : Content DocStore) → ContentTakenBack store_ghosts 1 words code content → TakenComesBack (Documents content) words code
@@ -262,9 +297,9 @@ module _ (words : List ℕ) where
     queue_taken_back (Rest rest) back = tt
     queue_taken_back Gone back = tt
 
-    pub program_taken_back : (content : Content ProgramObject) → ContentTakenBack program_ghosts 3 words code content → TakenComesBack (Program content) words code
-    program_taken_back (Session session) back = λ done. program_taken (arc_value session.service) (back done)
-    program_taken_back (Closed r) back = tt
-    program_taken_back (Kept kept) back = tt
-    program_taken_back (Rest rest) back = tt
-    program_taken_back Gone back = tt
+    pub program_taken_back : TakenIsTakenUp → (content : Content ProgramObject) → ContentTakenBack program_ghosts 3 words code content → TakenComesBack (Program content) words code
+    program_taken_back law (Session session) back = λ done. program_taken law (arc_value session.service) (back done)
+    program_taken_back law (Closed r) back = tt
+    program_taken_back law (Kept kept) back = tt
+    program_taken_back law (Rest rest) back = tt
+    program_taken_back law Gone back = tt

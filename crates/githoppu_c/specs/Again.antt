@@ -1,5 +1,5 @@
 -- What becomes of an image that the library wrote.
-use Rattle.std.specs.Prelude.{◌≡◌, ◌⊎◌, ◌<◌, ℕ, ℤ, pos, List, Result}
+use Rattle.std.specs.Prelude.{◌≡◌, ◌⊎◌, ◌<◌, ℕ, ℤ, pos, List, Option, Result, true}
 use Rattle.std.specs.Prelude.{MatchResult}
 use Rattle.std.specs.Arc.{arc_value}
 use Rattle.cx_base.specs.declared.object.Object.{Ghosts}
@@ -12,7 +12,7 @@ use Rattle.recovery.specs.Kept.{IsKeptBy}
 use Rattle.recovery.specs.declared.recovered_base.ImageFault.TheVariants.{Memory}
 use Rattle.c_images.specs.Replies.{HoldsReplies, IsDocumentReply, IsQueueReply, IsReplyOfKind, RepliesGoOn}
 use Rattle.c_images.specs.Taken.{IsWrittenOf, base_at}
-use Rattle.c_images.specs.Words.{IsHeaded, IsTakenUp, IsWordsFault, lines_in, object_kind_in}
+use Rattle.c_images.specs.Words.{AreRemainsWritten, IsHeaded, IsTakenUp, IsWordsFault, lines_in, object_kind_in}
 use Rattle.c_images.specs.declared.reader.WordsFault.{WordsFault}
 use Rattle.c_images.specs.declared.reader.WordsFault.TheVariants.{Image}
 use Rattle.c_images.specs.declared.replies.ReplyKind.{ReplyKind}
@@ -21,6 +21,7 @@ use Rattle.doc_store.specs.contracts.store.DocStoreObject.TheImpl.{ghosts as sto
 use Rattle.doc_store.specs.declared.store.DocStore.{DocStore}
 use Rattle.fifo_object.specs.contracts.fifo.FifoObject.TheImpl.{ghosts as queue_ghosts}
 use Rattle.fifo_object.specs.declared.fifo.Fifo.{Fifo}
+use Rattle.program_object.specs.Meaning.{is_other}
 use Rattle.program_object.specs.contracts.object.ProgramObjectObject.TheImpl.{ghosts as program_ghosts}
 use Rattle.program_object.specs.declared.object.ProgramObject.{ProgramObject}
 use Rattle.githoppu_c.specs.Codes.{IsOpenCode}
@@ -51,7 +52,8 @@ abbrev pub IsKeptOfClosed : {O : Type 0} → Ghosts O → Running O → List Sea
 IsKeptOfClosed o = IsKeptBy o.line_count o.lawful o.step
 
 -- the image by choice of a closed service is taken up again
-pub record IsAgain {O : Type 0} (o : Ghosts O) (kind : ℕ) (taken : Running O → Base → Type 0) (faulty : Running O → WordsFault → Type 0) (r : Remains) (choice : ℕ) (words : List ℕ) : Type 0 where
+pub record IsAgain {O : Type 0} (o : Ghosts O) (kind : ℕ) (taken : Running O → Base → Type 0) (faulty : Running O → WordsFault → Type 0)
+    (r : Remains) (choice : ℕ) (words : List ℕ) : Type 0 where
   pub table : Running O
   pub closed : IsClosedOf o.line_count o.lawful o.step o.only_reads table r
   pub again : IsTakenUpAgain kind (taken table) (faulty table) (IsKeptOfClosed o table closed.seats r choice) words
@@ -63,16 +65,22 @@ IsStoreAgain r choice words = IsAgain store_ghosts 1 (λ _. IsStoreIn words) (λ
 abbrev pub IsQueueAgain : Remains → ℕ → List ℕ → Type 0
 IsQueueAgain r choice words = IsAgain queue_ghosts 2 (λ _. IsQueueIn words) (λ _. IsQueueFault words) r choice words
 
-abbrev pub is_program_in : List ℕ → Running ProgramObject → Base → Type 0
-is_program_in words table = IsProgramIn table.object.version (old_in_lines table.object) words
+abbrev pub is_program_in : List ℕ → Running ProgramObject → Option ℕ → Base → Type 0
+is_program_in words table before = IsProgramIn table.object.version (old_in_lines table.object before) words
 
-abbrev pub is_program_fault : List ℕ → Running ProgramObject → WordsFault → Type 0
-is_program_fault words table = IsProgramFault table.object.version (old_in_lines table.object) words
+abbrev pub is_program_fault : List ℕ → Running ProgramObject → Option ℕ → WordsFault → Type 0
+is_program_fault words table before = IsProgramFault table.object.version (old_in_lines table.object before) words
+
+-- The image of a program's object is taken up again by its program, whichever other program's images that takes over, or none.
+abbrev pub IsAgainWithAny : (Base → Type 0) → List ℕ → Running ProgramObject → Type 0
+IsAgainWithAny kept words table =
+    (before : Option ℕ) → is_other before table.object.version ≡ true
+    → IsRecoveredAgain 3 (is_program_in words table before) (is_program_fault words table before) kept words
 
 pub record IsProgramAgain (r : Remains) (choice : ℕ) (words : List ℕ) : Type 0 where
   pub table : Running ProgramObject
   pub closed : IsClosedOf program_ghosts.line_count program_ghosts.lawful program_ghosts.step program_ghosts.only_reads table r
-  pub again : IsRecoveredAgain 3 (is_program_in words table) (is_program_fault words table) (IsKeptOfClosed program_ghosts table closed.seats r choice) words
+  pub again : IsAgainWithAny (IsKeptOfClosed program_ghosts table closed.seats r choice) words table
 
 -- so it is where it was written
 abbrev pub ComesBack : AnyContent → ℕ → List ℕ → ℤ → Type 0
@@ -90,7 +98,8 @@ pub record IsRegionIn {O : Type 0} (o : Ghosts O) (kind : ℕ) (r : Running O) (
 
 -- They are taken up again as that base where each result in it that has a number keeps a reply. Recovery looks at that too, and of a running service it is
 -- known once it is closed.
-pub record IsRegionAgain {O : Type 0} (o : Ghosts O) (kind : ℕ) (is : List ℕ → Type 0) (taken : Base → Type 0) (faulty : WordsFault → Type 0) (r : Running O) (words : List ℕ) : Type 0 where
+pub record IsRegionAgain {O : Type 0} (o : Ghosts O) (kind : ℕ) (is : List ℕ → Type 0) (taken : Base → Type 0) (faulty : WordsFault → Type 0)
+    (r : Running O) (words : List ℕ) : Type 0 where
   pub has : IsRegionIn o kind r words
   pub again : HoldsReplies is has.region → IsTakenUpAgain kind taken faulty (λ base. base ≡ base_at has.place has.region) words
 
@@ -103,7 +112,7 @@ IsTakenQueueAgain r words = IsRegionAgain queue_ghosts 2 IsQueueReply (IsQueueIn
 
 pub record IsTakenProgramAgain (r : Running ProgramObject) (words : List ℕ) : Type 0 where
   pub has : IsRegionIn program_ghosts 3 r words
-  pub again : IsRecoveredAgain 3 (is_program_in words r) (is_program_fault words r) (λ base. base ≡ base_at has.place has.region) words
+  pub again : IsAgainWithAny (λ base. base ≡ base_at has.place has.region) words r
 
 -- so it is where an image was taken
 abbrev pub TakenComesBack : AnyContent → List ℕ → ℤ → Type 0
@@ -132,6 +141,7 @@ pub record IsLeftImage {O : Type 0} (o : Ghosts O) (kind : ℕ) (replies : Reply
   pub closed : IsClosedOf o.line_count o.lawful o.step o.only_reads table r
   pub opened : KeepsReplies replies table
   pub of : IsOfKind kind (o.line_count table.object) words
+  pub written : AreRemainsWritten kind r choice words
   pub up : IsAnsweredBy o table.object words (IsKeptOfClosed o table closed.seats r choice)
   pub goes_on : (base : Base) → IsTakenUp (o.version_number table.object) (o.lawful table.object) (o.old_format table.object) words base
       → RepliesGoOn (IsReplyOfKind replies) (o.lawful table.object) (o.step table.object) table.base.words base.words

@@ -49,7 +49,8 @@ pub record TakesAs {O : Type 0} (o : Ghosts O) (kind : ℕ) (before after : Sess
 
 -- what is no session was called out of turn, and nothing is changed
 abbrev pub ContentCheckpoints : {O : Type 0} → Ghosts O → ℕ → List ℕ → List ℕ → ℕ → ℤ → Content O → Content O → Type 0
-ContentCheckpoints o kind words_before words needed code (ContentSession before) (ContentSession after) = TakesAs o kind before after words_before words needed code
+ContentCheckpoints o kind words_before words needed code (ContentSession before) (ContentSession after) =
+    TakesAs o kind before after words_before words needed code
 ContentCheckpoints o kind words_before words needed code (ContentSession before) after = ⊥
 ContentCheckpoints o kind words_before words needed code before after = (after ≡ before) × (words ≡ words_before) × (needed ≡ 0) × (code ≡ pos 6)
 

@@ -30,13 +30,14 @@ content_left (Missing rest) = Rest rest
 content_left (Shared rest) = Rest rest
 content_left closing = Gone
 
--- A session was closed, as its closing has it. A service with all its callers is closed, or memory runs out again and all is as it was; what the last session has is closed, as the closing of it has
--- it. What is no session, or is closed, is as it was.
+-- A session was closed, as its closing has it. A service with all its callers is closed, or memory runs out again and all is as it was; what the last session
+-- has is closed, as the closing of it has it. What is no session, or is closed, is as it was.
 abbrev pub ContentCloses : {O : Type 0} → Ghosts O → ℤ → Content O → Content O → Type 0
 ContentCloses {O = O} o code (Session session) after =
     (closing : Closing O) × Closes o.line_count o.lawful o.step o.only_reads session closing × (after ≡ content_left closing) × (code ≡ closing_code closing)
 ContentCloses o code (Kept kept) after =
-    ((remains : Remains) × IsClosedWith o.line_count o.lawful o.step o.only_reads kept.service (seats_of kept.callers.items) remains × (after ≡ Closed remains) × (code ≡ pos 0))
+    ((remains : Remains) × IsClosedWith o.line_count o.lawful o.step o.only_reads kept.service (seats_of kept.callers.items) remains
+    × (after ≡ Closed remains) × (code ≡ pos 0))
     ⊎ ((after ≡ Kept kept) × (code ≡ pos 8))
 ContentCloses {O = O} o code (Rest rest) after =
     (closing : Closing O) × ((r : Running O) (given : List Handed) → IsSessionRestOf r given rest → ClosesTo o.line_count o.lawful o.step o.only_reads r (arc_value rest.exit.handover) given closing)
@@ -53,7 +54,8 @@ remains_words r = image_size r.callers r.lines + 8
 -- what a closed service left, by choice: written where there are as many words as it takes, which is the number that is told; else nothing is written
 pub record WritesRemains (kind : ℕ) (r : Remains) (choice : ℕ) (before after : List ℕ) (needed : ℕ) (code : ℤ) : Type 0 where
   pub told : needed ≡ remains_words r
-  pub written : ((length before ≡ remains_words r) × (code ≡ pos 0) × AreRemainsWritten kind r choice after) ⊎ ((length before ≢ remains_words r) × (code ≡ pos 7) × (after ≡ before))
+  pub written : ((length before ≡ remains_words r) × (code ≡ pos 0) × AreRemainsWritten kind r choice after)
+      ⊎ ((length before ≢ remains_words r) × (code ≡ pos 7) × (after ≡ before))
 
 -- the image of what is closed; what is not closed has none
 abbrev pub ContentImages : {O : Type 0} → ℕ → ℕ → List ℕ → List ℕ → ℕ → ℤ → Content O → Type 0
@@ -62,4 +64,5 @@ ContentImages kind choice before after needed code content = (after ≡ before) 
 
 abbrev pub Images : AnyContent → ℕ → List ℕ → List ℕ → ℕ → ℤ → Type 0
 Images content choice before after needed code =
-    OfAny (ContentImages 1 choice before after needed code) (ContentImages 2 choice before after needed code) (ContentImages 3 choice before after needed code) content
+    OfAny (ContentImages 1 choice before after needed code) (ContentImages 2 choice before after needed code)
+    (ContentImages 3 choice before after needed code) content

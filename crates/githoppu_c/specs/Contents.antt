@@ -37,8 +37,8 @@ OfAny documents queue program (Queue content) = queue content
 OfAny documents queue program (Program content) = program content
 
 -- two contents of one object: of each of the three this holds
-abbrev pub OfBoth : (Content DocStore → Content DocStore → Type 0) → (Content Fifo → Content Fifo → Type 0) → (Content ProgramObject → Content ProgramObject → Type 0)
-    → AnyContent → AnyContent → Type 0
+abbrev pub OfBoth : (Content DocStore → Content DocStore → Type 0) → (Content Fifo → Content Fifo → Type 0)
+    → (Content ProgramObject → Content ProgramObject → Type 0) → AnyContent → AnyContent → Type 0
 OfBoth documents queue program (Documents before) (Documents after) = documents before after
 OfBoth documents queue program (Queue before) (Queue after) = queue before after
 OfBoth documents queue program (Program before) (Program after) = program before after
@@ -48,8 +48,8 @@ OfBoth documents queue program before after = ⊥
 abbrev pub KeepsReplies : {O : Type 0} → ReplyKind → Running O → Type 0
 KeepsReplies replies r = HoldsReplies (IsReplyOfKind replies) r.base.words
 
--- What C may call: a session that is ready, a service with all its callers that is still to be closed, or with those that the last session found, and what a closed one left. The service was opened
--- with results that keep replies.
+-- What C may call: a session that is ready, a service with all its callers that is still to be closed, or with those that the last session found, and what a
+-- closed one left. The service was opened with results that keep replies.
 abbrev pub IsContentCallable : {O : Type 0} → Ghosts O → ReplyKind → Content O → Type 0
 IsContentCallable o replies (Session session) = IsSessionReady session × KeepsReplies replies (arc_value session.service)
 IsContentCallable o replies (Kept kept) = AreSeats kept.service (seats_of kept.callers.items) × KeepsReplies replies kept.service
@@ -126,7 +126,8 @@ ContentCalls o op tries called reply before after = IsNoTurn before called after
 
 abbrev pub CallHasResult : List ℕ → ℕ → AnyContent → Called → AnyContent → List ℕ → Type 0
 CallHasResult op tries before called after reply =
-    OfBoth (ContentCalls store_ghosts op tries called reply) (ContentCalls queue_ghosts op tries called reply) (ContentCalls program_ghosts op tries called reply) before after
+    OfBoth (ContentCalls store_ghosts op tries called reply) (ContentCalls queue_ghosts op tries called reply)
+    (ContentCalls program_ghosts op tries called reply) before after
 
 -- the same of finishing, in this many turns
 abbrev pub ContentFinishes : {O : Type 0} → ℕ → Called → List ℕ → Content O → Content O → Type 0

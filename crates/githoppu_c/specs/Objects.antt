@@ -1,5 +1,5 @@
 -- What the definitions of sessions and of images say of the three objects.
-use Rattle.std.specs.Prelude.{◌≡◌, ◌⊎◌, ℕ, ℤ, pos, List}
+use Rattle.std.specs.Prelude.{◌≡◌, ◌⊎◌, ℕ, ℤ, pos, List, Option}
 use Rattle.cx_base.specs.OldFormat.{OldFormat, no_old_format}
 use Rattle.cx_base.specs.declared.object.Object.{Ghosts}
 use Rattle.cx_core.specs.declared.entry.Base.{Base}
@@ -55,9 +55,9 @@ IsProgramFault version old words =
     IsFaultOr IsProgramReply (IsTakenUp version (IsProgramImage (lines_in words) version) (old (lines_in words)) words)
     (IsWordsFault version (IsProgramImage (lines_in words) version) (old (lines_in words)) words)
 
--- what an object of a program has as its old format, in this many lines
-abbrev pub old_in_lines : ProgramObject → ℕ → OldFormat
-old_in_lines o lines = old_of (instructions_of o.program) (program_words o.program) lines o.fuel o.version o.before
+-- what the object of this one's program has as its old format that takes over images with this fingerprint, or none, in this many lines
+abbrev pub old_in_lines : ProgramObject → Option ℕ → ℕ → OldFormat
+old_in_lines o before lines = old_of (instructions_of o.program) (program_words o.program) lines o.fuel o.version before
 
 -- the same of any object, which may have other lines than the words say
 abbrev pub IsObjectIn : {O : Type 0} → Ghosts O → ReplyKind → O → List ℕ → Base → Type 0

@@ -23,7 +23,8 @@ fingerprint_in words = slice_index words (object_start_in words)
 -- the base that words say, of a store, of a queue or of the program that they name, as their head has it
 abbrev pub IsBaseOfKind : ℕ → List ℕ → Base → Type 0
 IsBaseOfKind kind words base =
-    ((kind ≡ 1) × IsStoreIn words base) ⊎ (((kind ≡ 2) × IsQueueIn words base) ⊎ ((kind ≡ 3) × IsProgramIn (fingerprint_in words) (λ _. no_old_format) words base))
+    ((kind ≡ 1) × IsStoreIn words base)
+    ⊎ (((kind ≡ 2) × IsQueueIn words base) ⊎ ((kind ≡ 3) × IsProgramIn (fingerprint_in words) (λ _. no_old_format) words base))
 
 abbrev pub IsBaseIn : List ℕ → Base → Type 0
 IsBaseIn words base = IsHeaded words × IsBaseOfKind (object_kind_in words) words base
@@ -31,7 +32,8 @@ IsBaseIn words base = IsHeaded words × IsBaseOfKind (object_kind_in words) word
 -- why there is none: they begin with no head, or are refused as those of their kind
 abbrev pub IsFaultOfKind : ℕ → List ℕ → WordsFault → Type 0
 IsFaultOfKind kind words fault =
-    ((kind ≡ 1) × IsStoreFault words fault) ⊎ (((kind ≡ 2) × IsQueueFault words fault) ⊎ ((kind ≡ 3) × IsProgramFault (fingerprint_in words) (λ _. no_old_format) words fault))
+    ((kind ≡ 1) × IsStoreFault words fault)
+    ⊎ (((kind ≡ 2) × IsQueueFault words fault) ⊎ ((kind ≡ 3) × IsProgramFault (fingerprint_in words) (λ _. no_old_format) words fault))
 
 abbrev pub IsBaseFault : List ℕ → WordsFault → Type 0
 IsBaseFault words fault = IsHeadFault (object_kind_in words) words fault ⊎ (IsHeaded words × IsFaultOfKind (object_kind_in words) words fault)

@@ -125,7 +125,8 @@ RefusesProgramRecovery words instructions fuel before image count =
     AfterProgram words instructions fuel count (λ decoded. RefusesWords 3 (IsFaultByProgram decoded words instructions fuel before image) image count)
 
 -- boxes of sessions of one service of the object of this program, which opens from a base that the image says
-pub record AreProgramsRecovered (words : List ℕ) (instructions fuel before : ℕ) (image : List ℕ) (count : ℕ) (boxes : List (Box AnyContent Global)) : Type 0 where
+pub record AreProgramsRecovered (words : List ℕ) (instructions fuel before : ℕ) (image : List ℕ) (count : ℕ) (boxes : List (Box AnyContent Global))
+    : Type 0 where
   pub is : IsProgram words instructions
   pub recovered : AreRecovered program_session (IsTakenByProgram is.0 words instructions fuel before image) count boxes
   pub fuel_fits : IsFuel fuel
@@ -136,4 +137,5 @@ pub record AreProgramsRecovered (words : List ℕ) (instructions fuel before : �
 abbrev pub RecoversProgram : List ℕ → ℕ → ℕ → ℕ → List ℕ → ℕ → ℤ → Type 0
 RecoversProgram words instructions fuel before image count =
     AfterProgram words instructions fuel count
-    (λ decoded. Recovers 3 (IsTakenByProgram decoded words instructions fuel before image) (IsFaultByProgram decoded words instructions fuel before image) image count)
+    (λ decoded. Recovers 3 (IsTakenByProgram decoded words instructions fuel before image)
+    (IsFaultByProgram decoded words instructions fuel before image) image count)

@@ -236,7 +236,10 @@ impl AnyContent {
         match self {
             AnyContent::Documents(content) => content.checkpoint(words, needed),
             AnyContent::Queue(content) => content.checkpoint(words, needed),
-            AnyContent::Program(content) => content.checkpoint(words, needed),
+            AnyContent::Program(content) => {
+                taken_images_are_taken_up::<ProgramObject>();
+                content.checkpoint(words, needed)
+            }
         }
     }
 
@@ -262,7 +265,10 @@ impl AnyContent {
         match self {
             AnyContent::Documents(content) => content.image(choice, words, needed),
             AnyContent::Queue(content) => content.image(choice, words, needed),
-            AnyContent::Program(content) => content.image(choice, words, needed),
+            AnyContent::Program(content) => {
+                written_images_are_taken_up::<ProgramObject>();
+                content.image(choice, words, needed)
+            }
         }
     }
 }

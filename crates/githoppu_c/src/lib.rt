@@ -187,8 +187,8 @@ pub extern "C" fn githoppu_call(
     code_of(called)
 }
 
-/// Drives the linked entry to its answer, in at most `tries` turns, which counts as 1 to 2^20. The reply is written where the call is done; else nothing is said
-/// of its words. The session stands at `out` afterwards.
+/// Drives the linked entry to its answer, in at most `tries` turns, which counts as 1 to 2^20. The reply is written where the call is done; else nothing is
+/// said of its words. The session stands at `out` afterwards.
 #[unsafe(no_mangle)]
 pub extern "C" fn githoppu_finish(
     session: Handle,

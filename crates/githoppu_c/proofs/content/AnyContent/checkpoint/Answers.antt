@@ -26,4 +26,5 @@ returns-in-Program-clause-back c =
     let after = c.checkpoint-in-Program.new.words in
     let code = to_z w32 (of_z w32 c.checkpoint-in-Program.result) in
     let back : ContentTakenBack program_ghosts 3 after code c.in-Program.content = search rules in
-    subst (λ (s : AnyContent). TakenComesBack s after code) (sym c.in-Program.is) (program_taken_back after code c.in-Program.content back)
+    subst (λ (s : AnyContent). TakenComesBack s after code) (sym c.in-Program.is) (program_taken_back after code
+    (λ table place region answer. c.taken_images_are_taken_up.ensures.taken_up table 3 place region after answer) c.in-Program.content back)

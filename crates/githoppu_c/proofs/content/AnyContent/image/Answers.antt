@@ -27,4 +27,5 @@ returns-in-Program-clause-back c =
     let after = c.image-in-Program.new.words in
     let code = to_z w32 (of_z w32 c.image-in-Program.result) in
     let back : ContentComesBack program_ghosts 3 ProgramReplies c.args.choice after code c.in-Program.content = search rules in
-    subst (λ (s : AnyContent). ComesBack s c.args.choice after code) (sym c.in-Program.is) (program_comes_back c.args.choice after code c.in-Program.content back)
+    subst (λ (s : AnyContent). ComesBack s c.args.choice after code) (sym c.in-Program.is) (program_comes_back c.args.choice after code
+    (λ table seats r answer. c.written_images_are_taken_up.ensures.taken_up table seats r 3 c.args.choice after answer) c.in-Program.content back)
