@@ -4,13 +4,13 @@
     aims.py PEERS [--doc FILE] [--rounds N] [--ms M] [--threads 1,2,4] [--sizes LINESxKEYS,..] [--updates put|mixed]
 
 Build the service first: python3 bench/build.py service_bench
-PEERS is a program that takes `bench --contestants ..`: `cx` and a mutex over the same document store, std alone. `+limit` has it count each
-step and test a limit, `+bulk` count a loop of steps once, and `+lag` free cells no earlier than it must.
+PEERS is a program that takes `bench --contestants ..`: `cx` and a mutex over the same document store, std alone; it is not in this repository. `+limit` has
+it count each step and test a limit, `+bulk` count a loop of steps once, and `+lag` free cells no earlier than it must.
 
 In each round the service and the other run in turn, each for about M milliseconds, and who begins changes from round to round. Updates put a document of
-32 bytes at a key that is there; with `--updates mixed` those of the other also delete documents and add to numbers. A figure is the median over rounds of the ratio within a round: of the processor time of a call, or of the
-calls a second of all threads together. With `--doc docs/PERFORMANCE.md` the section stands at the end of that page, in the place of an older
-one; else it is printed. All takes some 4 minutes.
+32 bytes at a key that is there; with `--updates mixed` those of the other also delete documents and add to numbers. A figure is the median over rounds of
+the ratio within a round: of the processor time of a call, or of the calls a second of all threads together. With `--doc docs/PERFORMANCE.md` the section
+stands at the end of that page, in the place of an older one; else it is printed. All takes some 4 minutes.
 
 Example: python3 bench/aims.py peers/target/release/peers --rounds 1 --threads 1
 Status 0 where each aim that was measured stands, 3 where one does not; 1 where a program is not there, 2 where the words are others.

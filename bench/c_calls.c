@@ -1,6 +1,6 @@
-/* The processor time of a call through the C library, by one thread alone: an addition and a read of a store; beside it a sorted table of keys and numbers under
- * a mutex, and a table of keys and documents of SQLite in memory. Processor time repeats on a machine that does other work too; calls a second of several
- * threads do not (bench/sessions.c has those).
+/* The processor time of a call through the C library, by one thread alone: an addition and a read of a store; beside it a sorted table of keys and numbers
+ * under a mutex, and a table of keys and documents of SQLite in memory. Processor time repeats on a machine that does other work too; calls a second of
+ * several threads do not (bench/sessions.c has those).
  *
  *   cc -O2 -std=c11 -D_POSIX_C_SOURCE=200809L bench/c_calls.c $(pkg-config --cflags --libs githoppu) -lsqlite3 -o /tmp/c_calls
  *   /tmp/c_calls

@@ -1,7 +1,8 @@
 /* A checkpoint through the library, beside a plain copy of as many words: in a row, with the words in the caches, and each after 128 MiB of other memory were
  * written, without them. Processor time of the thread, the least and the median of 60.
  *
- *   cc -O2 -std=c11 -D_POSIX_C_SOURCE=200809L -Iinclude bench/checkpoints.c crates/githoppu_c/out/libgithoppu_c.a $KIT/c/liblibc_c.a -pthread -o /tmp/checkpoints
+ *   tools/install $PREFIX
+ *   cc -O2 -std=c11 -D_POSIX_C_SOURCE=200809L -I$PREFIX/include bench/checkpoints.c $PREFIX/lib/libgithoppu.a -pthread -o /tmp/checkpoints
  *   /tmp/checkpoints
  *
  * A store of 8 sessions, of 1,024 and of 16,384 lines. */
@@ -38,7 +39,7 @@ static void *room(size_t size) {
 }
 
 static void measure(uint64_t lines, int cold) {
-    void *sessions[8];
+    githoppu_session *sessions[8];
     githoppu_words reply;
     uint64_t count;
     double taken[ROUNDS], copied[ROUNDS];

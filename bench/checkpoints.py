@@ -5,8 +5,8 @@
 
 Build the programs first: python3 bench/build.py service_bench; cd bench/peers && cargo build --release --offline
 One caller takes a checkpoint every 100 ms, alone, and in turn with it the peer makes plain copies of as many atomic words: one every 100 ms, whose
-words have left the nearest caches as those of a checkpoint have, and then one after another. The quickest of each counts. Then callers on one thread and on three update documents of 32 bytes at 100 keys, with and without a caller more that takes a
-checkpoint every 100 ms; the medians of the rounds stand.
+words have left the nearest caches as those of a checkpoint have, and then one after another. The quickest of each counts. Then callers on one thread and
+on three update documents of 32 bytes at 100 keys, with and without a caller more that takes a checkpoint every 100 ms; the medians of the rounds stand.
 
 It takes two minutes.
 Example: checkpoints.py --rounds 5

@@ -338,13 +338,14 @@ class Versions(unittest.TestCase):
         self.assertEqual([1, 2, 3, 2, 3, 1, 3, 1, 2], began)
         self.assertEqual({"a": 3, "b": 3, "c": 3}, {name: len(slices) for name, slices in found.items()})
 
-    def test_a_shared_core_and_a_part_of_the_time_are_left_out(self):
-        found = {name: self.slices(call) + self.slices(7.0, turn=2.0) + self.slices(9.0, others=-1) for name, call in (("a", 3.0), ("b", 4.0))}
-        self.assertEqual({0: {"a": 3.0, "b": 4.0}}, versions.medians(found, self.mode))
+    def test_a_shared_core_has_a_row_of_its_own_and_a_part_of_the_time_none(self):
+        found = {name: self.slices(call) + self.slices(2 * call, turn=2.0) + self.slices(9.0, others=-1) for name, call in (("a", 3.0), ("b", 4.0))}
+        owed = {(core_probe.ALONE, 0): {"a": 3.0, "b": 4.0}, (core_probe.SHARED, 0): {"a": 6.0, "b": 8.0}}
+        self.assertEqual(owed, versions.medians(found, self.mode))
 
     def test_rows_are_by_how_many_others_ran_and_want_slices_of_each_version(self):
         found = {"a": self.slices(3.0) + self.slices(5.0, others=2), "b": self.slices(4.0) + self.slices(6.0, others=2)[1:]}
-        self.assertEqual([0], list(versions.medians(found, self.mode)))
+        self.assertEqual([(core_probe.ALONE, 0)], list(versions.medians(found, self.mode)))
 
     def test_rows_are_ratios_to_the_last_version(self):
         self.assertEqual("| 1,024 | put | 750 | 900 | 1,000 | 0.75, 0.90 |", versions.row(["1,024", "put"], {"a": 750.0, "b": 900.0, "c": 1000.0}))

@@ -8,15 +8,17 @@ without a proof: as `tools/build --library` builds it, and with what `rt try` ad
 is near what the proved library is. Compare like with like: revisions with revisions, and folders with folders.
 
 bench/calls.c makes the calls: 100 documents of 32 bytes, by one caller and by four, in slices, before and after each of which a loop over registers
-(core_probe.h) tells whether the other hardware thread of the core computed. What is printed are medians over the slices in which it did not, and what
-each version takes to the last one. Of four callers there is a row for how many of the other three ran all the time beside one. Which version begins
-changes from round to round. --instructions counts instructions by valgrind's callgrind, of one caller. --keep has the builds in a folder, and takes from
-there what an earlier run built.
+(core_probe.h) tells whether the other hardware thread of the core computed. What is printed are medians over the slices in which it did not (`alone`), and
+over those in which it did (`shared`), and what each version takes to the last one. A slice in which that changed is left out, and so is a row for which a
+version has under 40 slices. Of four callers there is a row for how many of the other three ran all the time beside one. Which version begins changes from
+round to round. --instructions counts instructions by valgrind's callgrind, of one caller. --keep has the builds in a folder, and takes from there what an
+earlier run built.
 
 Example: python3 bench/versions.py --rounds 9 --keep /tmp/versions HEAD 98da96e7
 Status 0 where the figures are printed, 1 where a version is not built or a store refused an operation, 2 where the words are others.
 """
 import argparse
+import itertools
 import os
 import re
 import shutil
@@ -44,6 +46,8 @@ ALONE, FOUR = (1, 1_000, 100), (4, 1_000, 20)
 COUNTED_CALLS = 2_000
 # fewer slices tell nothing
 LEAST_SLICES = 40
+# the modes of the core that have rows
+KINDS = (core_probe.ALONE, core_probe.SHARED)
 
 
 class NotMeasured(Exception):
@@ -142,17 +146,17 @@ def least_turn(found):
 
 
 def medians(found, mode):
-    """Of each number of others the median of a call by version, where each version has slices enough in which the core was its thread's own."""
+    """Of each mode of the core and each number of others the median of a call by version, where each version has slices enough."""
     least = least_turn(found)
     made = {}
-    for others in range(4):
+    for kind, others in itertools.product(KINDS, range(4)):
         times = {}
         for name, slices in found.items():
-            kept = [each.call for each in slices if each.others == others and mode(least, each.before, each.after) == core_probe.ALONE]
+            kept = [each.call for each in slices if each.others == others and mode(least, each.before, each.after) == kind]
             if len(kept) >= LEAST_SLICES:
                 times[name] = statistics.median(kept)
         if len(times) == len(found):
-            made[others] = times
+            made[kind, others] = times
     return made
 
 
@@ -176,14 +180,14 @@ def count_instructions(program, lines, reads, room):
 
 
 def print_table(programs, options, mode):
-    print("| Lines | Callers | Others that run | Call | " + " | ".join(programs) + " | To the last |")
-    print("| --: | --: | --: | -- |" + " --: |" * len(programs) + " --: |")
+    print("| Lines | Callers | Others that run | Core | Call | " + " | ".join(programs) + " | To the last |")
+    print("| --: | --: | --: | -- | -- |" + " --: |" * len(programs) + " --: |")
     for lines in LINES:
         for form in (ALONE, FOUR):
             for reads in READS:
                 found = rounds_of(programs, lines, reads, form, options.rounds)
-                for others, times in medians(found, mode).items():
-                    print(row([f"{lines:,}", str(form[0]), str(others), call_of(reads)], times), flush=True)
+                for (kind, others), times in medians(found, mode).items():
+                    print(row([f"{lines:,}", str(form[0]), str(others), kind, call_of(reads)], times), flush=True)
 
 
 def print_instructions(programs, room):
@@ -218,7 +222,7 @@ def main(words):
             programs = {version: room / f"calls{at}" for at, version in enumerate(options.versions)}
             for version, program in programs.items():
                 compile_calls(installed(version, options.keep or room), program)
-            print(f"Medians of nanoseconds of processor time over the slices whose core was one caller's own, {options.rounds} rounds; {machine()}\n")
+            print(f"Medians of nanoseconds of processor time over the slices of each mode of the core, {options.rounds} rounds; {machine()}\n")
             print_table(programs, options, mode)
             if options.instructions:
                 print_instructions(programs, room)
