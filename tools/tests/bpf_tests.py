@@ -65,9 +65,12 @@ TAKEN = [
     (0x6E, 2**31, 1, False), (0xAD, 1, 2**63, True), (0xCD, 1, 2**63, False), (0xCE, 2**31, 1, True), (0xBD, 5, 5, True), (0xDD, 5, 5, True),
     (0x4D, 6, 1, False), (0x4D, 6, 2, True), (0x4E, 2**32, 2**32, False), (0x3D, 5, 5, True), (0x7D, 2**64 - 1, 0, False),
 ]
+# what is refused, and how; LINE is that of the text
 REFUSED = [
-    ("static uint64_t calls; GITHOPPU_RUN { return ++calls; }", ".bss has 8 bytes, a variable outside functions: keep it in the state"),
-    ("uint64_t other(void); GITHOPPU_RUN { return other(); }", "other is of another file"),
+    ("static uint64_t calls; GITHOPPU_RUN { return ++calls; }", "LINE: calls is a variable outside functions: keep it in the state"),
+    ("static uint64_t one = 1, two = 2; GITHOPPU_RUN { return two += request[1]; }", "LINE: two is a variable outside functions: keep it in the state"),
+    ("uint64_t unused = 1; GITHOPPU_RUN { return 1; }", "unused is a variable outside functions: keep it in the state"),
+    ("uint64_t other(void); GITHOPPU_RUN { return other(); }", "LINE: other is of another file"),
     ("uint64_t run(void) { return 1; }", "there is no function githoppu_run"),
     ("GITHOPPU_RUN { return (uint64_t)((double)request[1] * 2); }", "clang refuses it"),
     ("GITHOPPU_RUN { return (uint64_t)((int64_t)request[1] / (int64_t)request[2]); }", "wrong.c:2: a division of signed numbers"),
@@ -164,13 +167,14 @@ class Programs(unittest.TestCase):
                     subprocess.run(words, input='#include "it.h"\nint main(void) { return of_mine.count == 2; }\n', text=True, check=True)
 
     def test_what_is_no_program_is_refused_in_words(self):
+        line = "wrong.c:2" if shutil.which("llvm-objdump") else "in githoppu_run"
         for text, reason in REFUSED:
             with self.subTest(reason), tempfile.TemporaryDirectory() as folder:
                 source = Path(folder) / "wrong.c"
                 source.write_text(f'#include "githoppu_program.h"\n{text}\n', encoding="utf-8")
                 done = tool(source)
                 self.assertEqual(1, done.returncode)
-                self.assertIn(reason, done.stderr)
+                self.assertIn(reason.replace("LINE", line), done.stderr)
 
     def test_names_that_the_other_language_has_not_are_refused(self):
         for name, ending, named, reason in (
