@@ -168,4 +168,7 @@ class Linker:
 
 def link(data, line_of=lambda offset: None):
     """The program of an object file; `line_of` names the source line of an offset in .text."""
-    return Linker(data, line_of).linked()
+    try:
+        return Linker(data, line_of).linked()
+    except (struct.error, IndexError, ValueError, StopIteration) as error:
+        raise NoProgram("the object file is cut off, or parts of it are missing") from error
