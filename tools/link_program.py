@@ -9,7 +9,7 @@ from dataclasses import dataclass
 CONSTANTS = 5 << 32
 ENTRY = "githoppu_run"
 MACHINE_BPF, RELOCATIONS_WITH_ADDEND, RELOCATIONS, SYMBOLS, NO_BITS = 247, 4, 9, 2, 8
-ALLOCATED, FUNCTION, SECTION = 2, 2, 3
+ALLOCATED, VARIABLE, FUNCTION, SECTION = 2, 1, 2, 3
 ADDRESS_OF_64_BITS, CALL = 1, 10
 
 
@@ -76,14 +76,6 @@ def symbols_of(sections):
     return [Symbol(text_at(sections[table.link].data, name), info & 15, section, value) for name, info, _, section, value, _ in entries]
 
 
-def refuse_variables(sections):
-    """Variables, and sections of one's own, are refused."""
-    for it in sections:
-        if it.length and it.flags & ALLOCATED and it.name != ".text" and not it.name.startswith(".rodata"):
-            what = "a variable outside functions: keep it in the state" if it.name.startswith((".data", ".bss")) else "a section of its own"
-            raise NoProgram(f"{it.name} has {it.length} bytes, {what}")
-
-
 def constants_of(sections):
     """All constants, and where those of each section begin."""
     constants, places = bytearray(), {}
@@ -101,9 +93,9 @@ class Linker:
     def __init__(self, data, line_of):
         self.sections, self.line_of = sections_of(data), line_of
         self.symbols = symbols_of(self.sections)
-        refuse_variables(self.sections)
         self.text = next(number for number, it in enumerate(self.sections) if it.name == ".text")
         self.code = bytearray(self.sections[self.text].data)
+        self.refuse_variables()
         self.constants, self.places = constants_of(self.sections)
         entries = [it.value for it in self.symbols if it.name == ENTRY and it.section == self.text]
         if not entries:
@@ -117,6 +109,32 @@ class Linker:
             return line
         functions = [it for it in self.symbols if it.section == self.text and it.kind == FUNCTION and it.value <= offset]
         return f"instruction {offset // 8}" + (f", in {max(functions, key=lambda it: it.value).name}" if functions else "")
+
+    def places_to_fill(self):
+        """What the compiler left to the linker: which section, at which offset, and which symbol."""
+        for it in self.sections:
+            if it.kind in (RELOCATIONS_WITH_ADDEND, RELOCATIONS):
+                for at in range(0, it.length, 24 if it.kind == RELOCATIONS_WITH_ADDEND else 16):
+                    yield (it.info, *struct.unpack_from("<QQ", it.data, at))
+
+    def refuse_variables(self):
+        """Variables, and sections of one's own, are refused: by the line of the first instruction that uses one, where there is any."""
+        for number, it in enumerate(self.sections):
+            if not it.length or not it.flags & ALLOCATED or it.name == ".text" or it.name.startswith(".rodata"):
+                continue
+            if not it.name.startswith((".data", ".bss")):
+                raise NoProgram(f"{it.name} has {it.length} bytes, a section of its own")
+            uses = [(offset, info) for section, offset, info in self.places_to_fill() if section == self.text and self.symbols[info >> 32].section == number]
+            line = f"{self.where(min(uses)[0])}: " if uses else ""
+            raise NoProgram(f"{line}{self.variable(number, *min(uses, default=(None, 0)))} is a variable outside functions: keep it in the state")
+
+    def variable(self, section, offset, info):
+        """The name of the variable that an instruction uses, or of the first one of a section."""
+        symbol, at = self.symbols[info >> 32], 0
+        if offset is not None:
+            at = symbol.value + (struct.unpack_from("<I", self.code, offset + 4)[0] if symbol.kind == SECTION else 0)
+        before = [it for it in self.symbols if it.section == section and it.kind == VARIABLE and it.value <= at]
+        return max(before, key=lambda it: it.value).name if before else self.sections[section].name
 
     def fill_in(self, offset, info):
         """One place that the compiler left to the linker."""
@@ -137,16 +155,12 @@ class Linker:
 
     def linked(self):
         """The program."""
-        for it in self.sections:
-            if it.kind not in (RELOCATIONS_WITH_ADDEND, RELOCATIONS):
-                continue
-            if it.info != self.text:
-                if self.sections[it.info].flags & ALLOCATED:
-                    name = self.sections[it.info].name
-                    raise NoProgram(f"{name} has addresses in it, as a table of pointers or of a switch: compile with -fno-jump-tables, or use numbers")
-                continue
-            for at in range(0, it.length, 24 if it.kind == RELOCATIONS_WITH_ADDEND else 16):
-                self.fill_in(*struct.unpack_from("<QQ", it.data, at))
+        for number, offset, info in self.places_to_fill():
+            if number == self.text:
+                self.fill_in(offset, info)
+            elif self.sections[number].flags & ALLOCATED:
+                name = self.sections[number].name
+                raise NoProgram(f"{name} has addresses in it, as a table of pointers or of a switch: compile with -fno-jump-tables, or use numbers")
         whole = self.head + bytes(self.code) + bytes(self.constants)
         words = list(struct.unpack(f"<{len(whole) // 8}Q", whole))
         return Linked(words, (len(self.head) + len(self.code)) // 8, len(self.head) // 8)
@@ -154,4 +168,7 @@ class Linker:
 
 def link(data, line_of=lambda offset: None):
     """The program of an object file; `line_of` names the source line of an offset in .text."""
-    return Linker(data, line_of).linked()
+    try:
+        return Linker(data, line_of).linked()
+    except (struct.error, IndexError, ValueError, StopIteration) as error:
+        raise NoProgram("the object file is cut off, or parts of it are missing") from error

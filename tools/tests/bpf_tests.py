@@ -1,5 +1,7 @@
 """Tests of the second interpreter of programs, of the linker, and of tools/program."""
 import itertools
+import random
+import re
 import shutil
 import struct
 import subprocess
@@ -8,6 +10,8 @@ import unittest
 from pathlib import Path
 
 import bpf_model
+import link_program
+import rust_object
 
 TOOLS = Path(__file__).resolve().parent.parent
 ROOT = TOOLS.parent
@@ -65,9 +69,12 @@ TAKEN = [
     (0x6E, 2**31, 1, False), (0xAD, 1, 2**63, True), (0xCD, 1, 2**63, False), (0xCE, 2**31, 1, True), (0xBD, 5, 5, True), (0xDD, 5, 5, True),
     (0x4D, 6, 1, False), (0x4D, 6, 2, True), (0x4E, 2**32, 2**32, False), (0x3D, 5, 5, True), (0x7D, 2**64 - 1, 0, False),
 ]
+# what is refused, and how; LINE is that of the text
 REFUSED = [
-    ("static uint64_t calls; GITHOPPU_RUN { return ++calls; }", ".bss has 8 bytes, a variable outside functions: keep it in the state"),
-    ("uint64_t other(void); GITHOPPU_RUN { return other(); }", "other is of another file"),
+    ("static uint64_t calls; GITHOPPU_RUN { return ++calls; }", "LINE: calls is a variable outside functions: keep it in the state"),
+    ("static uint64_t one = 1, two = 2; GITHOPPU_RUN { return two += request[1]; }", "LINE: two is a variable outside functions: keep it in the state"),
+    ("uint64_t unused = 1; GITHOPPU_RUN { return 1; }", "unused is a variable outside functions: keep it in the state"),
+    ("uint64_t other(void); GITHOPPU_RUN { return other(); }", "LINE: other is of another file"),
     ("uint64_t run(void) { return 1; }", "there is no function githoppu_run"),
     ("GITHOPPU_RUN { return (uint64_t)((double)request[1] * 2); }", "clang refuses it"),
     ("GITHOPPU_RUN { return (uint64_t)((int64_t)request[1] / (int64_t)request[2]); }", "wrong.c:2: a division of signed numbers"),
@@ -164,13 +171,14 @@ class Programs(unittest.TestCase):
                     subprocess.run(words, input='#include "it.h"\nint main(void) { return of_mine.count == 2; }\n', text=True, check=True)
 
     def test_what_is_no_program_is_refused_in_words(self):
+        line = "wrong.c:2" if shutil.which("llvm-objdump") else "in githoppu_run"
         for text, reason in REFUSED:
             with self.subTest(reason), tempfile.TemporaryDirectory() as folder:
                 source = Path(folder) / "wrong.c"
                 source.write_text(f'#include "githoppu_program.h"\n{text}\n', encoding="utf-8")
                 done = tool(source)
                 self.assertEqual(1, done.returncode)
-                self.assertIn(reason, done.stderr)
+                self.assertIn(reason.replace("LINE", line), done.stderr)
 
     def test_names_that_the_other_language_has_not_are_refused(self):
         for name, ending, named, reason in (
@@ -209,6 +217,48 @@ class Programs(unittest.TestCase):
             self.assertEqual((0, ""), (done.returncode, done.stderr))
             count, *words = map(int, to.read_text(encoding="utf-8").split())
         return bpf_model.Object(words, count, 64, 1000)
+
+    def test_an_object_file_is_linked_alone(self):
+        with tempfile.TemporaryDirectory() as folder:
+            source, made = ROOT / "examples" / "programs" / "lru_cache.c", Path(folder) / "it.o"
+            flags = ["-O2", "-g", "-target", "bpf", "-mcpu=v3", "-ffreestanding", "-fno-builtin", f"-I{ROOT / 'include'}"]
+            subprocess.run(["clang", *flags, "-c", source, "-o", made], check=True)
+            for path, to in ((source, "of_c"), (made, "of_o")):
+                done = tool(path, "-o", Path(folder) / to)
+                self.assertEqual((0, ""), (done.returncode, done.stderr))
+            self.assertEqual(*((Path(folder) / to).read_text(encoding="utf-8") for to in ("of_c", "of_o")))
+            self.assertEqual(2, tool(made, "--test").returncode)
+            # what is cut off, or is no object file, is refused in words
+            data = made.read_bytes()
+            for cut in range(0, len(data), len(data) // 60):
+                with self.assertRaises(link_program.NoProgram):
+                    link_program.link(data[:cut])
+            (Path(folder) / "text.o").write_text("no object file", encoding="utf-8")
+            for name, reason in (("none.o", "it cannot be read"), ("text.o", "this is no object file for BPF")):
+                done = tool(Path(folder) / name)
+                self.assertEqual(1, done.returncode)
+                self.assertIn(reason, done.stderr)
+
+    def test_a_structure_in_rust_answers_as_the_one_in_c(self):
+        if rust_object.core_source() is None:
+            self.skipTest("there is no rustc with the source of its core (rust-src)")
+        with tempfile.TemporaryDirectory() as folder:
+            made, source = Path(folder) / "stack.o", Path(folder) / "stack.c"
+            subprocess.run([TOOLS / "tests" / "rust_object.py", ROOT / "examples" / "programs" / "stack.rs", made], check=True, stdout=subprocess.DEVNULL)
+            source.write_text(re.search(r"^```c\n(.*?)^```$", (ROOT / "docs" / "OBJECTS_IN_C.md").read_text("utf-8"), re.M | re.S)[1], encoding="utf-8")
+            both = []
+            for path in (made, source):
+                self.assertEqual(0, tool(path, "-o", path.with_suffix(".words")).returncode)
+                count, *words = map(int, path.with_suffix(".words").read_text(encoding="utf-8").split())
+                both.append(bpf_model.Object(words, count, 1024, 1000))
+        draw, seen = random.Random(1), set()
+        for number in range(3_000):
+            request = [draw.choice([2, 2, 4, 7] if number < 2_000 else [2, 4, 4, 4, 9]), draw.getrandbits(64)]
+            replies = [it.call(request) for it in both]
+            self.assertEqual(*replies)
+            self.assertEqual(*(it.image[8:] for it in both))
+            seen.add(tuple(replies[0][:2]))
+        self.assertEqual({(1, returned) for returned in range(1, 7)}, seen)
 
     def test_a_fault_names_its_line(self):
         with tempfile.TemporaryDirectory() as folder:

@@ -220,6 +220,7 @@ class BadPrograms(unittest.TestCase):
 @unittest.skipUnless(shutil.which("clang"), "there is no clang")
 class DataStructures(unittest.TestCase):
     def test_turned_words(self):
+        """Each word of each structure, with a bit of it turned."""
         draw = random.Random(3)
         with tempfile.TemporaryDirectory() as folder:
             for source in SOURCES:
@@ -227,9 +228,9 @@ class DataStructures(unittest.TestCase):
                 subprocess.run([ROOT / "tools" / "program", source, "-o", path], check=True, stdout=subprocess.DEVNULL)
                 program = Program.load(path)
                 words, taken = list(program.words), 0
-                for _ in range(150):
+                for at in range(len(words)):
                     turned = list(words)
-                    turned[draw.randrange(len(words))] ^= 1 << draw.randrange(64)
+                    turned[at] ^= 1 << draw.randrange(64)
                     requests = [(draw.choice([2, 2, 4, 6, 7, 9]), draw.randrange(20), draw.randrange(5), draw.randrange(9) << 56) for _ in range(12)]
                     taken += beside(turned, program.instructions, requests)
                 self.assertGreater(taken, 10)

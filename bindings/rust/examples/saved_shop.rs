@@ -48,10 +48,14 @@ fn learned(path: &Path, saved: &Sales) -> Result<(Sales, Vec<Session>), FileErro
 }
 
 fn sell(mut session: Session, answered: &AtomicU64) {
-    while let Ok(Add::Sum(_)) = session.add("sold", 1) {
-        answered.fetch_add(1, Ordering::SeqCst);
+    loop {
+        match session.add("sold", 1) {
+            Ok(Add::Sum(_)) => answered.fetch_add(1, Ordering::SeqCst),
+            // the others were in the way for longer than `PATIENCE`, as on a machine that does much else: nothing was sold, and it can be tried again
+            Err(githoppu::Error::Busy) => continue,
+            other => panic!("a sale has no sum: {other:?}"),
+        };
     }
-    panic!("a sale has no sum");
 }
 
 /// Sells and saves until it is killed. After each save it tells the sales that were answered before it.
