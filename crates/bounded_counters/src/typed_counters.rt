@@ -56,6 +56,4 @@ impl TypedObject for Counters {
 
 fn is_below(number: u64)
     ensures { number < 2 ^ 64 }
-{
-    let _ = number;
-}
+{}

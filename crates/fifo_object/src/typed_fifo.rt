@@ -60,12 +60,8 @@ impl TypedObject for Fifo {
 
 fn are_bytes(text: &[u8])
     ensures { All (λ b. b < 256) text.now }
-{
-    let _ = text;
-}
+{}
 
 fn is_below(number: u64)
     ensures { number < 2 ^ 64 }
-{
-    let _ = number;
-}
+{}
