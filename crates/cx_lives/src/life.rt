@@ -83,7 +83,7 @@ pub fn run_life<O: TypedObject + Sync, R: Threads + Wait + Sync, G: Gate + Sync>
     Ok((told, remains))
 }
 
-// The laws of a service's object.
+/// The laws of a service's object.
 fn object_is_meant<O: TypedObject>(service: &Service<O>)
     ensures { IsMeant O.Object service.now.object (O.meaning service.now.object) }
 {

@@ -74,7 +74,7 @@ pub(crate) fn live<O: TypedObject + Sync, R: Threads + Wait + Sync, G: Gate + Sy
     Ok((told, remains))
 }
 
-// The words of an operation that only reads.
+/// The words of an operation that only reads.
 fn probe_words<O: TypedObject>(object: &O, probe: &O::Op) -> OpWords
     requires { IsProbe (O.meaning object.now) probe.now }
     ensures { IsTrue (O.only_reads object.now result) }
