@@ -59,6 +59,7 @@ pub fn run_life<O: TypedObject + Sync, R: Threads + Wait + Sync, G: Gate + Sync>
     } = ends;
     entries.sort_unstable_by_key(|line| line.ticket);
     journals_are_told::<O::Op, O::Reply>();
+    // a running table began from a lawful base
     let _lines = service.lines();
     object_is_meant(&service);
     let Ok(remains) = service.close(alloc, handed) else {

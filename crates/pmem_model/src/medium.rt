@@ -161,6 +161,7 @@ impl Medium {
         ensures words { WritesBack (8 * line) (8 * line + 8) self.old.words self.new.words }
         ensures stores { self.new.stores ≡ self.old.stores }
     {
+        // the number of words is one of 64 bits
         let _words = self.words.len();
         let first = 8 * line as usize;
         for at in first..first + 8 {
