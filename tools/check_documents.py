@@ -1,5 +1,5 @@
 #!/usr/bin/env python3
-"""Says what is wrong with the pages, and with the examples of doc comments: python3 tools/check_documents.py [ROOT]
+"""Says what is wrong with the pages, and with doc comments and their examples: python3 tools/check_documents.py [ROOT]
 
 The pages are README.md, CHANGELOG.md, CONTRIBUTING.md, those of docs/, and the README of crates/, examples/ and tools/. Names are looked up in them and in
 the heads of crates: the comment that a src/lib.rt begins with. What stands between backticks is looked up: a path has to exist; a name, with its parts
@@ -11,6 +11,7 @@ A page is wrong where it is over its length, a line where it has over 160 charac
 in italics where theorems are stated (README.md, docs/THEOREMS.md) that docs/GLOSSARY.md has not, a table that stands twice, a page that no other names,
 and a definition in docs/THEOREMS.md that is not as in its source. A fenced block in a doc comment of crates/*/src is an example: the line before it ends in the
 name of a file, From `crates/NAME/src/FILE.rt`:, of a crate of crates.txt, and its 2 to 8 lines stand there one after another, so the gate compiles them.
+Each function with a contract has a doc comment, but in crates of tests.
 The rules are in page_rules.py. It takes 3 seconds.
 
 Example: python3 tools/check_documents.py
@@ -114,9 +115,15 @@ def examples_astray(root):
     return list(page_rules.example_faults(sources, crates_of(root)))
 
 
+def bare_contracts(root):
+    """Each function with a contract and without a doc comment, but in crates of tests."""
+    paths = (path for path in sorted(root.glob("crates/*/src/**/*.rt")) if not path.relative_to(root).parts[1].endswith("_tests"))
+    return list(page_rules.bare_contracts({str(path.relative_to(root)): path.read_text(encoding="utf-8") for path in paths}))
+
+
 def faults_of(root):
     """All that is wrong, each with its file and line."""
-    return names_lacking(root) + page_faults(root) + examples_astray(root)
+    return names_lacking(root) + page_faults(root) + examples_astray(root) + bare_contracts(root)
 
 
 def main(root):

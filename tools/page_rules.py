@@ -1,7 +1,8 @@
-"""Rules for the pages: how long each may be, which words it leaves out, which terms are in the glossary, which tables stand once. And one for examples.
+"""Rules for the pages: how long each may be, which words it leaves out, which terms are in the glossary, which tables stand once. And two for sources.
 
-Each rule takes the pages, texts by their paths from the top, and gives faults, each `FILE:LINE: what is wrong`. The rule for examples takes sources in
-the same way: a fenced block in a doc comment is code that stands in the file which the line before it names.
+Each rule takes the pages, texts by their paths from the top, and gives faults, each `FILE:LINE: what is wrong`. The rules for sources take these in
+the same way: a fenced block in a doc comment is code that stands in the file which the line before it names, and a function with a contract has a doc
+comment.
 """
 import re
 import textwrap
@@ -46,6 +47,8 @@ FENCE = re.compile(r"^\s*```")
 DOC = re.compile(r"^\s*//[/!](?!/) ?(.*)$")
 ORIGIN = re.compile(r"\bFrom `(crates/(\w+)/src/[\w/]+\.rt)`:$")
 EXAMPLE_LINES = range(2, 9)
+FUNCTION = re.compile(r"( *)(?:pub(?:\([a-z]+\))? )?(?:const |unsafe |extern \"C\" )*fn (\w+)")
+TRAIT = re.compile(r"(?:unsafe )?impl\b.* for ")
 
 
 def numbered(text):
@@ -225,6 +228,33 @@ def example_faults(sources, crates):
                 count = matching(lines, sources[origin[1]].split("\n"))
                 if count < len(lines):
                     yield f"{path}:{fence + 1 + count}: not in {origin[1]} at this place: {lines[count].strip()}"
+
+
+def has_contract(lines, margin):
+    """Whether a function has a contract, by the lines after its first one, as `rt fmt` lays them out."""
+    for line in lines:
+        if re.match(margin + r"    (requires|ensures)\b", line):
+            return True
+        if line.startswith(margin + "{") or line.startswith(margin) and line[len(margin):len(margin) + 1] not in (" ", ")", ""):
+            return False
+    return False
+
+
+def bare_contracts(sources):
+    """Functions with a contract and without a doc comment. A method that an `impl` has of a trait has the trait's."""
+    for path, text in sources.items():
+        lines, of_trait = text.split("\n"), False
+        for at, line in enumerate(lines):
+            if re.match(r"\w", line):
+                of_trait = bool(TRAIT.match(line))
+            found = FUNCTION.match(line)
+            if not found or line.endswith("}") or of_trait and found[1] or not has_contract(lines[at + 1:], found[1]):
+                continue
+            above = at - 1
+            while above >= 0 and lines[above].strip().startswith("#["):
+                above -= 1
+            if above < 0 or not lines[above].strip().startswith("///"):
+                yield f"{path}:{at + 1}: a contract without a doc comment: {found[2]}"
 
 
 def faults_of(pages, sources):

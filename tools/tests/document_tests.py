@@ -60,7 +60,7 @@ class Documents(unittest.TestCase):
             root = Path(folder)
             source = root / "crates" / "one" / "src" / "lib.rt"
             source.parent.mkdir(parents=True)
-            source.write_text("pub fn made() -> Made\n    ensures whole { true }\n")
+            source.write_text("/// Makes.\npub fn made() -> Made\n    ensures whole { true }\n")
             page = root / "README.md"
             rows = [
                 ("`made` (`whole`), `crates/one/src/lib.rt`, `lib.rt`, `one/src/*.rt`, `crates/NAME/out/NAME`", []),
@@ -84,6 +84,20 @@ class Documents(unittest.TestCase):
 
 class PageRules(unittest.TestCase):
     """Each rule takes what it allows, and finds what it forbids."""
+
+    def test_a_contract_without_a_doc_comment(self):
+        contract = "    ensures { result ≡ 1 }\n{\n    1\n}\n"
+        rows = [
+            ("/// One.\nfn one() -> u64\n" + contract, []),
+            ("/// One.\n#[inline(always)]\npub(crate) fn one() -> u64\n" + contract, []),
+            ("fn one() -> u64 {\n    1\n}\n\n/// Two.\nfn two() -> u64\n" + contract, []),
+            ("impl Source for One {\n    fn one() -> u64\n        ensures { result ≡ 1 }\n    {\n        1\n    }\n}\n", []),
+            ("// One.\nfn one() -> u64\n" + contract, ["a.rt:2: a contract without a doc comment: one"]),
+            ("impl One {\n    fn one(\n        &self,\n    ) -> u64\n        requires { 1 }\n    {}\n}\n", ["a.rt:2: a contract without a doc comment: one"]),
+        ]
+        for text, want in rows:
+            with self.subTest(text):
+                self.assertEqual(want, list(page_rules.bare_contracts({"a.rt": text})))
 
     def test_a_page_over_its_length(self):
         most = page_rules.LENGTHS["docs/GLOSSARY.md"]

@@ -106,7 +106,7 @@ impl Reply {
         }
     }
 
-    // What a reply's words tell of it.
+    /// What a reply's words tell of it.
     fn read(words: &OpWords) -> Reply
         ensures { result ≡ spec.reply_in words.now }
     {

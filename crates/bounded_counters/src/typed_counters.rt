@@ -54,8 +54,7 @@ impl TypedObject for Counters {
     }
 }
 
+/// A number of 64 bits is below 2^64.
 fn is_below(number: u64)
     ensures { number < 2 ^ 64 }
-{
-    let _ = number;
-}
+{}

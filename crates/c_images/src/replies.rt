@@ -35,6 +35,7 @@ pub fn holds_replies(alloc: Global, base: &Base, kind: ReplyKind) -> Result<bool
     Ok(true)
 }
 
+/// Whether a base holds no reply for a caller, or one of a kind.
 fn is_reply_slot(
     alloc: Global,
     base: &Base,

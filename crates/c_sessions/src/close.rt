@@ -170,6 +170,7 @@ pub fn close_kept<O: Object>(alloc: Global, kept: Kept<O>) -> Result<Remains, Ke
     ensures { MatchResult result (IsClosedWith O.line_count O.lawful O.step O.only_reads kept.service (seats_of kept.callers.items)) (λ back. back ≡ kept) }
 {
     let Kept { service, callers } = kept;
+    // a running table is within its limits, by which what it leaves is a linearizable object's
     let _ = service.lines();
     service.close(alloc, callers)
 }

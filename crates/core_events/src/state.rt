@@ -85,6 +85,7 @@ impl CoreState {
         self.lines
     }
 
+    /// The base that the state began from.
     pub fn base(&self) -> &Base
         ensures { result.now ≡ self.now.base }
     {

@@ -66,7 +66,7 @@ pub fn end_in_crash<O: TypedObject>(
     })
 }
 
-// What a closed service left is whole. By each choice it may be read for the object, and is recovered unless memory runs out.
+/// What a closed service left is whole. By each choice it may be read for the object, and is recovered unless memory runs out.
 fn closed_services_recover<O: TypedObject>(object: &O, base: &Base, remains: &Remains)
     requires { HasClosed O.Object object.now base.now remains.now }
     ensures whole { AreRemainsWhole remains.now }
@@ -84,14 +84,14 @@ fn closed_services_recover<O: TypedObject>(object: &O, base: &Base, remains: &Re
     crash_images_recover();
 }
 
-// Whether the fault is that memory ran out.
+/// Whether the fault is that memory ran out.
 fn is_memory(fault: &ImageFault) -> bool
     ensures { fault.now ≡ Memory → result ≡ true }
 {
     matches!(fault, ImageFault::Memory)
 }
 
-// The number of items of the store that a base stands for.
+/// The number of items of the store that a base stands for.
 fn count_items<O: TypedObject>(alloc: Global, object: &O, base: &Base) -> Result<u64, AllocError>
     requires lawful { LawfulBase (O.line_count object.now) (O.lawful object.now) base.now }
     ensures { IfOk result (λ count. (store : O.Store) → (O.meaning object.now).stands (object_part base.now.words) store → count ≡ (O.meaning object.now).items store) }

@@ -35,7 +35,7 @@ pub(crate) struct Ends {
 }
 
 impl<Reply: Drop> Gathered<Reply> {
-    // With one client's work more.
+    /// With one client's work more.
     fn with(self, work: Work<Reply>) -> Result<Gathered<Reply>, AllocError>
         ensures { IfOk result (λ after. AddsWork self after work) }
     {
@@ -53,7 +53,7 @@ impl<Reply: Drop> Gathered<Reply> {
     }
 }
 
-// With one client's end more.
+/// With one client's end more.
 fn with_end(before: Ends, end: End) -> Result<Ends, AllocError>
     ensures stops { IfOk result (λ r. r.stops.items ≡ before.stops.items ++ stop_in end) }
     ensures fulls { IfOk result (λ r. r.fulls.items ≡ before.fulls.items ++ full_in end) }
@@ -123,8 +123,8 @@ pub fn first_of<T: Drop>(items: &mut Vec<T>) -> T
     items.remove(0)
 }
 
-// The work of a client, which goes on where it was left. The clients with a stop line are those of these lines, and of the rest of the
-// works.
+/// The work of a client, which goes on where it was left. The clients with a stop line are those of these lines, and of the rest of the
+/// works.
 fn at_end<O: TypedObject, R: Wait, G: Gate>(
     rt: &R,
     alloc: Global,

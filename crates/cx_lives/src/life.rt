@@ -59,6 +59,7 @@ pub fn run_life<O: TypedObject + Sync, R: Threads + Wait + Sync, G: Gate + Sync>
     } = ends;
     entries.sort_unstable_by_key(|line| line.ticket);
     journals_are_told::<O::Op, O::Reply>();
+    // a running table began from a lawful base
     let _lines = service.lines();
     object_is_meant(&service);
     let Ok(remains) = service.close(alloc, handed) else {
@@ -83,7 +84,7 @@ pub fn run_life<O: TypedObject + Sync, R: Threads + Wait + Sync, G: Gate + Sync>
     Ok((told, remains))
 }
 
-// The laws of a service's object.
+/// The laws of a service's object.
 fn object_is_meant<O: TypedObject>(service: &Service<O>)
     ensures { IsMeant O.Object service.now.object (O.meaning service.now.object) }
 {

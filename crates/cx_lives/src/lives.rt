@@ -129,7 +129,7 @@ pub fn run_next_life<O: TypedObject + Sync, R: Threads + Wait + Sync, G: Gate + 
     })
 }
 
-// The base of a next life.
+/// The base of a next life.
 fn next_base<O: TypedObject>(
     alloc: Global,
     object: &O,
@@ -155,7 +155,7 @@ pub fn first_base<O: TypedObject>(alloc: Global, object: &O) -> Result<Base, All
     Ok(base)
 }
 
-// Runs one life from a base to its crash by the life's choice, and recovers, with the memory reopened.
+/// Runs one life from a base to its crash by the life's choice, and recovers, with the memory reopened.
 fn run_one<O: TypedObject + Sync, R: Threads + Wait + Sync, G: Gate + Sync>(
     rt: &R,
     alloc: Global,
@@ -183,7 +183,7 @@ fn run_one<O: TypedObject + Sync, R: Threads + Wait + Sync, G: Gate + Sync>(
     })
 }
 
-// The record with the numbers of entries kept and of items, and with the flags of its stop lines.
+/// The record with the numbers of entries kept and of items, and with the flags of its stop lines.
 fn with_kept<Reply: Drop>(told: LifeRecord<Reply>, kept: u64, items: u64) -> LifeRecord<Reply>
     ensures { HasFlags told kept items result }
 {

@@ -27,7 +27,7 @@ pub fn words_of<O: TypedObject>(object: &O, op: &O::Op) -> (OpWords, bool)
     (words, reads)
 }
 
-// Whether an operation of these words only reads.
+/// Whether an operation of these words only reads.
 fn is_reading<O: TypedObject>(object: &O, op: &O::Op, words: &OpWords) -> bool
     requires words { words.now ≡ (O.meaning object.now).encoding.op_words op.now }
     requires op { (O.meaning object.now).is_op op.now }

@@ -96,7 +96,7 @@ pub(crate) fn make<O: TypedObject, R: Wait>(
     }
 }
 
-// The words of an operation of the service's object, and whether it only reads.
+/// The words of an operation of the service's object, and whether it only reads.
 fn service_words<O: TypedObject>(service: &Service<O>, op: &O::Op) -> (OpWords, bool)
     requires { (O.meaning service.now.object).is_op op.now }
     ensures words { result.0 ≡ (O.meaning service.now.object).encoding.op_words op.now }
@@ -106,7 +106,7 @@ fn service_words<O: TypedObject>(service: &Service<O>, op: &O::Op) -> (OpWords, 
     words_of(service.object(), op)
 }
 
-// A client goes on after its answer, unless that was no reply.
+/// A client goes on after its answer, unless that was no reply.
 fn after_answer<Reply: Drop>(progress: Progress<Reply>, is_reply: bool) -> Turn<Reply>
     ensures { result ≡ turn_after progress is_reply }
 {
@@ -126,7 +126,7 @@ pub(crate) fn over<Reply: Drop>(progress: Progress<Reply>, end: End) -> Work<Rep
     Work { handed, lines, end }
 }
 
-// The end of a client that is stopped in its command of this number.
+/// The end of a client that is stopped in its command of this number.
 fn stopped_in<Reply: Drop>(
     client: u32,
     number: u64,

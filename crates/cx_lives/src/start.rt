@@ -33,7 +33,7 @@ pub(crate) fn start_life<O: TypedObject>(
     }
 }
 
-// The steps that each client of a life may make.
+/// The steps that each client of a life may make.
 fn limits_of<Op>(alloc: Global, life: &BorrowedLife<'_, Op>) -> Result<Vec<u64>, AllocError>
     ensures { IfOk result (λ limits. limits.items ≡ map (λ client. limit_in client life.now.cuts) (range_with_len 0 life.now.clients)) }
 {
@@ -45,7 +45,7 @@ fn limits_of<Op>(alloc: Global, life: &BorrowedLife<'_, Op>) -> Result<Vec<u64>,
     Ok(limits)
 }
 
-// The steps that a client may make.
+/// The steps that a client may make.
 #[tactic(auto, using(crate::proofs::Limits::cut_here, crate::proofs::Limits::cut_passed, crate::proofs::Limits::cuts_over))]
 fn limit_of(cuts: &[Cut], client: u32) -> u64
     ensures { result ≡ limit_in client cuts.now }

@@ -64,7 +64,7 @@ pub(crate) fn serve<O: TypedObject, R: Wait, G: Gate>(
     serve_on(rt, alloc, service, life, gate, left, most_fulls(life))
 }
 
-// The Full answers after which a worker leaves its client, where the life has a cut line.
+/// The Full answers after which a worker leaves its client, where the life has a cut line.
 fn most_fulls<Op>(life: &BorrowedLife<'_, Op>) -> Option<u64>
     ensures { result ≡ (if length life.now.cuts == 0 then None else Some 1000) }
 {
@@ -75,7 +75,7 @@ fn most_fulls<Op>(life: &BorrowedLife<'_, Op>) -> Option<u64>
     }
 }
 
-// Makes the commands that are left, until one is answered Full `most` times one after another.
+/// Makes the commands that are left, until one is answered Full `most` times one after another.
 fn serve_on<O: TypedObject, R: Wait, G: Gate>(
     rt: &R,
     alloc: Global,
@@ -178,7 +178,7 @@ pub(crate) fn go_on<O: TypedObject, R: Wait, G: Gate>(
     unreachable!()
 }
 
-// The end of a client that ends Full, after its command.
+/// The end of a client that ends Full, after its command.
 fn give_up<G: Gate, Reply: Drop>(gate: &G, left: Left<Reply>, line: FullLine) -> Work<Reply>
     ensures { result ≡ ended left.progress (Full line) }
 {
@@ -186,7 +186,7 @@ fn give_up<G: Gate, Reply: Drop>(gate: &G, left: Left<Reply>, line: FullLine) ->
     over(left.progress, End::Full(line))
 }
 
-// Whether a client was stopped, as one of these lines says or the rest of the works.
+/// Whether a client was stopped, as one of these lines says or the rest of the works.
 fn has_stopped<Reply>(
     stops: &[StopLine],
     rest: &[Result<Served<Reply>, AllocError>],
@@ -197,12 +197,14 @@ fn has_stopped<Reply>(
     is_told(stops, client) || is_left(rest, client)
 }
 
+/// Whether one of the stop lines is this client's.
 fn is_told(stops: &[StopLine], client: u32) -> bool
     ensures { result ≡ is_stopped client stops.now }
 {
     stops.iter().any(|line| line.client == client)
 }
 
+/// Whether the rest of the works has a stop line of this client's.
 #[tactic(auto, using(crate::proofs::Leaving::stopped_here, crate::proofs::Leaving::stopped_later, crate::proofs::Leaving::stopped_never))]
 fn is_left<Reply>(rest: &[Result<Served<Reply>, AllocError>], client: u32) -> bool
     ensures { result ≡ is_stopped client (stops_left rest.now) }
@@ -215,7 +217,7 @@ fn is_left<Reply>(rest: &[Result<Served<Reply>, AllocError>], client: u32) -> bo
     false
 }
 
-// Whether a worker's client is this one and was stopped.
+/// Whether a worker's client is this one and was stopped.
 fn tells_stop<Reply>(served: &Result<Served<Reply>, AllocError>, client: u32) -> bool
     ensures { result ≡ is_stopped client (stop_told served.now) }
 {

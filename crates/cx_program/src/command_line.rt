@@ -25,7 +25,7 @@ pub(crate) fn read_words(alloc: Global, words: &[String]) -> Result<Option<Asked
     }
 }
 
-// What words ask for that have the form of a command: one word alone, `pool` and one more, or `load` and three more.
+/// What words ask for that have the form of a command: one word alone, `pool` and one more, or `load` and three more.
 fn asked_by(words: &[String]) -> Option<Asked>
     requires { HasForm (map string_bytes words.now) }
     ensures { (command_asked result).asked (map string_bytes words.now) }
@@ -44,7 +44,7 @@ fn asked_by(words: &[String]) -> Option<Asked>
     }
 }
 
-// What a word alone asks for, if anything.
+/// What a word alone asks for, if anything.
 fn asked_alone(word: &str) -> Option<Asked>
     ensures { (command_asked result).asked (word.now ∷ []) }
 {
@@ -58,8 +58,8 @@ fn asked_alone(word: &str) -> Option<Asked>
     }
 }
 
-// Whether the words have the form of a command. A word that begins with a hyphen is in none. `Err` means out
-// of memory.
+/// Whether the words have the form of a command. A word that begins with a hyphen is in none. `Err` means out
+/// of memory.
 fn have_form(alloc: Global, words: &[String]) -> Result<bool, AllocError>
     ensures { IfOk result (λ is. IsTrue is ↔ HasForm (map string_bytes words.now)) }
 {
@@ -73,7 +73,7 @@ fn have_form(alloc: Global, words: &[String]) -> Result<bool, AllocError>
     }
 }
 
-// Whether a word begins with a hyphen.
+/// Whether a word begins with a hyphen.
 fn is_option(word: &String) -> bool
     ensures { result ≡ begins_with_hyphen (string_bytes word.now) }
 {
@@ -83,7 +83,7 @@ fn is_option(word: &String) -> bool
     }
 }
 
-// Whether one of the words begins with a hyphen.
+/// Whether one of the words begins with a hyphen.
 fn has_option(words: &[String]) -> bool
     ensures some { result ≡ true → Any (λ word. begins_with_hyphen (string_bytes word) ≡ true) words.now }
     ensures none { result ≡ false → All (λ word. begins_with_hyphen (string_bytes word) ≡ false) words.now }
@@ -96,7 +96,7 @@ fn has_option(words: &[String]) -> bool
     false
 }
 
-// Whether the words are those of a command; with the kind of the fault where they are not.
+/// Whether the words are those of a command; with the kind of the fault where they are not.
 fn parse(alloc: Global, words: &[String]) -> Result<(), ErrorKind>
     ensures { IsJudged (fault_of program (map string_bytes words.now)) result }
 {
@@ -106,7 +106,7 @@ fn parse(alloc: Global, words: &[String]) -> Result<(), ErrorKind>
     }
 }
 
-// A number that a command wants.
+/// A number that a command wants.
 fn number(alloc: Global, name: &str) -> Arg<'_>
     ensures rule { rule_of result ≡ number_rule name.entry.now }
     ensures local { result.global ≡ false }
@@ -114,7 +114,7 @@ fn number(alloc: Global, name: &str) -> Arg<'_>
     Arg::new(alloc, name).required(true).action(ArgAction::Set)
 }
 
-// The command `load` with its three numbers.
+/// The command `load` with its three numbers.
 fn load_command<'a>(alloc: Global) -> Result<Command<'a>, AllocError>
     ensures app { IfOk result (λ command. app_of command ≡ load_app) }
     ensures local { IfOk result (λ command. (fields_of command).has_globals ≡ false) }
@@ -125,7 +125,7 @@ fn load_command<'a>(alloc: Global) -> Result<Command<'a>, AllocError>
         .arg(number(alloc, "ops"))
 }
 
-// The command `pool` with its number.
+/// The command `pool` with its number.
 fn pool_command<'a>(alloc: Global) -> Result<Command<'a>, AllocError>
     ensures app { IfOk result (λ command. app_of command ≡ pool_app) }
     ensures local { IfOk result (λ command. (fields_of command).has_globals ≡ false) }
@@ -133,7 +133,7 @@ fn pool_command<'a>(alloc: Global) -> Result<Command<'a>, AllocError>
     Command::new(alloc, "pool").arg(number(alloc, "seats"))
 }
 
-// The command line with the commands that want numbers.
+/// The command line with the commands that want numbers.
 fn with_numbers<'a>(alloc: Global, line: Command<'a>) -> Result<Command<'a>, AllocError>
     ensures { IfOk result (λ command. app_of command ≡ with_subcommand (with_subcommand (app_of line.entry) load_app.top) pool_app.top) }
 {
@@ -144,7 +144,7 @@ fn with_numbers<'a>(alloc: Global, line: Command<'a>) -> Result<Command<'a>, All
     Ok(command)
 }
 
-// The command line with one command more, which is a word alone. So one value of the parser lives at a time.
+/// The command line with one command more, which is a word alone. So one value of the parser lives at a time.
 fn with_lone<'a>(alloc: Global, line: Command<'a>, name: &'a str) -> Result<Command<'a>, AllocError>
     ensures { IfOk result (λ command. app_of command ≡ with_subcommand (app_of line.entry) (new_shape name.entry.now)) }
 {
@@ -152,7 +152,7 @@ fn with_lone<'a>(alloc: Global, line: Command<'a>, name: &'a str) -> Result<Comm
     Ok(command)
 }
 
-// Reads the words as those of a command.
+/// Reads the words as those of a command.
 fn matches<'a>(alloc: Global, words: &'a [String]) -> Result<ArgMatches<'a>, Error>
     ensures { FailsBy (fault_of program (map string_bytes words.entry.now)) result }
 {

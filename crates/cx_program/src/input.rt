@@ -23,15 +23,15 @@ pub(crate) enum Input {
     Failed,
 }
 
-// `len` bytes that are 0.
+/// `len` bytes that are 0.
 fn zeros(alloc: Global, len: usize) -> Result<Vec<u8>, AllocError>
     ensures { IfOk result (λ bytes. vec_len bytes ≡ len) }
 {
     vec![in alloc; 0u8; len]
 }
 
-// Reads one piece, at most as long as the buffer, and puts it after the bytes read so far. The outer `Err` means out of
-// memory: then the piece is lost.
+/// Reads one piece, at most as long as the buffer, and puts it after the bytes read so far. The outer `Err` means out of
+/// memory: then the piece is lost.
 fn read_piece<S: Source>(
     source: &mut S,
     bytes: &mut Vec<u8>,

@@ -18,7 +18,7 @@ pub(crate) fn recover_text(alloc: Global, bytes: &[u8]) -> Result<(Vec<u8>, Ende
     Ok((answer.text, ended))
 }
 
-// The status with which the text of an answer is written.
+/// The status with which the text of an answer is written.
 fn status_of(end: ImageEnd) -> Status
     ensures { result ≡ status_of end }
 {

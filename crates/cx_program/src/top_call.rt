@@ -62,7 +62,7 @@ pub fn cx_run<R: Threads + Wait + Sync, S: Source, K: Sink, G: Gate + Sync>(
     }
 }
 
-// Writes a whole text, and answers how the run ended that it stands for, or that the sink failed.
+/// Writes a whole text, and answers how the run ended that it stands for, or that the sink failed.
 fn write_answer<K: Sink>(alloc: Global, sink: &mut K, text: &[u8], ended: Ended) -> Ended
     ensures wrote { Wrote text.now ended result (K.written sink.old) (K.written sink.new) (K.faults sink.old) (K.faults sink.new) }
 {
@@ -72,7 +72,7 @@ fn write_answer<K: Sink>(alloc: Global, sink: &mut K, text: &[u8], ended: Ended)
     }
 }
 
-// Runs a command.
+/// Runs a command.
 fn run_asked<R: Threads + Wait + Sync, S: Source, K: Sink, G: Gate + Sync>(
     rt: &R,
     alloc: Global,
@@ -97,7 +97,7 @@ fn run_asked<R: Threads + Wait + Sync, S: Source, K: Sink, G: Gate + Sync>(
     }
 }
 
-// Whether a command reads an input.
+/// Whether a command reads an input.
 fn reads(asked: &Asked) -> bool
     ensures { result ≡ (command asked.now).reads }
 {
@@ -112,7 +112,7 @@ fn reads(asked: &Asked) -> bool
     }
 }
 
-// The input of a command: all of the source, or nothing. `Err` means out of memory.
+/// The input of a command: all of the source, or nothing. `Err` means out of memory.
 fn input_of<S: Source>(alloc: Global, asked: &Asked, source: &mut S) -> Result<Input, AllocError>
     ensures input { IfOk result (ShowsInput (command asked.now).reads (S.left source.old) (S.faults source.old) (S.faults source.new)) }
     ensures drawn { Draws S.Source 16777217 source.old source.new }
@@ -125,7 +125,7 @@ fn input_of<S: Source>(alloc: Global, asked: &Asked, source: &mut S) -> Result<I
     }
 }
 
-// Writes what a whole input calls for.
+/// Writes what a whole input calls for.
 fn run_input<R: Threads + Wait + Sync, K: Sink, G: Gate + Sync>(
     rt: &R,
     alloc: Global,
@@ -144,7 +144,7 @@ fn run_input<R: Threads + Wait + Sync, K: Sink, G: Gate + Sync>(
     }
 }
 
-// The text that a command has for a whole input, and how the run ends. `Err` means out of memory.
+/// The text that a command has for a whole input, and how the run ends. `Err` means out of memory.
 fn text_of<R: Threads + Wait + Sync, G: Gate + Sync>(
     rt: &R,
     alloc: Global,

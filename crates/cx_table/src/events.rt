@@ -146,6 +146,7 @@ impl<O: Object> Shared<O> {
         self.store_as::<Brand>(seat, kind, word, new);
     }
 
+    /// A store of a word, by a step that tells this.
     fn store_as<J: Named>(&self, seat: &mut Seat<u8, View>, kind: &Kind, word: usize, new: u64)
         requires on { IsOnWord self.now word seat.old.table_id seat.old.me }
         requires allows { Allows (RuleHolds (instance_at self.now O.step O.only_reads)) self.now.table.slots seat.old.id seat.old.me word (λ _. new) (λ _. J.tells new) }

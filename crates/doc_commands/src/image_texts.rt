@@ -36,7 +36,7 @@ pub(crate) fn image_refusal(alloc: Global, fault: ImageFault) -> Result<Vec<u8>,
     Ok(out)
 }
 
-// After an `Err` what is written is of no use.
+/// After an `Err` what is written is of no use.
 fn write_fault(out: &mut Vec<u8>, fault: ImageFault) -> Result<(), AllocError>
     ensures written { OnOk result (out.new.items ≡ out.old.items ++ fault_text fault) }
     ensures some { OnOk result (fault ≢ Memory) }

@@ -41,7 +41,7 @@ pub fn summary_of_load<R: Threads + Wait + Sync, G: Gate + Sync>(
     Ok((text, lived.trails))
 }
 
-// The lines on the life of a load.
+/// The lines on the life of a load.
 fn text_of_life(
     alloc: Global,
     from: u64,
@@ -63,7 +63,7 @@ fn text_of_life(
     summary(alloc, told, &pairs)
 }
 
-// The pairs of the store that a base stands for.
+/// The pairs of the store that a base stands for.
 fn pairs_of(alloc: Global, base: &Base) -> Result<Vec<Pair>, AllocError>
     requires { LawfulBase 1024 (IsImageOfStore 1024) base.now }
     ensures { (store : RevisedStore) → StandsForRevised (object_part base.now.words) store → IfOk result (λ pairs. pairs.items ≡ store.triples) }

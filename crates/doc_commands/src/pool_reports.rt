@@ -30,7 +30,7 @@ pub fn run_pool<R: Threads + Wait + Sync, G: Gate + Sync>(
     pool_lives::run_pool(rt, alloc, &store, &life.lent(), &Op::Count, seats, gate)
 }
 
-// The first of some lives.
+/// The first of some lives.
 fn first(lives: &[Life]) -> &Life
     requires { 0 < length lives.now }
     ensures { slice_get lives.now 0 ≡ Some result.now }
@@ -61,7 +61,7 @@ pub fn report_of_pool<R: Threads + Wait + Sync, G: Gate + Sync>(
     Ok((text, trails))
 }
 
-// A list of one item.
+/// A list of one item.
 fn one<T: Drop>(alloc: Global, item: T) -> Result<Items<T>, AllocError>
     ensures { IfOk result (λ items. items ≡ item ∷ []) }
 {

@@ -32,7 +32,7 @@ fn text_of(alloc: Global, verdict: Verdict) -> Result<Vec<u8>, AllocError>
     Ok(out)
 }
 
-// After an `Err` what is written is of no use.
+/// After an `Err` what is written is of no use.
 fn write_found(out: &mut Vec<u8>, verdict: Verdict) -> Result<(), AllocError>
     ensures { OnOk result (out.new.items ≡ out.old.items ++ found_text verdict) }
 {

@@ -127,12 +127,14 @@ impl<'a, const N: usize> Text<'a, N> {
         }
     }
 
+    /// Whether there is no byte.
     pub(crate) fn is_empty(&self) -> bool
         ensures { result ≡ (length self.now == 0) }
     {
         self.len == 0
     }
 
+    /// Whether the bytes are a key: 1 to 64 visible characters of ASCII.
     #[inline(always)]
     pub(crate) fn is_key(&self) -> bool
         ensures { result ≡ kinds.is_key self.now }
@@ -143,6 +145,7 @@ impl<'a, const N: usize> Text<'a, N> {
         are_between::<0x21, 0x7E>(self.words, self.len)
     }
 
+    /// Whether the bytes are a document's: 1 to 1,024 bytes that are no control characters below 32.
     pub(crate) fn is_document(&self) -> bool
         ensures { result ≡ kinds.is_document self.now }
     {

@@ -154,6 +154,7 @@ pub fn reply_of(alloc: Global, words: &OpWords) -> Result<Reply, OpFault>
     Ok(reply_with(alloc, &parts)?)
 }
 
+/// Whether each byte is a visible character of ASCII.
 fn are_visible(bytes: &[u8]) -> bool
     ensures { result ≡ list_all (λ b. nat_le 33 b && nat_le b 126) bytes.now }
 {
@@ -168,6 +169,7 @@ pub fn is_key(key: &[u8]) -> bool
     passes_as_key(key)
 }
 
+/// Whether the bytes are a key: 1 to 64 visible characters of ASCII.
 fn passes_as_key(key: &[u8]) -> bool
     ensures { result ≡ kinds.is_key key.now }
 {

@@ -68,20 +68,17 @@ impl TypedObject for DocStore {
     }
 }
 
+/// Each item of a slice of bytes is below 256.
 fn are_bytes(text: &[u8])
     ensures { All (λ b. b < 256) text.now }
-{
-    let _ = text;
-}
+{}
 
+/// A signed number of 64 bits fits 64 bits.
 fn has_64_bits(number: i64)
     ensures { FitsSigned w64 number }
-{
-    let _ = number;
-}
+{}
 
+/// A number of 64 bits is below 2^64.
 fn is_below(number: u64)
     ensures { number < 2 ^ 64 }
-{
-    let _ = number;
-}
+{}

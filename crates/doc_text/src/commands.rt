@@ -147,6 +147,7 @@ fn read_words(
     }
 }
 
+/// Reads what follows `put`: a key and JSON.
 fn read_put(alloc: Global, words: &[u8]) -> Result<Result<Op, Reason>, AllocError>
     requires { IsUtf8 words.now }
     ensures { IfOk result (IsTextRead IsOp (put_with (first_word words.now) (rest_of words.now))) }
@@ -166,6 +167,7 @@ fn read_put(alloc: Global, words: &[u8]) -> Result<Result<Op, Reason>, AllocErro
     Ok(Ok(Op::Put { key, doc }))
 }
 
+/// Reads what follows `putif`: a key, a revision and JSON.
 fn read_put_if(alloc: Global, words: &[u8]) -> Result<Result<Op, Reason>, AllocError>
     requires { IsUtf8 words.now }
     ensures { IfOk result (IsTextRead IsOp (put_if_with (first_word words.now) (rest_of words.now))) }
@@ -192,6 +194,7 @@ fn read_put_if(alloc: Global, words: &[u8]) -> Result<Result<Op, Reason>, AllocE
     Ok(Ok(Op::PutIf { key, revision, doc }))
 }
 
+/// Reads what follows `del`: a key.
 fn read_del(alloc: Global, words: &[u8]) -> Result<Result<Op, Reason>, AllocError>
     ensures { IfOk result (IsTextRead IsOp (then_ok Op.Del (only_key words.now))) }
 {
@@ -201,6 +204,7 @@ fn read_del(alloc: Global, words: &[u8]) -> Result<Result<Op, Reason>, AllocErro
     })
 }
 
+/// Reads what follows `add`: a key and an amount.
 fn read_add(alloc: Global, words: &[u8]) -> Result<Result<Op, Reason>, AllocError>
     ensures { IfOk result (IsTextRead IsOp (add_with (first_word words.now) (rest_of words.now))) }
 {
@@ -221,6 +225,7 @@ fn read_add(alloc: Global, words: &[u8]) -> Result<Result<Op, Reason>, AllocErro
     Ok(Ok(Op::Add { key, amount }))
 }
 
+/// Reads what follows `get`: a key.
 fn read_get(alloc: Global, words: &[u8]) -> Result<Result<Op, Reason>, AllocError>
     ensures { IfOk result (IsTextRead IsOp (then_ok Op.Get (only_key words.now))) }
 {
@@ -230,6 +235,7 @@ fn read_get(alloc: Global, words: &[u8]) -> Result<Result<Op, Reason>, AllocErro
     })
 }
 
+/// Reads what follows `rev`: a key.
 fn read_rev(alloc: Global, words: &[u8]) -> Result<Result<Op, Reason>, AllocError>
     ensures { IfOk result (IsTextRead IsOp (then_ok Op.Rev (only_key words.now))) }
 {
@@ -239,6 +245,7 @@ fn read_rev(alloc: Global, words: &[u8]) -> Result<Result<Op, Reason>, AllocErro
     })
 }
 
+/// Reads what follows `next`: the key above which the next one is sought.
 fn read_next(alloc: Global, words: &[u8]) -> Result<Result<Op, Reason>, AllocError>
     ensures { IfOk result (IsTextRead IsOp (then_ok Op.Next (only_key words.now))) }
 {

@@ -68,6 +68,7 @@ fn has_float(value: &Value) -> bool
     }
 }
 
+/// Whether some number in these items is no 64-bit integer.
 #[cycle(has_float)]
 fn items_have_float(items: &Vec<Value>) -> bool
     ensures { result ≡ items_have_float (items_view items.now.items) }
@@ -80,6 +81,7 @@ fn items_have_float(items: &Vec<Value>) -> bool
     false
 }
 
+/// Whether some number in these members is no 64-bit integer.
 #[cycle(has_float)]
 fn members_have_float(members: &Map<String, Value>) -> bool
     ensures { result ≡ members_have_float (members_view members.now.entries) }

@@ -40,7 +40,7 @@ pub fn generated(alloc: Global, from: u64, clients: u32, ops: u64) -> Result<Scr
     })
 }
 
-// Adds the commands of a client.
+/// Adds the commands of a client.
 fn add_commands(
     alloc: Global,
     commands: &mut Items<Command>,
@@ -59,7 +59,7 @@ fn add_commands(
     Ok(())
 }
 
-// The n-th command of all, which is one of this client.
+/// The n-th command of all, which is one of this client.
 fn nth_command(alloc: Global, from: u64, client: u32, n: u64) -> Result<Command, AllocError>
     requires { n < 2 ^ 32 }
     ensures { IfOk result (λ command. command ≡ generated_command from client n) }

@@ -25,7 +25,7 @@ pub fn summary(alloc: Global, told: &LifeRecord, pairs: &[Pair]) -> Result<Vec<u
     Ok(out)
 }
 
-// The sum of the documents that are integers of 64 bits. There are too few of them for the sum to leave 128 bits.
+/// The sum of the documents that are integers of 64 bits. There are too few of them for the sum to leave 128 bits.
 fn sum_of(pairs: &[Pair]) -> i128
     ensures { result ≡ integer_sum pairs.now }
 {
@@ -36,13 +36,14 @@ fn sum_of(pairs: &[Pair]) -> i128
     sum
 }
 
-// The integer that a document is, and 0 where it is none.
+/// The integer that a document is, and 0 where it is none.
 fn number_in(pair: &Pair) -> i64
     ensures { result ≡ document_number pair.now }
 {
     integer_of(pair.doc.as_slice()).unwrap_or(0)
 }
 
+/// Writes a number of 128 bits in decimal.
 fn write_wide(out: &mut Vec<u8>, number: i128) -> Result<(), AllocError>
     ensures { OnOk result (out.new.items ≡ out.old.items ++ signed_decimal number) }
 {

@@ -99,6 +99,7 @@ impl ReportWriter for Documents {
     }
 }
 
+/// Writes the command `next`, with the key above which it seeks, if there is one.
 fn write_next(out: &mut Vec<u8>, above: &[u8]) -> Result<(), AllocError>
     ensures { OnOk result (out.new.items ≡ out.old.items ++ command_text (Op.Next above.now)) }
 {

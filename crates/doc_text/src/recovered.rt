@@ -49,6 +49,7 @@ fn write_head(out: &mut Vec<u8>, place: u64, documents: u64) -> Result<(), Alloc
     out.extend_from_slice(b"\n")
 }
 
+/// Writes the place that was recovered.
 #[tactic(auto, unfolding(crate::specs::Recovered::place_text))]
 fn write_place(out: &mut Vec<u8>, place: u64) -> Result<(), AllocError>
     ensures { OnOk result (out.new.items ≡ out.old.items ++ place_text place) }
@@ -56,6 +57,7 @@ fn write_place(out: &mut Vec<u8>, place: u64) -> Result<(), AllocError>
     write_labelled(out, b"recovered place ", place)
 }
 
+/// Writes a line for each client's last entry that was applied.
 fn write_outcomes(out: &mut Vec<u8>, outcomes: &[Applied]) -> Result<(), AllocError>
     ensures { OnOk result (out.new.items ≡ out.old.items ++ flat_map applied_text outcomes.now) }
 {
@@ -65,6 +67,7 @@ fn write_outcomes(out: &mut Vec<u8>, outcomes: &[Applied]) -> Result<(), AllocEr
     Ok(())
 }
 
+/// Writes the line of a client's last entry that was applied, with its reply.
 fn write_applied(out: &mut Vec<u8>, applied: &Applied) -> Result<(), AllocError>
     ensures { OnOk result (out.new.items ≡ out.old.items ++ applied_text applied.now) }
 {
@@ -75,6 +78,7 @@ fn write_applied(out: &mut Vec<u8>, applied: &Applied) -> Result<(), AllocError>
     out.extend_from_slice(b"\n")
 }
 
+/// Writes a line for each document.
 fn write_documents(out: &mut Vec<u8>, documents: &[Pair]) -> Result<(), AllocError>
     ensures { OnOk result (out.new.items ≡ out.old.items ++ flat_map document_text documents.now) }
 {
@@ -84,6 +88,7 @@ fn write_documents(out: &mut Vec<u8>, documents: &[Pair]) -> Result<(), AllocErr
     Ok(())
 }
 
+/// Writes the line of a document: its key, its revision and its text.
 fn write_document(out: &mut Vec<u8>, pair: &Pair) -> Result<(), AllocError>
     ensures { OnOk result (out.new.items ≡ out.old.items ++ document_text pair.now) }
 {

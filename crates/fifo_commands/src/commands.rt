@@ -91,6 +91,7 @@ fn read_words(
     }
 }
 
+/// Reads what follows `push`: a text.
 fn read_push(alloc: Global, words: &[u8]) -> Result<Result<FifoOp, FifoReason>, AllocError>
     ensures { IfOk result (IsTextRead IsOp (push_of words.now)) }
 {

@@ -36,6 +36,7 @@ pub fn fifo_report(
 // Each function below appends a part of the report to what is written. After an `Err` what is written is of no use,
 // since there is no report then.
 
+/// Writes the record of a life, whose commands it finds by client and number.
 fn write_record(
     alloc: Global,
     out: &mut Vec<u8>,
@@ -51,6 +52,7 @@ fn write_record(
     write_lines(out, number, &life, told)
 }
 
+/// Writes the lines of a record.
 fn write_lines(
     out: &mut Vec<u8>,
     number: u64,

@@ -44,6 +44,7 @@ fn without_cuts(alloc: Global, script: Script<FifoOp>) -> Result<FifoScript, All
     })
 }
 
+/// The lives without their cuts, which a queue's script has none of.
 fn lives_of(alloc: Global, lives: Vec<Life<FifoOp>>) -> Result<Vec<FifoLife>, AllocError>
     ensures { IfOk result (λ left. left.items ≡ map cutless lives.items) }
 {
@@ -54,6 +55,7 @@ fn lives_of(alloc: Global, lives: Vec<Life<FifoOp>>) -> Result<Vec<FifoLife>, Al
     Ok(left)
 }
 
+/// A life without its cuts.
 fn life_of(life: Life<FifoOp>) -> FifoLife
     ensures { result ≡ cutless life }
 {

@@ -57,7 +57,7 @@ pub fn run_fifo<R: Threads + Wait + Sync, G: Gate + Sync>(
     leave_out_cuts(alloc, lived)
 }
 
-// Runs lives one after another.
+/// Runs lives one after another.
 fn run_all<R: Threads + Wait + Sync, G: Gate + Sync>(
     rt: &R,
     alloc: Global,
@@ -79,7 +79,7 @@ fn run_all<R: Threads + Wait + Sync, G: Gate + Sync>(
     Ok(lived)
 }
 
-// Runs one life more.
+/// Runs one life more.
 fn run_one<R: Threads + Wait + Sync, G: Gate + Sync>(
     rt: &R,
     alloc: Global,
@@ -98,7 +98,7 @@ fn run_one<R: Threads + Wait + Sync, G: Gate + Sync>(
     run_next_life(rt, alloc, fifo, lived, &lent, gate)
 }
 
-// The records without what only cuts have.
+/// The records without what only cuts have.
 fn leave_out_cuts(alloc: Global, lived: Lived<FifoReply>) -> Result<FifoLived, AllocError>
     ensures records { IfOk result (λ left. left.records ≡ map without_cuts lived.records) }
     ensures trails { IfOk result (λ left. left.trails ≡ lived.trails) }
@@ -115,6 +115,7 @@ fn leave_out_cuts(alloc: Global, lived: Lived<FifoReply>) -> Result<FifoLived, A
     })
 }
 
+/// The records without what only cuts have.
 fn records_of(
     alloc: Global,
     records: Vec<LifeRecord<FifoReply>>,
@@ -128,6 +129,7 @@ fn records_of(
     Ok(left)
 }
 
+/// A record without what only cuts have.
 fn record_of(told: LifeRecord<FifoReply>) -> FifoRecord
     ensures { result ≡ without_cuts told }
 {

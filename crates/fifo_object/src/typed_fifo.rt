@@ -58,14 +58,12 @@ impl TypedObject for Fifo {
     }
 }
 
+/// Each item of a slice of bytes is below 256.
 fn are_bytes(text: &[u8])
     ensures { All (λ b. b < 256) text.now }
-{
-    let _ = text;
-}
+{}
 
+/// A number of 64 bits is below 2^64.
 fn is_below(number: u64)
     ensures { number < 2 ^ 64 }
-{
-    let _ = number;
-}
+{}

@@ -171,6 +171,7 @@ pub fn is_text(text: &[u8]) -> bool
     !text.is_empty() && text.len() <= 56 && are_visible(text)
 }
 
+/// Whether each byte is a visible character of ASCII.
 fn are_visible(bytes: &[u8]) -> bool
     ensures { result ≡ list_all (λ b. nat_le 33 b && nat_le b 126) bytes.now }
 {

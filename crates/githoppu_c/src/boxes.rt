@@ -58,6 +58,7 @@ pub fn boxed<S: SessionOfC>(alloc: Global, sessions: Vec<S>) -> Result<Vec<Box<A
     }
 }
 
+/// Each session in a box of its own. `Err` means out of memory.
 fn in_boxes<S: SessionOfC>(
     alloc: Global,
     sessions: Vec<S>,

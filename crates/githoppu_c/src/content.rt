@@ -123,6 +123,7 @@ impl<O: OfC> Content<O> {
         code
     }
 
+    /// Closes what a handle holds, if it can be closed: what it holds then, and the status of the call.
     fn closed(self, alloc: Global) -> (Content<O>, i32)
         requires callable { IsContentCallable O.Object O.replies_kept self }
         ensures callable { IsContentCallable O.Object O.replies_kept result.0 }

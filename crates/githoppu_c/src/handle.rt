@@ -30,6 +30,7 @@ impl Handle {
         self.into_raw_box().into_box()
     }
 
+    /// The handle as a raw box, which its content can be taken from.
     fn into_raw_box(self) -> RawBox<AnyContent, Global>
         ensures { result.value ≡ self.content }
     {

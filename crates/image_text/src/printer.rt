@@ -23,6 +23,7 @@ pub fn image_text(alloc: Global, image: &Image) -> Result<Vec<u8>, AllocError>
 
 // After an `Err` what is written is of no use.
 
+/// Writes the first line of an image: its callers, lines and number of words.
 fn write_head(out: &mut Vec<u8>, image: &Image) -> Result<(), AllocError>
     ensures { OnOk result (out.new.items ≡ out.old.items ++ head_line image.now) }
 {
@@ -32,6 +33,7 @@ fn write_head(out: &mut Vec<u8>, image: &Image) -> Result<(), AllocError>
     out.extend_from_slice(b"\n")
 }
 
+/// Writes a line for each pair of an address and a word.
 fn write_pairs(out: &mut Vec<u8>, pairs: &[(u64, u64)]) -> Result<(), AllocError>
     ensures { OnOk result (out.new.items ≡ out.old.items ++ pairs_text pairs.now) }
 {

@@ -24,7 +24,7 @@ pub fn is_kept<Reply>(
     })
 }
 
-// Whether a ticket is below the end of the kept entries, which may lie above all numbers of the type.
+/// Whether a ticket is below the end of the kept entries, which may lie above all numbers of the type.
 fn is_below(ticket: u64, place: u64, kept: u64) -> bool
     ensures { (result ≡ true) ↔ (ticket < place + kept) }
 {

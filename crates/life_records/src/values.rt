@@ -15,6 +15,7 @@ pub fn operations_are_values<O: TypedObject>(object: &O, life: &BorrowedLife<'_,
     commands_are_values(object, life.commands());
 }
 
+/// The operations of commands are values of the object's type.
 fn commands_are_values<O: TypedObject>(object: &O, commands: &[Command<O::Op>])
     ensures { All (λ c. (O.meaning object.now).is_op_value c.op) commands.now }
 {
@@ -31,6 +32,7 @@ pub fn replies_are_values<O: TypedObject>(object: &O, told: &LifeRecord<O::Reply
     reads_have_values(object, told.reads.as_slice());
 }
 
+/// The replies of journal lines are values of the object's type.
 fn entries_have_values<O: TypedObject>(object: &O, lines: &[JournalLine<O::Reply>])
     ensures { All (λ line. IfSome line.reply (O.meaning object.now).is_reply_value) lines.now }
 {
@@ -39,6 +41,7 @@ fn entries_have_values<O: TypedObject>(object: &O, lines: &[JournalLine<O::Reply
     }
 }
 
+/// The reply of a journal line is a value of the object's type.
 fn entry_has_a_value<O: TypedObject>(object: &O, line: &JournalLine<O::Reply>)
     ensures { IfSome line.now.reply (O.meaning object.now).is_reply_value }
 {
@@ -47,6 +50,7 @@ fn entry_has_a_value<O: TypedObject>(object: &O, line: &JournalLine<O::Reply>)
     }
 }
 
+/// The replies of read lines are values of the object's type.
 fn reads_have_values<O: TypedObject>(object: &O, lines: &[ReadLine<O::Reply>])
     ensures { All (λ line. (O.meaning object.now).is_reply_value line.reply) lines.now }
 {

@@ -7,6 +7,7 @@ ghost use Rattle.std.specs.Fmt.{decimal, signed_decimal};
 ghost use Rattle.std.specs.Str.Parse.{digits_value};
 ghost use Rattle.plain_text.specs.Number as numbers;
 
+/// Whether each byte is a decimal digit.
 fn are_digits(text: &[u8]) -> bool
     ensures { result ≡ list_all is_digit text.now }
 {

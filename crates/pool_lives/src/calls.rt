@@ -45,7 +45,7 @@ pub(crate) fn ask<O: Object, R: Wait>(
     unreachable!()
 }
 
-// Asks for an operation once: beside the queue where it only reads, and else as an entry of the queue. Nothing where no cell is idle.
+/// Asks for an operation once: beside the queue where it only reads, and else as an entry of the queue. Nothing where no cell is idle.
 fn ask_once<O: Object, R: Wait>(
     rt: &R,
     pool: &Pool<O>,

@@ -22,7 +22,7 @@ pub(crate) struct Gathered<Reply> {
 }
 
 impl<Reply: Drop> Gathered<Reply> {
-    // With one client more.
+    /// With one client more.
     fn with(self, served: Served<Reply>) -> Result<Gathered<Reply>, AllocError>
         ensures { IfOk result (λ after. AddsServed self after served) }
     {

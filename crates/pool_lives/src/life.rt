@@ -34,6 +34,7 @@ pub(crate) fn live<O: TypedObject + Sync, R: Threads + Wait + Sync, G: Gate + Sy
     requires probe { IsProbe (O.meaning object.now) probe.now }
     ensures { IfOk result (λ r. HasMet (O.meaning object.now) O.step O.only_reads life.now service r.0 r.1) }
 {
+    // a running table began from a lawful base
     let _lines = service.lines();
     let probe = probe_words(object, probe);
     let count = life.clients();
@@ -74,7 +75,7 @@ pub(crate) fn live<O: TypedObject + Sync, R: Threads + Wait + Sync, G: Gate + Sy
     Ok((told, remains))
 }
 
-// The words of an operation that only reads.
+/// The words of an operation that only reads.
 fn probe_words<O: TypedObject>(object: &O, probe: &O::Op) -> OpWords
     requires { IsProbe (O.meaning object.now) probe.now }
     ensures { IsTrue (O.only_reads object.now result) }

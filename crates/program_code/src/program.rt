@@ -60,6 +60,7 @@ impl Program {
     }
 }
 
+/// The fault of a program for which memory ran out.
 fn out_of_memory() -> ProgramFault
     ensures { result.kind ≡ FaultKind.Memory }
 {
@@ -69,6 +70,7 @@ fn out_of_memory() -> ProgramFault
     }
 }
 
+/// Whether a program may have this number of words.
 fn has_length(words: &[u64], count: usize) -> bool
     ensures { result ≡ spec.has_length words.now count }
 {
@@ -137,18 +139,21 @@ fn ruled(words: &[u64], at: usize, instruction: Instruction) -> Result<Instructi
     Ok(instruction)
 }
 
+/// Whether a register may be read: R0 to R10.
 fn is_known(register: Register) -> bool
     ensures { result ≡ spec.is_known register }
 {
     register.number <= 10
 }
 
+/// Whether a register may be written: R0 to R9.
 fn is_writable(register: Register) -> bool
     ensures { result ≡ spec.is_writable register }
 {
     register.number <= 9
 }
 
+/// Whether an operand may be read.
 fn is_operand(operand: Operand) -> bool
     ensures { result ≡ spec.is_operand operand }
 {
@@ -158,6 +163,7 @@ fn is_operand(operand: Operand) -> bool
     }
 }
 
+/// Whether each register that an instruction names may be used as it is used there.
 fn has_registers(instruction: Instruction) -> bool
     ensures { result ≡ spec.has_registers instruction }
 {
@@ -178,12 +184,14 @@ fn is_rest(words: &[u64], at: u64) -> bool
     at > 0 && word_at(words, (at - 1) as usize) % (1 << 8) == 0x18
 }
 
+/// Whether an instruction begins at a place.
 fn is_instruction(words: &[u64], at: u64) -> bool
     ensures { result ≡ spec.is_instruction words.now at }
 {
     at < words.len() as u64 && !is_rest(words, at)
 }
 
+/// Whether an instruction that jumps or calls leads to the beginning of an instruction.
 fn leads_right(words: &[u64], instruction: Instruction) -> bool
     ensures { result ≡ spec.leads_right words.now instruction }
 {
@@ -211,6 +219,7 @@ fn follower(at: usize, instruction: Instruction) -> Option<usize>
     }
 }
 
+/// Whether the place that an instruction goes on to, if there is one, is within the words.
 fn is_within(words: &[u64], next: Option<usize>) -> bool
     ensures { result ≡ spec.is_within words.now next }
 {

@@ -62,6 +62,7 @@ fn unused(are_zero: bool, instruction: Instruction) -> Result<Instruction, Fault
     }
 }
 
+/// The instruction of two words that loads a number of 64 bits, or why there is none.
 fn wide(word: u64, next: u64) -> Result<Instruction, FaultKind>
     ensures { result ≡ spec.wide word next }
 {
@@ -84,12 +85,14 @@ fn wide(word: u64, next: u64) -> Result<Instruction, FaultKind>
     Err(FaultKind::Unused)
 }
 
+/// The number of 64 bits whose halves two words have.
 fn wide_number(word: u64, next: u64) -> u64
     ensures { result ≡ spec.immediate_in word + 2 ^ 32 * spec.immediate_in next }
 {
     (word >> 32) + (1 << 32) * (next >> 32)
 }
 
+/// The load that a word spells, or why there is none.
 fn loaded(word: u64) -> Result<Instruction, FaultKind>
     ensures { result ≡ spec.loaded word }
 {
@@ -103,6 +106,7 @@ fn loaded(word: u64) -> Result<Instruction, FaultKind>
     }
 }
 
+/// The load of a unit that a word spells, or why there is none.
 fn loaded_as(word: u64, unit: Unit) -> Result<Instruction, FaultKind>
     ensures { result ≡ spec.loaded_as word (Some unit) }
 {
@@ -115,6 +119,7 @@ fn loaded_as(word: u64, unit: Unit) -> Result<Instruction, FaultKind>
     unused(immediate_in(word) == 0, load)
 }
 
+/// The store of a number that a word spells, or why there is none.
 fn stored_number(word: u64) -> Result<Instruction, FaultKind>
     ensures { result ≡ spec.stored_number word }
 {
@@ -130,6 +135,7 @@ fn stored_number(word: u64) -> Result<Instruction, FaultKind>
     unused(from_in(word).number == 0, store)
 }
 
+/// The store of a register that a word spells, or why there is none.
 fn stored_register(word: u64) -> Result<Instruction, FaultKind>
     ensures { result ≡ spec.stored_register word }
 {
@@ -148,6 +154,7 @@ fn stored_register(word: u64) -> Result<Instruction, FaultKind>
     }
 }
 
+/// The width of an instruction of a class: 32 bits, or 64.
 fn width_of(class: u64) -> Width
     ensures { result ≡ spec.width_of class }
 {
@@ -158,6 +165,7 @@ fn width_of(class: u64) -> Width
     }
 }
 
+/// The arithmetic instruction that a word spells, or why there is none.
 fn spelled_arithmetic(word: u64) -> Result<Instruction, FaultKind>
     ensures { result ≡ spec.spelled_arithmetic word }
 {
@@ -168,6 +176,7 @@ fn spelled_arithmetic(word: u64) -> Result<Instruction, FaultKind>
     }
 }
 
+/// The move that a word spells where its offset is not 0: one that extends a sign.
 fn moved(word: u64) -> Option<Arith>
     ensures { result ≡ spec.moved word }
 {
@@ -178,6 +187,7 @@ fn moved(word: u64) -> Option<Arith>
     extending(offset)
 }
 
+/// The operation on two operands that a word spells.
 fn operation(word: u64) -> Option<Arith>
     ensures { result ≡ spec.operation word }
 {
@@ -189,6 +199,7 @@ fn operation(word: u64) -> Option<Arith>
     }
 }
 
+/// The instruction on two operands that a word spells, or why there is none.
 fn operated(word: u64) -> Result<Instruction, FaultKind>
     ensures { result ≡ spec.operated word (spec.operation word) }
 {
@@ -206,6 +217,7 @@ fn operated(word: u64) -> Result<Instruction, FaultKind>
     }
 }
 
+/// The negation that a word spells, or why there is none.
 fn spelled_negation(word: u64) -> Result<Instruction, FaultKind>
     ensures { result ≡ spec.spelled_negation word }
 {
@@ -222,6 +234,7 @@ fn spelled_negation(word: u64) -> Result<Instruction, FaultKind>
     unused(are_zero, compute)
 }
 
+/// The change of the byte order that a word spells.
 fn order(word: u64) -> Option<Arith>
     ensures { result ≡ spec.order word }
 {
@@ -239,6 +252,7 @@ fn order(word: u64) -> Option<Arith>
     }
 }
 
+/// The instruction that changes the byte order that a word spells, or why there is none.
 fn reordered(word: u64) -> Result<Instruction, FaultKind>
     ensures { result ≡ spec.reordered word (spec.order word) }
 {
@@ -257,6 +271,7 @@ fn reordered(word: u64) -> Result<Instruction, FaultKind>
     }
 }
 
+/// The jump, call or exit that a word at a place spells, or why there is none.
 fn led(word: u64, at: u64) -> Result<Instruction, FaultKind>
     ensures { result ≡ spec.led word at }
 {
@@ -281,6 +296,7 @@ fn target(at: u64, by: u64) -> u64
     at.wrapping_add(1).wrapping_add(by)
 }
 
+/// The jump on a test that a word at a place spells, or why there is none.
 fn jumps(word: u64, at: u64) -> Result<Instruction, FaultKind>
     ensures { result ≡ spec.jumps word at (spec.test_of (spec.operation_code_in word)) }
 {
@@ -299,6 +315,7 @@ fn jumps(word: u64, at: u64) -> Result<Instruction, FaultKind>
     }
 }
 
+/// The jump to a target without a test.
 fn jump_always(word: u64, target: u64) -> Instruction
     ensures { result ≡ spec.always word target }
 {
@@ -311,6 +328,7 @@ fn jump_always(word: u64, target: u64) -> Instruction
     }
 }
 
+/// The jump without a test that a word at a place spells, or why there is none.
 fn jumps_always(word: u64, at: u64) -> Result<Instruction, FaultKind>
     ensures { result ≡ spec.jumps_always word at }
 {
@@ -327,6 +345,7 @@ fn jumps_always(word: u64, at: u64) -> Result<Instruction, FaultKind>
     }
 }
 
+/// The call of a function of the program that a word at a place spells, or why there is none.
 fn spelled_call(word: u64, at: u64) -> Result<Instruction, FaultKind>
     ensures { result ≡ spec.spelled_call word at }
 {
@@ -338,6 +357,7 @@ fn spelled_call(word: u64, at: u64) -> Result<Instruction, FaultKind>
     Err(FaultKind::Helper)
 }
 
+/// The exit that a word spells, or why there is none.
 fn spelled_exit(word: u64) -> Result<Instruction, FaultKind>
     ensures { result ≡ spec.spelled_exit word }
 {

@@ -24,6 +24,7 @@ pub fn computed(kind: Arith, width: Width, a: u64, b: u64) -> u64
     }
 }
 
+/// What an operation gives on 64 bits.
 #[inline(always)]
 fn computed_whole(kind: Arith, a: u64, b: u64) -> u64
     ensures { result ≡ spec.computed_whole kind a b }
@@ -56,6 +57,7 @@ fn computed_whole(kind: Arith, a: u64, b: u64) -> u64
     }
 }
 
+/// What an operation gives on 32 bits, where it differs from that on 64 bits.
 #[inline(always)]
 fn computed_half(kind: Arith, a: u64, b: u64) -> u64
     requires left { a < 2 ^ 32 }
@@ -72,18 +74,21 @@ fn computed_half(kind: Arith, a: u64, b: u64) -> u64
     }
 }
 
+/// The quotient of two unsigned numbers; by 0 it is 0.
 fn quotient(a: u64, b: u64) -> u64
     ensures { result ≡ spec.quotient a b }
 {
     if b == 0 { 0 } else { a / b }
 }
 
+/// The remainder of two unsigned numbers; by 0 it is the first of them.
 fn remainder(a: u64, b: u64) -> u64
     ensures { result ≡ spec.remainder a b }
 {
     if b == 0 { a } else { a % b }
 }
 
+/// The negation in two's complement.
 #[inline(always)]
 fn negated(a: u64) -> u64
     ensures { result ≡ spec.negated a }
@@ -91,18 +96,21 @@ fn negated(a: u64) -> u64
     0u64.wrapping_sub(a)
 }
 
+/// Whether a number is negative in two's complement.
 fn is_negative(a: u64) -> bool
     ensures { result ≡ spec.is_negative a }
 {
     a >= 1 << 63
 }
 
+/// The absolute value of a number in two's complement.
 fn size_of(a: u64) -> u64
     ensures { result ≡ spec.size_of a }
 {
     if a >= 1 << 63 { u64::MAX - a + 1 } else { a }
 }
 
+/// Whether two numbers in two's complement are both negative, or neither.
 fn have_one_sign(a: u64, b: u64) -> bool
     ensures { result ≡ spec.have_one_sign a b }
 {
@@ -113,6 +121,7 @@ fn have_one_sign(a: u64, b: u64) -> bool
     }
 }
 
+/// The quotient of two signed numbers, rounded towards 0; by 0 it is 0.
 fn signed_quotient(a: u64, b: u64) -> u64
     ensures { result ≡ spec.signed_quotient a b }
 {
@@ -124,6 +133,7 @@ fn signed_quotient(a: u64, b: u64) -> u64
     }
 }
 
+/// The remainder of two signed numbers, with the sign of the first; by 0 it is the first of them.
 fn signed_remainder(a: u64, b: u64) -> u64
     ensures { result ≡ spec.signed_remainder a b }
 {
@@ -131,6 +141,7 @@ fn signed_remainder(a: u64, b: u64) -> u64
     if is_negative(a) { negated(size) } else { size }
 }
 
+/// A number shifted to the right, its sign kept.
 #[inline(always)]
 fn shifted_signed(a: u64, by: u64) -> u64
     requires { by < 64 }
@@ -139,6 +150,7 @@ fn shifted_signed(a: u64, by: u64) -> u64
     if a >= 1 << 63 { !(!a >> by) } else { a >> by }
 }
 
+/// A byte with its sign extended to 64 bits.
 #[inline(always)]
 pub fn signed_8(a: u64) -> u64
     requires { a < 2 ^ 8 }
@@ -151,6 +163,7 @@ pub fn signed_8(a: u64) -> u64
     }
 }
 
+/// A number of 16 bits with its sign extended to 64 bits.
 #[inline(always)]
 pub fn signed_16(a: u64) -> u64
     requires { a < 2 ^ 16 }
@@ -163,6 +176,7 @@ pub fn signed_16(a: u64) -> u64
     }
 }
 
+/// A number of 32 bits with its sign extended to 64 bits.
 #[inline(always)]
 pub fn signed_32(a: u64) -> u64
     requires { a < 2 ^ 32 }
@@ -175,6 +189,7 @@ pub fn signed_32(a: u64) -> u64
     }
 }
 
+/// The lowest two bytes in the other order.
 fn swapped_16(a: u64) -> u64
     ensures value { result ≡ spec.swapped_16 a }
     ensures few { result < 2 ^ 16 }
@@ -182,6 +197,7 @@ fn swapped_16(a: u64) -> u64
     a % (1 << 8) * (1 << 8) + (a >> 8) % (1 << 8)
 }
 
+/// The lowest four bytes in the other order.
 fn swapped_32(a: u64) -> u64
     ensures value { result ≡ spec.swapped_32 a }
     ensures few { result < 2 ^ 32 }
@@ -189,6 +205,7 @@ fn swapped_32(a: u64) -> u64
     swapped_16(a) * (1 << 16) + swapped_16(a >> 16)
 }
 
+/// The eight bytes in the other order.
 fn swapped_64(a: u64) -> u64
     ensures { result ≡ spec.swapped_64 a }
 {
@@ -206,6 +223,7 @@ pub fn test_holds(test: Test, width: Width, a: u64, b: u64) -> bool
     }
 }
 
+/// Whether a test holds of two numbers of 64 bits.
 #[inline(always)]
 fn test_holds_whole(test: Test, a: u64, b: u64) -> bool
     ensures { result ≡ spec.test_holds_whole test a b }
@@ -226,6 +244,7 @@ fn test_holds_whole(test: Test, a: u64, b: u64) -> bool
     }
 }
 
+/// A number moved by 2^63, so that signed numbers compare as unsigned ones.
 #[inline(always)]
 fn biased(a: u64) -> u64
     ensures { result ≡ spec.biased a }

@@ -109,6 +109,7 @@ fn is_aligned(unit: Unit, address: u64) -> bool
     }
 }
 
+/// The bits that a unit has.
 #[inline(always)]
 fn mask_of(unit: Unit) -> u64
     ensures { result ≡ spec.mask_of unit }
@@ -148,6 +149,7 @@ pub fn with_part(unit: Unit, address: u64, word: u64, value: u64) -> u64
 }
 
 impl Machine {
+    /// What a register holds.
     #[inline(always)]
     fn read(&self, register: Register) -> u64
         ensures { result ≡ spec.read self.now register }
@@ -155,6 +157,7 @@ impl Machine {
         self.registers[(register.number % 16) as usize]
     }
 
+    /// The value of an operand.
     #[inline(always)]
     fn value(&self, operand: Operand) -> u64
         ensures { result ≡ spec.value_of self.now operand }
@@ -165,6 +168,7 @@ impl Machine {
         }
     }
 
+    /// The address at an offset from what a register holds.
     #[inline(always)]
     fn sum(&self, base: Register, offset: u64) -> u64
         ensures { result ≡ spec.address_of self.now base offset }
@@ -181,6 +185,7 @@ impl Machine {
         self.at = self.at.wrapping_add(1);
     }
 
+    /// The end of the run by a fault at the instruction.
     #[inline(always)]
     fn fault(&self, kind: RunFault, address: u64) -> Wish
         ensures { result ≡ spec.fault self.now kind address }
@@ -192,6 +197,7 @@ impl Machine {
         })
     }
 
+    /// Loads a unit into a register, or wishes for the word of the object that has it.
     #[inline(always)]
     fn load(
         &mut self,
@@ -226,6 +232,7 @@ impl Machine {
         Wish::Goes
     }
 
+    /// Stores a unit of a value, or wishes for its store in the object.
     #[inline(always)]
     fn store(&mut self, unit: Unit, address: u64, value: u64, words: u64) -> Wish
         ensures { (result, self.new) ≡ spec.stores self.old unit address value words }
@@ -258,6 +265,7 @@ impl Machine {
         }
     }
 
+    /// Calls a function of the program: keeps the registers that the callee may not change, and gives it a stack frame.
     fn call(&mut self, target: u64) -> Wish
         ensures { (result, self.new) ≡ spec.calls self.old target }
     {
@@ -277,6 +285,7 @@ impl Machine {
         Wish::Goes
     }
 
+    /// Returns to the caller with its registers, or ends the run.
     fn exit(&mut self) -> Wish
         ensures { (result, self.new) ≡ spec.exits self.old }
     {

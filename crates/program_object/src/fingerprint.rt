@@ -14,6 +14,7 @@ pub fn fingerprint(words: &[u64], instructions: u64, fuel: u64) -> u64
     so_far
 }
 
+/// The fingerprint so far with a word more.
 fn mixed(so_far: u64, word: u64) -> u64
     ensures { result ≡ spec.mixed so_far word }
 {

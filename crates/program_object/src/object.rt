@@ -98,12 +98,14 @@ impl ProgramObject {
     }
 }
 
+/// Whether the numbers of a program's object are within their limits.
 fn numbers_fit(lines: u64, fuel: u64, version: u64, before: Option<u64>) -> bool
     ensures { result ≡ spec.numbers_fit lines fuel version before }
 {
     lines >= 1 && lines <= 1 << 26 && fuel <= 1 << 20 && is_other(before, version)
 }
 
+/// Whether the version before, if there is one, is another than this.
 fn is_other(before: Option<u64>, version: u64) -> bool
     ensures { result ≡ spec.is_other before version }
 {
@@ -156,6 +158,7 @@ fn started(lines: u64) -> Machine
     }
 }
 
+/// The number of a fault in a reply.
 fn fault_number(kind: RunFault) -> u64
     ensures { result ≡ spec.fault_number kind }
 {

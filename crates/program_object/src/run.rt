@@ -67,6 +67,7 @@ fn grant<M: Memory>(
     }
 }
 
+/// The end of a run by a fault at the machine's instruction.
 #[inline(always)]
 fn end_by_fault(machine: &Machine, kind: RunFault, address: u64) -> Option<RunEnd>
     ensures { result ≡ spec.end_by_fault machine.now kind address }

@@ -18,6 +18,7 @@ pub struct Undo {
 }
 
 impl Undo {
+    /// Nothing to be taken back yet.
     pub fn none() -> Undo
         ensures { result.count ≡ 0 }
     {

@@ -54,7 +54,7 @@ impl<'a, Op> IndexedLife<'a, Op> {
     }
 }
 
-// `count` empty lists.
+/// `count` empty lists.
 fn empty_lists<'a, Op>(alloc: Global, count: u32) -> Result<Vec<Vec<&'a Op>>, AllocError>
     ensures count { IfOk result (λ lists. length lists.items ≡ count) }
     ensures empty { IfOk result (λ lists. All (λ own. own.items ≡ []) lists.items) }

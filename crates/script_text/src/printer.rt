@@ -57,6 +57,7 @@ pub fn report<W: ReportWriter>(
     Ok(out)
 }
 
+/// Writes the record of a life.
 fn write_record<W: ReportWriter>(
     out: &mut Vec<u8>,
     number: u64,
@@ -107,6 +108,7 @@ pub fn write_journal<W: ReportWriter>(
     Ok(())
 }
 
+/// Writes the line of an entry: its ticket, its client and command, the operation and the reply.
 fn write_journal_line<W: ReportWriter>(
     out: &mut Vec<u8>,
     life: &IndexedLife<'_, W::Op>,
@@ -137,6 +139,7 @@ pub fn write_reads<W: ReportWriter>(
     Ok(())
 }
 
+/// Writes the line of a read: its client and command, its place, the operation and the reply.
 fn write_read_line<W: ReportWriter>(
     out: &mut Vec<u8>,
     life: &IndexedLife<'_, W::Op>,
@@ -162,6 +165,7 @@ pub fn write_stops(out: &mut Vec<u8>, stops: &[StopLine]) -> Result<(), AllocErr
     Ok(())
 }
 
+/// Writes the line of a client that was stopped: its command, its steps, and whether the entry was kept.
 fn write_stop_line(out: &mut Vec<u8>, line: &StopLine) -> Result<(), AllocError>
     ensures { OnOk result (out.new.items ≡ out.old.items ++ stop_text line.now) }
 {
@@ -185,6 +189,7 @@ pub fn write_fulls(out: &mut Vec<u8>, fulls: &[FullLine]) -> Result<(), AllocErr
     Ok(())
 }
 
+/// Writes the line of a command that found no idle cell, and whose need was why.
 fn write_full_line(out: &mut Vec<u8>, line: &FullLine) -> Result<(), AllocError>
     ensures { OnOk result (out.new.items ≡ out.old.items ++ full_text line.now) }
 {
@@ -214,7 +219,7 @@ pub fn write_power(
     out.extend_from_slice(b"\n")
 }
 
-// A client's command, by client and number.
+/// A client's command, by client and number.
 fn write_name(out: &mut Vec<u8>, client: u32, command: u64) -> Result<(), AllocError>
     ensures { OnOk result (out.new.items ≡ out.old.items ++ name_text client command) }
 {
@@ -222,7 +227,7 @@ fn write_name(out: &mut Vec<u8>, client: u32, command: u64) -> Result<(), AllocE
     write_labelled(out, b".", command)
 }
 
-// An operation and its reply, to the end of the line.
+/// An operation and its reply, to the end of the line.
 fn write_exchange<W: ReportWriter>(
     out: &mut Vec<u8>,
     op: Option<&W::Op>,
@@ -237,6 +242,7 @@ fn write_exchange<W: ReportWriter>(
     out.extend_from_slice(b"\n")
 }
 
+/// Writes an operation, if there is one.
 fn write_op<W: ReportWriter>(out: &mut Vec<u8>, op: Option<&W::Op>) -> Result<(), AllocError>
     ensures { OnOk result (out.new.items ≡ out.old.items ++ option_map_or W.wording.command_text (option_copied op.entry) []) }
 {
@@ -246,6 +252,7 @@ fn write_op<W: ReportWriter>(out: &mut Vec<u8>, op: Option<&W::Op>) -> Result<()
     }
 }
 
+/// Writes a reply, or that there was no answer.
 fn write_answer<W: ReportWriter>(
     out: &mut Vec<u8>,
     reply: Option<&W::Reply>,

@@ -175,6 +175,7 @@ impl<C: CommandReader> Draft<C> {
         }
     }
 
+    /// Begins a life, of which nothing was read yet.
     fn begin(&mut self, alloc: Global, clients: u32, choice: u64) -> Result<(), AllocError>
         ensures { OnOk result (self.new ≡ with_said self.old (ScriptLine.Life clients choice)) }
     {
@@ -187,6 +188,7 @@ impl<C: CommandReader> Draft<C> {
         Ok(())
     }
 
+    /// Adds a cut to the life that is read.
     fn add_cut(&mut self, cut: Cut) -> Result<(), AllocError>
         ensures { OnOk result (self.new ≡ with_said self.old (ScriptLine.Cut cut)) }
     {
@@ -197,6 +199,7 @@ impl<C: CommandReader> Draft<C> {
         Ok(())
     }
 
+    /// Adds a command to the life that is read.
     fn add_command(&mut self, command: Command<C::Op>) -> Result<(), AllocError>
         requires { MayStand C.commands self.old (ScriptLine.Command command) }
         ensures { OnOk result (self.new ≡ with_said self.old (ScriptLine.Command command)) }

@@ -28,6 +28,7 @@ pub fn open<O: Object>(
     open_for::<O, Brand>(alloc, service, callers)
 }
 
+/// Opens the queue for a service whose callers are shown as what `K` knows.
 fn open_for<O: Object, K: Known>(
     alloc: Global,
     service: &Service<O>,

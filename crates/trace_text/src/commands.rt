@@ -38,6 +38,7 @@ fn read_by_verb(alloc: Global, verb: &[u8], rest: Option<&[u8]>) -> Result<Optio
     Ok(None)
 }
 
+/// Reads what follows `get`: a key.
 fn read_get(alloc: Global, key: Option<&[u8]>) -> Result<Option<Op>, AllocError>
     ensures { IfOk result (IsCommandRead (keyed_of Op.Get (option_copied key.entry))) }
 {
@@ -49,6 +50,7 @@ fn read_get(alloc: Global, key: Option<&[u8]>) -> Result<Option<Op>, AllocError>
     }
 }
 
+/// Reads what follows `rev`: a key.
 fn read_rev(alloc: Global, key: Option<&[u8]>) -> Result<Option<Op>, AllocError>
     ensures { IfOk result (IsCommandRead (keyed_of Op.Rev (option_copied key.entry))) }
 {

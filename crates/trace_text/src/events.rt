@@ -129,6 +129,7 @@ fn read_load_behind(r: u64, rest: Option<&[u8]>) -> Option<Kind>
     marked(r, i, mark)
 }
 
+/// The load of a word, marked as a refusal or not.
 fn marked(r: u64, i: u64, mark: Option<&[u8]>) -> Option<Kind>
     ensures { result ≡ marked r i (option_copied mark.entry) }
 {
