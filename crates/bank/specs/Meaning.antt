@@ -1,11 +1,12 @@
 -- What the operations mean, and which images there are.
-use Rattle.std.specs.Prelude.{◌≡◌, ◌+◌, ◌-◌, ◌*◌, ◌^◌, ◌<◌, ◌≤◌, ◌&&◌, nat_le, nat_lt, ℕ, Bool, true, false, List, ◌∷◌, drop, replicate, slice_index, slice_set, sum, take, if◌then◌else◌}
-use Rattle.cx_base.specs.Memory.{Words}
+use Rattle.std.specs.Prelude.{◌≡◌, ◌+◌, ◌-◌, ◌*◌, ◌^◌, ◌<◌, ◌≤◌, ◌&&◌, nat_le, nat_lt, ℕ, Bool, true, false, List, ◌∷◌, drop, replicate, slice_index, slice_set, sum, take, if◌then◌else◌, IsTrue}
+use Rattle.cx_base.specs.Memory.{Always, Words}
 use Rattle.bank.specs.Operations.{op_in, reply_words}
 use Rattle.bank.specs.declared.operations.Op.{Op}
 use Rattle.bank.specs.declared.operations.Op.TheVariants.{Transfer, Balance, Audit, Other}
 use Rattle.bank.specs.declared.operations.Reply.{Reply}
 use Rattle.bank.specs.declared.operations.Reply.TheVariants.{Moved, Overdraft, Value, Missing, NoOperation}
+use Rattle.cx_base.specs.declared.memory.Memory.{Ghosts}
 
 -- this many accounts fit this many lines, and what they have together a word
 pub record FitsAccounts (lines count total : ℕ) : Type 0 where
@@ -22,6 +23,16 @@ pub record IsBank (lines count total : ℕ) (image : List ℕ) : Type 0 where
   pub words : Words (8 * lines) image
   pub version : slice_index image 0 ≡ 1
   pub sum_is : sum (accounts_in count image) ≡ total
+
+-- a memory whose words stand for such an image
+pub record HoldsBank {Memory : Type 0} (m : Ghosts Memory) (lines count total : ℕ) (mem : Memory) : Type 0 where
+  pub size : m.size mem ≡ 8 * lines
+  pub lawful : Always (m.stands mem) (IsBank lines count total)
+
+-- the same, and it may be stored to
+pub record MayChangeBank {Memory : Type 0} (m : Ghosts Memory) (lines count total : ℕ) (mem : Memory) : Type 0 where
+  pub holds : HoldsBank m lines count total mem
+  pub writable : IsTrue (m.writable mem)
 
 -- what an account has, and an image in which it has another amount
 abbrev pub amount_of : List ℕ → ℕ → ℕ

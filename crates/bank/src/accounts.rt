@@ -2,9 +2,8 @@
 
 ghost use Rattle.std.specs.Prelude.{◌≡◌, ◌+◌, ◌*◌, ◌^◌, ◌<◌, ◌≤◌, ◌↔◌, ℕ, List, length, nat_le, nat_lt, sum, IfNone, IfSome, IsTrue};
 ghost use Rattle.cx_base.specs.Calls.{Changes, Finds};
-ghost use Rattle.cx_base.specs.Memory.{Always};
 ghost use Rattle.cx_base.specs.OldFormat.{no_old_format, takes_over_nothing};
-ghost use Rattle.bank.specs.Meaning.{StepsAccounts, FitsAccounts, IsBank, accounts_in, bank_opening, bank_reads, bank_step, blank};
+ghost use Rattle.bank.specs.Meaning.{FitsAccounts, HoldsBank, IsBank, MayChangeBank, StepsAccounts, accounts_in, bank_opening, bank_reads, bank_step, blank};
 ghost use Rattle.bank.specs.Laws as laws;
 ghost use Rattle.bank.specs.declared.operations.Op.TheVariants.{Transfer, Balance, Audit};
 
@@ -51,9 +50,7 @@ impl Bank {
 
     /// Does what an operation asks for.
     fn answer<M: Memory>(&self, mem: &mut M, op: Op) -> Result<Reply, Halt>
-        requires size { M.size mem.old ≡ 8 * self.now.lines }
-        requires writable { IsTrue (M.writable mem.old) }
-        requires lawful { Always (M.stands mem.old) (IsBank self.now.lines self.now.count self.now.total) }
+        requires { MayChangeBank M.Memory self.now.lines self.now.count self.now.total mem.old }
         ensures { Changes M.Memory mem.old mem.new result (StepsAccounts self.now.count op) }
     {
         match op {
@@ -72,9 +69,7 @@ impl Bank {
         to: u64,
         amount: u64,
     ) -> Result<Reply, Halt>
-        requires size { M.size mem.old ≡ 8 * self.now.lines }
-        requires writable { IsTrue (M.writable mem.old) }
-        requires lawful { Always (M.stands mem.old) (IsBank self.now.lines self.now.count self.now.total) }
+        requires { MayChangeBank M.Memory self.now.lines self.now.count self.now.total mem.old }
         ensures { Changes M.Memory mem.old mem.new result (StepsAccounts self.now.count (Transfer from to amount)) }
     {
         if !self.has(from) || !self.has(to) {
@@ -92,8 +87,7 @@ impl Bank {
 
     /// Tells what an account has.
     fn balance<M: Memory>(&self, mem: &mut M, account: u64) -> Result<Reply, Halt>
-        requires size { M.size mem.old ≡ 8 * self.now.lines }
-        requires lawful { Always (M.stands mem.old) (IsBank self.now.lines self.now.count self.now.total) }
+        requires { HoldsBank M.Memory self.now.lines self.now.count self.now.total mem.old }
         ensures { Finds M.Memory mem.old mem.new result (λ reply now. StepsAccounts self.now.count (Balance account) reply now now) }
     {
         if !self.has(account) {
@@ -104,8 +98,7 @@ impl Bank {
 
     /// Tells what all have together.
     fn audit<M: Memory>(&self, mem: &mut M) -> Result<Reply, Halt>
-        requires size { M.size mem.old ≡ 8 * self.now.lines }
-        requires lawful { Always (M.stands mem.old) (IsBank self.now.lines self.now.count self.now.total) }
+        requires { HoldsBank M.Memory self.now.lines self.now.count self.now.total mem.old }
         ensures { Finds M.Memory mem.old mem.new result (λ reply now. StepsAccounts self.now.count Audit reply now now) }
     {
         let mut sum = 0;

@@ -1,10 +1,12 @@
 -- Counters below a bound: what each operation means, and the images that stand for them.
-use Rattle.std.specs.Prelude.{◌≡◌, ◌+◌, ◌-◌, ◌*◌, ◌<◌, ◌&&◌, nat_lt, ℕ, Bool, true, false, List, ◌∷◌, All, drop, length, replicate, slice_index, slice_set, if◌then◌else◌}
+use Rattle.std.specs.Prelude.{◌≡◌, ◌+◌, ◌-◌, ◌*◌, ◌<◌, ◌&&◌, nat_lt, ℕ, Bool, true, false, List, ◌∷◌, All, drop, length, replicate, slice_index, slice_set, if◌then◌else◌, IsTrue}
 use Rattle.bounded_counters.specs.Operations.{op_in, reply_words}
 use Rattle.bounded_counters.specs.declared.operations.Op.{Op}
 use Rattle.bounded_counters.specs.declared.operations.Op.TheVariants.{Add, Read, Other}
 use Rattle.bounded_counters.specs.declared.operations.Reply.{Reply}
 use Rattle.bounded_counters.specs.declared.operations.Reply.TheVariants.{Value, Full, Missing, NoOperation}
+use Rattle.cx_base.specs.Memory.{Always}
+use Rattle.cx_base.specs.declared.memory.Memory.{Ghosts}
 
 -- whether there is this counter
 abbrev pub has_counter : List ℕ → ℕ → Bool
@@ -41,6 +43,16 @@ pub record IsCounters (lines bound : ℕ) (image : List ℕ) : Type 0 where
   pub is : image ≡ 1 ∷ counters
   pub long : length image ≡ 8 * lines
   pub bounded : All (λ count. count < bound) counters
+
+-- a memory whose words stand for such an image
+pub record HoldsCounters {Memory : Type 0} (m : Ghosts Memory) (lines bound : ℕ) (mem : Memory) : Type 0 where
+  pub size : m.size mem ≡ 8 * lines
+  pub lawful : Always (m.stands mem) (IsCounters lines bound)
+
+-- the same, and it may be stored to
+pub record MayChangeCounters {Memory : Type 0} (m : Ghosts Memory) (lines bound : ℕ) (mem : Memory) : Type 0 where
+  pub holds : HoldsCounters m lines bound mem
+  pub writable : IsTrue (m.writable mem)
 
 -- every counter is 0
 abbrev pub counters_opening : ℕ → List ℕ

@@ -2,9 +2,8 @@
 
 ghost use Rattle.std.specs.Prelude.{◌≡◌, ◌-◌, ◌*◌, ◌^◌, ◌<◌, ◌≤◌, ◌↔◌, nat_lt, IsTrue};
 ghost use Rattle.cx_base.specs.Calls.{Changes, Finds};
-ghost use Rattle.cx_base.specs.Memory.{Always};
 ghost use Rattle.cx_base.specs.OldFormat.{no_old_format, takes_over_nothing};
-ghost use Rattle.bounded_counters.specs.Counters.{StepsCounters, IsCounters, counters_step, counters_read_only, counters_opening};
+ghost use Rattle.bounded_counters.specs.Counters.{HoldsCounters, IsCounters, MayChangeCounters, StepsCounters, counters_opening, counters_read_only, counters_step};
 ghost use Rattle.bounded_counters.specs.CounterLaws as laws;
 ghost use Rattle.bounded_counters.specs.declared.operations.Op.TheVariants.{Add, Read};
 
@@ -54,9 +53,7 @@ impl Counters {
 
     /// Does what an operation asks for.
     fn answer<M: Memory>(&self, mem: &mut M, op: Op) -> Result<Reply, Halt>
-        requires size { M.size mem.old ≡ 8 * self.now.lines }
-        requires writable { IsTrue (M.writable mem.old) }
-        requires lawful { Always (M.stands mem.old) (IsCounters self.now.lines self.now.bound) }
+        requires { MayChangeCounters M.Memory self.now.lines self.now.bound mem.old }
         ensures { Changes M.Memory mem.old mem.new result (StepsCounters self.now.bound op) }
     {
         match op {
@@ -68,9 +65,7 @@ impl Counters {
 
     /// Adds to a counter, where the sum stays below the bound.
     fn add<M: Memory>(&self, mem: &mut M, counter: u64, amount: u64) -> Result<Reply, Halt>
-        requires size { M.size mem.old ≡ 8 * self.now.lines }
-        requires writable { IsTrue (M.writable mem.old) }
-        requires lawful { Always (M.stands mem.old) (IsCounters self.now.lines self.now.bound) }
+        requires { MayChangeCounters M.Memory self.now.lines self.now.bound mem.old }
         ensures { Changes M.Memory mem.old mem.new result (StepsCounters self.now.bound (Add counter amount)) }
     {
         if !self.has(counter) {
@@ -86,8 +81,7 @@ impl Counters {
 
     /// Tells what a counter has.
     fn read<M: Memory>(&self, mem: &mut M, counter: u64) -> Result<Reply, Halt>
-        requires size { M.size mem.old ≡ 8 * self.now.lines }
-        requires lawful { Always (M.stands mem.old) (IsCounters self.now.lines self.now.bound) }
+        requires { HoldsCounters M.Memory self.now.lines self.now.bound mem.old }
         ensures { Finds M.Memory mem.old mem.new result (λ reply now. StepsCounters self.now.bound (Read counter) reply now now) }
     {
         if !self.has(counter) {
