@@ -42,7 +42,7 @@ module _ {O : Type 0} (o : Ghosts O) (r : Running O) (s v : Seated) (caller : Is
           times = taken.times;
           base = taken.base;
           current = taken.current;
-          finds = record { loaded = (let is = taken.loaded in omega (arith, is)); raised = taken.raised };
+          finds = record { loaded = (let is = taken.loaded in omega (arith, is)); seen = taken.seen; raised = taken.raised };
           reached = taken.reached;
           above = taken.above;
           from = taken.from;

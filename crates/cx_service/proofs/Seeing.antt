@@ -1,5 +1,5 @@
 -- What a caller does that has seen a place.
-use Rattle.std.proofs.Common.{◌≡◌, ◌+◌, ◌<◌, ◌≤◌, inl, inr, ℕ, max, Bool, cond, List, [], Option, None, Some, append-nil, length, refl, ap, sym, subst, ◌∙◌, arith}
+use Rattle.std.proofs.Common.{◌≡◌, ◌+◌, ◌<◌, ◌≤◌, inl, inr, true, ℕ, max, Bool, cond, List, [], Option, None, Some, append-nil, length, refl, ap, sym, subst, ◌∙◌, arith}
 use Rattle.std.proofs.lemmas.Option.{slice_get_past}
 use Rattle.std.specs.List.{slice_get}
 use Rattle.std.specs.Option.{option_map}
@@ -255,6 +255,7 @@ module _ {O : Type 0} (r : Running O) (step : O → List ℕ → List ℕ → Li
                 let second = ap (λ (x : Seated). x.known.times.loaded) raised in
                 let first = ap (λ (x : Seated). x.known.times.loaded) loaded ∙ ap (λ (b : Bool). cond b s.known.times.loaded s.known.local.steps) caller.rest.fresh in
                 omega (arith, first, second));
+            seen = ap (λ (x : Seated). x.known.times.seen) raised ∙ ap (λ (x : Seated). x.known.times.seen) loaded ∙ ap (λ (b : Bool). cond b s.known.times.seen true) caller.rest.fresh;
             raised = (let is_raised = ap (λ (x : Seated). x.known.local.raised) raised in let is = cur_is in omega (arith, is_raised, is));
           };
           is = placed;

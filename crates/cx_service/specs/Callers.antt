@@ -1,5 +1,5 @@
 -- What is known of a caller of a service between its calls.
-use Rattle.std.specs.Prelude.{◌≡◌, ◌+◌, ◌<◌, ◌≤◌, ℕ, length, min, slice_get, Option, Some, None}
+use Rattle.std.specs.Prelude.{◌≡◌, ◌+◌, ◌<◌, ◌≤◌, true, ℕ, length, min, slice_get, Option, Some, None}
 use Rattle.cx_core.specs.declared.local.Linked.{Linked}
 use Rattle.cx_core.specs.declared.local.Local.{Local}
 use Rattle.cx_core.specs.Layout.{max_word}
@@ -30,9 +30,11 @@ IsCallerOf r seat = IsBetweenCalls 0 r seat
 abbrev pub IsLinkedOf : {O : Type 0} → Running O → Seated → Type 0
 IsLinkedOf r seat = IsBetweenCalls 1 r seat
 
--- CUR was loaded by a step of this call, and DUR was raised by the code found, or by a greater one. A count of steps stays at 2^64 - 1, and says nothing then.
+-- CUR was loaded by a step of this call, and DUR was raised by the code found, or by a greater one. Of a caller that had made no step `seen` says that it
+-- was loaded at all. A count of steps stays at 2^64 - 1, and says nothing then.
 pub record FindsCurrent (before after : Seated) : Type 0 where
   pub loaded : min before.known.local.steps max_word ≤ after.known.times.loaded
+  pub seen : after.known.times.seen ≡ true
   pub raised : after.known.local.seen_cur ≤ after.known.local.raised
 
 -- a caller that is stopped: its seat, and the ticket of its linked entry that no call has answered

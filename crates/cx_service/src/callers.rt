@@ -115,8 +115,8 @@ impl Caller {
         ticket + 1
     }
 
-    /// How many write sets of other callers this caller read in this service, to apply their entries by them, on whichever replica. This stays at
-    /// 2^64 - 1 once there.
+    /// How many write sets of other callers this caller read whole in this service, on whichever replica. That their entries were applied by them is
+    /// said by no clause. This stays at 2^64 - 1 once there.
     pub fn taken(&self) -> u64
         ensures { result ≡ min (sets_read self.now.known.sets) max_word }
     {

@@ -255,6 +255,7 @@ module _ {O : Type 0} (o : Ghosts O) (r : Running O) (hold : Right) (first s : S
             base = subst (λ n. LawfulBase r.lines (o.lawful r.object) (record { place = n; words = image })) is base;
             current = now ∙ sym (ap (root_place_of r.callers) taken_cur);
             loaded = ap (λ (x : Seated). x.known.times.loaded) released ∙ ap (λ (x : Seated). x.known.times.loaded) raise.made ∙ ap (λ (x : Seated). x.known.times.loaded) loads.rest;
+            seen = ap (λ (x : Seated). x.known.times.seen) released ∙ ap (λ (x : Seated). x.known.times.seen) raise.made ∙ ap (λ (x : Seated). x.known.times.seen) loads.rest ∙ seen;
             raised = (let a = ap (λ (x : Seated). x.known.local.raised) released in let b = ap (λ (x : Seated). x.known.local.raised) raise.made in let c = ap (λ (x : Seated). x.known.local.seen_cur) released in let d = ap (λ (x : Seated). x.known.local.seen_cur) raise.made in omega (arith, a, b, c, d, code_is));
             reached = omega (arith, cur, front, front_is, front_now, raised_front);
             above = λ i x there. (

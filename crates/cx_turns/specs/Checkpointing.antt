@@ -1,5 +1,5 @@
 -- A turn by which its caller takes the image of the current replica.
-use Rattle.std.specs.Prelude.{◌≡◌, ◌<◌, ◌≤◌, false, ℕ, List, [], ◌∷◌, ◌++◌, slice_get, Option, Some, None}
+use Rattle.std.specs.Prelude.{◌≡◌, ◌<◌, ◌≤◌, true, false, ℕ, List, [], ◌∷◌, ◌++◌, slice_get, Option, Some, None}
 use Rattle.std.specs.List.{Contains}
 use Rattle.cx_base.specs.Codes.{root_place_of}
 use Rattle.cx_base.specs.declared.object.Object.{Ghosts}
@@ -37,6 +37,7 @@ pub record TakesImage {O : Type 0} (o : Ghosts O) (r : Running O) (begun : ℕ) 
   pub base : LawfulBase r.lines (o.lawful r.object) (record { place = place; words = image })
   pub current : place ≡ root_place_of r.callers after.known.local.seen_cur
   pub loaded : after.known.times.loaded ≡ begun
+  pub seen : after.known.times.seen ≡ true
   pub raised : after.known.local.seen_cur ≤ after.known.local.raised
   pub reached : place ≤ after.known.local.front
   pub above : (i : ℕ) (x : Answer) → slice_get before.known.local.answered i ≡ Some x → x.ticket < place

@@ -71,14 +71,14 @@ pub record MayApply {O : Type 0} (o : Ghosts O) (r : Running O) (held : Right) (
   pub ready : IsReady o r held at seat
   pub may : MayReplay r at seat
 
--- Another's entry with a ticket was applied to a replica held exclusively, which is the image after the next place: by its write set, where one was
--- taken, and else by its step.
+-- Another's entry with a ticket was applied to a replica held exclusively, which is the image after the next place. Where a set was taken, one set was
+-- read; that the entry was applied by it, and not by its step, is not said here.
 pub record AppliesAnother {O : Type 0} (o : Ghosts O) (r : Running O) (held : Right) (ticket : ℕ) (before after : Seated) (taken : Bool) : Type 0 where
   pub ready : IsReady o r held (ticket + 1) after
   pub counted : CountsTaken before after taken
   pub by_sets : BringsAtMost ticket before after
 
--- Another's entry was applied so, and the sets of others that were taken stay counted.
+-- Another's entry was applied so, and the sets of others that were read stay counted.
 pub record ReplaysAnother {O : Type 0} (o : Ghosts O) (r : Running O) (held : Right) (ticket taken : ℕ) (before : Seated) (now : ℕ) (after : Seated) : Type 0 where
   pub ready : IsReady o r held (ticket + 1) after
   pub counted : KeepsCount taken before now after
