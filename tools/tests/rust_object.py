@@ -7,7 +7,8 @@ file of that: so the two need not have the same LLVM. It is done with RUSTC_BOOT
 
 It takes half a minute of processor time.
 Example: rust_object.py examples/programs/stack.rs stack.o
-Status 0 where it is compiled, 1 where a compiler refuses, 2 where the words are others, 3 where a compiler or the source of its `core` is missing.
+Status 0 where it is compiled, 1 where a compiler refuses it, 2 where the words are others, 3 where a compiler or the source of its `core` is missing, or this
+compiler does not take that for the target.
 """
 import os
 import shlex
@@ -36,23 +37,39 @@ def core_source():
     return source if TARGET in asked[1].split() and source.exists() else None
 
 
+class NoCore(Exception):
+    """The compiler's `core` is not made for the target."""
+
+
 def ran(*words):
     """A command, with what a nightly compiler may."""
     print(shlex.join(map(str, words)), flush=True)
     subprocess.run(words, env={**os.environ, "RUSTC_BOOTSTRAP": "1"}, check=True)
 
 
+def words_of(edition):
+    """How a crate is compiled."""
+    return ["rustc", "--target", TARGET, "--edition", edition, "--crate-type", "lib", "--cap-lints", "warn", "-C", "panic=abort", "-C", "opt-level=2"]
+
+
+def make_core(core, room):
+    """What a crate has to know of `core`, and of the other crate that each one names."""
+    known = ["--emit=metadata", "-Z", "always-encode-mir", "--out-dir", room, "-L", room]
+    edition = "2024" if 'edition = "2024"' in (core.parents[1] / "Cargo.toml").read_text("utf-8") else "2021"
+    (room / "builtins.rs").write_text(BUILTINS, "utf-8")
+    try:
+        ran(*words_of(edition), *known, "--crate-name", "core", core)
+        ran(*words_of("2021"), *known, "--crate-name", "compiler_builtins", room / "builtins.rs")
+    except subprocess.CalledProcessError as failed:
+        raise NoCore from failed
+
+
 def compiled(source, to, core):
     """The object file of a structure."""
     with tempfile.TemporaryDirectory() as name:
         room = Path(name)
-        words = ["rustc", "--target", TARGET, "--edition", "2021", "--crate-type", "lib", "--cap-lints", "warn", "-C", "panic=abort", "-C", "opt-level=2"]
-        known = [*words, "--emit=metadata", "-Z", "always-encode-mir", "--out-dir", room]
-        edition = "2024" if (core.parents[1] / "Cargo.toml").read_text("utf-8").find('edition = "2024"') >= 0 else "2021"
-        ran(*(edition if it == "2021" else it for it in known), "--crate-name", "core", core)
-        (room / "builtins.rs").write_text(BUILTINS, "utf-8")
-        ran(*known, "-L", room, "--crate-name", "compiler_builtins", room / "builtins.rs")
-        ran(*words, "-C", "codegen-units=1", "-C", "target-cpu=v3", "-g", "--emit=asm", "-L", room, source, "-o", room / "it.s")
+        make_core(core, room)
+        ran(*words_of("2021"), "-C", "codegen-units=1", "-C", "target-cpu=v3", "-g", "--emit=asm", "-L", room, source, "-o", room / "it.s")
         ran("clang", "-target", "bpf", "-mcpu=v3", "-c", room / "it.s", "-o", to)
 
 
@@ -66,6 +83,9 @@ def main(words):
         compiled(source, to, core)
     except subprocess.CalledProcessError:
         return 1
+    except NoCore:
+        print(f"rust_object: this compiler does not take its core for {TARGET}", file=sys.stderr)
+        return 3
     return 0
 
 

@@ -231,7 +231,8 @@ class DataStructures(unittest.TestCase):
                 for at in range(len(words)):
                     turned = list(words)
                     turned[at] ^= 1 << draw.randrange(64)
-                    requests = [(draw.choice([2, 2, 4, 6, 7, 9]), draw.randrange(20), draw.randrange(5), draw.randrange(9) << 56) for _ in range(12)]
+                    # the first number is below 0 or not, as a priority may be
+                    requests = [(draw.choice([2, 2, 4, 6, 7, 9]), draw.randrange(-10, 10), draw.randrange(5), draw.randrange(9) << 56) for _ in range(12)]
                     taken += beside(turned, program.instructions, requests)
                 self.assertGreater(taken, 10)
 
