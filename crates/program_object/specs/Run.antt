@@ -60,8 +60,8 @@ pub record Granted (writes : Bool) (words : ℕ) (w : wish_type.Wish) (m : Machi
   pub back : undone words u'.count u'.places u'.words now ≡ undone words u.count u.places u.words before
   pub still : IsFalse writes → now ≡ before
 
--- What a run over the words of a memory needs: there are so many, they may be stored to where the run may store, and there is room to
--- note each store.
+-- What a run over the words of a memory needs: there are as many as the program is told, they may be stored to where the run may store, and
+-- each store can be noted.
 pub record MayRun {Memory : Type 0} (mem : Ghosts Memory) (words : ℕ) (writes : Bool) (m : Memory) (undo : Undo) : Type 0 where
   pub size : mem.size m ≡ words
   pub writable : IsTrue writes → IsTrue (mem.writable m)
