@@ -1,5 +1,7 @@
 -- A run of a program over the words of an object.
-use Rattle.std.specs.Prelude.{◌≡◌, ◌+◌, ◌||◌, nat_lt, nat_le, ℕ, zero, suc, Bool, List, Option, None, Some, slice_get, slice_index, slice_set, IsFalse, if◌then◌else◌}
+use Rattle.std.specs.Prelude.{◌≡◌, ◌≤◌, ◌+◌, ◌||◌, nat_lt, nat_le, ℕ, zero, suc, Bool, List, Option, None, Some, slice_get, slice_index, slice_set, IsFalse, IsTrue, if◌then◌else◌}
+use Rattle.cx_base.specs.Memory.{Becomes}
+use Rattle.cx_base.specs.declared.memory.Memory.{Ghosts}
 use Rattle.program_machine.specs.Machine.{Machine, following_place, wrote, part, with_part, wish}
 use Rattle.program_code.specs.declared.instruction.Instruction as instruction_type
 use Rattle.program_machine.specs.declared.machine.RunEnd.{RunEnd}
@@ -57,6 +59,18 @@ pub record Granted (writes : Bool) (words : ℕ) (w : wish_type.Wish) (m : Machi
   pub does : granted writes words w (record { machine = m; stores = u.count; image = before }) ≡ (next, record { machine = m'; stores = u'.count; image = now })
   pub back : undone words u'.count u'.places u'.words now ≡ undone words u.count u.places u.words before
   pub still : IsFalse writes → now ≡ before
+
+-- What a run over the words of a memory needs: there are as many as the program is told, they may be stored to where the run may store, and
+-- each store can be noted.
+pub record MayRun {Memory : Type 0} (mem : Ghosts Memory) (words : ℕ) (writes : Bool) (m : Memory) (undo : Undo) : Type 0 where
+  pub size : mem.size m ≡ words
+  pub writable : IsTrue writes → IsTrue (mem.writable m)
+  pub few : undo.count ≤ 256
+
+-- What it leaves: all words as they were, where it may not store, and no more stores noted than there is room for.
+pub record LeavesRun {Memory : Type 0} (mem : Ghosts Memory) (writes : Bool) (before after : Memory) (undo : Undo) : Type 0 where
+  pub kept : IsFalse writes → Becomes (mem.stands before) (mem.stands after) ◌≡◌
+  pub few : undo.count ≤ 256
 
 -- what does not change in a run: the program, how many words the object has, the request, and whether stores are allowed
 pub record Setting : Type 0 where

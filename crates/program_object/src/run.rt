@@ -1,8 +1,7 @@
 //! A run of a program over the words of a memory.
 
-ghost use Rattle.std.specs.Prelude.{◌≡◌, ◌+◌, ◌*◌, ◌<◌, ◌≤◌, ◌^◌, IsTrue, IsFalse, length};
+ghost use Rattle.std.specs.Prelude.{◌≡◌};
 ghost use Rattle.cx_base.specs.Calls.{Changes};
-ghost use Rattle.cx_base.specs.Memory.{Becomes};
 ghost use Rattle.program_object.specs.Run as spec;
 
 use crate::undo::Undo;
@@ -20,12 +19,9 @@ fn grant<M: Memory>(
     machine: &mut Machine,
     undo: &mut Undo,
 ) -> Result<Option<RunEnd>, Halt>
-    requires size { M.size mem.old ≡ words }
-    requires writable { IsTrue writes → IsTrue (M.writable mem.old) }
-    requires few { undo.old.count ≤ 256 }
+    requires { spec.MayRun M.Memory words writes mem.old undo.old }
     ensures done { Changes M.Memory mem.old mem.new result (λ next before now. spec.Granted writes words wish machine.old undo.old before next machine.new undo.new now) }
-    ensures kept { IsFalse writes → Becomes (M.stands mem.old) (M.stands mem.new) ◌≡◌ }
-    ensures few { undo.new.count ≤ 256 }
+    ensures leaves { spec.LeavesRun M.Memory writes mem.old mem.new undo.new }
 {
     match wish {
         Wish::Goes => Ok(None),
@@ -91,12 +87,9 @@ fn step<M: Memory>(
     machine: &mut Machine,
     undo: &mut Undo,
 ) -> Result<Option<RunEnd>, Halt>
-    requires size { M.size mem.old ≡ words }
-    requires writable { IsTrue writes → IsTrue (M.writable mem.old) }
-    requires few { undo.old.count ≤ 256 }
+    requires { spec.MayRun M.Memory words writes mem.old undo.old }
     ensures done { Changes M.Memory mem.old mem.new result (λ next before now. spec.Stepped (spec.setting code.now constants.now words request.now writes) machine.old undo.old before next machine.new undo.new now) }
-    ensures kept { IsFalse writes → Becomes (M.stands mem.old) (M.stands mem.new) ◌≡◌ }
-    ensures few { undo.new.count ≤ 256 }
+    ensures leaves { spec.LeavesRun M.Memory writes mem.old mem.new undo.new }
 {
     if machine.at >= code.len() as u64 {
         return Ok(end_by_fault(machine, RunFault::Place, 0));
@@ -118,12 +111,9 @@ pub fn to_end<M: Memory>(
     machine: &mut Machine,
     undo: &mut Undo,
 ) -> Result<RunEnd, Halt>
-    requires size { M.size mem.old ≡ words }
-    requires writable { IsTrue writes → IsTrue (M.writable mem.old) }
-    requires few { undo.old.count ≤ 256 }
+    requires { spec.MayRun M.Memory words writes mem.old undo.old }
     ensures done { Changes M.Memory mem.old mem.new result (λ end before now. spec.RunsToEnd (spec.setting code.now constants.now words request.now writes) fuel machine.old undo.old before end machine.new undo.new now) }
-    ensures kept { IsFalse writes → Becomes (M.stands mem.old) (M.stands mem.new) ◌≡◌ }
-    ensures few { undo.new.count ≤ 256 }
+    ensures leaves { spec.LeavesRun M.Memory writes mem.old mem.new undo.new }
 {
     for turn in 0..fuel {
         match step(code, constants, words, request, writes, mem, machine, undo)? {

@@ -24,9 +24,9 @@ loop-turn-preserved g c =
     let p = setting a.code.now a.constants.now a.words a.request.now a.writes in
     record {
       done = Becomes-then i.done e.done.done (λ x y z m n. on_by_one p a.fuel c.loop-turn.turn c.in_ok-step.field-0 a.machine.now c.loop-turn.machine c.step.new.machine a.undo.now c.loop-turn.undo c.step.new.undo x y z c.loop-turn-test.true m n c.in-None.is);
-      kept = λ no. Becomes-then (i.kept no) (e.kept no) (λ x y z m n. m ∙ n);
+      kept = λ no. Becomes-then (i.kept no) (e.leaves.kept no) (λ x y z m n. m ∙ n);
       size = e.done.framed.size_kept ∙ i.size;
       writable = λ yes. subst IsTrue (sym e.done.framed.writable_kept) (i.writable yes);
-      few = e.few;
+      few = e.leaves.few;
       framed = Framed-then i.framed e.done.framed;
     }
