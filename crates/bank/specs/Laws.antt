@@ -4,10 +4,10 @@ use Rattle.std.proofs.Common.{ap, sym, ◌∙◌, arith, lit<}
 use Rattle.std.proofs.Math.Seq.{take-set-lt}
 use Rattle.std.proofs.lemmas.Bool.{and_parts, leb-true}
 use Rattle.std.proofs.lemmas.Grind.{get_or_after_one}
-use Rattle.std.proofs.lemmas.List.{drop-set-add, get_or-replicate, get_or-set_other, get_or-set_same, get_or-take, length-drop, length-replicate, length-set, length-take, take_all}
+use Rattle.std.proofs.lemmas.List.{drop-set-add, get_or-replicate, get_or-set_other, get_or-set_same, get_or-take, length-drop, length-replicate, length-set, length-take}
 use Rattle.std.proofs.lemmas.List.Elements.{All-cons, All-replicate}
 use Rattle.std.proofs.lemmas.List.Folds.{sum_by-replicate}
-use Rattle.std.proofs.lemmas.List.Sums.{sum_by-set, sum_by-take-le, sum_by_more, sum_by_more_le}
+use Rattle.std.proofs.lemmas.List.Sums.{sum_by-set, sum_by-take-le, sum_by_more_le}
 use Rattle.cx_base.specs.Memory.{Words}
 use Rattle.cx_base.specs.WordLaws.{Words-set}
 use Rattle.bank.specs.Meaning.{FitsAccounts, IsBank, accounts_in, amount_of, are_accounts, bank_opening, bank_reads, bank_step, blank, covers, given, accounts_after, is_reading, reply_to, withdrawn, with_amount}
@@ -28,11 +28,11 @@ IsSmallReply _ = Unit {0}
 
 module _ (count : ℕ) (image : List ℕ) (long : count < length image) where
   -- there are this many accounts
-  accounts_long : length (accounts_in count image) ≡ count
+  pub accounts_long : length (accounts_in count image) ≡ count
   accounts_long = omega (arith, length-take count (drop 1 image), length-drop 1 image)
 
   -- what an account has is among them
-  account_at : (account : ℕ) → account < count → slice_index (accounts_in count image) account ≡ amount_of image account
+  pub account_at : (account : ℕ) → account < count → slice_index (accounts_in count image) account ≡ amount_of image account
   account_at account there = get_or-take count (drop 1 image) account 0 there ∙ get_or_after_one image account 0 ∙ ap (slice_index image) (omega arith)
 
   -- to put an amount is to put it among them
@@ -42,7 +42,7 @@ module _ (count : ℕ) (image : List ℕ) (long : count < length image) where
       ap (λ (k : ℕ). take count (drop 1 (slice_set image k amount))) one ∙ ap (take count) (drop-set-add 1 image account amount) ∙ take-set-lt count (drop 1 image) account amount there
 
   -- so it changes the sum by as much
-  sum_put : (account amount : ℕ) → account < count → sum (accounts_in count (with_amount image account amount)) + amount_of image account ≡ sum (accounts_in count image) + amount
+  pub sum_put : (account amount : ℕ) → account < count → sum (accounts_in count (with_amount image account amount)) + amount_of image account ≡ sum (accounts_in count image) + amount
   sum_put account amount there =
       let within : account < length (accounts_in count image) = omega (arith, accounts_long) in
       ap (λ (xs : List ℕ). sum xs + amount_of image account) (account_put account amount there)
@@ -56,7 +56,7 @@ module _ (count : ℕ) (image : List ℕ) (long : count < length image) where
       omega (arith, account_at account there, sum_by_more_le (λ (x : ℕ). x) (accounts_in count image) account 0 within)
 
 -- a transfer that is covered leaves the sum
-moved_sum : (count : ℕ) (image : List ℕ) (from to amount : ℕ) → count < length image → from < count → to < count → amount ≤ amount_of image from
+pub moved_sum : (count : ℕ) (image : List ℕ) (from to amount : ℕ) → count < length image → from < count → to < count → amount ≤ amount_of image from
     → sum (accounts_in count (given (withdrawn image from amount) to amount)) ≡ sum (accounts_in count image)
 moved_sum count image from to amount long f t covered =
     let one = withdrawn image from amount in
@@ -66,7 +66,7 @@ moved_sum count image from to amount long f t covered =
     omega arith
 
 -- a fact of a choice, whose first part may use that the test passed
-by_test : {A : Type 0} (P : A → Type 0) (b : Bool) (x y : A) → (b ≡ true → P x) → P y → P (cond b x y)
+pub by_test : {A : Type 0} (P : A → Type 0) (b : Bool) (x y : A) → (b ≡ true → P x) → P y → P (cond b x y)
 by_test P true x y p q = p refl
 by_test P false x y p q = q
 
@@ -76,26 +76,11 @@ pub record IsAmountCovered (count : ℕ) (image : List ℕ) (from to amount : �
   pub to_is : to < count
   pub enough : amount ≤ amount_of image from
 
-covered_of : (count : ℕ) (image : List ℕ) (from to amount : ℕ) → (are_accounts count from to && covers image from amount) ≡ true → IsAmountCovered count image from to amount
+pub covered_of : (count : ℕ) (image : List ℕ) (from to amount : ℕ) → (are_accounts count from to && covers image from amount) ≡ true → IsAmountCovered count image from to amount
 covered_of count image from to amount passes =
     let p = and_parts (are_accounts count from to) (covers image from amount) passes in
     let q = and_parts (nat_lt from count) (nat_lt to count) p.0 in
     record { from_is = leb-true (suc from) count q.0; to_is = leb-true (suc to) count q.1; enough = leb-true amount (amount_of image from) p.1 }
-
--- no operation changes the sum
-pub sum_after : (count : ℕ) (image : List ℕ) (op : Op) → count < length image → sum (accounts_in count (accounts_after count image op)) ≡ sum (accounts_in count image)
-sum_after count image (Transfer from to amount) long =
-    by_test (λ (next : List ℕ). sum (accounts_in count next) ≡ sum (accounts_in count image)) (are_accounts count from to && covers image from amount)
-    (given (withdrawn image from amount) to amount) image
-    (λ passes. (let c = covered_of count image from to amount passes in moved_sum count image from to amount long c.from_is c.to_is c.enough))
-    refl
-sum_after count image (Balance account) long = refl
-sum_after count image Audit long = refl
-sum_after count image Other long = refl
-
--- and none in words
-pub sum_after_words : (count : ℕ) (image op : List ℕ) → count < length image → sum (accounts_in count (bank_step count image op).0) ≡ sum (accounts_in count image)
-sum_after_words count image op long = sum_after count image (op_in op) long
 
 -- before the first amount is put no account has any
 blank_words : (lines : ℕ) → 0 < lines → Words (8 * lines) (blank lines)
@@ -116,7 +101,7 @@ opens lines count total fits =
     record { words = Words-set (8 * lines) (blank lines) 1 total (omega (arith, fits.small)) words; version = refl; sum_is = omega (arith, none, put, first) }
 
 -- a bank has more words than accounts
-long_of : (lines count total : ℕ) → FitsAccounts lines count total → (image : List ℕ) → IsBank lines count total image → count < length image
+pub long_of : (lines count total : ℕ) → FitsAccounts lines count total → (image : List ℕ) → IsBank lines count total image → count < length image
 long_of lines count total fits image i = omega (arith, fits.few, i.words.long)
 
 -- what an account has is of 64 bits
@@ -204,34 +189,3 @@ left_by_reading count image Other reads = refl
 
 pub leaves : (lines count total : ℕ) (image op : List ℕ) → IsTrue (bank_reads op) → (bank_step count image op).0 ≡ image
 leaves lines count total image op reads = left_by_reading count image (op_in op) reads
-
--- An account has at most the total, also behind what is taken from another, and then less by that.
-pub amount_at_most : (lines count total : ℕ) → FitsAccounts lines count total → (image : List ℕ) → IsBank lines count total image → (account : ℕ) → account < count → amount_of image account < total + 1
-amount_at_most lines count total fits image i account there = omega (arith, i.sum_is, account_within count image (long_of lines count total fits image i) account there)
-
-pub taken_at_most : (lines count total : ℕ) → FitsAccounts lines count total → (image : List ℕ) → IsBank lines count total image → (from to amount : ℕ) → from < count → to < count → amount ≤ amount_of image from
-    → amount_of (withdrawn image from amount) to < total - amount + 1
-taken_at_most lines count total fits image i from to amount f t enough =
-    let long = long_of lines count total fits image i in
-    let one = withdrawn image from amount in
-    let one_long : count < length one = omega (arith, long, length-set image (from + 1) (amount_of image from - amount)) in
-    let put : sum (accounts_in count one) + amount_of image from ≡ sum (accounts_in count image) + (amount_of image from - amount) = sum_put count image long from (amount_of image from - amount) f in
-    omega (arith, i.sum_is, put, account_within count one one_long to t)
-
-module _ (lines count total : ℕ) (fits : FitsAccounts lines count total) (image : List ℕ) (i : IsBank lines count total image) (account : ℕ) (there : account < count) where
-  within : account < length (accounts_in count image)
-  within = omega (arith, accounts_long count image (long_of lines count total fits image i))
-
-  -- the accounts up to one, and that one
-  pub next_sum : sum (take (account + 1) (accounts_in count image)) ≡ sum (take account (accounts_in count image)) + amount_of image account
-  next_sum =
-      sum_by_more (λ x. x) (accounts_in count image) account 0 within
-      ∙ ap (λ (n : ℕ). sum (take account (accounts_in count image)) + n) (account_at count image (long_of lines count total fits image i) account there)
-
-  pub next_at_most : sum (take account (accounts_in count image)) + amount_of image account ≤ total
-  next_at_most =
-      omega (arith, i.sum_is, account_at count image (long_of lines count total fits image i) account there, sum_by_more_le (λ (x : ℕ). x) (accounts_in count image) account 0 within)
-
--- all of them
-pub all_accounts : (count : ℕ) (image : List ℕ) → count < length image → take count (accounts_in count image) ≡ accounts_in count image
-all_accounts count image long = take_all count (accounts_in count image) (omega (arith, accounts_long count image long))

@@ -1,5 +1,5 @@
 -- Operations and replies as 144 words each: a kind, and what the kind uses, with zeros behind it.
-use Rattle.std.specs.Prelude.{◌≡◌, ◌==◌, ℕ, List, ◌∷◌, replicate, slice_index, if◌then◌else◌, refl}
+use Rattle.std.specs.Prelude.{◌==◌, ℕ, List, ◌∷◌, replicate, slice_index, if◌then◌else◌}
 use Rattle.bank.specs.declared.operations.Op.{Op}
 use Rattle.bank.specs.declared.operations.Op.TheVariants.{Transfer, Balance, Audit, Other}
 use Rattle.bank.specs.declared.operations.Reply.{Reply}
@@ -37,19 +37,3 @@ reply_in words =
     else (if slice_index words 0 == 2
     then Overdraft (slice_index words 1)
     else (if slice_index words 0 == 3 then Value (slice_index words 1) else (if slice_index words 0 == 4 then Missing else NoOperation)))
-
--- both are read back
-pub op_is_read : (op : Op) → op_in (op_words op) ≡ op
-unfolding words_with
-op_is_read (Transfer from to amount) = refl
-op_is_read (Balance account) = refl
-op_is_read Audit = refl
-op_is_read Other = refl
-
-pub reply_is_read : (reply : Reply) → reply_in (reply_words reply) ≡ reply
-unfolding words_with
-reply_is_read Moved = refl
-reply_is_read (Overdraft has) = refl
-reply_is_read (Value has) = refl
-reply_is_read Missing = refl
-reply_is_read NoOperation = refl

@@ -1,4 +1,4 @@
-use Rattle.bank.specs.Laws.{sum_after_words}
+use Rattle.bank.proofs.Sums.{sum_after_words}
 use Rattle.bank.proofs.accounts.sums_are_kept.Goals as goal
 
 pub returns : goal.returns

@@ -1,6 +1,6 @@
 use Rattle.std.proofs.Common.{◌≡◌, ◌+◌, ◌≤◌, ◌∙◌, ℕ, List, arith, sum, take}
 use Rattle.cx_base.proofs.MemoryLemmas.{Always-loaded, Becomes-load, Framed-access, Framed-then, always_at_most}
-use Rattle.bank.specs.Laws.{next_at_most, next_sum}
+use Rattle.bank.proofs.Sums.{next_at_most, next_sum}
 use Rattle.bank.specs.Meaning.{IsBank, accounts_in, amount_of}
 use Rattle.bank.proofs.accounts.Bank.audit.Goals as goal
 

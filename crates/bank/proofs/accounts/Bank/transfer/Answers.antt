@@ -1,5 +1,5 @@
 use Rattle.std.proofs.Common.{rules, ◌≡◌, ◌+◌, ◌-◌, ◌<◌, ◌≤◌, ◌∙◌, ℕ, List, slice_index, slice_set, sym, subst, ap, arith}
-use Rattle.bank.specs.Laws.{amount_at_most, taken_at_most}
+use Rattle.bank.proofs.Sums.{amount_at_most, taken_at_most}
 use Rattle.bank.specs.Meaning.{amount_of, withdrawn}
 use Rattle.bank.proofs.accounts.Bank.transfer.Goals as goal
 
