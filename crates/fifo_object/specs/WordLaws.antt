@@ -1,13 +1,10 @@
 -- Texts, operations and replies are read back from their words.
-use Rattle.std.specs.Prelude.{◌≡◌, ◌==◌, ◌&&◌, ◌<◌, ◌≤◌, ◌^◌, nat_le, min, ℕ, zero, suc, Bool, true, false, cond, List, ◌++◌, All, length, replicate, slice_index, refl}
+use Rattle.std.specs.Prelude.{◌≡◌, ◌==◌, ◌&&◌, ◌<◌, ◌≤◌, ◌^◌, nat_le, min, ℕ, suc, Bool, true, false, cond, List, ◌++◌, All, length, replicate, slice_index, refl}
 use Rattle.std.proofs.Common.{ap, sym, ◌∙◌, arith, inl, inr, lit<, get_or, length-append}
-use Rattle.std.proofs.Common.{Result, Ok, Err, IsErrAnd, IsErrOf}
-use Rattle.fifo_object.specs.declared.words.FifoFault.{FifoFault}
-use Rattle.fifo_object.specs.declared.words.FifoFault.TheVariants.{BadOp, Memory}
 use Rattle.std.specs.Bool.{Decides}
 use Rattle.std.specs.List.{list_all}
 use Rattle.std.specs.Str.{bytes_eq}
-use Rattle.std.proofs.lemmas.Bool.{and_parts, and_from, leb-true, le-leb, ne_eqb, cases_lt}
+use Rattle.std.proofs.lemmas.Bool.{and_parts, and_from, leb-true, le-leb, cases_lt}
 use Rattle.std.proofs.lemmas.Bool.Decides.{Decides-by_and}
 use Rattle.std.proofs.lemmas.List.{get_or_past, length-replicate, take_at}
 use Rattle.std.proofs.lemmas.List.Elements.{All-append, All-cons, All-replicate}
@@ -17,7 +14,7 @@ use Rattle.cx_base.specs.Memory.{Words}
 use Rattle.cx_base.specs.Packing.{packed, packed_at, unpacked}
 use Rattle.cx_base.proofs.PackingLemmas.{packed_fit, unpacked-packed}
 use Rattle.fifo_object.specs.Queue.{IsOp, IsReply, IsReplyValue, IsText}
-use Rattle.fifo_object.specs.Words.{AreOfNoOp, AreOfNoReply, has_text, is_item, is_op_in, is_reply_in, is_text, item_in, item_words, kind_in, no_item, number_item, op_in, op_words, reply_in, reply_words, text_in, words_of_item}
+use Rattle.fifo_object.specs.Words.{has_text, is_item, is_op_in, is_reply_in, is_text, item_in, item_words, kind_in, no_item, number_item, op_in, op_words, reply_in, reply_words, text_in, words_of_item}
 use Rattle.fifo_object.specs.declared.operations.FifoOp.{FifoOp}
 use Rattle.fifo_object.specs.declared.operations.FifoOp.TheVariants.{Push, Pop, Peek, Len}
 use Rattle.fifo_object.specs.declared.operations.FifoReply.{FifoReply}
@@ -99,20 +96,6 @@ has_text_passes kind text is =
     let back = text_back kind text in
     and_from (is_item (item_in ws)) (bytes_eq (words_of_item kind (item_in ws)) ws) (ap is_item back ∙ item_passes text is) ((bytes_eq-Decides (words_of_item kind (item_in ws)) ws).1 (ap (words_of_item kind) back))
 
--- words that have a text
-has_text_holds : (kind : ℕ) (words : List ℕ) → has_text kind words ≡ true → IsText (text_in (item_in words)) × (words_of_item kind (item_words (text_in (item_in words))) ≡ words)
-unfolding has_text
-has_text_holds kind words passes =
-    let both = and_parts (is_item (item_in words)) (bytes_eq (words_of_item kind (item_in words)) words) passes in
-    let holds = item_holds (item_in words) both.0 in
-    (holds.0, ap (words_of_item kind) holds.1 ∙ (bytes_eq-Decides (words_of_item kind (item_in words)) words).0 both.1)
-
--- words that have neither text nor number
-bare_holds : (least k : ℕ) (words : List ℕ) → (nat_le least k && nat_le k 4 && bytes_eq (words_of_item k no_item) words) ≡ true → (k ≤ 4) × (words_of_item k no_item ≡ words)
-bare_holds least k words passes =
-    let both = and_parts (nat_le least k && nat_le k 4) (bytes_eq (words_of_item k no_item) words) passes in
-    (leb-true k 4 (and_parts (nat_le least k) (nat_le k 4) both.0).1, (bytes_eq-Decides (words_of_item k no_item) words).0 both.1)
-
 -- ---- operations
 
 pub op_is_read : (op : FifoOp) → IsOp op → (is_op_in (op_words op) ≡ true) × (op_in (op_words op) ≡ op)
@@ -121,35 +104,6 @@ op_is_read (Push text) is = (has_text_passes 1 text is, ap (λ item. Push (text_
 op_is_read Pop is = (refl, refl)
 op_is_read Peek is = (refl, refl)
 op_is_read Len is = (refl, refl)
-
--- an operation by its kind
-abbrev op_test : ℕ → List ℕ → Bool
-op_test k words = cond (k == 1) (has_text 1 words) (nat_le 2 k && nat_le k 4 && bytes_eq (words_of_item k no_item) words)
-
-abbrev op_by : ℕ → List ℕ → FifoOp
-op_by k words = cond (k == 1) (Push (text_in (item_in words))) (cond (k == 2) Pop (cond (k == 3) Peek Len))
-
-op_by_kind : (words : List ℕ) (k : ℕ) → op_test k words ≡ true → IsOp (op_by k words) × (op_words (op_by k words) ≡ words)
-op_by_kind words zero passes = cc
-op_by_kind words (suc zero) passes = has_text_holds 1 words passes
-op_by_kind words (suc (suc zero)) passes = (tt, (bare_holds 2 2 words passes).1)
-op_by_kind words (suc (suc (suc zero))) passes = (tt, (bare_holds 2 3 words passes).1)
-op_by_kind words (suc (suc (suc (suc zero)))) passes = (tt, (bare_holds 2 4 words passes).1)
-op_by_kind words (suc (suc (suc (suc (suc k))))) passes =
-    let n = suc (suc (suc (suc (suc k)))) in
-    let other : (n == 1) ≡ false = ne_eqb n 1 (λ e. omega (arith, e)) in
-    let few = (bare_holds 2 n words (sym (ap (λ b. cond b (has_text 1 words) (nat_le 2 n && nat_le n 4 && bytes_eq (words_of_item n no_item) words)) other) ∙ passes)).0 in
-    absurd (omega (arith, few))
-
-pub op_is_there : (words : List ℕ) → is_op_in words ≡ true → IsOp (op_in words) × (op_words (op_in words) ≡ words)
-unfolding is_op_in op_in
-op_is_there words passes = op_by_kind words (slice_index words 0) passes
-
-pub no_op : (words : List ℕ) → is_op_in words ≡ false → AreOfNoOp words
-no_op words fails op is has = (let passes : is_op_in words ≡ true = ap is_op_in (sym has) ∙ (op_is_read op is).0 in cc)
-
-pub ops_same : (one other : FifoOp) → IsOp one → IsOp other → op_words one ≡ op_words other → one ≡ other
-ops_same one other is are e = sym (op_is_read one is).1 ∙ ap op_in e ∙ (op_is_read other are).1
 
 -- ---- replies
 
@@ -160,36 +114,6 @@ reply_is_read Full is = (refl, refl)
 reply_is_read (Item text) is = (has_text_passes 3 text is, ap (λ item. Item (text_in item)) (text_back 3 text) ∙ ap Item (text_again text is))
 reply_is_read Empty is = (refl, refl)
 reply_is_read (Length number) is = ((bytes_eq-Decides (words_of_item 5 (number_item number)) (words_of_item 5 (number_item number))).1 refl, refl)
-
-abbrev reply_test : ℕ → List ℕ → Bool
-reply_test k words =
-    cond (k == 3) (has_text 3 words) (cond (k == 5) (bytes_eq (words_of_item 5 (number_item (slice_index words 1))) words) (nat_le 1 k && nat_le k 4 && bytes_eq (words_of_item k no_item) words))
-
-abbrev reply_by : ℕ → List ℕ → FifoReply
-reply_by k words = cond (k == 1) Pushed (cond (k == 2) Full (cond (k == 3) (Item (text_in (item_in words))) (cond (k == 4) Empty (Length (slice_index words 1)))))
-
-reply_by_kind : (words : List ℕ) (k : ℕ) → reply_test k words ≡ true → IsReply (reply_by k words) × (reply_words (reply_by k words) ≡ words)
-reply_by_kind words zero passes = cc
-reply_by_kind words (suc zero) passes = (tt, (bare_holds 1 1 words passes).1)
-reply_by_kind words (suc (suc zero)) passes = (tt, (bare_holds 1 2 words passes).1)
-reply_by_kind words (suc (suc (suc zero))) passes = has_text_holds 3 words passes
-reply_by_kind words (suc (suc (suc (suc zero)))) passes = (tt, (bare_holds 1 4 words passes).1)
-reply_by_kind words (suc (suc (suc (suc (suc zero))))) passes = (tt, (bytes_eq-Decides (words_of_item 5 (number_item (slice_index words 1))) words).0 passes)
-reply_by_kind words (suc (suc (suc (suc (suc (suc k)))))) passes =
-    let n = suc (suc (suc (suc (suc (suc k))))) in
-    let bare : Bool = nat_le 1 n && nat_le n 4 && bytes_eq (words_of_item n no_item) words in
-    let number : Bool = bytes_eq (words_of_item 5 (number_item (slice_index words 1))) words in
-    let three : (n == 3) ≡ false = ne_eqb n 3 (λ e. omega (arith, e)) in
-    let five : (n == 5) ≡ false = ne_eqb n 5 (λ e. omega (arith, e)) in
-    let few = (bare_holds 1 n words (sym (ap (λ b. cond b (has_text 3 words) (cond (n == 5) number bare)) three ∙ ap (λ b. cond b number bare) five) ∙ passes)).0 in
-    absurd (omega (arith, few))
-
-pub reply_is_there : (words : List ℕ) → is_reply_in words ≡ true → IsReply (reply_in words) × (reply_words (reply_in words) ≡ words)
-unfolding is_reply_in reply_in
-reply_is_there words passes = reply_by_kind words (slice_index words 0) passes
-
-pub no_reply : (words : List ℕ) → is_reply_in words ≡ false → AreOfNoReply words
-no_reply words fails reply is has = (let passes : is_reply_in words ≡ true = ap is_reply_in (sym has) ∙ (reply_is_read reply is).0 in cc)
 
 pub replies_same : (one other : FifoReply) → IsReply one → IsReply other → reply_words one ≡ reply_words other → one ≡ other
 replies_same one other is are e = sym (reply_is_read one is).1 ∙ ap reply_in e ∙ (reply_is_read other are).1
@@ -220,6 +144,10 @@ pub kind_is_read : (op : FifoOp) → IsOp op → kind_in (op_words op) ≡ slice
 unfolding kind_in
 kind_is_read op is = ap (λ b. cond b (slice_index (op_words op) 0) 0) (op_is_read op is).0
 
+-- whether words pass as an operation of a kind
+abbrev pub op_test : ℕ → List ℕ → Bool
+op_test k words = cond (k == 1) (has_text 1 words) (nat_le 2 k && nat_le k 4 && bytes_eq (words_of_item k no_item) words)
+
 push_has_item : (words : List ℕ) (k : ℕ) → k ≡ 1 → op_test k words ≡ true → is_item (item_in words) ≡ true
 unfolding has_text
 push_has_item words k one passes =
@@ -233,24 +161,6 @@ item_is_asked words one =
       | true ↦ λ passes is. push_has_item words (slice_index words 0) is passes
       | false ↦ λ _ is. absurd (omega (arith, is))
     ]) refl one
-
--- words of no operation have no kind
-pub none_has_no_kind : (words : List ℕ) → AreOfNoOp words → kind_in words ≡ 0
-unfolding kind_in
-none_has_no_kind words none =
-    (elim (is_op_in words) as (λ b. is_op_in words ≡ b → cond b (slice_index words 0) 0 ≡ 0) [
-      | true ↦ λ passes. (let there = op_is_there words passes in absurd (none (op_in words) there.0 there.1))
-      | false ↦ λ _. refl
-    ]) refl
-
--- words with a kind are those of an operation of it
-pub of_kind : (words : List ℕ) (k : ℕ) → kind_in words ≡ suc k → IsOp (op_by (suc k) words) × (op_words (op_by (suc k) words) ≡ words)
-unfolding kind_in is_op_in
-of_kind words k is =
-    (elim (op_test (slice_index words 0) words) as (λ b. op_test (slice_index words 0) words ≡ b → cond b (slice_index words 0) 0 ≡ suc k → IsOp (op_by (suc k) words) × (op_words (op_by (suc k) words) ≡ words)) [
-      | true ↦ λ passes same. op_by_kind words (suc k) (sym (ap (λ n. op_test n words) same) ∙ passes)
-      | false ↦ λ _ same. absurd (omega (arith, same))
-    ]) refl is
 
 -- ---- they are 144 words
 
@@ -281,8 +191,3 @@ op_fits (Push text) is = words_of_fit 1 (item_words text) (lit< tt) (text_fits t
 op_fits Pop is = words_of_fit 2 no_item (lit< tt) no_item_fits
 op_fits Peek is = words_of_fit 3 no_item (lit< tt) no_item_fits
 op_fits Len is = words_of_fit 4 no_item (lit< tt) no_item_fits
-
--- out of memory is no refusal
-pub memory_is_not_bad : {T : Type 0} (answer : Result T FifoFault) → IsErrAnd answer (λ fault. fault ≡ Memory) → IsErrOf answer BadOp → ⊥
-memory_is_not_bad (Ok x) memory bad = cc
-memory_is_not_bad (Err e) memory bad = cc

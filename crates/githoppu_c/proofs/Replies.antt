@@ -9,7 +9,7 @@ use Rattle.doc_model.specs.Meaning.{reply_to}
 use Rattle.doc_store.specs.ExactStep.{IsImageOfStore, is_op_in, op_in, store_step}
 use Rattle.doc_store.specs.StoreLaws.{image_reply_fits, step_none, step_of}
 use Rattle.fifo_object.specs.Words.{is_op_in as is_queue_op_in, item_in, op_in as queue_op_in}
-use Rattle.fifo_object.specs.WordLaws.{no_op, none_has_no_kind, op_is_there}
+use Rattle.fifo_object.proofs.ReadBack.{no_op, none_has_no_kind, op_is_there}
 use Rattle.fifo_object.specs.Queue.{reply_to as queue_reply_to}
 use Rattle.fifo_object.specs.Fifo.{IsFifo, fifo_step, step_by}
 use Rattle.fifo_object.specs.MeaningLaws.{fifo_has_meaning}

@@ -3,13 +3,11 @@
 //!
 //! The lives are those of documents, of counters and of a queue. Then clients share the callers of a service: one after another, on threads of their
 //! own, with a caller that is stopped, as a server has them, and where one catches up with another. The objects that are there to be copied are
-//! called, images are read, refused, written and told as documents, and traces are read, refused and judged. The crate has tests alone.
+//! called. The crate has tests alone.
 #![tactic(auto)]
 
 #[cfg(test)]
 mod accounts;
-#[cfg(test)]
-mod answered_images;
 #[cfg(test)]
 mod catch_ups;
 #[cfg(test)]
@@ -31,8 +29,6 @@ mod highest;
 #[cfg(test)]
 mod holds;
 #[cfg(test)]
-mod image_texts;
-#[cfg(test)]
 mod long_life;
 #[cfg(test)]
 mod many_clients;
@@ -51,17 +47,11 @@ mod queue_service;
 #[cfg(test)]
 mod queue_words;
 #[cfg(test)]
-mod recorded_traces;
-#[cfg(test)]
 mod runs;
 #[cfg(test)]
 mod server;
 #[cfg(test)]
 mod shared_pools;
-#[cfg(test)]
-mod trace_texts;
-#[cfg(test)]
-mod trace_verdicts;
 #[cfg(test)]
 mod worked_lives;
 #[cfg(test)]

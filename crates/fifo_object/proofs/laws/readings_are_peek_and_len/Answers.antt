@@ -1,6 +1,6 @@
 use Rattle.std.proofs.Common.{◌≡◌, ◌∙◌, List, true, inl, inr, ℕ, sym, ap}
 use Rattle.fifo_object.specs.Words.{kind_in}
-use Rattle.fifo_object.specs.WordLaws.{of_kind}
+use Rattle.fifo_object.proofs.ReadBack.{of_kind}
 use Rattle.fifo_object.specs.declared.operations.FifoOp.TheVariants.{Len, Peek}
 use Rattle.fifo_object.specs.Fifo.{IsReading, fifo_reads}
 use Rattle.fifo_object.specs.FifoLaws.{reads_kind}

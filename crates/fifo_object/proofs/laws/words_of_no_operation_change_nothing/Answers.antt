@@ -1,6 +1,6 @@
 use Rattle.std.proofs.Common.{ap}
 use Rattle.fifo_object.specs.Words.{item_in}
-use Rattle.fifo_object.specs.WordLaws.{none_has_no_kind}
+use Rattle.fifo_object.proofs.ReadBack.{none_has_no_kind}
 use Rattle.fifo_object.specs.Fifo.{fifo_step, step_by}
 use Rattle.fifo_object.proofs.laws.words_of_no_operation_change_nothing.Goals as goal
 

@@ -1,4 +1,5 @@
-use Rattle.fifo_object.specs.WordLaws.{ops_same, replies_same}
+use Rattle.fifo_object.specs.WordLaws.{replies_same}
+use Rattle.fifo_object.proofs.ReadBack.{ops_same}
 use Rattle.fifo_object.proofs.queue_laws.fifo_words_are_one_to_one.Goals as goal
 
 pub returns : goal.returns

@@ -1,7 +1,7 @@
 use Rattle.std.proofs.Common.{◌≡◌, refl, sym, subst, ◌∙◌}
 use Rattle.fifo_object.specs.Queue.{IsOp}
 use Rattle.fifo_object.specs.Words.{op_in, op_words}
-use Rattle.fifo_object.specs.WordLaws.{memory_is_not_bad, no_op, op_is_there}
+use Rattle.fifo_object.proofs.ReadBack.{memory_is_not_bad, no_op, op_is_there}
 use Rattle.fifo_object.proofs.words.fifo_of.Goals as goal
 
 pub returns-then-not-is_op-clause-bad : goal.returns-then-not-is_op-clause-bad

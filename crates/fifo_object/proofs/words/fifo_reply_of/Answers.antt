@@ -1,7 +1,7 @@
 use Rattle.std.proofs.Common.{◌≡◌, refl, sym, subst, ◌∙◌}
 use Rattle.fifo_object.specs.Queue.{IsReply}
 use Rattle.fifo_object.specs.Words.{reply_in, reply_words}
-use Rattle.fifo_object.specs.WordLaws.{memory_is_not_bad, no_reply, reply_is_there}
+use Rattle.fifo_object.proofs.ReadBack.{memory_is_not_bad, no_reply, reply_is_there}
 use Rattle.fifo_object.proofs.words.fifo_reply_of.Goals as goal
 
 pub returns-then-not-is_reply-clause-bad : goal.returns-then-not-is_reply-clause-bad
