@@ -4,7 +4,7 @@ ghost use Rattle.std.specs.Prelude.{◌≡◌, ◌<◌, ◌≤◌, IfOk, IsTrue,
 ghost use Rattle.cx_base.specs.Memory.{Always};
 ghost use Rattle.cx_base.specs.Tally.{IsTally, tally_opening, tally_step};
 
-use crate::holds::holds;
+use crate::holds::{all_hold, holds, holds_with_memory};
 use crate::noted::Noted;
 use cx_base::tally::Tally;
 use cx_base::{
@@ -12,7 +12,6 @@ use cx_base::{
     link_ticket, load_below, pack, root_code, root_place, root_replica, store_words, unpack,
 };
 use std::alloc::{AllocError, Global};
-use std::test::Fail;
 
 #[test]
 fn codes_of_the_worked_row(rt: HostRuntime) {
@@ -188,15 +187,14 @@ fn first_other_check(
 }
 
 #[test]
-fn tally_over_a_vector(rt: HostRuntime) -> Result<(), Fail> {
+fn tally_over_a_vector(rt: HostRuntime) {
     let alloc = rt.alloc();
-    holds(&rt, are_summed(alloc, &STEPS)?);
-    holds(&rt, first_other_check(alloc, &CHECKED)?.is_none());
+    holds_with_memory(&rt, are_summed(alloc, &STEPS));
+    all_hold(&rt, first_other_check(alloc, &CHECKED));
     holds(&rt, Tally.lines() == 64);
     holds(&rt, Tally.version() == 7);
     holds(&rt, Tally.reads(&words_of(100, 1)));
     holds(&rt, !Tally.reads(&words_of(1, 0)));
-    Ok(())
 }
 
 // The first limit below 514 under which `format` halts, or does not, otherwise.
@@ -231,12 +229,11 @@ fn first_other_run(alloc: Global, op: &[u64; 144], needs: u64) -> Result<Option<
 }
 
 #[test]
-fn tally_halts_at_each_step(rt: HostRuntime) -> Result<(), Fail> {
+fn tally_halts_at_each_step(rt: HostRuntime) {
     let alloc = rt.alloc();
-    holds(&rt, first_other_format(alloc)?.is_none());
-    holds(&rt, first_other_run(alloc, &words_of(3, 0), 2)?.is_none());
-    holds(&rt, first_other_run(alloc, &words_of(100, 1), 1)?.is_none());
-    Ok(())
+    all_hold(&rt, first_other_format(alloc));
+    all_hold(&rt, first_other_run(alloc, &words_of(3, 0), 2));
+    all_hold(&rt, first_other_run(alloc, &words_of(100, 1), 1));
 }
 
 // Whether a memory with notes counts the accesses of `format` and two loads, and refuses all behind them.
@@ -266,10 +263,9 @@ fn adds_nine(alloc: Global) -> Result<bool, AllocError> {
 }
 
 #[test]
-fn tally_over_a_memory_with_notes(rt: HostRuntime) -> Result<(), Fail> {
-    holds(&rt, counts_accesses(rt.alloc())?);
-    holds(&rt, adds_nine(rt.alloc())?);
-    Ok(())
+fn tally_over_a_memory_with_notes(rt: HostRuntime) {
+    holds_with_memory(&rt, counts_accesses(rt.alloc()));
+    holds_with_memory(&rt, adds_nine(rt.alloc()));
 }
 
 // A word below a bound, and words put behind it, over any memory.
@@ -330,9 +326,8 @@ fn first_other_put(alloc: Global, rows: &[([u64; 8], u64)]) -> Result<Option<usi
 }
 
 #[test]
-fn words_over_a_memory(rt: HostRuntime) -> Result<(), Fail> {
-    holds(&rt, first_other_put(rt.alloc(), &PUT)?.is_none());
-    Ok(())
+fn words_over_a_memory(rt: HostRuntime) {
+    all_hold(&rt, first_other_put(rt.alloc(), &PUT));
 }
 
 // The text that goes through.
@@ -450,8 +445,7 @@ fn first_other_sink(alloc: Global, rows: &[Chunks]) -> Result<Option<usize>, All
 }
 
 #[test]
-fn texts_by_chunks(rt: HostRuntime) -> Result<(), Fail> {
-    holds(&rt, first_other_source(rt.alloc(), &READ)?.is_none());
-    holds(&rt, first_other_sink(rt.alloc(), &WRITTEN)?.is_none());
-    Ok(())
+fn texts_by_chunks(rt: HostRuntime) {
+    all_hold(&rt, first_other_source(rt.alloc(), &READ));
+    all_hold(&rt, first_other_sink(rt.alloc(), &WRITTEN));
 }
