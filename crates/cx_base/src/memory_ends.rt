@@ -24,7 +24,6 @@ impl Model for SureSource {
 }
 
 impl SureSource {
-    /// A source that gives these bytes.
     pub fn new(bytes: Vec<u8>) -> Self
         ensures { result ≡ bytes.items }
     {

@@ -64,7 +64,6 @@ fn first_word(bytes: &[u8]) -> u64
     }
 }
 
-/// The word that the first eight bytes make, the lowest byte first.
 fn whole_word(bytes: &[u8]) -> u64
     requires { 8 ≤ length bytes.now }
     ensures { result ≡ packed_at bytes.now 0 }
@@ -74,7 +73,6 @@ fn whole_word(bytes: &[u8]) -> u64
     ])
 }
 
-/// The word that up to eight bytes make, the lowest byte first; bytes that are missing are 0.
 fn short_word(bytes: &[u8]) -> u64
     ensures { result ≡ packed_at bytes.now 0 }
 {
@@ -97,7 +95,6 @@ fn behind_first_word(bytes: &[u8]) -> &[u8]
     &bytes[8usize.min(bytes.len())..]
 }
 
-/// The byte at a place, or 0 past the end.
 fn byte_or_zero(bytes: &[u8], place: usize) -> u8
     ensures { result ≡ slice_index bytes.now place }
 {

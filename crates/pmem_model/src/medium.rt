@@ -40,7 +40,6 @@ impl Word {
         }
     }
 
-    /// Stores a word: it is dirty then.
     fn store(&mut self, v: u64)
         ensures { self.new ≡ word_stored self.old v }
     {
@@ -48,7 +47,6 @@ impl Word {
         self.mark = Mark::Dirty;
     }
 
-    /// Begins the write-back of a word that is dirty.
     fn write_back(&mut self)
         ensures { self.new ≡ written_back self.old }
     {
@@ -57,7 +55,6 @@ impl Word {
         }
     }
 
-    /// Ends the write-back of a word: what it holds is durable then.
     fn fence(&mut self)
         ensures { self.new ≡ fenced self.old }
     {
@@ -67,7 +64,6 @@ impl Word {
         }
     }
 
-    /// Whether what the word holds may be lost in a crash.
     fn is_dirty(&self) -> bool
         ensures { IsTrue result ↔ IsDirtyMark self.now.mark }
     {
@@ -161,7 +157,6 @@ impl Medium {
         ensures words { WritesBack (8 * line) (8 * line + 8) self.old.words self.new.words }
         ensures stores { self.new.stores ≡ self.old.stores }
     {
-        // the number of words is one of 64 bits
         let _words = self.words.len();
         let first = 8 * line as usize;
         for at in first..first + 8 {
