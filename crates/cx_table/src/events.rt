@@ -68,7 +68,6 @@ impl<O: Object> Shared<O> {
         requires allows { Allows (RuleHolds (instance_at self.now O.step O.only_reads)) self.now.table.slots seat.old.id seat.old.me word (put_by instruction) J.tells }
         ensures { IsTaught seat.old.table_id seat.new.table_id (J.tells result seat.new.me) }
     {
-        let _ = about;
         let table = &self.table.shared;
         match instruction {
             Instruction::Load => table.load::<Does<J>>(seat, word),
@@ -152,7 +151,6 @@ impl<O: Object> Shared<O> {
         requires allows { Allows (RuleHolds (instance_at self.now O.step O.only_reads)) self.now.table.slots seat.old.id seat.old.me word (λ _. new) (λ _. J.tells new) }
         ensures { IsTaught seat.old.table_id seat.new.table_id (J.tells new seat.new.me) }
     {
-        let _ = kind;
         self.table.shared.store::<Does<J>>(seat, word, new);
     }
 }

@@ -55,7 +55,7 @@ impl<O: Object> Shared<O> {
         ensures length { length into.new ≡ length into.old }
         ensures seat { IsSeatOf self.now seat.new }
     {
-        let _ = &self.table;
+        self.table_is_running();
         if !seat.summary.count(into.len() as u64) {
             return false;
         }

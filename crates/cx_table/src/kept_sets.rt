@@ -30,7 +30,7 @@ impl<O: Object> Shared<O> {
         ensures fits { FittingIn O.Object self.now seat.new.known }
         ensures room { IsSetList set.new.items }
     {
-        let _ = &self.table;
+        self.table_is_running();
         self.note_kept(&mut seat.seat, ticket, set);
         seat.copy.keep(ticket, set);
     }
@@ -41,7 +41,7 @@ impl<O: Object> Shared<O> {
         requires told { TellsSet self.now.lines (O.lawful self.now.object) self.now.base (O.step self.now.object) (known_of seat.old.me.0) ticket set.now }
         ensures { IsTaught seat.old.table_id seat.new.table_id (TeachesKept (instance_at self.now O.step O.only_reads) ticket set.now (known_of seat.old.me.0) seat.new.me) }
     {
-        let _ = &self.table;
+        self.table_is_running();
         let about = (ticket, set);
         self.run::<Brand, (u64, &[u64])>(seat, &about, CUR_AT, Instruction::Load);
     }
@@ -56,7 +56,6 @@ impl CallerSeat {
         ensures taken { IsTrue result → IsKeptSet self.old.known.kept ticket set.new.items × IsSetWithin self.old.region set.new.items }
         ensures room { IsSetList set.new.items }
     {
-        let _ = &self.seat;
         self.copy.take_kept(ticket, set)
     }
 }

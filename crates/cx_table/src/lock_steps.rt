@@ -104,8 +104,7 @@ impl<O: Object> Shared<O> {
         ensures step { MakesFittingStep O.Object self.now seat.old seat.new result (λ found. StepsCopied self.now O.step O.only_reads source.replica found seat.old seat.new) }
         ensures held { OnOk result (IsExclusiveOf self.now.callers seat.new held.now) }
     {
-        let _ = held;
-        let _ = &self.table;
+        self.table_is_running();
         seat.summary.check()?;
         Ok(self.give_back::<Brand, ()>(&mut seat.seat, &mut seat.summary, &(), source))
     }
@@ -123,7 +122,7 @@ impl<O: Object> Shared<O> {
         ensures step { MakesFittingStep O.Object self.now seat.old seat.new result (λ found. StepsTaking self.now O.step O.only_reads source.replica found image.now seat.old seat.new) }
         ensures base { OnOk result (LawfulBase self.now.lines (O.lawful self.now.object) (base_of image.now)) }
     {
-        let _ = &self.table;
+        self.table_is_running();
         seat.summary.check()?;
         Ok(self.give_back::<Brand, &[u64]>(&mut seat.seat, &mut seat.summary, &image, source))
     }

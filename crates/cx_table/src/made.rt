@@ -56,7 +56,6 @@ impl<O: Object> Shared<O> {
         requires learns { IsLearned (instance_at self.now O.step O.only_reads) kind.now seat.old.known word (put_by instruction) }
         ensures { MakesFittingStep O.Object self.now seat.old seat.new result (λ found. Steps self.now O.step O.only_reads (kind_found (instance_at self.now O.step O.only_reads) kind.now seat.old.known.local found) found seat.old seat.new) }
     {
-        let _ = &self.table;
         seat.summary.check()?;
         let found = self.learned(&mut seat.seat, kind, word, instruction);
         follow(&mut seat.summary, &mut seat.copy, self.callers, kind, found);
@@ -101,7 +100,6 @@ impl<O: Object> Shared<O> {
         requires blind { IsBlind (instance_at self.now O.step O.only_reads) kind.now seat.old.known }
         ensures { MakesFittingStep O.Object self.now seat.old seat.new result (λ _. Steps self.now O.step O.only_reads kind.now 0 seat.old seat.new) }
     {
-        let _ = &self.table;
         seat.summary.check()?;
         self.store_learned(&mut seat.seat, kind, word, new);
         follow(&mut seat.summary, &mut seat.copy, self.callers, kind, 0);

@@ -41,6 +41,7 @@ impl CallerSeat {
         ensures some { IfSome result (λ j. (j < 16) × IsOwnSet self.now.known.local.cells ticket (cell_of self.now.known.local j).set) }
         ensures none { IfNone result ((set : List ℕ) → ¬ IsOwnSet self.now.known.local.cells ticket set) }
     {
+        // the proof reads what the seat knows of its cells: all there are, and as they are kept in plain memory
         let _ = &self.seat;
         self.ticket_cell_as(ticket, true)
     }
@@ -51,6 +52,7 @@ impl CallerSeat {
         ensures some { IfSome result (λ j. CanWriteSet self.now.known.local j × ((cell_of self.now.known.local j).ticket ≡ Some ticket)) }
         ensures none { IfNone result ((j : ℕ) → CanWriteSet self.now.known.local j → (cell_of self.now.known.local j).ticket ≢ Some ticket) }
     {
+        // the proof reads what the seat knows of its cells: all there are, and as they are kept in plain memory
         let _ = &self.seat;
         self.ticket_cell_as(ticket, false)
     }

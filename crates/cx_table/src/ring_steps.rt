@@ -20,7 +20,7 @@ impl<O: Object> Shared<O> {
         requires { MayStep O.Object self.now (Protect p) seat.old }
         ensures { MakesStep self.now seat.old seat.new result (λ _. Steps self.now O.step O.only_reads (Protect p) 0 seat.old seat.new) }
     {
-        let _ = &self.table;
+        self.table_is_running();
         let word = need_at(seat.summary.number);
         self.stored(seat, &Kind::Protect { p }, word, p)
     }
@@ -31,7 +31,7 @@ impl<O: Object> Shared<O> {
         requires { MayStep O.Object self.now Confirm seat.old }
         ensures { MakesStep self.now seat.old seat.new result (λ found. Steps self.now O.step O.only_reads Confirm found seat.old seat.new) }
     {
-        let _ = &self.table;
+        self.table_is_running();
         self.made(seat, &Kind::Confirm, LOW_AT, Instruction::Load)
     }
 
@@ -40,7 +40,7 @@ impl<O: Object> Shared<O> {
         requires { MayStep O.Object self.now Unprotect seat.old }
         ensures { MakesStep self.now seat.old seat.new result (λ _. Steps self.now O.step O.only_reads Unprotect 0 seat.old seat.new) }
     {
-        let _ = &self.table;
+        self.table_is_running();
         let word = need_at(seat.summary.number);
         self.stored(seat, &Kind::Unprotect, word, MAX_WORD)
     }
@@ -51,7 +51,7 @@ impl<O: Object> Shared<O> {
         requires { MayStep O.Object self.now (CloseLow target) seat.old }
         ensures { MakesStep self.now seat.old seat.new result (λ found. Steps self.now O.step O.only_reads (CloseLow target) found seat.old seat.new) }
     {
-        let _ = &self.table;
+        self.table_is_running();
         let kind = Kind::CloseLow { target };
         self.made(seat, &kind, LOW_AT, Instruction::Raise(target))
     }
@@ -62,7 +62,7 @@ impl<O: Object> Shared<O> {
         requires { MayStep O.Object self.now (Scan d) seat.old }
         ensures { MakesStep self.now seat.old seat.new result (λ found. Steps self.now O.step O.only_reads (Scan d) found seat.old seat.new) }
     {
-        let _ = &self.table;
+        self.table_is_running();
         let word = need_at(d as u32);
         self.made(seat, &Kind::Scan { d }, word, Instruction::Load)
     }
@@ -73,7 +73,7 @@ impl<O: Object> Shared<O> {
         requires { MayStep O.Object self.now OpenFree seat.old }
         ensures { MakesStep self.now seat.old seat.new result (λ found. Steps self.now O.step O.only_reads OpenFree found seat.old seat.new) }
     {
-        let _ = &self.table;
+        self.table_is_running();
         let bound = seat.summary.bound();
         self.made(seat, &Kind::OpenFree, FREE_AT, Instruction::Raise(bound))
     }

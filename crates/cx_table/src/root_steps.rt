@@ -23,7 +23,7 @@ impl<O: Object> Shared<O> {
         requires { IsSeatOf self.now seat.old }
         ensures { MakesFittingStep O.Object self.now seat.old seat.new result (λ found. Steps self.now O.step O.only_reads LoadCur found seat.old seat.new) }
     {
-        let _ = &self.table;
+        self.table_is_running();
         self.made(seat, &Kind::LoadCur, CUR_AT, Instruction::Load)
     }
 

@@ -52,7 +52,7 @@ impl<O: Object> Shared<O> {
         ensures length { length into.new ≡ length into.old }
         ensures seat { IsSeatOf self.now seat.new }
     {
-        let _ = &self.table;
+        self.table_is_running();
         if !seat.summary.count(into.len() as u64) {
             return false;
         }
@@ -102,7 +102,7 @@ impl<O: Object> Shared<O> {
         ensures taught { IsTaught seat.old.table_id seat.new.table_id ((begun : Me ℕ (List Known)) → AreLoaded (instance_at self.now O.step O.only_reads) r from begun at into.old seat.old.me → AreLoaded (instance_at self.now O.step O.only_reads) r from begun (at + count) into.new seat.new.me) }
         ensures length { length into.new ≡ length into.old }
     {
-        let _ = &self.table;
+        self.table_is_running();
         for j in 0..count {
             let i = at + j;
             let kind = Kind::LoadWord {
@@ -129,7 +129,7 @@ impl<O: Object> Shared<O> {
         ensures run { MatchBool result (Runs self.now O.step O.only_reads (O.lawful self.now.object) (reads_of t k) into.new seat.old seat.new) ((seat.new ≡ seat.old) × (seat.old.known.local.limit < seat.old.known.local.steps + ENTRY_WORDS)) }
         ensures seat { IsSeatOf self.now seat.new }
     {
-        let _ = &self.table;
+        self.table_is_running();
         if !seat.summary.count(CELL_WORDS) {
             return false;
         }
@@ -167,7 +167,7 @@ impl<O: Object> Shared<O> {
         ensures length { length into.new ≡ length into.old }
         ensures seat { IsSeatOf self.now seat.new }
     {
-        let _ = &self.table;
+        self.table_is_running();
         if !seat.summary.count(into.len() as u64) {
             return false;
         }

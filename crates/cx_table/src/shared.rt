@@ -34,6 +34,15 @@ impl<O: Object> Model for Shared<O> {
 }
 
 impl<O: Object> Shared<O> {
+    /// A running table is within its limits. This does nothing: a call that reads no field of the table has the fact from here, since a proof learns
+    /// what a type promises of a value only where a field is read, or by a contract.
+    #[inline(always)]
+    pub(crate) fn table_is_running(&self)
+        ensures { IsRunning O.line_count O.lawful self.now }
+    {
+        let _table = &self.table;
+    }
+
     /// The number of callers.
     pub fn callers(&self) -> u32
         ensures value { result ≡ self.now.callers }

@@ -67,7 +67,7 @@ impl<O: Object> Shared<O> {
         requires { IsSeatOf self.now seat.old }
         ensures { MakesStep self.now seat.old seat.new result (λ found. Steps self.now O.step O.only_reads LoadFree found seat.old seat.new) }
     {
-        let _ = &self.table;
+        self.table_is_running();
         self.made(seat, &Kind::LoadFree, FREE_AT, Instruction::Load)
     }
 }

@@ -6,6 +6,7 @@ ghost use Rattle.cx_turns.specs.Taking.{HaltsTaking, MayTake, MayTry, TakesAny, 
 ghost use Rattle.cx_turns.specs.Turns.{KeepsIn};
 ghost use Rattle.cx_rule.specs.Steps.{Halts};
 
+use crate::facts::table_is_running;
 use cx_base::{Halt, Object};
 use cx_table::{CallerSeat, Exclusive, Shared};
 use strong_trylock::{ExclusiveTried, try_exclusive};
@@ -53,8 +54,7 @@ fn try_one<O: Object>(
     ensures tried { MatchResult result (TriesOne O.Object shared.now r seat.old seat.new) (λ _. Halts shared.now seat.old seat.new) }
     ensures keeps { KeepsIn shared.now beside_tries 1 seat.old seat.new }
 {
-    // a running table is within its limits
-    let _lines = shared.lines();
+    table_is_running(shared);
     match try_exclusive(shared, seat, r)? {
         ExclusiveTried::Got(held) => Ok(Some(held)),
         ExclusiveTried::Held { found: _ } => Ok(None),

@@ -12,6 +12,7 @@ ghost use Rattle.cx_turns.specs.Turns.{HaltsTurn, KeepsIn, KeepsSeat};
 ghost use Rattle.replica.specs.Held.{beside_shared};
 ghost use Rattle.strong_trylock.specs.Held.{all_rights, no_rights};
 
+use crate::facts::{callers_are_few, refusals_fit, table_is_running};
 use cx_base::{Halt, Memory, Object, OpWords, root_place, root_replica};
 use cx_core::{LINE_WORDS, OBJECT_START, Part};
 use cx_table::{CallerSeat, Shared, SharedHold};
@@ -84,8 +85,7 @@ pub fn read_current<O: Object>(
     ensures read { MatchResult result (ReadsCurrent O.Object shared.now op.now reply.new seat.old seat.new) (λ _. HaltsTurn seat.old seat.new) }
     ensures keeps { KeepsSeat shared.now beside_read seat.old seat.new }
 {
-    // callers are some
-    let _callers = shared.callers();
+    callers_are_few(shared);
     match take_current(shared, seat)? {
         Some(hold) => Ok(Some(read_taken(shared, seat, hold, op, reply)?)),
         None => Ok(None),
@@ -121,9 +121,8 @@ pub(crate) fn take_current<O: Object>(
     ensures taken { MatchResult result (TakesCurrent O.Object shared.now (all_rights seat.old) seat.old seat.new) (λ _. HaltsTurn seat.old seat.new) }
     ensures keeps { KeepsIn shared.now beside_read 3 seat.old seat.new }
 {
-    // refusals are counted in a word
-    let _met = seat.met();
-    let _lines = shared.lines();
+    refusals_fit(seat);
+    table_is_running(shared);
     let replica = root_replica(shared.callers(), seat.seen_cur());
     match try_shared(shared, seat, replica)? {
         SharedTried::Got(hold) => test_place(shared, seat, hold),
@@ -142,8 +141,7 @@ fn test_place<O: Object>(
     ensures taken { MatchResult result (TakesCurrent O.Object shared.now (record (all_rights seat.old) { shared = None }) seat.old seat.new) (λ _. HaltsTurn seat.old seat.new) }
     ensures keeps { KeepsIn shared.now beside_read 2 seat.old seat.new }
 {
-    // refusals are counted in a word
-    let _met = seat.met();
+    refusals_fit(seat);
     let place = root_place(shared.callers(), seat.seen_cur());
     let found = shared.load_word(seat, hold.replica() as u64, PLACE_AT, true)?;
     if found != place {

@@ -42,6 +42,7 @@
 mod acquisition;
 mod checkpoint;
 mod current;
+mod facts;
 mod lookup;
 mod preparation;
 mod renewal;

@@ -15,6 +15,7 @@ ghost use Rattle.replica.specs.Replays.{StoresNone};
 ghost use Rattle.cx_rule.specs.Steps.{Halts};
 
 use crate::current::take_current;
+use crate::facts::{refusals_fit, tickets_are_few};
 use cx_base::{Halt, Object, root_place};
 use cx_core::Protection;
 use cx_table::{CallerSeat, Exclusive, Shared, SharedHold};
@@ -50,9 +51,8 @@ fn guard<O: Object>(shared: &Shared<O>, seat: &mut CallerSeat, ticket: u64) -> R
     ensures guarded { MatchResult result (Guards shared.now.callers ticket seat.old seat.new) (λ _. HaltsMeeting seat.old seat.new) }
     ensures keeps { KeepsIn shared.now but_protected 3 seat.old seat.new }
 {
-    // tickets are few, and refusals are counted in a word
-    let _front = seat.front();
-    let _met = seat.met();
+    tickets_are_few(seat);
+    refusals_fit(seat);
     let place = seat.noted_place();
     if ticket < place {
         return Ok(true);
@@ -74,8 +74,7 @@ fn copy_current<O: Object>(
     ensures kept { MatchResult result (TriesKeep O.Object shared.now ticket seat.old seat.new) (λ _. HaltsHolding held.replica seat.old seat.new) }
     ensures turns { Turns shared.now beside_turn seat.old seat.new }
 {
-    // refusals are counted in a word
-    let _met = seat.met();
+    refusals_fit(seat);
     load_current(shared, seat, &held)?;
     match take_current(shared, seat)? {
         Some(source) => copy_and_keep(shared, seat, held, source, ticket),
@@ -96,7 +95,6 @@ fn load_current<O: Object>(
     ensures seen { MatchResult result (λ _. SeesCurrentReplica O.Object shared.now seat.old seat.new held.now) (λ _. Halts shared.now seat.old seat.new) }
     ensures turns { TurnsIn shared.now beside_turn 1 seat.old seat.new }
 {
-    let _ = held;
     shared.load_cur(seat)?;
     Ok(())
 }
@@ -116,8 +114,7 @@ fn copy_and_keep<O: Object>(
     ensures kept { MatchResult result (TriesKeep O.Object shared.now ticket seat.old seat.new) (λ _. HaltsHolding held.replica seat.old seat.new) }
     ensures turns { Turns shared.now beside_turn seat.old seat.new }
 {
-    // refusals are counted in a word
-    let _met = seat.met();
+    refusals_fit(seat);
     let to = root_place(shared.callers(), seat.seen_cur());
     renew_listed(shared, seat, &held, source, to)?;
     if guard(shared, seat, ticket)? {

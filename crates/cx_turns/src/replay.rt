@@ -16,6 +16,7 @@ ghost use Rattle.replica.specs.Regions.{HasPlace};
 ghost use Rattle.replica.specs.Replays.{IsReady, ShowsReplyIn, noted_place};
 ghost use Rattle.seat_memory.specs.Summaries.{IsOwnEntry};
 
+use crate::facts::{callers_are_few, tickets_are_few};
 use crate::renewal::unguard;
 use crate::scratch::Scratch;
 use cx_base::{ENTRY_WORDS, Halt, Object, OpWords};
@@ -104,8 +105,7 @@ pub fn replay_to<O: Object>(
     ensures counted { OnOk result (CountsEntries scratch.old.taken seat.old scratch.new.taken seat.new) }
     ensures keeps { KeepsSeat shared.now beside_replay seat.old seat.new }
 {
-    // tickets are few
-    let _front = seat.front();
+    tickets_are_few(seat);
     let place = seat.noted_place();
     if ticket < place {
         return Ok(false);
@@ -117,7 +117,8 @@ pub fn replay_to<O: Object>(
     Ok(own)
 }
 
-/// Applies the entry of the place of a replica held exclusively. It tells whether that is the caller's own, whose step was done.
+/// Applies the entry of the place of a replica held exclusively. It tells whether that is the caller's own, whose step was done; then its write set
+/// is offered.
 fn replay_next<O: Object>(
     shared: &Shared<O>,
     seat: &mut CallerSeat,
@@ -136,34 +137,20 @@ fn replay_next<O: Object>(
         return Ok(false);
     }
     if seat.own_entry(at, &mut scratch.next) {
-        step_own(shared, seat, held, at, scratch, reply)?;
+        callers_are_few(shared);
+        step_and_offer(
+            shared,
+            seat,
+            held,
+            at,
+            &scratch.next,
+            &mut scratch.set,
+            reply,
+        )?;
         return Ok(true);
     }
     replay_another(shared, seat, held, at, scratch, reply)?;
     Ok(false)
-}
-
-/// Does the step of the caller's own entry, which was found in the seat's memory and whose ticket is the place of a replica held exclusively, and offers
-/// its write set.
-fn step_own<O: Object>(
-    shared: &Shared<O>,
-    seat: &mut CallerSeat,
-    held: &Exclusive,
-    at: u64,
-    scratch: &mut Scratch,
-    reply: &mut OpWords,
-) -> Result<(), Halt>
-    requires ready { IsReady O.Object shared.now held.now at seat.old }
-    requires found { IsOwnEntry seat.old.known.local.own seat.old.known.local.number at scratch.old.next }
-    ensures applied { MatchResult result (λ _. IsApplied O.Object shared.now held.now at reply.new seat.new true) (λ _. IsAtLimit seat.new.known.local) }
-    ensures count { (scratch.new.taken ≡ scratch.old.taken) × (seat.new.known.sets ≡ seat.old.known.sets) }
-    ensures keeps { KeepsSeat shared.now beside_replay seat.old seat.new }
-{
-    // callers are few
-    let _callers = shared.callers();
-    let Scratch { next, set, .. } = scratch;
-    step_and_offer(shared, seat, held, at, next, set, reply)?;
-    Ok(())
 }
 
 /// Applies another's entry, whose ticket is the place of a replica held exclusively, and counts its write set where it was applied by that.
@@ -281,8 +268,7 @@ fn load_own<O: Object>(
     ensures read { MatchResult result (λ _. Reads (FitsIn O.Object shared.now seat.old.known) (FitsIn O.Object shared.now seat.new.known) (λ region. slot_reply seat.old.known.local.number region ≡ reply.new)) (λ _. left_of seat.new.known.local ≡ Some 0) }
     ensures loads { LoadsOnly O.Object shared.now held.now seat.old seat.new }
 {
-    // callers are few
-    let _callers = shared.callers();
+    callers_are_few(shared);
     let caller = seat.number();
     outcome(&mut Region::placed(shared, seat, held), caller, reply)?;
     Ok(())

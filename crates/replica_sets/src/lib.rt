@@ -19,6 +19,7 @@
 //!   step, whose write set is then offered: `step_and_offer` (`applied`: `HasApplied`).
 #![tactic(auto)]
 
+mod facts;
 mod noted_region;
 mod offered;
 mod own;

@@ -14,6 +14,7 @@ ghost use Rattle.replica.specs.Held.{IsHeld, left_of};
 ghost use Rattle.replica.specs.Regions.{HasPlace};
 ghost use Rattle.replica.specs.Replays.{IsAfterFullStep, ComesNext, IsReady, ShowsReplyIn, noted_place};
 
+use crate::facts::steps_are_within_limit;
 use cx_base::{Halt, Memory, Object, OpWords};
 use cx_core::{Entry, full_step_into};
 use cx_table::{CallerSeat, Exclusive, Shared};
@@ -68,7 +69,7 @@ impl<'a, T: HeldWords, J: Began> NotingRegion<'a, T, J> {
         ensures of { IsNotingOf table.now result.table.now seat.old result.seat.now held.now result.held.now }
         ensures names { (result.seat.ghost_name ≡ seat.entry.ghost_name) × (result.set.ghost_name ≡ set.entry.ghost_name) }
     {
-        let _steps = seat.steps();
+        steps_are_within_limit(seat);
         let start = table.start_held(seat, held);
         set.clear();
         NotingRegion {
@@ -124,26 +125,9 @@ impl<T: HeldWords, J: Began> Memory for NotingRegion<'_, T, J> {
     }
 }
 
-/// Does the full step of an entry on a replica held exclusively, and notes what it stores. It answers whether the set has room for all.
-fn step_noting<O: Object>(
-    shared: &Shared<O>,
-    seat: &mut CallerSeat,
-    held: &Exclusive,
-    entry: &Entry,
-    set: &mut WriteSet,
-    reply: &mut OpWords,
-) -> (Result<(), Halt>, bool)
-    requires { CanNote O.Object shared.now held.now entry.now seat.old }
-    ensures done { OnOk result.0 (Becomes (FitsIn O.Object shared.now seat.old.known) (FitsIn O.Object shared.now seat.new.known) (IsStepped (O.step shared.now.object) entry.now reply.new)) }
-    ensures noted { IsTrue result.1 → ∥ Notes (FitsIn O.Object shared.now seat.old.known) (FitsIn O.Object shared.now seat.new.known) (region_words (O.line_count shared.now.object)) set.new ∥₁ }
-    ensures halts { OnErr result.0 (left_of seat.new.known.local ≡ Some 0) }
-    ensures leaves { IsAfterFullStep O.Object shared.now held.now seat.old seat.new }
-{
-    step_as::<O, Brand>(shared, seat, held, entry, set, reply)
-}
-
-/// Does as `step_noting`, by a noting that begins with what the seat knows.
-fn step_as<O: Object, J: Began>(
+/// Does the full step of an entry on a replica held exclusively, and notes what it stores. It answers whether the set has room for all. The noting
+/// begins with what the seat knows.
+fn step_noting<O: Object, J: Began>(
     shared: &Shared<O>,
     seat: &mut CallerSeat,
     held: &Exclusive,
@@ -189,7 +173,7 @@ pub fn apply_noting<O: Object>(
         return Ok(false);
     }
     note_gaps(shared, seat, ticket, set)?;
-    let _steps = seat.steps();
+    steps_are_within_limit(seat);
     Ok(true)
 }
 
@@ -209,7 +193,7 @@ fn apply_telling<O: Object>(
     ensures halts { OnErr result (left_of seat.new.known.local ≡ Some 0) }
     ensures leaves { IsAfterFullStep O.Object shared.now held.now seat.old seat.new }
 {
-    let (done, whole) = step_noting(shared, seat, held, entry, set, reply);
+    let (done, whole) = step_noting::<O, Brand>(shared, seat, held, entry, set, reply);
     // pairs are few
     let _pairs = set.len();
     done?;

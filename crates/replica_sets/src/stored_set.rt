@@ -8,6 +8,7 @@ ghost use Rattle.replica.specs.Regions.{HasPlace};
 ghost use Rattle.replica.specs.Replays.{IsAfterFullStep, IsReady, noted_place};
 ghost use Rattle.replica_sets.specs.Storing.{IsPairStored, IsSetStored, OwnSetComesNext, SetComesNext};
 
+use crate::facts::steps_are_within_limit;
 use cx_base::{Halt, Object};
 use cx_table::{CallerSeat, Exclusive, Shared};
 use redo_set::WriteSet;
@@ -27,7 +28,7 @@ pub fn store_set<O: Object>(
     ensures halts { OnErr result (left_of seat.new.known.local ≡ Some 0) }
     ensures leaves { IsAfterFullStep O.Object shared.now held.now seat.old seat.new }
 {
-    let _steps = seat.steps();
+    steps_are_within_limit(seat);
     for m in 0..set.len() {
         let (at, v) = set.pair(m);
         put_pair(shared, seat, held, at, v)?;
@@ -49,7 +50,7 @@ pub fn store_own_set<O: Object>(
     ensures halts { OnErr result (left_of seat.new.known.local ≡ Some 0) }
     ensures leaves { IsAfterFullStep O.Object shared.now held.now seat.old seat.new }
 {
-    let _steps = seat.steps();
+    steps_are_within_limit(seat);
     for m in 0..seat.set_word(cell, 0) {
         let at = seat.set_word(cell, 2 * m + 1);
         let v = seat.set_word(cell, 2 * m + 2);
@@ -73,6 +74,6 @@ fn put_pair<O: Object>(
     ensures halts { OnErr result (left_of seat.new.known.local ≡ Some 0) }
     ensures leaves { IsAfterFullStep O.Object shared.now held.now seat.old seat.new }
 {
-    let _steps = seat.steps();
+    steps_are_within_limit(seat);
     shared.store_held(seat, held, at, v)
 }

@@ -1,10 +1,11 @@
-use Rattle.std.proofs.Common.{◌∙◌, ap, refl, subst}
+use Rattle.std.proofs.Common.{◌≡◌, ◌∙◌, ap, arith, refl, subst, sym}
+use Rattle.cx_core.specs.Region.{slot_reply}
 use Rattle.cx_rule.specs.Seats.{Seated}
 use Rattle.cx_rule.proofs.Stepping.{on_then}
 use Rattle.replica_sets.specs.Offered.{ReplaysOffered}
 use Rattle.cx_turns.proofs.Bringing.{brings_at, counted_same, counts_none}
-use Rattle.cx_turns.proofs.ReadEntries.{applied_alone, may_still}
-use Rattle.cx_turns.proofs.Working.{replay_held}
+use Rattle.cx_turns.proofs.ReadEntries.{applied_alone, may_still, own_comes}
+use Rattle.cx_turns.proofs.Working.{replay_held, replay_own}
 use Rattle.cx_turns.proofs.replay.replay_next.Goals as goal
 
 pub returns-in_err-done-clause-keeps : goal.returns-in_err-done-clause-keeps
@@ -23,29 +24,39 @@ returns-then-done g c =
       keeps = record { seat = e.still.of; since = e.since; rest = replay_held c.args.held.now.replica c.args.seat.now mid e.rest };
     }
 
-pub step_own-requires : goal.step_own-requires
-step_own-requires g c = record {
-  ready = subst (ReplaysOffered g.O.Object c.args.shared.now c.args.held.now c.args.at c.replay_own.new.seat) c.if-done.false c.in_ok-done.ensures.replayed;
-  found = c.if-own_entry.ensures refl;
-}
-
-pub returns-in_err-step_own-clause-keeps : goal.returns-in_err-step_own-clause-keeps
-returns-in_err-step_own-clause-keeps g c =
+pub step_and_offer-requires : goal.step_and_offer-requires
+step_and_offer-requires g c =
     let mid = c.replay_own.new.seat in
+    let ready = subst (ReplaysOffered g.O.Object c.args.shared.now c.args.held.now c.args.at mid) c.if-done.false c.in_ok-done.ensures.replayed in
+    let caller = ready.is_held.of.caller in
+    let few = c.callers_are_few.ensures.few in
+    record {
+      ready = ready;
+      next = own_comes c.args.at _ mid (c.if-own_entry.ensures refl) (omega (arith, caller, few)) ready.place;
+    }
+
+pub returns-in_err-step_and_offer-clause-keeps : goal.returns-in_err-step_and_offer-clause-keeps
+returns-in_err-step_and_offer-clause-keeps g c =
+    let mid = c.replay_own.new.seat in
+    let last = c.step_and_offer.new.seat in
     let e = c.replay_own.ensures.leaves in
-    let f = c.step_own.ensures.keeps in
-    record { seat = f.seat; since = on_then c.args.seat.now mid c.step_own.new.seat e.since f.since; rest = f.rest ∙ replay_held c.args.held.now.replica c.args.seat.now mid e.rest }
+    let f = c.step_and_offer.ensures.leaves in
+    record { seat = f.seat; since = on_then c.args.seat.now mid last e.since f.since; rest = replay_own c.args.held.now.replica mid last f.rest ∙ replay_held c.args.held.now.replica c.args.seat.now mid e.rest }
 
 pub returns-then-own_entry : goal.returns-then-own_entry
 returns-then-own_entry g c =
     let mid = c.replay_own.new.seat in
-    let last = c.step_own.new.seat in
+    let last = c.step_and_offer.new.seat in
     let e = c.replay_own.ensures.leaves in
-    let f = c.step_own.ensures in
+    let f = c.step_and_offer.ensures.leaves in
+    let a = c.in_ok-step_and_offer.ensures.applied in
+    let taken = c.args.scratch.now.taken in
+    let found = c.if-own_entry.ensures refl in
+    let number : last.known.local.number ≡ mid.known.local.number = ap (λ (s : Seated). s.known.local.number) f.rest in
     record {
-      applied = c.in_ok-step_own.ensures.applied;
-      counted = counts_none c.args.scratch.now.taken c.step_own.new.scratch.taken c.args.seat.now last f.count.0 (f.count.1 ∙ ap (λ (s : Seated). s.known.sets) e.rest);
-      keeps = record { seat = f.keeps.seat; since = on_then c.args.seat.now mid last e.since f.keeps.since; rest = f.keeps.rest ∙ replay_held c.args.held.now.replica c.args.seat.now mid e.rest };
+      applied = record { ready = a.ready; replied = λ _ first now fits. ap (λ n. slot_reply n now) (number ∙ sym found.caller_is) ∙ a.replied first now fits };
+      counted = counts_none taken taken c.args.seat.now last refl (ap (λ (s : Seated). s.known.sets) f.rest ∙ ap (λ (s : Seated). s.known.sets) e.rest);
+      keeps = record { seat = f.seat; since = on_then c.args.seat.now mid last e.since f.since; rest = replay_own c.args.held.now.replica mid last f.rest ∙ replay_held c.args.held.now.replica c.args.seat.now mid e.rest };
     }
 
 pub replay_another-requires : goal.replay_another-requires

@@ -27,7 +27,7 @@ returns-in_err-note_gaps-clause-leaves g c =
 pub returns-clause-leaves : goal.returns-clause-leaves
 returns-clause-leaves g c =
     accessed_noting g.O.Object c.args.shared.now c.args.held.now c.apply_telling.new.seat c.note_gaps.new.seat c.note_gaps.ensures.leaves c.args.seat.now
-    c.steps-steps.ensures.within c.apply_telling.ensures.leaves
+    c.steps_are_within_limit.ensures c.apply_telling.ensures.leaves
 
 pub returns-clause-ready : goal.returns-clause-ready
 returns-clause-ready g c =

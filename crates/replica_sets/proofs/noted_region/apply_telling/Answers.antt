@@ -1,4 +1,4 @@
-use Rattle.std.proofs.Common.{◌+◌, ◌≤◌, OnOk, ap, subst}
+use Rattle.std.proofs.Common.{◌+◌, ◌≤◌, OnOk, ap, refl, subst}
 use Rattle.cx_core.proofs.HistoryLemmas.{ObjectLaws}
 use Rattle.cx_rule.specs.Fitting.{has_of}
 use Rattle.cx_rule.specs.Seats.{Seated}
@@ -9,9 +9,12 @@ use Rattle.replica_sets.proofs.noted_region.apply_telling.Goals as goal
 
 pub step_noting-done-requires : goal.step_noting-done-requires
 step_noting-done-requires g c = record {
-  is_held = c.requires.ready.is_held;
-  can = can_step g.O.Object c.args.shared.now c.args.held.now _ c.args.seat.now c.requires.ready c.requires.next.small;
-  caller = c.requires.next.lawful.caller;
+  can = record {
+    is_held = c.requires.ready.is_held;
+    can = can_step g.O.Object c.args.shared.now c.args.held.now _ c.args.seat.now c.requires.ready c.requires.next.small;
+    caller = c.requires.next.lawful.caller;
+  };
+  began = refl;
 }
 
 pub returns-clause-ready : goal.returns-clause-ready

@@ -9,4 +9,4 @@ returns-clause-stored g c =
 pub returns-clause-leaves : goal.returns-clause-leaves
 returns-clause-leaves g c =
     pair_leaves g.O.Object c.args.shared.now c.args.held.now c.args.at c.args.v c.args.seat.now c.store_held.new.seat c.store_held.result c.store_held.ensures.made c.store_held.ensures.halted
-    c.requires.held c.steps-steps.ensures.within c.requires.begun
+    c.requires.held c.steps_are_within_limit.ensures c.requires.begun

@@ -17,7 +17,7 @@ loop-m-init g c =
       few = c.len-m-end.ensures.few;
       done = Becomes-weaker (Becomes-same _) (λ first x y s same. sym same);
       stores = no_stores c.args.seat.now.known.accesses c.args.set.now;
-      leaves = record { still = c.requires.ready.is_held; begun = c.requires.ready.image.begun; within = c.steps-steps.ensures.within; since = omega arith; rest = refl };
+      leaves = record { still = c.requires.ready.is_held; begun = c.requires.ready.image.begun; within = c.steps_are_within_limit.ensures; since = omega arith; rest = refl };
     }
 
 pub put_pair-requires-clause-at : goal.put_pair-requires-clause-at

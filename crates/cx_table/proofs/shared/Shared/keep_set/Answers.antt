@@ -1,6 +1,6 @@
 use Rattle.std.proofs.Common.{subst, sym}
 use Rattle.cx_rule.specs.Offers.{TellsSet}
-use Rattle.cx_rule.specs.Running.{IsRunning, instance_at}
+use Rattle.cx_rule.specs.Running.{instance_at}
 use Rattle.cx_rule.specs.Seats.{Seated, known_of}
 use Rattle.cx_rule.specs.Steps.{KeepsSet, TeachesKept}
 use Rattle.seat_memory.proofs.SummaryLaws.{IsSeat, seated}
@@ -36,7 +36,7 @@ returns-clause-kept g c = (made g c).1
 
 pub returns-clause-fits : goal.returns-clause-fits
 returns-clause-fits g c =
-    let running = subst (IsRunning g.O.Object.line_count g.O.Object.lawful) c.self.view_is c.self.invariant.0 in
+    let running = c.table_is_running.ensures in
     kept_fits g.O.Object.line_count g.O.Object.lawful g.O.Object.step g.O.Object.only_reads c.args.self.now c.args.ticket c.args.set.now.items _ _ running
     (laws_at g.O.Object.line_count g.O.Object.lawful g.O.Object.step c.args.self.now running g.met.O.Object.keeps (λ o image law. (g.met.O.Object.shape o image law).0) g.met.O.Object.replies)
     (taught g c)

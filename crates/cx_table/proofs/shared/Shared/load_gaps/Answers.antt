@@ -1,6 +1,6 @@
-use Rattle.std.proofs.Common.{◌≡◌, ◌+◌, length, refl, sym, ap, ◌∙◌, subst, arith}
+use Rattle.std.proofs.Common.{◌≡◌, ◌+◌, length, refl, sym, ap, ◌∙◌, arith}
 use Rattle.cx_rule.specs.declared.rule.Known.{Known}
-use Rattle.cx_rule.specs.Running.{IsRunning, IsSeatOf}
+use Rattle.cx_rule.specs.Running.{IsSeatOf}
 use Rattle.seat_memory.proofs.SummaryLaws.{IsSeat, seated}
 use Rattle.cx_table.specs.Gaps.{gaps_from}
 use Rattle.cx_table.specs.Runs.{Runs}
@@ -17,7 +17,7 @@ loads_lead g c =
     let t = c.args.self.now in
     let words = c.load_gaps_each.new.into in
     let long : length words ≡ length c.args.into.now = c.load_gaps_each.ensures.length in
-    let running = subst (IsRunning g.O.Object.line_count g.O.Object.lawful) c.self.view_is c.self.invariant.0 in
+    let running = c.table_is_running.ensures in
     let counted = c.if-not-count.ensures in
     let within = c.requires.seat.1 in
     let slot = c.requires.slot in

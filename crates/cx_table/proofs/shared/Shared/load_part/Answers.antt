@@ -1,7 +1,7 @@
 use Rattle.std.proofs.Common.{false, ◌≡◌, ◌+◌, length, refl, sym, ◌∙◌, subst, arith}
 use Rattle.std.proofs.lemmas.List.{length-set}
 use Rattle.cx_core.proofs.LayoutLemmas.{vol_within}
-use Rattle.cx_rule.specs.Running.{IsRunning, instance_at}
+use Rattle.cx_rule.specs.Running.{instance_at}
 use Rattle.cx_rule.specs.Seats.{known_of}
 use Rattle.cx_rule.proofs.Giving.{learns_load}
 use Rattle.cx_table.specs.Runs.{AreLoaded}
@@ -20,7 +20,7 @@ learned-requires-clause-on g c =
     let t = c.args.self.now in
     let loaded = c.loop-j.invariant.loaded c.requires.loaded.0 c.requires.loaded.1 in
     let may = loaded.may (c.args.at + c.loop-j.j) (omega (arith, c.loop-j-test.true, c.loop-j.invariant.length, c.requires.within)) in
-    let running = subst (IsRunning g.O.Object.line_count g.O.Object.lawful) c.self.view_is c.self.invariant.0 in
+    let running = c.table_is_running.ensures in
     record {
       table_is = c.loop-j.invariant.table;
       one = loaded.one;

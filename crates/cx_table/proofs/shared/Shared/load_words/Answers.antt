@@ -1,7 +1,7 @@
 use Rattle.std.proofs.Common.{◌≡◌, ◌+◌, ◌<◌, ℕ, length, refl, sym, ap, ◌∙◌, subst, arith}
 use Rattle.cx_core.specs.RegionEvents.{CanLoad}
 use Rattle.cx_rule.specs.declared.rule.Known.{Known}
-use Rattle.cx_rule.specs.Running.{IsRunning, IsSeatOf, instance_at}
+use Rattle.cx_rule.specs.Running.{IsSeatOf, instance_at}
 use Rattle.cx_rule.specs.Seats.{Seated}
 use Rattle.seat_memory.proofs.SummaryLaws.{IsSeat, seated}
 use Rattle.cx_table.specs.Runs.{Runs, loads_from}
@@ -24,7 +24,7 @@ loads_lead g c =
     let words = c.load_each.new.into in
     let n = length c.args.into.now in
     let long : length words ≡ n = c.load_each.ensures.length in
-    let running = subst (IsRunning g.O.Object.line_count g.O.Object.lawful) c.self.view_is c.self.invariant.0 in
+    let running = c.table_is_running.ensures in
     let counted = c.if-not-count.ensures in
     let May : Known → Type 0 = λ k. ((i : ℕ) → i < n → CanLoad t.callers region c.args.r (c.args.from + i) k.local) in
     led_to g.O.Object.line_count g.O.Object.lawful g.O.Object.step g.O.Object.only_reads t running

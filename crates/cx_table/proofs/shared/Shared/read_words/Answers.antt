@@ -2,7 +2,7 @@ use Rattle.std.proofs.Common.{◌≡◌, ◌<◌, ◌+◌, ℕ, length, refl, sy
 use Rattle.cx_core.specs.Events.{Guard}
 use Rattle.cx_core.specs.declared.kinds.Kind.TheVariants.{ReadCell}
 use Rattle.cx_rule.specs.declared.rule.Known.{Known}
-use Rattle.cx_rule.specs.Running.{IsRunning, IsSeatOf, instance_at}
+use Rattle.cx_rule.specs.Running.{IsSeatOf, instance_at}
 use Rattle.cx_rule.specs.Seats.{Seated, unseen}
 use Rattle.seat_memory.proofs.SummaryLaws.{IsSeat, seated}
 use Rattle.cx_table.specs.Runs.{Runs, reads_of}
@@ -25,7 +25,7 @@ reads_lead g c =
     let instance = instance_at t g.O.Object.step g.O.Object.only_reads in
     let words = c.read_each.new.into in
     let long : length words ≡ 145 = c.read_each.array_long in
-    let running = subst (IsRunning g.O.Object.line_count g.O.Object.lawful) c.self.view_is c.self.invariant.0 in
+    let running = c.table_is_running.ensures in
     let counted = c.if-not-count.ensures in
     let May : Known → Type 0 = λ k. ((i : ℕ) → i < 145 → Guard instance unseen (ReadCell c.args.t c.args.k i) k.local) in
     led_to g.O.Object.line_count g.O.Object.lawful g.O.Object.step g.O.Object.only_reads t running

@@ -2,7 +2,7 @@ use Rattle.std.proofs.Common.{inl, refl, subst, sym}
 use Rattle.cx_core.specs.declared.kinds.Kind.TheVariants.{BackOff}
 use Rattle.cx_core.specs.Layout.{lock_at}
 use Rattle.cx_core.specs.LockEvents.{CanBackOff}
-use Rattle.cx_rule.specs.Running.{IsRunning, instance_at}
+use Rattle.cx_rule.specs.Running.{instance_at}
 use Rattle.cx_rule.specs.Seats.{Seated, known_of}
 use Rattle.cx_rule.specs.Steps.{IsCopyLearned, StepsCopied}
 use Rattle.cx_rule.proofs.Keeps.{allows_copied}
@@ -31,14 +31,14 @@ released : (g : _) (c : goal.After-give_back g) →
 released g c =
     moved_made c.args.self.now g.O.Object.step g.O.Object.only_reads c.args.source.replica c.give_back.result _ _ _ _ c.seat.inside.copy _ _ _ _ _ c.seat.invariant c.seat.view_is c.in_ok-check.ensures c.requires.seat
     (c.requires.moved.source.few, inl c.requires.moved.source.holds) c.give_back.ensures.taught.table c.give_back.ensures.taught.taught refl c.give_back.ensures.summary
-    (c.requires.moved.dirty (region_some (subst (IsRunning g.O.Object.line_count g.O.Object.lawful) c.self.view_is c.self.invariant.0)))
+    (c.requires.moved.dirty (region_some c.table_is_running.ensures))
 
 pub invariant_of-seat : goal.invariant_of-seat
 invariant_of-seat g c = (released g c).0
 
 pub returns-clause-step : goal.returns-clause-step
 returns-clause-step g c =
-    let running = subst (IsRunning g.O.Object.line_count g.O.Object.lawful) c.self.view_is c.self.invariant.0 in
+    let running = c.table_is_running.ensures in
     record {
       made = (released g c).1;
       fits = copied_fits g.O.Object.line_count g.O.Object.lawful g.O.Object.step g.O.Object.only_reads c.args.self.now _ _ _ _ running

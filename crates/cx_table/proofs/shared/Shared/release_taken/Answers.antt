@@ -3,7 +3,7 @@ use Rattle.cx_core.specs.declared.kinds.Kind.TheVariants.{BackOff}
 use Rattle.cx_core.specs.LockEvents.{CanBackOff}
 use Rattle.cx_core.specs.Rights.{shared_on}
 use Rattle.cx_rule.specs.Fitting.{TellsWords}
-use Rattle.cx_rule.specs.Running.{IsRunning, instance_at}
+use Rattle.cx_rule.specs.Running.{instance_at}
 use Rattle.cx_rule.specs.Seats.{Seated, known_of}
 use Rattle.cx_rule.specs.Steps.{StepsTaking}
 use Rattle.cx_rule.proofs.Copying.{learns_taking}
@@ -41,7 +41,7 @@ invariant_of-seat g c = (released g c).0
 
 pub returns-clause-step : goal.returns-clause-step
 returns-clause-step g c =
-    let running = subst (IsRunning g.O.Object.line_count g.O.Object.lawful) c.self.view_is c.self.invariant.0 in
+    let running = c.table_is_running.ensures in
     record {
       made = (released g c).1;
       fits = taken_fits g.O.Object.line_count g.O.Object.lawful g.O.Object.step g.O.Object.only_reads c.args.self.now _ _ _ _ _ running
@@ -52,7 +52,7 @@ returns-clause-step g c =
 
 pub returns-clause-base : goal.returns-clause-base
 returns-clause-base g c =
-    let running = subst (IsRunning g.O.Object.line_count g.O.Object.lawful) c.self.view_is c.self.invariant.0 in
+    let running = c.table_is_running.ensures in
     taken_base g.O.Object.line_count g.O.Object.lawful g.O.Object.step g.O.Object.only_reads c.args.self.now _ _ _ _ _ running
     (laws_at g.O.Object.line_count g.O.Object.lawful g.O.Object.step c.args.self.now running g.met.O.Object.keeps (λ o image law. (g.met.O.Object.shape o image law).0) g.met.O.Object.replies)
     c.give_back.ensures.taught.taught

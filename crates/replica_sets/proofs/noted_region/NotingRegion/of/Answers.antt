@@ -10,7 +10,7 @@ invariant_of-result g c =
     record {
       of = c.requires.held;
       starts = c.start_held-start.ensures;
-      within = c.steps-steps.ensures.within;
+      within = c.steps_are_within_limit.ensures;
       place = c.requires.begins.place;
       since = (let same = ap (λ (k : Known). k.local.steps) c.requires.begins.same in omega (arith, same));
       notes = λ all. kept_none (g.T.HeldWords.line_count table) (g.T.HeldWords.running table) (g.T.HeldWords.lawful table) (g.T.HeldWords.step table) g.J.Began.known seat seat c.clear.new.self c.requires.begins.same c.clear.ensures;
