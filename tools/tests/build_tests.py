@@ -181,13 +181,13 @@ class Unproved(unittest.TestCase):
 
     def test_what_sources_mark_is_inlined(self):
         marked = unproved.marked_in(ROOT / "crates")
-        self.assertIn(("seat_memory", "follow"), marked)
-        self.assertNotIn(("seat_memory", "opening_summary"), marked)
+        self.assertIn(("caller_cache", "follow"), marked)
+        self.assertNotIn(("caller_cache", "opening_summary"), marked)
         module = [
-            'define internal void @"seat_memory::following::follow"(ptr %a0) #0 {\n',
+            'define internal void @"caller_cache::following::follow"(ptr %a0) #0 {\n',
             'define internal { i8, i64 } @"cx_table::shared::Shared::made::<#00cda8ccad3b2dfd>"(ptr %a0) #0 {\n',
             'define internal void @"cx_table::shared::Shared::run::<#00cda8ccad3b2dfd>"(ptr %a0) #0 {\n',
-            '  call void @"seat_memory::following::follow"(ptr %a0) #0\n',
+            '  call void @"caller_cache::following::follow"(ptr %a0) #0\n',
         ]
         made = [line.replace(" #0 {", " alwaysinline #0 {") for line in module[:2]] + module[2:]
         self.assertEqual(made, list(unproved.with_marks(module, marked)))

@@ -5,7 +5,7 @@ use Rattle.std.proofs.lemmas.Bool.{cases_eq, cond-true, cond-false, eq-eqb, ne_e
 use Rattle.std.proofs.lemmas.List.FromFn.{get_or-map-range_with_len, length-map-range_with_len}
 use Rattle.avl_words.specs.Tree.{Tree, Empty, Node, height}
 use Rattle.avl_words.specs.Lines.{word_of, IsWithin}
-use Rattle.avl_words.specs.Words.{root, times, Stands}
+use Rattle.avl_words.specs.Words.{root, times, RepresentsTree}
 use Rattle.avl_words.specs.Exact.{node_word, link_of, with_links, with_tree}
 use Rattle.avl_words.proofs.ExactWords.{link_far, link_none}
 use Rattle.avl_words.proofs.Frames.{times_self, stands_same}
@@ -37,7 +37,7 @@ module _ (now : List ℕ) (old : ℕ → ℕ → ℕ) where
       s x i (λ z. absurd (let o = times_self x in omega (arith, o, z))) h
       ∙ cond-true (eqb x x) (node_word (root l) (root r) (height (Node l x r)) i (old x i)) (link_of l x i (link_of r x i (old x i))) (eq-eqb x x refl)
 
-  pub says_stands : (t : Tree ℕ) → Says t → ((k : ℕ) → times k t ≤ 1) → AreThere now t → Stands now t
+  pub says_stands : (t : Tree ℕ) → Says t → ((k : ℕ) → times k t ≤ 1) → AreThere now t → RepresentsTree now t
   says_stands Empty s once there = tt
   says_stands (Node l x r) s once there =
       let here = there x (λ z. absurd (let o = times_self x in omega (arith, o, z))) in (
@@ -67,7 +67,7 @@ module _ (now : List ℕ) (old : ℕ → ℕ → ℕ) where
       )
 
 module _ (t : Tree ℕ) (ws : List ℕ) (header : 8 ≤ length ws) (once : (k : ℕ) → times k t ≤ 1) (there : AreThere ws t) where
-  pub links_stand : Stands (with_links t ws) t
+  pub links_stand : RepresentsTree (with_links t ws) t
   links_stand = says_stands (with_links t ws) (λ k i. word_of ws k i) t (λ k i n h. link_word t ws k i (omega arith) (there k n).1) once
       (λ k n. ((there k n).0, subst (λ m. 8 * k + 8 ≤ m) (sym (links_long t ws)) (there k n).1))
 
@@ -97,7 +97,7 @@ module _ (t : Tree ℕ) (ws : List ℕ) (header : 8 ≤ length ws) (once : (k : 
   unfolding with_tree
   tree_root = get_or-set_same (with_links t ws) (8 * 0 + 1) (root t) 0 (let l = links_long t ws in omega (arith, l))
 
-  pub tree_stands : Stands (with_tree t ws) t
+  pub tree_stands : RepresentsTree (with_tree t ws) t
   unfolding with_tree
   tree_stands = stands_same (with_links t ws) (with_tree t ws) t (length-set (with_links t ws) (8 * 0 + 1) (root t))
       (λ line n i l. get_or-set_other (with_links t ws) (8 * 0 + 1) (8 * line + i) (root t) 0 (let some = (there line n).0 in omega arith)) links_stand

@@ -6,14 +6,14 @@ use Rattle.std.proofs.lemmas.List.{ext_get_or}
 use Rattle.std.proofs.lemmas.List.FromFn.{get_or-map-range_with_len, length-map-range_with_len}
 use Rattle.avl_words.specs.Tree.{Tree, Empty, Node, height}
 use Rattle.avl_words.specs.Lines.{word_of}
-use Rattle.avl_words.specs.Words.{root, times, Stands, IsTree}
-use Rattle.avl_words.specs.Links.{SameBut}
+use Rattle.avl_words.specs.Words.{root, times, RepresentsTree, IsTree}
+use Rattle.avl_words.specs.Links.{SameExcept}
 use Rattle.avl_words.specs.Exact.{tree_at, tree_in, node_word, link_of, with_links}
 use Rattle.avl_words.proofs.Depth.{depth_bound}
 use Rattle.avl_words.proofs.Frames.{times_self, times_other}
 
 -- the tree below a link
-pub tree_at_is : (ws : List ℕ) (t : Tree ℕ) (n : ℕ) → Stands ws t → height t ≤ n → tree_at n (root t) ws ≡ t
+pub tree_at_is : (ws : List ℕ) (t : Tree ℕ) (n : ℕ) → RepresentsTree ws t → height t ≤ n → tree_at n (root t) ws ≡ t
 tree_at_is ws Empty zero s h = refl
 tree_at_is ws Empty (suc n) s h = refl
 tree_at_is ws (Node l x r) zero s h = absurd (omega arith)
@@ -52,13 +52,13 @@ link_none (Node l x r) line i old z =
           ∙ link_none l line i (link_of r line i old) (omega (arith, z)) ∙ link_none r line i old (omega (arith, z))
     ]
 
-here_word : (ws : List ℕ) (l : Tree ℕ) (x : ℕ) (r : Tree ℕ) (i old : ℕ) → Stands ws (Node l x r) → i < 3 → node_word (root l) (root r) (height (Node l x r)) i old ≡ word_of ws x i
+here_word : (ws : List ℕ) (l : Tree ℕ) (x : ℕ) (r : Tree ℕ) (i old : ℕ) → RepresentsTree ws (Node l x r) → i < 3 → node_word (root l) (root r) (height (Node l x r)) i old ≡ word_of ws x i
 here_word ws l x r zero old s h = sym s.0.left_is
 here_word ws l x r (suc zero) old s h = sym s.0.right_is
 here_word ws l x r (suc (suc zero)) old s h = sym s.0.height_is
 here_word ws l x r (suc (suc (suc i))) old s h = absurd (omega arith)
 
-link_there : (ws : List ℕ) (t : Tree ℕ) (line i old : ℕ) → Stands ws t → times line t ≢ 0 → i < 3 → link_of t line i old ≡ word_of ws line i
+link_there : (ws : List ℕ) (t : Tree ℕ) (line i old : ℕ) → RepresentsTree ws t → times line t ≢ 0 → i < 3 → link_of t line i old ≡ word_of ws line i
 link_there ws Empty line i old s n h = absurd (n refl)
 link_there ws (Node l x r) line i old s n h =
     elim (cases_eq x line) as (λ _. link_of (Node l x r) line i old ≡ word_of ws line i) [
@@ -74,7 +74,7 @@ link_there ws (Node l x r) line i old s n h =
 split_place : (p : ℕ) → 8 * (p / 8) + p % 8 ≡ p
 split_place p = omega arith
 
-one_word : (ws now : List ℕ) (t : Tree ℕ) (p : ℕ) → SameBut ws now t → Stands now t → get_or now p 0 ≡ link_of t (p / 8) (p % 8) (get_or ws p 0)
+one_word : (ws now : List ℕ) (t : Tree ℕ) (p : ℕ) → SameExcept ws now t → RepresentsTree now t → get_or now p 0 ≡ link_of t (p / 8) (p % 8) (get_or ws p 0)
 one_word ws now t p but s =
     let e = split_place p in
     let now_is : get_or now p 0 ≡ word_of now (p / 8) (p % 8) = ap (λ k. get_or now k 0) (sym e) in
@@ -87,7 +87,7 @@ one_word ws now t p but s =
       ]
     ]
 
-pub only_words : (ws now : List ℕ) (t : Tree ℕ) → SameBut ws now t → Stands now t → now ≡ with_links t ws
+pub only_words : (ws now : List ℕ) (t : Tree ℕ) → SameExcept ws now t → RepresentsTree now t → now ≡ with_links t ws
 unfolding with_links
 only_words ws now t but s =
     ext_get_or 0 now (map (λ p. link_of t (p / 8) (p % 8) (get_or ws p 0)) (range_with_len 0 (length ws)))

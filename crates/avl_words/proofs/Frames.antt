@@ -4,8 +4,8 @@ use Rattle.std.proofs.Math.ListN.{length-set}
 use Rattle.std.proofs.lemmas.Bool.Decides.{nat_tests}
 use Rattle.avl_words.specs.Tree.{Tree, Empty, Node, height, node_on}
 use Rattle.avl_words.specs.Lines.{word_of, IsWithin, with_word}
-use Rattle.avl_words.specs.Words.{root, times, IsNode, Stands}
-use Rattle.avl_words.specs.Links.{high_of, with_node, SameBut}
+use Rattle.avl_words.specs.Words.{root, times, IsNode, RepresentsTree}
+use Rattle.avl_words.specs.Links.{high_of, with_node, SameExcept}
 
 pub times_self : (line : ℕ) → ◌≡◌ {A = ℕ} (cond (eqb line line) 1 0) 1
 times_self line = grind (arith, nat_tests)
@@ -72,7 +72,7 @@ node_same ws now line left right high long same n = record {
   height_is = same 2 (lit< tt) ∙ n.height_is;
 }
 
-pub stands_same : (ws now : List ℕ) (t : Tree ℕ) → length now ≡ length ws → ((line : ℕ) → times line t ≢ 0 → SameLine ws now line) → Stands ws t → Stands now t
+pub stands_same : (ws now : List ℕ) (t : Tree ℕ) → length now ≡ length ws → ((line : ℕ) → times line t ≢ 0 → SameLine ws now line) → RepresentsTree ws t → RepresentsTree now t
 stands_same ws now Empty long same s = tt
 stands_same ws now (Node l x r) long same s = (
   node_same ws now x (root l) (root r) (height (Node l x r)) long (same x (λ z. absurd (omega (arith, times_self x, z)))) s.0,
@@ -80,7 +80,7 @@ stands_same ws now (Node l x r) long same s = (
   stands_same ws now r long (λ line n. same line (λ z. n (omega (arith, z)))) s.2,
 )
 
-pub stands_set : (line side a b : ℕ) (ws : List ℕ) (t : Tree ℕ) → side < 2 → times line t ≡ 0 → Stands ws t → Stands (with_node line side a b ws) t
+pub stands_set : (line side a b : ℕ) (ws : List ℕ) (t : Tree ℕ) → side < 2 → times line t ≡ 0 → RepresentsTree ws t → RepresentsTree (with_node line side a b ws) t
 stands_set line side a b ws t s none h =
     stands_same ws (with_node line side a b ws) t (with_node_long line side a b ws)
     (λ k n i l. with_node_same line side a b ws k i s l (inl (λ e. n (subst (λ j. times j t ≡ 0) (sym e) none)))) h
@@ -90,7 +90,7 @@ high_some : (n : ℕ) (ws : List ℕ) → 1 ≤ n → high_of n ws ≡ word_of w
 high_some zero ws l = absurd (omega arith)
 high_some (suc n) ws l = refl
 
-pub high_is : (ws : List ℕ) (t : Tree ℕ) → Stands ws t → high_of (root t) ws ≡ height t
+pub high_is : (ws : List ℕ) (t : Tree ℕ) → RepresentsTree ws t → high_of (root t) ws ≡ height t
 high_is ws Empty s = refl
 high_is ws (Node l x r) s = high_some x ws s.0.some ∙ s.0.height_is
 
@@ -105,8 +105,8 @@ there_set line side a b ws x s h = record {
   within = subst (λ k. 8 * x + 8 ≤ k) (sym (with_node_long line side a b ws)) h.within;
 }
 
-pub stands_on : (side : ℕ) (ta : Tree ℕ) (x : ℕ) (tb : Tree ℕ) (ws : List ℕ) → side < 2 → IsThere ws x → Stands ws ta → Stands ws tb → times x ta ≡ 0 → times x tb ≡ 0 →
-    Stands (with_node x side (root ta) (root tb) ws) (node_on side ta x tb)
+pub stands_on : (side : ℕ) (ta : Tree ℕ) (x : ℕ) (tb : Tree ℕ) (ws : List ℕ) → side < 2 → IsThere ws x → RepresentsTree ws ta → RepresentsTree ws tb → times x ta ≡ 0 → times x tb ≡ 0 →
+    RepresentsTree (with_node x side (root ta) (root tb) ws) (node_on side ta x tb)
 stands_on zero ta x tb ws s h p q m n =
     let t = there_set x zero (root ta) (root tb) ws x s h in (
       record {
@@ -135,8 +135,8 @@ stands_on (suc zero) ta x tb ws s h p q m n =
 stands_on (suc (suc k)) ta x tb ws s h p q m n = absurd (omega arith)
 
 -- links of a tree's nodes only
-pub but_set : (line side a b : ℕ) (ws : List ℕ) (t : Tree ℕ) → side < 2 → 1 ≤ times line t → SameBut ws (with_node line side a b ws) t
-but_set line side a b ws t s there = record {
+pub except_set : (line side a b : ℕ) (ws : List ℕ) (t : Tree ℕ) → side < 2 → 1 ≤ times line t → SameExcept ws (with_node line side a b ws) t
+except_set line side a b ws t s there = record {
   long = with_node_long line side a b ws;
   same = λ k i l h. with_node_same line side a b ws k i s l (elim h as (λ _. (k ≢ line) ⊎ (3 ≤ i)) [
     | inl none ↦ inl (λ e. absurd (let f = subst (λ j. times j t ≡ 0) e none in omega arith))
@@ -144,21 +144,21 @@ but_set line side a b ws t s there = record {
   ]);
 }
 
-pub but_then : (a b c : List ℕ) (t : Tree ℕ) → SameBut a b t → SameBut b c t → SameBut a c t
-but_then a b c t p q = record { long = q.long ∙ p.long; same = λ k i l h. q.same k i l h ∙ p.same k i l h }
+pub except_then : (a b c : List ℕ) (t : Tree ℕ) → SameExcept a b t → SameExcept b c t → SameExcept a c t
+except_then a b c t p q = record { long = q.long ∙ p.long; same = λ k i l h. q.same k i l h ∙ p.same k i l h }
 
-pub but_more : (a b : List ℕ) (s t : Tree ℕ) → ((line : ℕ) → times line s ≤ times line t) → SameBut a b s → SameBut a b t
-but_more a b s t le p = record {
+pub except_more : (a b : List ℕ) (s t : Tree ℕ) → ((line : ℕ) → times line s ≤ times line t) → SameExcept a b s → SameExcept a b t
+except_more a b s t le p = record {
   long = p.long;
   same = λ k i l h. p.same k i l (elim h as (λ _. (times k s ≡ 0) ⊎ (3 ≤ i)) [ inl none ↦ inl (let m = le k in omega arith) | inr more ↦ inr more ]);
 }
 
 -- a tree that stands apart from the changed one
-pub stands_apart : (a b : List ℕ) (s t : Tree ℕ) → SameBut a b t → ((line : ℕ) → times line s + times line t ≤ 1) → Stands a s → Stands b s
+pub stands_apart : (a b : List ℕ) (s t : Tree ℕ) → SameExcept a b t → ((line : ℕ) → times line s + times line t ≤ 1) → RepresentsTree a s → RepresentsTree b s
 stands_apart a b s t but apart h = stands_same a b s but.long (λ k n i l. but.same k i l (inl (let m = apart k in let o : times k s ≢ 0 = n in omega arith))) h
 
 -- one link of a node
-pub link_but : (ws : List ℕ) (m j v : ℕ) → j < 3 → SameBut ws (with_word m j v ws) (Node Empty m Empty)
+pub link_but : (ws : List ℕ) (m j v : ℕ) → j < 3 → SameExcept ws (with_word m j v ws) (Node Empty m Empty)
 link_but ws m j v small = record {
   long = length-set ws (8 * m + j) v;
   same = λ k i l h. get_or-set_other ws (8 * m + j) (8 * k + i) v 0 (elim h as (λ _. 8 * k + i ≢ 8 * m + j) [

@@ -5,7 +5,7 @@ use Rattle.avl_words.specs.Tree.{Tree, Empty, Node, height, node_on, inner_up, c
 use Rattle.avl_words.specs.Ways.{Turn, under, whole, mended}
 use Rattle.avl_words.specs.Lines.{word_of, IsWithin}
 use Rattle.avl_words.specs.Words.{root, times}
-use Rattle.avl_words.specs.Links.{high_of, HasLink, IsSubtree, SameBut, IsNodeOpen, IsHigh, CanJoin, Joins}
+use Rattle.avl_words.specs.Links.{high_of, HasLink, IsSubtree, SameExcept, IsNodeOpen, IsHigh, CanJoin, Joins}
 use Rattle.avl_words.specs.Mending.{IsHanging, CanHang, Hangs, Spine, times_way, IsHung}
 use Rattle.avl_words.proofs.Frames.{times_self, times_on, high_is, stands_apart}
 use Rattle.avl_words.proofs.Rotations.{link_is}
@@ -111,7 +111,7 @@ module _ (ws : List ℕ) (node side child high sibling sh : ℕ) (b : IsSubtree 
       (j x s t (open_right ws t x s (subst (λ k. IsHanging ws k t x s) z h)) e (link_there ws node side sibling t x s h e b.link_is) f)
 
 -- the whole way
-pub spine_kept : (a b : List ℕ) (t : Tree ℕ) (way : List (Turn ℕ)) → SameBut a b t → ((line : ℕ) → times_way line way + times line t ≤ 1) → Spine a way → Spine b way
+pub spine_kept : (a b : List ℕ) (t : Tree ℕ) (way : List (Turn ℕ)) → SameExcept a b t → ((line : ℕ) → times_way line way + times line t ≤ 1) → Spine a way → Spine b way
 spine_kept a b t [] but once s = tt
 spine_kept a b t (turn ∷ way) but once s =
     let none : times turn.item t ≡ 0 = (let n = once turn.item in let o = times_self turn.item in omega (arith, n, o)) in (

@@ -5,7 +5,7 @@ use Rattle.avl_words.specs.Tree.{Tree, Node, height, rotated}
 use Rattle.avl_words.specs.Lines.{IsWithin}
 use Rattle.avl_words.specs.Words.{root}
 use Rattle.avl_words.specs.Links.{with_node, IsLink, CanSet, IsNodeOpen, IsHigh, CanRotate, Rotates, CanJoin, Joins}
-use Rattle.avl_words.proofs.Frames.{times_self, stands_on, but_set, but_more}
+use Rattle.avl_words.proofs.Frames.{times_self, stands_on, except_set, except_more}
 use Rattle.avl_words.proofs.Rotations.{link_is, height_seen}
 
 pub open_swap : (ws : List ℕ) (l : Tree ℕ) (x : ℕ) (r : Tree ℕ) → IsNodeOpen ws l x r → IsNodeOpen ws r x l
@@ -20,7 +20,7 @@ open_swap ws l x r o = record {
 
 made_swap : (ws now : List ℕ) (l : Tree ℕ) (x : ℕ) (r t : Tree ℕ) (top high : ℕ) → IsHigh ws now (Node r x l) t top high → IsHigh ws now (Node l x r) t top high
 made_swap ws now l x r t top high m = record {
-  made = record { stands = m.made.stands; root_is = m.made.root_is; but = but_more ws now (Node r x l) (Node l x r) (λ line. omega arith) m.made.but };
+  made = record { stands = m.made.stands; root_is = m.made.root_is; but = except_more ws now (Node r x l) (Node l x r) (λ line. omega arith) m.made.but };
   high_is = m.high_is;
 }
 
@@ -100,7 +100,7 @@ module _ (ws : List ℕ) (node left lh right rh : ℕ) (c : CanJoin ws node left
         made = record {
           stands = stands_on 0 l x r ws two (record { some = o.some; within = o.within }) o.left o.right (omega (arith, o.once x, times_self x)) (omega (arith, o.once x, times_self x));
           root_is = e ∙ sym top_is;
-          but = but_set x 0 (root l) (root r) ws (Node l x r) two (omega (arith, times_self x));
+          but = except_set x 0 (root l) (root r) ws (Node l x r) two (omega (arith, times_self x));
         };
         high_is = omega (arith, p, q, tall);
       }))

@@ -9,12 +9,12 @@ use Rattle.avl_words.proofs.Depth.{depth_bound, height_at}
 use Rattle.avl_words.proofs.Spots.{spot_whole}
 use Rattle.avl_words.specs.Changes.{IsThere, CanTakeNode, TakesNode, HasTwo, IsBelow, CanDescend, IsLeastNode, Descends, IsGone, IsNodeOut, RaisesNode, IsDescending}
 use Rattle.avl_words.specs.Lines.{word_of, IsWithin, with_word}
-use Rattle.avl_words.specs.Words.{root, times, Stands, IsWayNoted}
-use Rattle.avl_words.specs.Links.{high_of, SameBut, IsTreeMade}
+use Rattle.avl_words.specs.Words.{root, times, RepresentsTree, IsWayNoted}
+use Rattle.avl_words.specs.Links.{high_of, SameExcept, IsTreeMade}
 use Rattle.avl_words.specs.Mending.{Settled, CanMend, Mends}
 use Rattle.avl_words.specs.Exact.{with_tree}
 use Rattle.avl_words.proofs.ExactWords.{only_words}
-use Rattle.avl_words.proofs.Frames.{but_then, but_more, link_but}
+use Rattle.avl_words.proofs.Frames.{except_then, except_more, link_but}
 use Rattle.avl_words.proofs.Hanging.{whole_times, mended_times}
 use Rattle.avl_words.proofs.Putting.{spine_of, low_way}
 use Rattle.avl_words.proofs.Taking.{gone_hung, gone_settled, least_is_there, times_both}
@@ -46,7 +46,7 @@ pub descending_begins : (ws nodes sides : List ℕ) (depth node : ℕ) (way : Li
 descending_begins ws nodes sides depth node way c z d b =
     record { passed = []; left = c; item = z; right = d; same = refl; whole_is = refl; noted = b.noted; long = b.long; node_is = b.node_is; stands = b.stands }
 
-left_end : (nodes sides : List ℕ) (depth node : ℕ) (way passed : List (Turn ℕ)) (l : Tree ℕ) (x : ℕ) (r : Tree ℕ) (c : Tree ℕ) (z : ℕ) (d : Tree ℕ) (ws : List ℕ) → Stands ws l → root l ≡ 0 → least passed l x r ≡ least [] c z d →
+left_end : (nodes sides : List ℕ) (depth node : ℕ) (way passed : List (Turn ℕ)) (l : Tree ℕ) (x : ℕ) (r : Tree ℕ) (c : Tree ℕ) (z : ℕ) (d : Tree ℕ) (ws : List ℕ) → RepresentsTree ws l → root l ≡ 0 → least passed l x r ≡ least [] c z d →
     IsWayNoted nodes sides (passed ++ way) → length (passed ++ way) ≡ depth → x ≡ node → IsLeastNode nodes sides depth node way c z d
 left_end nodes sides depth node way passed Empty x r c z d ws s e same noted long is = record {
   noted = subst (λ q. IsWayNoted nodes sides (q.way ++ way)) same noted;
@@ -59,7 +59,7 @@ pub descending_ends : (ws nodes sides : List ℕ) (depth node left : ℕ) (way :
 descending_ends ws nodes sides depth node left way c z d o w e =
     left_end nodes sides depth node way o.passed o.left o.item o.right c z d ws o.stands.1 (sym o.stands.0.left_is ∙ ap (λ n. word_of ws n 0) o.node_is ∙ w ∙ e) o.same o.noted o.long o.node_is
 
-left_on : (ws nodes sides : List ℕ) (depth node left : ℕ) (way passed : List (Turn ℕ)) (l : Tree ℕ) (x : ℕ) (r : Tree ℕ) (c : Tree ℕ) (z : ℕ) (d : Tree ℕ) → Stands ws l → root l ≡ left → left ≢ 0 → least passed l x r ≡ least [] c z d →
+left_on : (ws nodes sides : List ℕ) (depth node left : ℕ) (way passed : List (Turn ℕ)) (l : Tree ℕ) (x : ℕ) (r : Tree ℕ) (c : Tree ℕ) (z : ℕ) (d : Tree ℕ) → RepresentsTree ws l → root l ≡ left → left ≢ 0 → least passed l x r ≡ least [] c z d →
     whole passed (Node l x r) ≡ Node c z d → IsWayNoted nodes sides (passed ++ way) → length (passed ++ way) ≡ depth → x ≡ node → depth < length nodes → depth < length sides →
     IsDescending ws (set nodes depth node) (set sides depth 0) (depth + 1) left way c z d
 left_on ws nodes sides depth node left way passed Empty x r c z d s e n same w noted long is room space = absurd (n (sym e))
@@ -101,7 +101,7 @@ descending_room ws nodes sides depth node first way c z d o long room =
 -- what is to hang there
 module _ (ws nodes sides : List ℕ) (depth node left right : ℕ) (way : List (Turn ℕ)) where
   pub record IsAtEnd (here : Tree ℕ) : Type 0 where
-    pub stands : Stands ws (whole way here)
+    pub stands : RepresentsTree ws (whole way here)
     pub balanced : Balanced (whole way here)
     pub once : (line : ℕ) → times line (whole way here) ≤ 1
     pub low : height (whole way here) ≤ 64
@@ -111,7 +111,7 @@ module _ (ws nodes sides : List ℕ) (depth node left right : ℕ) (way : List (
     pub left_is : word_of ws node 0 ≡ left
     pub right_is : word_of ws node 1 ≡ right
 
-  one_gone : (l : Tree ℕ) (x : ℕ) (r c : Tree ℕ) → IsAtEnd (Node l x r) → Stands ws c → Balanced c → IsLevel (height (Node l x r)) (height c) → ((line : ℕ) → times line c ≤ times line (Node l x r)) → IsGone ws ws nodes sides depth depth (root c) way c
+  one_gone : (l : Tree ℕ) (x : ℕ) (r c : Tree ℕ) → IsAtEnd (Node l x r) → RepresentsTree ws c → Balanced c → IsLevel (height (Node l x r)) (height c) → ((line : ℕ) → times line c ≤ times line (Node l x r)) → IsGone ws ws nodes sides depth depth (root c) way c
   one_gone l x r c e s b level le = record {
     hung = record {
       noted = e.noted;
@@ -183,7 +183,7 @@ module _ (ws nodes sides : List ℕ) (depth node left right : ℕ) (way : List (
     e : IsAtEnd (Node (Node p.a p.y p.b) p.x (Node p.c p.z p.d))
     e = subst IsAtEnd p.is at_end
 
-    here_stands : Stands ws (Node (Node p.a p.y p.b) p.x (Node p.c p.z p.d))
+    here_stands : RepresentsTree ws (Node (Node p.a p.y p.b) p.x (Node p.c p.z p.d))
     here_stands = stands_at ws way (Node (Node p.a p.y p.b) p.x (Node p.c p.z p.d)) e.stands
 
     left_here : p.y ≡ left
@@ -238,7 +238,7 @@ module _ (ws nodes sides : List ℕ) (depth node left right : ℕ) (way : List (
         let same : length (q.way ++ up) ≡ depth_now = (let a = length-append q.way up in let b = length-append q.way (record { side = 1; item = p.x; sibling = Node p.a p.y p.b } ∷ way) in let c = l.long in omega (arith, a, b, c)) in
         let hung = gone_hung ws (set nodes_now depth m) sides_now depth_now way p.a p.y p.b p.x p.c p.z p.d e.stands e.balanced e.once e.low noted same in
         let settled = subst (λ n. Settled (with_word q.item 0 p.y ws) n (q.way ++ up)) e.long (gone_settled ws nodes sides depth way p.a p.y p.b p.x p.c p.z p.d e.stands e.balanced e.once e.low e.noted) in
-        let but : SameBut ws (with_word q.item 0 p.y ws) (whole (q.way ++ up) q.rest) = but_more ws (with_word q.item 0 p.y ws) (Node Empty q.item Empty) (whole (q.way ++ up) q.rest)
+        let but : SameExcept ws (with_word q.item 0 p.y ws) (whole (q.way ++ up) q.rest) = except_more ws (with_word q.item 0 p.y ws) (Node Empty q.item Empty) (whole (q.way ++ up) q.rest)
         (λ k. (let w = whole_times k (q.way ++ up) q.rest in let t = times_both k q.way up in omega (arith, w, t))) (link_but ws q.item 0 p.y (lit< tt)) in
         subst (IsNodeOut ws now (set nodes_now depth m) sides_now depth_now depth rest way) (sym p.is)
         (subst (λ k. IsGone ws now (set nodes_now depth m) sides_now depth_now depth k (q.way ++ up) q.rest) rest_is
@@ -250,7 +250,7 @@ pub at_end : (ws nodes sides : List ℕ) (order : ℕ → Ordering) (depth node 
 at_end ws nodes sides order depth node left right t i l r =
     let e = spot_whole order [] t in
     record {
-      stands = subst (Stands ws) (sym e) i.tree.stands;
+      stands = subst (RepresentsTree ws) (sym e) i.tree.stands;
       balanced = subst Balanced (sym e) i.tree.balanced;
       once = λ k. (let o = i.tree.once k in let f = ap (times k) e in omega (arith, o, f));
       low = (let b = depth_bound t i.tree.balanced i.tree.few in let f = ap height e in omega (arith, b, f));
@@ -274,7 +274,7 @@ out_words ws mid now nodes sides depth settled rest high top way (Node l x r) n 
     let v = gone_way way l r in
     let c = gone_rest l r in
     let made = out_made ws mid now nodes sides depth settled rest high top way l x r o tall m in
-    let but : SameBut ws now (mended v c) = but_more ws now (whole v c) (mended v c) (λ k. (let a = mended_times k v c in let b = whole_times k v c in omega (arith, a, b))) (but_then ws mid now (whole v c) o.but made.but) in
+    let but : SameExcept ws now (mended v c) = except_more ws now (whole v c) (mended v c) (λ k. (let a = mended_times k v c in let b = whole_times k v c in omega (arith, a, b))) (except_then ws mid now (whole v c) o.but made.but) in
     ap (λ k. with_word 0 1 k now) (sym made.root_is) ∙ ap (with_word 0 1 (root (mended v c))) (only_words ws now (mended v c) but made.stands)
 
 not_empty : (t : Tree ℕ) (node : ℕ) → node ≡ root t → node ≢ 0 → t ≢ Empty
@@ -301,7 +301,7 @@ pub rest_there : (ws mid nodes sides nodes_now sides_now : List ℕ) (depth node
 rest_there ws mid nodes sides nodes_now sides_now depth node left right depth_now rest h u n =
     (let c = can_mend_out ws mid nodes sides nodes_now sides_now depth node left right depth_now rest (high_of rest mid) h u refl in at_root c.tree c.hung.stands c.hung.root_is)
   where
-    at_root : (t : Tree ℕ) → Stands mid t → root t ≡ rest → IsWithin mid rest
+    at_root : (t : Tree ℕ) → RepresentsTree mid t → root t ≡ rest → IsWithin mid rest
     at_root Empty s e = absurd (n (sym e))
     at_root (Node l x r) s e = subst (IsWithin mid) e s.0.within
 
@@ -309,9 +309,9 @@ pub node_there : (ws nodes sides : List ℕ) (depth node : ℕ) → CanTakeNode 
 node_there ws nodes sides depth node c =
     let i = c.there in
     let e = spot_whole c.order [] c.tree in
-    at_root (spot c.order [] c.tree).1 (stands_at ws (spot c.order [] c.tree).0 (spot c.order [] c.tree).1 (subst (Stands ws) (sym e) i.tree.stands)) i.spot.node_is i.some
+    at_root (spot c.order [] c.tree).1 (stands_at ws (spot c.order [] c.tree).0 (spot c.order [] c.tree).1 (subst (RepresentsTree ws) (sym e) i.tree.stands)) i.spot.node_is i.some
   where
-    at_root : (here : Tree ℕ) → Stands ws here → node ≡ root here → node ≢ 0 → IsWithin ws node
+    at_root : (here : Tree ℕ) → RepresentsTree ws here → node ≡ root here → node ≢ 0 → IsWithin ws node
     at_root Empty s e n = absurd (n e)
     at_root (Node l x r) s e n = subst (IsWithin ws) (sym e) s.0.within
 

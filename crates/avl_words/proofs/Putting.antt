@@ -9,27 +9,27 @@ use Rattle.avl_words.proofs.Trees.{height_on, balanced_at, mended_balanced}
 use Rattle.avl_words.proofs.Depth.{depth_bound, height_at}
 use Rattle.avl_words.proofs.Spots.{spot_whole, spot_items, new_items, new_balanced, size_is}
 use Rattle.avl_words.specs.Lines.{word_of, IsWithin, with_word}
-use Rattle.avl_words.specs.Words.{root, times, IsNode, Stands, IsTree, IsSpot}
+use Rattle.avl_words.specs.Words.{root, times, IsNode, RepresentsTree, IsTree, IsSpot}
 use Rattle.avl_words.specs.Links.{IsTreeMade}
 use Rattle.avl_words.specs.Changes.{CanPut, PutsNode}
 use Rattle.avl_words.specs.Mending.{Spine, IsLow, IsHung, Settled, CanMend, Mends}
 use Rattle.avl_words.specs.Exact.{with_tree}
 use Rattle.avl_words.proofs.Walks.{stands_at}
-use Rattle.avl_words.proofs.Frames.{times_most, times_other, stands_same, but_more, high_is}
+use Rattle.avl_words.proofs.Frames.{times_most, times_other, stands_same, except_more, high_is}
 use Rattle.avl_words.proofs.Relinking.{settled_of}
 use Rattle.avl_words.proofs.ExactWords.{only_words}
 use Rattle.avl_words.proofs.Hanging.{whole_times, mended_times}
 
 -- the nodes of the way to a place of a tree that stands
-turn_stands : (ws : List ℕ) (side : ℕ) (t : Tree ℕ) (x : ℕ) (s : Tree ℕ) → Stands ws (node_on side t x s) →
-    (1 ≤ x) × IsWithin ws x × (word_of ws x (1 - side) ≡ root s) × Stands ws s
-turn_stands ws zero t x s h = (h.0.some, h.0.within, h.0.right_is, h.2)
-turn_stands ws (suc k) t x s h = (h.0.some, h.0.within, (let e : 1 - suc k ≡ 0 = omega arith in ap (λ i. word_of ws x i) e ∙ h.0.left_is), h.1)
+attempt_stands : (ws : List ℕ) (side : ℕ) (t : Tree ℕ) (x : ℕ) (s : Tree ℕ) → RepresentsTree ws (node_on side t x s) →
+    (1 ≤ x) × IsWithin ws x × (word_of ws x (1 - side) ≡ root s) × RepresentsTree ws s
+attempt_stands ws zero t x s h = (h.0.some, h.0.within, h.0.right_is, h.2)
+attempt_stands ws (suc k) t x s h = (h.0.some, h.0.within, (let e : 1 - suc k ≡ 0 = omega arith in ap (λ i. word_of ws x i) e ∙ h.0.left_is), h.1)
 
-pub spine_of : (ws : List ℕ) (way : List (Turn ℕ)) (t : Tree ℕ) → Stands ws (whole way t) → Spine ws way
+pub spine_of : (ws : List ℕ) (way : List (Turn ℕ)) (t : Tree ℕ) → RepresentsTree ws (whole way t) → Spine ws way
 spine_of ws [] t s = tt
 spine_of ws (turn ∷ way) t s =
-    let h = turn_stands ws turn.side t turn.item turn.sibling (stands_at ws way (node_on turn.side t turn.item turn.sibling) s) in
+    let h = attempt_stands ws turn.side t turn.item turn.sibling (stands_at ws way (node_on turn.side t turn.item turn.sibling) s) in
     (h.0, h.1, h.2, h.3, spine_of ws way (node_on turn.side t turn.item turn.sibling) s)
 
 -- heights stay low on the way up
@@ -53,16 +53,16 @@ once_more n k t none once =
 pub made_words : (ws now : List ℕ) (old new : Tree ℕ) (top : ℕ) → ((line : ℕ) → times line old ≤ times line new) → IsTreeMade ws now old new top → with_word 0 1 top now ≡ with_tree new ws
 unfolding with_tree
 made_words ws now old new top le m =
-    ap (λ k. with_word 0 1 k now) (sym m.root_is) ∙ ap (with_word 0 1 (root new)) (only_words ws now new (but_more ws now old new le m.but) m.stands)
+    ap (λ k. with_word 0 1 k now) (sym m.root_is) ∙ ap (with_word 0 1 (root new)) (only_words ws now new (except_more ws now old new le m.but) m.stands)
 
 module _ (ws nodes sides : List ℕ) (order : ℕ → Ordering) (depth node : ℕ) (t : Tree ℕ) (i : IsTree ws t) (o : IsSpot nodes sides order depth 0 t) (n : IsNode ws node 0 0 1) (apart : times node t ≡ 0) where
-  empty_root : (h : Tree ℕ) → Stands ws h → 0 ≡ root h → h ≡ Empty
+  empty_root : (h : Tree ℕ) → RepresentsTree ws h → 0 ≡ root h → h ≡ Empty
   empty_root Empty s e = refl
   empty_root (Node l x r) s e = absurd (let some = s.0.some in omega arith)
 
   gap_whole : whole (spot order [] t).0 Empty ≡ t
   gap_whole =
-      let s = stands_at ws (spot order [] t).0 (spot order [] t).1 (subst (Stands ws) (sym (spot_whole order [] t)) i.stands) in
+      let s = stands_at ws (spot order [] t).0 (spot order [] t).1 (subst (RepresentsTree ws) (sym (spot_whole order [] t)) i.stands) in
       ap (whole (spot order [] t).0) (sym (empty_root (spot order [] t).1 s o.node_is)) ∙ spot_whole order [] t
 
   -- the new node is to hang there
@@ -74,7 +74,7 @@ module _ (ws nodes sides : List ℕ) (order : ℕ → Ordering) (depth node : �
       record {
         noted = o.noted;
         long = o.long;
-        spine = spine_of ws way Empty (subst (Stands ws) (sym gap_whole) i.stands);
+        spine = spine_of ws way Empty (subst (RepresentsTree ws) (sym gap_whole) i.stands);
         stands = (n, tt, tt);
         root_is = refl;
         once = λ k. (let m = once_more node k t apart (i.once k) in let w = whole_times k way Empty in let e = ap (times k) gap_whole in omega (arith, m, w, e));
@@ -83,7 +83,7 @@ module _ (ws nodes sides : List ℕ) (order : ℕ → Ordering) (depth node : �
 
   -- the nodes of the way stand
   pub settled_leaf : Settled ws depth (spot order [] t).0
-  settled_leaf = settled_of ws nodes sides depth (spot order [] t).0 Empty o.noted (subst (Stands ws) (sym gap_whole) i.stands) (subst Balanced (sym gap_whole) i.balanced)
+  settled_leaf = settled_of ws nodes sides depth (spot order [] t).0 Empty o.noted (subst (RepresentsTree ws) (sym gap_whole) i.stands) (subst Balanced (sym gap_whole) i.balanced)
 
   pub new_words : (now : List ℕ) (top : ℕ) → IsTreeMade ws now (whole (spot order [] t).0 (Node Empty node Empty)) (with_new order node t) top → with_word 0 1 top now ≡ with_tree (with_new order node t) ws
   new_words now top m =

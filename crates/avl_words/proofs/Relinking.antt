@@ -4,27 +4,27 @@ use Rattle.avl_words.specs.Tree.{Tree, Empty, Node, height, Balanced, node_on}
 use Rattle.avl_words.specs.Ways.{Turn, whole}
 use Rattle.avl_words.proofs.Trees.{height_on}
 use Rattle.avl_words.specs.Lines.{word_of, IsWithin, with_word}
-use Rattle.avl_words.specs.Words.{root, times, Stands, IsWayNoted}
-use Rattle.avl_words.specs.Links.{SameBut, IsTreeMade}
+use Rattle.avl_words.specs.Words.{root, times, RepresentsTree, IsWayNoted}
+use Rattle.avl_words.specs.Links.{SameExcept, IsTreeMade}
 use Rattle.avl_words.specs.Mending.{Spine, times_way, IsHung, Stood, Settled, CanRelink, Relinks}
-use Rattle.avl_words.proofs.Frames.{times_self, root_on, but_more, stands_apart, link_but}
+use Rattle.avl_words.proofs.Frames.{times_self, root_on, except_more, stands_apart, link_but}
 use Rattle.avl_words.proofs.Hanging.{spine_kept, whole_times}
 use Rattle.avl_words.proofs.Walks.{stands_at}
 
 -- of a tree that stands
-stood_turn : (ws : List ℕ) (side : ℕ) (t : Tree ℕ) (x : ℕ) (s : Tree ℕ) → side < 2 → Stands ws (node_on side t x s) → (word_of ws x side ≡ root t) × (word_of ws x 2 ≡ height (node_on side t x s))
-stood_turn ws zero t x s l h = (h.0.left_is, h.0.height_is)
-stood_turn ws (suc zero) t x s l h = (h.0.right_is, h.0.height_is)
-stood_turn ws (suc (suc k)) t x s l h = absurd (omega arith)
+stood_attempt : (ws : List ℕ) (side : ℕ) (t : Tree ℕ) (x : ℕ) (s : Tree ℕ) → side < 2 → RepresentsTree ws (node_on side t x s) → (word_of ws x side ≡ root t) × (word_of ws x 2 ≡ height (node_on side t x s))
+stood_attempt ws zero t x s l h = (h.0.left_is, h.0.height_is)
+stood_attempt ws (suc zero) t x s l h = (h.0.right_is, h.0.height_is)
+stood_attempt ws (suc (suc k)) t x s l h = absurd (omega arith)
 
-pub stood_of : (ws nodes sides : List ℕ) (way : List (Turn ℕ)) (t : Tree ℕ) → IsWayNoted nodes sides way → Stands ws (whole way t) → Stood ws way t
+pub stood_of : (ws nodes sides : List ℕ) (way : List (Turn ℕ)) (t : Tree ℕ) → IsWayNoted nodes sides way → RepresentsTree ws (whole way t) → Stood ws way t
 stood_of ws nodes sides [] t n s = tt
 stood_of ws nodes sides (turn ∷ way) t n s =
     let up = node_on turn.side t turn.item turn.sibling in
-    let h = stood_turn ws turn.side t turn.item turn.sibling n.2 (stands_at ws way up s) in
+    let h = stood_attempt ws turn.side t turn.item turn.sibling n.2 (stands_at ws way up s) in
     (h.0, h.1, stood_of ws nodes sides way up n.3 s)
 
-pub settled_of : (ws nodes sides : List ℕ) (n : ℕ) (way : List (Turn ℕ)) (t : Tree ℕ) → IsWayNoted nodes sides way → Stands ws (whole way t) → Balanced (whole way t) → Settled ws n way
+pub settled_of : (ws nodes sides : List ℕ) (n : ℕ) (way : List (Turn ℕ)) (t : Tree ℕ) → IsWayNoted nodes sides way → RepresentsTree ws (whole way t) → Balanced (whole way t) → Settled ws n way
 settled_of ws nodes sides n [] t noted s b = tt
 settled_of ws nodes sides n (turn ∷ way) t noted s b = (
   (λ le. record { tree = t; stood = stood_of ws nodes sides (turn ∷ way) t noted s; balanced = b }),
@@ -32,7 +32,7 @@ settled_of ws nodes sides n (turn ∷ way) t noted s b = (
 )
 
 -- of nodes none of which has changed
-pub stood_kept : (a b nodes sides : List ℕ) (t : Tree ℕ) (way : List (Turn ℕ)) (old : Tree ℕ) → SameBut a b t → IsWayNoted nodes sides way → ((line : ℕ) → times_way line way + times line t ≤ 1) → Stood a way old → Stood b way old
+pub stood_kept : (a b nodes sides : List ℕ) (t : Tree ℕ) (way : List (Turn ℕ)) (old : Tree ℕ) → SameExcept a b t → IsWayNoted nodes sides way → ((line : ℕ) → times_way line way + times line t ≤ 1) → Stood a way old → Stood b way old
 stood_kept a b nodes sides t [] old but n once s = tt
 stood_kept a b nodes sides t (turn ∷ way) old but n once s =
     let none : times turn.item t ≡ 0 = (let c = once turn.item in let o = times_self turn.item in omega (arith, c, o)) in (
@@ -41,7 +41,7 @@ stood_kept a b nodes sides t (turn ∷ way) old but n once s =
       stood_kept a b nodes sides t way (node_on turn.side old turn.item turn.sibling) but n.3 (λ k. (let c = once k in omega (arith, c))) s.2,
     )
 
-pub settled_kept : (a b nodes sides : List ℕ) (t : Tree ℕ) (n : ℕ) (way : List (Turn ℕ)) → SameBut a b t → IsWayNoted nodes sides way → ((line : ℕ) → times_way line way + times line t ≤ 1) → Settled a n way → Settled b n way
+pub settled_kept : (a b nodes sides : List ℕ) (t : Tree ℕ) (n : ℕ) (way : List (Turn ℕ)) → SameExcept a b t → IsWayNoted nodes sides way → ((line : ℕ) → times_way line way + times line t ≤ 1) → Settled a n way → Settled b n way
 settled_kept a b nodes sides t n [] but noted once s = tt
 settled_kept a b nodes sides t n (turn ∷ way) but noted once s = (
   (λ le. (let h = s.0 le in record { tree = h.tree; stood = stood_kept a b nodes sides t (turn ∷ way) h.tree but noted once h.stood; balanced = h.balanced })),
@@ -57,7 +57,7 @@ settled_behind ws (p ∷ passed) turn way s = (
 )
 
 -- a node with its children at both sides
-node_stands : (ws : List ℕ) (side : ℕ) (t : Tree ℕ) (x : ℕ) (s : Tree ℕ) → side < 2 → 1 ≤ x → IsWithin ws x → word_of ws x side ≡ root t → word_of ws x (1 - side) ≡ root s → word_of ws x 2 ≡ height (node_on side t x s) → Stands ws t → Stands ws s → Stands ws (node_on side t x s)
+node_stands : (ws : List ℕ) (side : ℕ) (t : Tree ℕ) (x : ℕ) (s : Tree ℕ) → side < 2 → 1 ≤ x → IsWithin ws x → word_of ws x side ≡ root t → word_of ws x (1 - side) ≡ root s → word_of ws x 2 ≡ height (node_on side t x s) → RepresentsTree ws t → RepresentsTree ws s → RepresentsTree ws (node_on side t x s)
 node_stands ws zero t x s l some within a b high p q = (record { some = some; within = within; left_is = a; right_is = b; height_is = high }, p, q)
 node_stands ws (suc zero) t x s l some within a b high p q = (record { some = some; within = within; left_is = b; right_is = a; height_is = high }, q, p)
 node_stands ws (suc (suc k)) t x s l some within a b high p q = absurd (omega arith)
@@ -65,7 +65,7 @@ node_stands ws (suc (suc k)) t x s l some within a b high p q = absurd (omega ar
 level_on : (side : ℕ) (old t : Tree ℕ) (x : ℕ) (s : Tree ℕ) → height old ≡ height t → height (node_on side old x s) ≡ height (node_on side t x s)
 level_on side old t x s e = height_on side old x s ∙ ap (λ n. 1 + max n (height s)) e ∙ sym (height_on side t x s)
 
-pub stood_stands : (ws nodes sides : List ℕ) (way : List (Turn ℕ)) (old t : Tree ℕ) → IsWayNoted nodes sides way → Spine ws way → Stood ws way old → Stands ws t → root old ≡ root t → height old ≡ height t → Stands ws (whole way t)
+pub stood_stands : (ws nodes sides : List ℕ) (way : List (Turn ℕ)) (old t : Tree ℕ) → IsWayNoted nodes sides way → Spine ws way → Stood ws way old → RepresentsTree ws t → root old ≡ root t → height old ≡ height t → RepresentsTree ws (whole way t)
 stood_stands ws nodes sides [] old t n p s h e level = h
 stood_stands ws nodes sides (turn ∷ way) old t n p s h e level =
     let up = level_on turn.side old t turn.item turn.sibling level in
@@ -79,7 +79,7 @@ root_noted nodes sides turn [] t n = root_on turn.side t turn.item turn.sibling 
 root_noted nodes sides turn (next ∷ way) t n = root_noted nodes sides next way (node_on turn.side t turn.item turn.sibling) n.3
 
 -- the link to the tree is stored
-module _ (ws nodes sides : List ℕ) (turn : Turn ℕ) (way : List (Turn ℕ)) (t old : Tree ℕ) (node : ℕ) (n : IsWayNoted nodes sides (turn ∷ way)) (p : Spine ws (turn ∷ way)) (h : Stands ws t) (e : root t ≡ node)
+module _ (ws nodes sides : List ℕ) (turn : Turn ℕ) (way : List (Turn ℕ)) (t old : Tree ℕ) (node : ℕ) (n : IsWayNoted nodes sides (turn ∷ way)) (p : Spine ws (turn ∷ way)) (h : RepresentsTree ws t) (e : root t ≡ node)
     (once : (line : ℕ) → times_way line (turn ∷ way) + times line t ≤ 1) (s : Stood ws (turn ∷ way) old) (level : height old ≡ height t) where
   abbrev now : List ℕ
   now = with_word turn.item turn.side node ws
@@ -87,10 +87,10 @@ module _ (ws nodes sides : List ℕ) (turn : Turn ℕ) (way : List (Turn ℕ)) (
   abbrev one : Tree ℕ
   one = Node Empty turn.item Empty
 
-  but : SameBut ws now one
+  but : SameExcept ws now one
   but = link_but ws turn.item turn.side node (let l = n.2 in omega arith)
 
-  up_stands : Stands now (node_on turn.side t turn.item turn.sibling)
+  up_stands : RepresentsTree now (node_on turn.side t turn.item turn.sibling)
   up_stands =
       node_stands now turn.side t turn.item turn.sibling n.2 p.0 (subst (λ k. 8 * turn.item + 8 ≤ k) (sym but.long) p.1)
       (get_or-set_same ws (8 * turn.item + turn.side) node 0 (let w = p.1 in let l = n.2 in omega arith) ∙ sym e)
@@ -108,7 +108,7 @@ module _ (ws nodes sides : List ℕ) (turn : Turn ℕ) (way : List (Turn ℕ)) (
         (spine_kept ws now one way but apart p.4) (stood_kept ws now nodes sides one way (node_on turn.side old turn.item turn.sibling) but n.3 apart s.2) up_stands
         (root_on turn.side old turn.item turn.sibling ∙ sym (root_on turn.side t turn.item turn.sibling)) (level_on turn.side old t turn.item turn.sibling level);
     root_is = root_noted nodes sides turn way t n;
-    but = but_more ws now one (whole (turn ∷ way) t) (λ k. (let w = whole_times k (turn ∷ way) t in omega (arith, w))) but;
+    but = except_more ws now one (whole (turn ∷ way) t) (λ k. (let w = whole_times k (turn ∷ way) t in omega (arith, w))) but;
   }
 
 pub relinks : (ws now nodes sides : List ℕ) (depth node : ℕ) → 1 ≤ depth → now ≡ with_word (get_or nodes (depth - 1) 0) (get_or sides (depth - 1) 0) node ws → Relinks nodes sides depth node (get_or nodes 0 0) ws now

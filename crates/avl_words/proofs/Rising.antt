@@ -4,10 +4,10 @@ use Rattle.avl_words.specs.Tree.{Tree, height, node_on}
 use Rattle.avl_words.specs.Ways.{Turn, under, whole, mended}
 use Rattle.avl_words.proofs.Stopping.{mended_level}
 use Rattle.avl_words.specs.Lines.{word_of, IsWithin}
-use Rattle.avl_words.specs.Words.{root, times, Stands}
-use Rattle.avl_words.specs.Links.{SameBut, IsTreeMade, IsHigh}
+use Rattle.avl_words.specs.Words.{root, times, RepresentsTree}
+use Rattle.avl_words.specs.Links.{SameExcept, IsTreeMade, IsHigh}
 use Rattle.avl_words.specs.Mending.{IsHanging, CanHang, Hangs, times_way, IsHung, Stood, Settled, CanRelink, Relinks, CanMend, Mends, IsMending, Mending}
-use Rattle.avl_words.proofs.Frames.{times_on, but_then, but_more}
+use Rattle.avl_words.proofs.Frames.{times_on, except_then, except_more}
 use Rattle.avl_words.proofs.Hanging.{spine_kept, hanging_is, hung_at, side_at, last_is, under_times, whole_times}
 use Rattle.avl_words.proofs.Relinking.{stood_kept, settled_kept}
 use Rattle.avl_words.proofs.Rotations.{height_seen}
@@ -19,7 +19,7 @@ record IsUp (ws now nodes sides : List ℕ) (depth settled : ℕ) (turn : Turn �
   settled_way : Settled now settled way
   stood : (old : Tree ℕ) → Stood ws way old → Stood now way old
   lines : (line : ℕ) → times_way line way + times line (under turn.side t turn.item turn.sibling) ≡ times_way line (turn ∷ way) + times line t
-  but : (big : Tree ℕ) → ((line : ℕ) → times line big ≡ times_way line (turn ∷ way) + times line t) → SameBut ws now big
+  but : (big : Tree ℕ) → ((line : ℕ) → times line big ≡ times_way line (turn ∷ way) + times line t) → SameExcept ws now big
 
 up : (ws now nodes sides : List ℕ) (depth settled : ℕ) (turn : Turn ℕ) (way : List (Turn ℕ)) (t : Tree ℕ) (node top high : ℕ) → IsHung ws nodes sides depth (turn ∷ way) t node → Settled ws settled (turn ∷ way) →
     Hangs (get_or nodes (depth - 1) 0) (get_or sides (depth - 1) 0) node top high ws now → IsUp ws now nodes sides (depth - 1) settled turn way t top high
@@ -46,7 +46,7 @@ up ws now nodes sides depth settled turn way t node top high h stays hangs =
       settled_way = settled_kept ws now nodes sides (node_on turn.side t turn.item turn.sibling) settled way m.made.but h.noted.3 apart stays.1;
       stood = λ old. stood_kept ws now nodes sides (node_on turn.side t turn.item turn.sibling) way old m.made.but h.noted.3 apart;
       lines = λ k. (let o = on k in let u = un k in omega (arith, o, u));
-      but = λ big b. but_more ws now (node_on turn.side t turn.item turn.sibling) big (λ k. (let o = on k in let c = b k in omega (arith, o, c))) m.made.but;
+      but = λ big b. except_more ws now (node_on turn.side t turn.item turn.sibling) big (λ k. (let o = on k in let c = b k in omega (arith, o, c))) m.made.but;
     }
 
 pub mending_begins : (ws nodes sides : List ℕ) (depth settled node high : ℕ) → Mending nodes sides depth settled node high depth node high ws ws
@@ -55,7 +55,7 @@ mending_begins ws nodes sides depth settled node high way t h tall s =
 
 -- one node up of those that are left
 went_on : (before mid now nodes sides : List ℕ) (rest settled : ℕ) (way : List (Turn ℕ)) (t : Tree ℕ) (top top_high next next_high : ℕ) → 1 ≤ rest → (left : List (Turn ℕ)) (tree : Tree ℕ) → IsHung mid nodes sides rest left tree top → Settled mid settled left →
-    mended left tree ≡ mended way t → ((line : ℕ) → times_way line left + times line tree ≡ times_way line way + times line t) → SameBut before mid (whole way t) →
+    mended left tree ≡ mended way t → ((line : ℕ) → times_way line left + times line tree ≡ times_way line way + times line t) → SameExcept before mid (whole way t) →
     Hangs (get_or nodes (rest - 1) 0) (get_or sides (rest - 1) 0) top next next_high mid now → IsMending before now nodes sides (rest - 1) settled way t next next_high
 went_on before mid now nodes sides rest settled way t top top_high next next_high some [] tree h s same lines but hangs = absurd (let l = h.long in omega arith)
 went_on before mid now nodes sides rest settled way t top top_high next next_high some (turn ∷ left) tree h s same lines but hangs =
@@ -68,7 +68,7 @@ went_on before mid now nodes sides rest settled way t top top_high next next_hig
       settled_way = u.settled_way;
       same = same;
       lines = λ k. u.lines k ∙ lines k;
-      but = but_then before mid now (whole way t) but (u.but (whole way t) (λ k. whole_times k way t ∙ sym (lines k)));
+      but = except_then before mid now (whole way t) but (u.but (whole way t) (λ k. whole_times k way t ∙ sym (lines k)));
     }
 
 pub mending_goes_on : (before mid now nodes sides : List ℕ) (depth settled node high rest top top_high next next_high : ℕ) → 1 ≤ rest → Mending nodes sides depth settled node high rest top top_high before mid →
@@ -77,9 +77,9 @@ mending_goes_on before mid now nodes sides depth settled node high rest top top_
     let a = m way t h tall s in
     went_on before mid now nodes sides rest settled way t top top_high next next_high some a.rest a.tree a.hung a.settled_way a.same a.lines a.but hangs
 
-ends : (before now nodes sides : List ℕ) (way : List (Turn ℕ)) (t : Tree ℕ) (top : ℕ) (rest : List (Turn ℕ)) (tree : Tree ℕ) → IsHung now nodes sides 0 rest tree top → mended rest tree ≡ mended way t → SameBut before now (whole way t) →
+ends : (before now nodes sides : List ℕ) (way : List (Turn ℕ)) (t : Tree ℕ) (top : ℕ) (rest : List (Turn ℕ)) (tree : Tree ℕ) → IsHung now nodes sides 0 rest tree top → mended rest tree ≡ mended way t → SameExcept before now (whole way t) →
     IsTreeMade before now (whole way t) (mended way t) top
-ends before now nodes sides way t top [] tree h e b = record { stands = subst (Stands now) e h.stands; root_is = ap root (sym e) ∙ h.root_is; but = b }
+ends before now nodes sides way t top [] tree h e b = record { stands = subst (RepresentsTree now) e h.stands; root_is = ap root (sym e) ∙ h.root_is; but = b }
 ends before now nodes sides way t top (turn ∷ rest) tree h e b = absurd (let l = h.long in omega arith)
 
 pub mending_ends : (before now nodes sides : List ℕ) (depth settled node high top top_high : ℕ) → Mending nodes sides depth settled node high 0 top top_high before now → Mends nodes sides depth settled node high top before now
@@ -93,7 +93,7 @@ record IsLeveled (mid now nodes sides : List ℕ) (rest : ℕ) (turn : Turn ℕ)
   level : height old ≡ height (under turn.side tree turn.item turn.sibling)
   same : mended way (under turn.side tree turn.item turn.sibling) ≡ whole way (under turn.side tree turn.item turn.sibling)
   lines : (line : ℕ) → times_way line way + times line (under turn.side tree turn.item turn.sibling) ≡ times_way line (turn ∷ way) + times line tree
-  but : (big : Tree ℕ) → ((line : ℕ) → times line big ≡ times_way line (turn ∷ way) + times line tree) → SameBut mid now big
+  but : (big : Tree ℕ) → ((line : ℕ) → times line big ≡ times_way line (turn ∷ way) + times line tree) → SameExcept mid now big
 
 leveled : (mid now nodes sides : List ℕ) (rest settled : ℕ) (turn : Turn ℕ) (way : List (Turn ℕ)) (tree : Tree ℕ) (top next next_high high : ℕ) → IsHung mid nodes sides rest (turn ∷ way) tree top → Settled mid settled (turn ∷ way) →
     rest ≤ settled → word_of mid (get_or nodes (rest - 1) 0) 2 ≡ high → next_high ≡ high → Hangs (get_or nodes (rest - 1) 0) (get_or sides (rest - 1) 0) top next next_high mid now → IsLeveled mid now nodes sides rest turn way tree next
@@ -132,7 +132,7 @@ mending_stops before mid now last nodes sides depth settled node first_high rest
     (let a = m way t h0 tall s0 in by_way a.rest a.tree a.hung a.settled_way a.same a.lines a.but)
   where
     by_way : (left : List (Turn ℕ)) (tree : Tree ℕ) → IsHung mid nodes sides rest left tree top → Settled mid settled left → mended left tree ≡ mended way t →
-        ((line : ℕ) → times_way line left + times line tree ≡ times_way line way + times line t) → SameBut before mid (whole way t) → IsTreeMade before last (whole way t) (mended way t) root_now
+        ((line : ℕ) → times_way line left + times line tree ≡ times_way line way + times line t) → SameExcept before mid (whole way t) → IsTreeMade before last (whole way t) (mended way t) root_now
     by_way [] tree h s same lines but = absurd (let l = h.long in omega arith)
     by_way (turn ∷ left) tree h s same lines but =
         let v = leveled mid now nodes sides rest settled turn left tree top next next_high high h s le seen e hangs in
@@ -141,11 +141,11 @@ mending_stops before mid now last nodes sides depth settled node first_high rest
         let is : whole left new ≡ mended way t = sym v.same ∙ same in
         let counted : (k : ℕ) → times k (whole way t) ≡ times_way k (turn ∷ left) + times k tree = λ k. whole_times k way t ∙ sym (lines k) in
         record {
-          stands = subst (Stands last) is made.stands;
+          stands = subst (RepresentsTree last) is made.stands;
           root_is = ap root (sym is) ∙ made.root_is;
-          but = but_then before mid last (whole way t) but
-              (but_then mid now last (whole way t) (v.but (whole way t) counted)
-              (but_more now last (whole left new) (whole way t) (λ k. (let w = whole_times k left new in let o = v.lines k in let c = counted k in omega (arith, w, o, c))) made.but));
+          but = except_then before mid last (whole way t) but
+              (except_then mid now last (whole way t) (v.but (whole way t) counted)
+              (except_more now last (whole left new) (whole way t) (λ k. (let w = whole_times k left new in let o = v.lines k in let c = counted k in omega (arith, w, o, c))) made.but));
         }
 
 -- what every words that may stand allow

@@ -3,20 +3,20 @@ use Rattle.std.proofs.Common.{◌≡◌, ◌≢◌, ◌^◌, ◌+◌, ◌-◌, �
 use Rattle.std.proofs.lemmas.Bool.{cond-true, cond-false, le-leb, lt-leb}
 use Rattle.avl_words.specs.Tree.{Tree, Empty, Node, height, node_on, inner_up, child_up, rotated}
 use Rattle.avl_words.specs.Lines.{word_of, IsWithin}
-use Rattle.avl_words.specs.Words.{root, times, IsNode, Stands}
-use Rattle.avl_words.specs.Links.{high_of, with_node, IsLink, CanSet, SameBut, IsNodeOpen, IsHigh, CanRotate, Rotates}
+use Rattle.avl_words.specs.Words.{root, times, IsNode, RepresentsTree}
+use Rattle.avl_words.specs.Links.{high_of, with_node, IsLink, CanSet, SameExcept, IsNodeOpen, IsHigh, CanRotate, Rotates}
 use Rattle.avl_words.proofs.Trees.{height_on}
-use Rattle.avl_words.proofs.Frames.{times_self, times_on, root_on, stands_set, high_is, IsThere, there_set, stands_on, but_set, but_then}
+use Rattle.avl_words.proofs.Frames.{times_self, times_on, root_on, stands_set, high_is, IsThere, there_set, stands_on, except_set, except_then}
 
 -- a link to a tree that stands
-pub link_is : (ws : List ℕ) (t : Tree ℕ) (node : ℕ) → Stands ws t → root t ≡ node → height t ≤ 2 ^ 32 → IsLink ws node (height t)
+pub link_is : (ws : List ℕ) (t : Tree ℕ) (node : ℕ) → RepresentsTree ws t → root t ≡ node → height t ≤ 2 ^ 32 → IsLink ws node (height t)
 link_is ws t node s e low = record {
   there = λ n. root_there t s e n;
   high_is = ap (λ n. high_of n ws) (sym e) ∙ high_is ws t s;
   low = low;
 }
   where
-    root_there : (t : Tree ℕ) → Stands ws t → root t ≡ node → node ≢ 0 → IsWithin ws node
+    root_there : (t : Tree ℕ) → RepresentsTree ws t → root t ≡ node → node ≢ 0 → IsWithin ws node
     root_there Empty s e n = absurd (n (sym e))
     root_there (Node l x r) s e n = subst (IsWithin ws) e s.0.within
 
@@ -26,9 +26,9 @@ pub record IsView (ws : List ℕ) (side : ℕ) (t : Tree ℕ) (x : ℕ) (s : Tre
   pub turns : rotated side t x s ≡ child_up side a y b x s
   pub x_there : IsThere ws x
   pub y_there : IsThere ws y
-  pub a_stands : Stands ws a
-  pub b_stands : Stands ws b
-  pub s_stands : Stands ws s
+  pub a_stands : RepresentsTree ws a
+  pub b_stands : RepresentsTree ws b
+  pub s_stands : RepresentsTree ws s
   pub once : (line : ℕ) → times line a + cond (eqb y line) 1 0 + times line b + cond (eqb x line) 1 0 + times line s ≤ 1
   pub lines : (line : ℕ) → times line (Node t x s) ≡ times line a + cond (eqb y line) 1 0 + times line b + cond (eqb x line) 1 0 + times line s
   pub bound : 1 + max (1 + max (height a) (height b)) (height s) ≤ 2 ^ 32
@@ -101,10 +101,10 @@ module _ (ws : List ℕ) (side : ℕ) (t : Tree ℕ) (x : ℕ) (s : Tree ℕ) (a
   pub single_first : CanSet ws x (root b) (height b) (root s) (height s)
   single_first = (let m = w.bound in record { there = w.x_there.within; first = link_is ws b (root b) w.b_stands refl (omega arith); second = link_is ws s (root s) w.s_stands refl (omega arith) })
 
-  single_mid : Stands (with_node x side (root b) (root s) ws) (node_on side b x s)
+  single_mid : RepresentsTree (with_node x side (root b) (root s) ws) (node_on side b x s)
   single_mid = stands_on side b x s ws l w.x_there w.b_stands w.s_stands (omega (arith, w.once x, times_self x)) (omega (arith, w.once x, times_self x))
 
-  single_outer : Stands (with_node x side (root b) (root s) ws) a
+  single_outer : RepresentsTree (with_node x side (root b) (root s) ws) a
   single_outer = stands_set x side (root b) (root s) ws a l (omega (arith, w.once x, times_self x)) w.a_stands
 
   pub single_second : CanSet (with_node x side (root b) (root s) ws) y (root a) (height a) x (height (node_on side b x s))
@@ -114,24 +114,24 @@ module _ (ws : List ℕ) (side : ℕ) (t : Tree ℕ) (x : ℕ) (s : Tree ℕ) (a
     second = link_is (with_node x side (root b) (root s) ws) (node_on side b x s) x single_mid (root_on side b x s) (omega arith);
   })
 
-  pub single_stands : Stands (with_node y side (root a) x (with_node x side (root b) (root s) ws)) (node_on side a y (node_on side b x s))
+  pub single_stands : RepresentsTree (with_node y side (root a) x (with_node x side (root b) (root s) ws)) (node_on side a y (node_on side b x s))
   single_stands =
-      subst (λ n. Stands (with_node y side (root a) n (with_node x side (root b) (root s) ws)) (node_on side a y (node_on side b x s))) (root_on side b x s)
+      subst (λ n. RepresentsTree (with_node y side (root a) n (with_node x side (root b) (root s) ws)) (node_on side a y (node_on side b x s))) (root_on side b x s)
       (stands_on side a y (node_on side b x s) (with_node x side (root b) (root s) ws) l (there_set x side (root b) (root s) ws y l w.y_there) single_outer single_mid
       (omega (arith, w.once y, times_self y)) (omega (arith, w.once y, times_self y, times_on y side b x s)))
 
-  pub single_but : SameBut ws (with_node y side (root a) x (with_node x side (root b) (root s) ws)) (Node t x s)
+  pub single_but : SameExcept ws (with_node y side (root a) x (with_node x side (root b) (root s) ws)) (Node t x s)
   single_but =
-      but_then ws (with_node x side (root b) (root s) ws) (with_node y side (root a) x (with_node x side (root b) (root s) ws)) (Node t x s)
-      (but_set x side (root b) (root s) ws (Node t x s) l (omega (arith, w.lines x, times_self x)))
-      (but_set y side (root a) x (with_node x side (root b) (root s) ws) (Node t x s) l (omega (arith, w.lines y, times_self y)))
+      except_then ws (with_node x side (root b) (root s) ws) (with_node y side (root a) x (with_node x side (root b) (root s) ws)) (Node t x s)
+      (except_set x side (root b) (root s) ws (Node t x s) l (omega (arith, w.lines x, times_self x)))
+      (except_set y side (root a) x (with_node x side (root b) (root s) ws) (Node t x s) l (omega (arith, w.lines y, times_self y)))
 
   pub single_made : height b ≤ height a → IsHigh ws (with_node y side (root a) x (with_node x side (root b) (root s) ws)) (Node t x s) (rotated side t x s) y (1 + max (height a) (height (node_on side b x s)))
   single_made le =
       let e : rotated side t x s ≡ node_on side a y (node_on side b x s) = w.turns ∙ cond-true (leb (height b) (height a)) (node_on side a y (node_on side b x s)) (inner_up side a y b x s) (le-leb (height b) (height a) le) in
       record {
         made = record {
-          stands = subst (Stands (with_node y side (root a) x (with_node x side (root b) (root s) ws))) (sym e) single_stands;
+          stands = subst (RepresentsTree (with_node y side (root a) x (with_node x side (root b) (root s) ws))) (sym e) single_stands;
           root_is = ap root e ∙ root_on side a y (node_on side b x s);
           but = single_but;
         };
@@ -143,8 +143,8 @@ pub record IsInner (ws : List ℕ) (side : ℕ) (b : Tree ℕ) (n : Tree ℕ) (z
   pub b_is : b ≡ node_on side n z f
   pub turns : (a : Tree ℕ) (y : ℕ) (x : ℕ) (s : Tree ℕ) → inner_up side a y b x s ≡ node_on side (node_on side a y n) z (node_on side f x s)
   pub z_there : IsThere ws z
-  pub n_stands : Stands ws n
-  pub f_stands : Stands ws f
+  pub n_stands : RepresentsTree ws n
+  pub f_stands : RepresentsTree ws f
   pub lines : (line : ℕ) → times line b ≡ times line n + cond (eqb z line) 1 0 + times line f
   pub high : height b ≡ 1 + max (height n) (height f)
 
@@ -157,7 +157,7 @@ pub record HasInner (ws : List ℕ) (side inner near far : ℕ) (b : Tree ℕ) :
   pub near_is : root n ≡ near
   pub far_is : root f ≡ far
 
-pub inner_of : (ws : List ℕ) (side inner near far : ℕ) (b : Tree ℕ) → side < 2 → Stands ws b → root b ≡ inner → 1 ≤ height b → word_of ws inner side ≡ near → word_of ws inner (1 - side) ≡ far → HasInner ws side inner near far b
+pub inner_of : (ws : List ℕ) (side inner near far : ℕ) (b : Tree ℕ) → side < 2 → RepresentsTree ws b → root b ≡ inner → 1 ≤ height b → word_of ws inner side ≡ near → word_of ws inner (1 - side) ≡ far → HasInner ws side inner near far b
 inner_of ws side inner near far Empty l s e h p q = absurd (omega arith)
 inner_of ws zero inner near far (Node u z v) l s e h p q = record {
   n = u;
@@ -213,7 +213,7 @@ module _ (ws : List ℕ) (side : ℕ) (t : Tree ℕ) (x : ℕ) (s : Tree ℕ) (a
   abbrev three : List ℕ
   three = with_node z side y x two
 
-  first_made : Stands one (node_on side a y n)
+  first_made : RepresentsTree one (node_on side a y n)
   first_made = stands_on side a y n ws l w.y_there w.a_stands i.n_stands (omega (arith, once_all y, times_self y)) (omega (arith, once_all y, times_self y))
 
   pub double_second : CanSet one x (root f) (height f) (root s) (height s)
@@ -223,14 +223,14 @@ module _ (ws : List ℕ) (side : ℕ) (t : Tree ℕ) (x : ℕ) (s : Tree ℕ) (a
     second = link_is one s (root s) (stands_set y side (root a) (root n) ws s l (omega (arith, once_all y, times_self y)) w.s_stands) refl (omega arith);
   })
 
-  second_made : Stands two (node_on side f x s)
+  second_made : RepresentsTree two (node_on side f x s)
   second_made =
       stands_on side f x s one l (there_set y side (root a) (root n) ws x l w.x_there)
       (stands_set y side (root a) (root n) ws f l (omega (arith, once_all y, times_self y)) i.f_stands)
       (stands_set y side (root a) (root n) ws s l (omega (arith, once_all y, times_self y)) w.s_stands)
       (omega (arith, once_all x, times_self x)) (omega (arith, once_all x, times_self x))
 
-  first_kept : Stands two (node_on side a y n)
+  first_kept : RepresentsTree two (node_on side a y n)
   first_kept = stands_set x side (root f) (root s) one (node_on side a y n) l (omega (arith, once_all x, times_self x, times_on x side a y n)) first_made
 
   z_kept : IsThere two z
@@ -243,20 +243,20 @@ module _ (ws : List ℕ) (side : ℕ) (t : Tree ℕ) (x : ℕ) (s : Tree ℕ) (a
     second = link_is two (node_on side f x s) x second_made (root_on side f x s) (omega arith);
   })
 
-  third_made : Stands three (node_on side (node_on side a y n) z (node_on side f x s))
+  third_made : RepresentsTree three (node_on side (node_on side a y n) z (node_on side f x s))
   third_made =
-      subst (λ p. Stands (with_node z side p x two) (node_on side (node_on side a y n) z (node_on side f x s))) (root_on side a y n)
-      (subst (λ q. Stands (with_node z side (root (node_on side a y n)) q two) (node_on side (node_on side a y n) z (node_on side f x s))) (root_on side f x s)
+      subst (λ p. RepresentsTree (with_node z side p x two) (node_on side (node_on side a y n) z (node_on side f x s))) (root_on side a y n)
+      (subst (λ q. RepresentsTree (with_node z side (root (node_on side a y n)) q two) (node_on side (node_on side a y n) z (node_on side f x s))) (root_on side f x s)
       (stands_on side (node_on side a y n) z (node_on side f x s) two l z_kept first_kept second_made
       (omega (arith, once_all z, times_self z, times_on z side a y n)) (omega (arith, once_all z, times_self z, times_on z side f x s))))
 
-  double_but : SameBut ws three (Node t x s)
+  double_but : SameExcept ws three (Node t x s)
   double_but =
-      but_then ws two three (Node t x s)
-      (but_then ws one two (Node t x s)
-      (but_set y side (root a) (root n) ws (Node t x s) l (omega (arith, w.lines y, times_self y)))
-      (but_set x side (root f) (root s) one (Node t x s) l (omega (arith, w.lines x, times_self x))))
-      (but_set z side y x two (Node t x s) l (omega (arith, w.lines z, i.lines z, times_self z)))
+      except_then ws two three (Node t x s)
+      (except_then ws one two (Node t x s)
+      (except_set y side (root a) (root n) ws (Node t x s) l (omega (arith, w.lines y, times_self y)))
+      (except_set x side (root f) (root s) one (Node t x s) l (omega (arith, w.lines x, times_self x))))
+      (except_set z side y x two (Node t x s) l (omega (arith, w.lines z, i.lines z, times_self z)))
 
   pub double_made : height a < height b → IsHigh ws three (Node t x s) (rotated side t x s) z (1 + max (height (node_on side a y n)) (height (node_on side f x s)))
   double_made lt =
@@ -264,7 +264,7 @@ module _ (ws : List ℕ) (side : ℕ) (t : Tree ℕ) (x : ℕ) (s : Tree ℕ) (a
       = w.turns ∙ cond-false (leb (height b) (height a)) (node_on side a y (node_on side b x s)) (inner_up side a y b x s) (lt-leb (height b) (height a) lt) ∙ i.turns a y x s in
       record {
         made = record {
-          stands = subst (Stands three) (sym e) third_made;
+          stands = subst (RepresentsTree three) (sym e) third_made;
           root_is = ap root e ∙ root_on side (node_on side a y n) z (node_on side f x s);
           but = double_but;
         };
@@ -287,7 +287,7 @@ seen_view : (ws : List ℕ) (side node child low outer inner oh ih : ℕ) (t : T
 seen_view ws side node child low outer inner oh ih t x s l seen o e f g h = view_of ws side node child low outer inner t x s l o e f g h seen.outer_is seen.inner_is
 
 -- the height below a link is that of the tree
-pub height_seen : (ws : List ℕ) (t : Tree ℕ) (n h : ℕ) → Stands ws t → root t ≡ n → high_of n ws ≡ h → height t ≡ h
+pub height_seen : (ws : List ℕ) (t : Tree ℕ) (n h : ℕ) → RepresentsTree ws t → root t ≡ n → high_of n ws ≡ h → height t ≡ h
 height_seen ws t n h s e f = sym (high_is ws t s) ∙ ap (λ k. high_of k ws) e ∙ f
 
 -- a rotation of trees, as its loads saw them

@@ -3,7 +3,7 @@ use Rattle.std.proofs.Common.{◌≡◌, ◌+◌, ◌*◌, ◌≤◌, max, ℕ, 
 use Rattle.avl_words.specs.Tree.{Tree, Empty, Node, height, Balanced, node_on}
 use Rattle.avl_words.specs.Ways.{Turn, whole}
 use Rattle.avl_words.specs.Lines.{with_word}
-use Rattle.avl_words.specs.Words.{root, times, Stands, IsWayNoted}
+use Rattle.avl_words.specs.Words.{root, times, RepresentsTree, IsWayNoted}
 use Rattle.avl_words.specs.Mending.{Spine, times_way, IsHung, Settled}
 use Rattle.avl_words.proofs.Relinking.{settled_of, settled_kept, settled_behind}
 use Rattle.avl_words.specs.Removal.{Least, least}
@@ -29,7 +29,7 @@ heights_in (turn ∷ way) s t e =
     (height_on turn.side s turn.item turn.sibling ∙ ap (λ h. 1 + max h (height turn.sibling)) e ∙ sym (height_on turn.side t turn.item turn.sibling))
 
 module _ (ws nodes sides : List ℕ) (depth : ℕ) (way : List (Turn ℕ)) (a : Tree ℕ) (y : ℕ) (b : Tree ℕ) (x : ℕ) (c : Tree ℕ) (z : ℕ) (d : Tree ℕ)
-    (s : Stands ws (whole way (Node (Node a y b) x (Node c z d)))) (w : Balanced (whole way (Node (Node a y b) x (Node c z d)))) (once : (k : ℕ) → times k (whole way (Node (Node a y b) x (Node c z d))) ≤ 1)
+    (s : RepresentsTree ws (whole way (Node (Node a y b) x (Node c z d)))) (w : Balanced (whole way (Node (Node a y b) x (Node c z d)))) (once : (k : ℕ) → times k (whole way (Node (Node a y b) x (Node c z d))) ≤ 1)
     (high : height (whole way (Node (Node a y b) x (Node c z d))) ≤ 64) where
   abbrev q : Least ℕ
   q = least [] c z d
@@ -40,13 +40,13 @@ module _ (ws nodes sides : List ℕ) (depth : ℕ) (way : List (Turn ℕ)) (a : 
   abbrev up_way : List (Turn ℕ)
   up_way = record { side = 1; item = (least [] c z d).item; sibling = Node a y b } ∷ way
 
-  here : Stands ws (Node (Node a y b) x (Node c z d))
+  here : RepresentsTree ws (Node (Node a y b) x (Node c z d))
   here = stands_at ws way (Node (Node a y b) x (Node c z d)) s
 
-  below : Stands ws (whole q.way (Node Empty q.item q.rest))
-  below = subst (Stands ws) (sym (least_whole [] c z d)) here.2
+  below : RepresentsTree ws (whole q.way (Node Empty q.item q.rest))
+  below = subst (RepresentsTree ws) (sym (least_whole [] c z d)) here.2
 
-  pub least_is_there : Stands ws (Node Empty q.item q.rest)
+  pub least_is_there : RepresentsTree ws (Node Empty q.item q.rest)
   least_is_there = stands_at ws q.way (Node Empty q.item q.rest) below
 
   counted : (k : ℕ) → times_way k way + (times k (Node a y b) + cond (eqb x k) 1 0 + (times_way k q.way + (cond (eqb q.item k) 1 0 + times k q.rest))) ≤ 1

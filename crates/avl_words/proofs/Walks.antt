@@ -6,16 +6,16 @@ use Rattle.std.proofs.Math.Pow.{pow_mono}
 use Rattle.avl_words.specs.Tree.{Tree, Empty, Node, height, items, size, node_on}
 use Rattle.avl_words.specs.Ways.{Turn, whole, behind, spot}
 use Rattle.avl_words.specs.Lines.{word_of, IsWithin}
-use Rattle.avl_words.specs.Words.{root, Stands, IsTree, IsWayNoted, IsOnWay, IsSpot}
+use Rattle.avl_words.specs.Words.{root, RepresentsTree, IsTree, IsWayNoted, IsOnWay, IsSpot}
 use Rattle.avl_words.proofs.Depth.{depth_law, depth_bound, height_at}
 use Rattle.avl_words.proofs.Spots.{spot_right, spot_here, spot_left, spot_whole}
 
 -- what stands at a place
-parts_stand : (ws : List ℕ) (side : ℕ) (t : Tree ℕ) (x : ℕ) (s : Tree ℕ) → Stands ws (node_on side t x s) → Stands ws t
+parts_stand : (ws : List ℕ) (side : ℕ) (t : Tree ℕ) (x : ℕ) (s : Tree ℕ) → RepresentsTree ws (node_on side t x s) → RepresentsTree ws t
 parts_stand ws zero t x s h = h.1
 parts_stand ws (suc k) t x s h = h.2
 
-pub stands_at : (ws : List ℕ) (way : List (Turn ℕ)) (t : Tree ℕ) → Stands ws (whole way t) → Stands ws t
+pub stands_at : (ws : List ℕ) (way : List (Turn ℕ)) (t : Tree ℕ) → RepresentsTree ws (whole way t) → RepresentsTree ws t
 stands_at ws [] t s = s
 stands_at ws (turn ∷ way) t s = parts_stand ws turn.side t turn.item turn.sibling (stands_at ws way (node_on turn.side t turn.item turn.sibling) s)
 
@@ -33,8 +33,8 @@ high_here node Empty e n = absurd (n e)
 high_here node (Node l x r) e n = omega arith
 
 module _ (ws : List ℕ) (order : ℕ → Ordering) (t : Tree ℕ) (i : IsTree ws t) where
-  here_stands : (nodes sides : List ℕ) (d node : ℕ) (o : IsOnWay nodes sides order d node t) → Stands ws o.here
-  here_stands nodes sides d node o = stands_at ws o.way o.here (subst (Stands ws) (sym o.whole_is) i.stands)
+  here_stands : (nodes sides : List ℕ) (d node : ℕ) (o : IsOnWay nodes sides order d node t) → RepresentsTree ws o.here
+  here_stands nodes sides d node o = stands_at ws o.way o.here (subst (RepresentsTree ws) (sym o.whole_is) i.stands)
 
   -- the way goes on
   -- a step to the right keeps what stands behind, and one to the left puts the node in front of it
@@ -48,7 +48,7 @@ module _ (ws : List ℕ) (order : ℕ → Ordering) (t : Tree ℕ) (i : IsTree w
     pub behind_is : behind on.way ≡ first ∷ rest
 
   on_right : (nodes sides : List ℕ) (d node next : ℕ) (way : List (Turn ℕ)) (l : Tree ℕ) (x : ℕ) (r : Tree ℕ) → d < 64 → length nodes ≡ 64 → length sides ≡ 64 → whole way (Node l x r) ≡ t → spot order [] t ≡ spot order way (Node l x r) →
-      node ≡ x → Stands ws (Node l x r) → order node ≡ Less → word_of ws node 1 ≡ next → length way ≡ d → IsWayNoted nodes sides way → IsRight (set nodes d node) (set sides d 1) (d + 1) next (behind way)
+      node ≡ x → RepresentsTree ws (Node l x r) → order node ≡ Less → word_of ws node 1 ≡ next → length way ≡ d → IsWayNoted nodes sides way → IsRight (set nodes d node) (set sides d 1) (d + 1) next (behind way)
   on_right nodes sides d node next way l x r room nl sl w same e s less word long noted = record {
     on = record {
       way = record { side = 1; item = x; sibling = l } ∷ way;
@@ -68,7 +68,7 @@ module _ (ws : List ℕ) (order : ℕ → Ordering) (t : Tree ℕ) (i : IsTree w
   }
 
   on_left : (nodes sides : List ℕ) (d node next : ℕ) (way : List (Turn ℕ)) (l : Tree ℕ) (x : ℕ) (r : Tree ℕ) → d < 64 → length nodes ≡ 64 → length sides ≡ 64 → whole way (Node l x r) ≡ t → spot order [] t ≡ spot order way (Node l x r) →
-      node ≡ x → Stands ws (Node l x r) → order node ≡ Greater → word_of ws node 0 ≡ next → length way ≡ d → IsWayNoted nodes sides way → IsLeft (set nodes d node) (set sides d 0) (d + 1) next node
+      node ≡ x → RepresentsTree ws (Node l x r) → order node ≡ Greater → word_of ws node 0 ≡ next → length way ≡ d → IsWayNoted nodes sides way → IsLeft (set nodes d node) (set sides d 0) (d + 1) next node
   on_left nodes sides d node next way l x r room nl sl w same e s more word long noted = record {
     on = record {
       way = record { side = 0; item = x; sibling = r } ∷ way;
@@ -89,12 +89,12 @@ module _ (ws : List ℕ) (order : ℕ → Ordering) (t : Tree ℕ) (i : IsTree w
   }
 
   go_right : (nodes sides : List ℕ) (d node next : ℕ) (way : List (Turn ℕ)) (here : Tree ℕ) → d < 64 → length nodes ≡ 64 → length sides ≡ 64 → whole way here ≡ t → spot order [] t ≡ spot order way here →
-      node ≡ root here → node ≢ 0 → Stands ws here → order node ≡ Less → word_of ws node 1 ≡ next → length way ≡ d → IsWayNoted nodes sides way → IsRight (set nodes d node) (set sides d 1) (d + 1) next (behind way)
+      node ≡ root here → node ≢ 0 → RepresentsTree ws here → order node ≡ Less → word_of ws node 1 ≡ next → length way ≡ d → IsWayNoted nodes sides way → IsRight (set nodes d node) (set sides d 1) (d + 1) next (behind way)
   go_right nodes sides d node next way Empty room nl sl w same e n s less word long noted = absurd (n e)
   go_right nodes sides d node next way (Node l x r) room nl sl w same e n s less word long noted = on_right nodes sides d node next way l x r room nl sl w same e s less word long noted
 
   go_left : (nodes sides : List ℕ) (d node next : ℕ) (way : List (Turn ℕ)) (here : Tree ℕ) → d < 64 → length nodes ≡ 64 → length sides ≡ 64 → whole way here ≡ t → spot order [] t ≡ spot order way here →
-      node ≡ root here → node ≢ 0 → Stands ws here → order node ≡ Greater → word_of ws node 0 ≡ next → length way ≡ d → IsWayNoted nodes sides way → IsLeft (set nodes d node) (set sides d 0) (d + 1) next node
+      node ≡ root here → node ≢ 0 → RepresentsTree ws here → order node ≡ Greater → word_of ws node 0 ≡ next → length way ≡ d → IsWayNoted nodes sides way → IsLeft (set nodes d node) (set sides d 0) (d + 1) next node
   go_left nodes sides d node next way Empty room nl sl w same e n s more word long noted = absurd (n e)
   go_left nodes sides d node next way (Node l x r) room nl sl w same e n s more word long noted = on_left nodes sides d node next way l x r room nl sl w same e s more word long noted
 
@@ -116,7 +116,7 @@ module _ (ws : List ℕ) (order : ℕ → Ordering) (t : Tree ℕ) (i : IsTree w
     long = ap (λ s. length s.0) e ∙ long;
   }
 
-  end_none : (nodes sides : List ℕ) (d node : ℕ) (way : List (Turn ℕ)) (here : Tree ℕ) → Stands ws here → spot order [] t ≡ spot order way here → node ≡ root here → node ≡ 0 → length way ≡ d → IsWayNoted nodes sides way → IsSpot nodes sides order d node t
+  end_none : (nodes sides : List ℕ) (d node : ℕ) (way : List (Turn ℕ)) (here : Tree ℕ) → RepresentsTree ws here → spot order [] t ≡ spot order way here → node ≡ root here → node ≡ 0 → length way ≡ d → IsWayNoted nodes sides way → IsSpot nodes sides order d node t
   end_none nodes sides d node way Empty s same e z long noted = ended nodes sides d node way Empty same e long noted
   end_none nodes sides d node way (Node l x r) s same e z long noted = absurd (let some = s.0.some in omega arith)
 
@@ -154,7 +154,7 @@ module _ (ws : List ℕ) (order : ℕ → Ordering) (t : Tree ℕ) (i : IsTree w
       omega (arith, p, q)
 
   -- the way at the end is the one that was noted
-  end_way : (nodes sides : List ℕ) (d node : ℕ) (way : List (Turn ℕ)) (here : Tree ℕ) → Stands ws here → spot order [] t ≡ spot order way here → node ≡ root here → node ≡ 0 → (spot order [] t).0 ≡ way
+  end_way : (nodes sides : List ℕ) (d node : ℕ) (way : List (Turn ℕ)) (here : Tree ℕ) → RepresentsTree ws here → spot order [] t ≡ spot order way here → node ≡ root here → node ≡ 0 → (spot order [] t).0 ≡ way
   end_way nodes sides d node way Empty s same e z = ap (λ s. s.0) same
   end_way nodes sides d node way (Node l x r) s same e z = absurd (let some = s.0.some in omega arith)
 

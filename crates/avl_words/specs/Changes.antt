@@ -5,8 +5,8 @@ use Rattle.avl_words.specs.Tree.{Tree, Empty, Node, height}
 use Rattle.avl_words.specs.Ways.{Turn, whole, spot, with_new}
 use Rattle.avl_words.specs.Removal.{least, gone_way, gone_rest, without}
 use Rattle.avl_words.specs.Lines.{word_of}
-use Rattle.avl_words.specs.Words.{times, IsNode, Stands, IsTree, IsWayNoted, IsSpot}
-use Rattle.avl_words.specs.Links.{SameBut}
+use Rattle.avl_words.specs.Words.{times, IsNode, RepresentsTree, IsTree, IsWayNoted, IsSpot}
+use Rattle.avl_words.specs.Links.{SameExcept}
 use Rattle.avl_words.specs.Mending.{IsHung, Settled}
 use Rattle.avl_words.specs.Exact.{with_tree}
 
@@ -53,7 +53,7 @@ pub record HasTwo (words nodes sides : List ℕ) (depth node left right : ℕ) :
 pub record IsBelow (words nodes sides : List ℕ) (depth node : ℕ) (way : List (Turn ℕ)) (c : Tree ℕ) (z : ℕ) (d : Tree ℕ) : Type 0 where
   pub noted : IsWayNoted nodes sides way
   pub long : length way ≡ depth
-  pub stands : Stands words (Node c z d)
+  pub stands : RepresentsTree words (Node c z d)
   pub node_is : z ≡ node
 
 pub record CanDescend (words nodes sides : List ℕ) (depth node : ℕ) : Type 0 where
@@ -78,7 +78,7 @@ Descends nodes sides depth node nodes_now sides_now depth_now node_now words =
 pub record IsGone (before now nodes sides : List ℕ) (depth settled node : ℕ) (way : List (Turn ℕ)) (t : Tree ℕ) : Type 0 where
   pub hung : IsHung now nodes sides depth way t node
   pub settled_way : Settled now settled way
-  pub but : SameBut before now (whole way t)
+  pub but : SameExcept before now (whole way t)
 
 abbrev pub IsNodeOut : List ℕ → List ℕ → List ℕ → List ℕ → ℕ → ℕ → ℕ → List (Turn ℕ) → Tree ℕ → Type 0
 IsNodeOut before now nodes sides depth settled node way Empty = Unit {0}
@@ -100,4 +100,4 @@ pub record IsDescending (words nodes sides : List ℕ) (depth node : ℕ) (way :
   pub noted : IsWayNoted nodes sides (passed ++ way)
   pub long : length (passed ++ way) ≡ depth
   pub node_is : item ≡ node
-  pub stands : Stands words (Node left item right)
+  pub stands : RepresentsTree words (Node left item right)

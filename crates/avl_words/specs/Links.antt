@@ -2,7 +2,7 @@
 use Rattle.std.specs.Prelude.{◌≡◌, ◌≢◌, ◌^◌, ◌+◌, ◌-◌, ◌<◌, ◌≤◌, ◌⊎◌, max, ℕ, zero, suc, List, length}
 use Rattle.avl_words.specs.Tree.{Tree, Node, height, rotated, joined}
 use Rattle.avl_words.specs.Lines.{word_of, IsWithin, with_word}
-use Rattle.avl_words.specs.Words.{root, times, Stands}
+use Rattle.avl_words.specs.Words.{root, times, RepresentsTree}
 
 -- the height of the tree below a link
 abbrev pub high_of : ℕ → List ℕ → ℕ
@@ -36,7 +36,7 @@ pub record IsSubtree (node side link high : ℕ) (words : List ℕ) : Type 0 whe
   pub high_is : high_of link words ≡ high
 
 -- All words are as they were but for the links and heights of a tree's nodes.
-pub record SameBut (before now : List ℕ) (t : Tree ℕ) : Type 0 where
+pub record SameExcept (before now : List ℕ) (t : Tree ℕ) : Type 0 where
   pub long : length now ≡ length before
   pub same : (line i : ℕ) → i < 8 → (times line t ≡ 0) ⊎ (3 ≤ i) → word_of now line i ≡ word_of before line i
 
@@ -44,16 +44,16 @@ pub record SameBut (before now : List ℕ) (t : Tree ℕ) : Type 0 where
 pub record IsNodeOpen (words : List ℕ) (l : Tree ℕ) (x : ℕ) (r : Tree ℕ) : Type 0 where
   pub some : 1 ≤ x
   pub within : IsWithin words x
-  pub left : Stands words l
-  pub right : Stands words r
+  pub left : RepresentsTree words l
+  pub right : RepresentsTree words r
   pub once : (line : ℕ) → times line (Node l x r) ≤ 1
   pub low : height (Node l x r) ≤ 2 ^ 32
 
 -- a tree of the same lines stands now
 pub record IsTreeMade (before now : List ℕ) (old new : Tree ℕ) (node : ℕ) : Type 0 where
-  pub stands : Stands now new
+  pub stands : RepresentsTree now new
   pub root_is : root new ≡ node
-  pub but : SameBut before now old
+  pub but : SameExcept before now old
 
 -- so high
 pub record IsHigh (before now : List ℕ) (old new : Tree ℕ) (node high : ℕ) : Type 0 where

@@ -3,16 +3,16 @@ use Rattle.std.specs.Prelude.{◌≡◌, ◌^◌, ◌+◌, ◌-◌, ◌≤◌, �
 use Rattle.avl_words.specs.Tree.{Tree, height, node_on, Balanced}
 use Rattle.avl_words.specs.Ways.{Turn, under, whole, mended}
 use Rattle.avl_words.specs.Lines.{word_of, IsWithin}
-use Rattle.avl_words.specs.Words.{root, times, Stands, IsWayNoted}
-use Rattle.avl_words.specs.Links.{high_of, SameBut, IsTreeMade, IsHigh}
+use Rattle.avl_words.specs.Words.{root, times, RepresentsTree, IsWayNoted}
+use Rattle.avl_words.specs.Links.{high_of, SameExcept, IsTreeMade, IsHigh}
 
 -- A node at one side of which a tree is to hang, and at the other the tree that is there. Its link to the side, and its height, may be anything.
 pub record IsHanging (words : List ℕ) (side : ℕ) (t : Tree ℕ) (x : ℕ) (sibling : Tree ℕ) : Type 0 where
   pub some : 1 ≤ x
   pub within : IsWithin words x
   pub link_is : word_of words x (1 - side) ≡ root sibling
-  pub hung : Stands words t
-  pub beside : Stands words sibling
+  pub hung : RepresentsTree words t
+  pub beside : RepresentsTree words sibling
   pub once : (line : ℕ) → times line t + (if x == line then 1 else 0) + times line sibling ≤ 1
   pub low : height (node_on side t x sibling) ≤ 2 ^ 32
 
@@ -34,7 +34,7 @@ abbrev pub Spine : List ℕ → List (Turn ℕ) → Type 0
 Spine words [] = Unit {0}
 Spine words (turn ∷ way) =
     (1 ≤ turn.item) × IsWithin words turn.item × (word_of words turn.item (1 - turn.side) ≡ root turn.sibling)
-    × Stands words turn.sibling × Spine words way
+    × RepresentsTree words turn.sibling × Spine words way
 
 abbrev pub times_way : ℕ → List (Turn ℕ) → ℕ
 times_way line [] = 0
@@ -50,7 +50,7 @@ pub record IsHung (words nodes sides : List ℕ) (depth : ℕ) (way : List (Turn
   pub noted : IsWayNoted nodes sides way
   pub long : length way ≡ depth
   pub spine : Spine words way
-  pub stands : Stands words t
+  pub stands : RepresentsTree words t
   pub root_is : root t ≡ node
   pub once : (line : ℕ) → times_way line way + times line t ≤ 1
   pub low : IsLow way t
@@ -106,7 +106,7 @@ pub record IsMending (before now nodes sides : List ℕ) (depth settled : ℕ) (
   pub settled_way : Settled now settled rest
   pub same : mended rest tree ≡ mended way t
   pub lines : (line : ℕ) → times_way line rest + times line tree ≡ times_way line way + times line t
-  pub but : SameBut before now (whole way t)
+  pub but : SameExcept before now (whole way t)
 
 abbrev pub Mending : List ℕ → List ℕ → ℕ → ℕ → ℕ → ℕ → ℕ → ℕ → ℕ → List ℕ → List ℕ → Type 0
 Mending nodes sides depth settled node high rest top top_high before now =

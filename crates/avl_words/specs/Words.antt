@@ -22,14 +22,14 @@ pub record IsNode (words : List ℕ) (line left right high : ℕ) : Type 0 where
   pub right_is : word_of words line 1 ≡ right
   pub height_is : word_of words line 2 ≡ high
 
-abbrev pub Stands : List ℕ → Tree ℕ → Type 0
-Stands words Empty = Unit {0}
-Stands words (Node l x r) = IsNode words x (root l) (root r) (height (Node l x r)) × Stands words l × Stands words r
+abbrev pub RepresentsTree : List ℕ → Tree ℕ → Type 0
+RepresentsTree words Empty = Unit {0}
+RepresentsTree words (Node l x r) = IsNode words x (root l) (root r) (height (Node l x r)) × RepresentsTree words l × RepresentsTree words r
 
 -- words that stand for a balanced tree of lines apart, whose root header word 1 names
 pub record IsTree (words : List ℕ) (t : Tree ℕ) : Type 0 where
   pub root_is : word_of words 0 1 ≡ root t
-  pub stands : Stands words t
+  pub stands : RepresentsTree words t
   pub balanced : Balanced t
   pub once : (line : ℕ) → times line t ≤ 1
   pub few : size t < 2 ^ 32

@@ -2,9 +2,9 @@
 
 ghost use Rattle.std.specs.Prelude.{◌≡◌, ◌≢◌, ◌<◌, ℕ, All, Err, List, MatchResult, Some, slice_get};
 ghost use Rattle.cx_core.specs.Base.{LawfulBase};
-ghost use Rattle.cx_rule.specs.Running.{IsRunning, Running, instance_at};
-ghost use Rattle.cx_rule.specs.Seats.{Seated};
-ghost use Rattle.cx_table.specs.Remains.{Leaves};
+ghost use Rattle.table_invariant.specs.Running.{IsRunning, Running, instance_at};
+ghost use Rattle.table_invariant.specs.Seats.{Seated};
+ghost use Rattle.cx_table.specs.Remains.{ClosingWitness};
 ghost use Rattle.recovery.specs.Crashes.{AreRemainsWhole};
 ghost use Rattle.recovery.specs.Kept.{IsKeptBy, IsOpened};
 ghost use Rattle.recovery.specs.Outcomes.{TellsOutcome};
@@ -27,7 +27,7 @@ use recovery::{
 pub fn written_images_are_taken_up<O: Object>()
     ensures headed { (r : _) (kind choice : ℕ) (words : List ℕ) → IsKind kind → AreRemainsWhole r → AreRemainsWritten kind r choice words → IsHeaded words × (object_kind_in words ≡ kind) }
     ensures taken_up { (table : Running O) (seats : List Seated) (r : _) (kind choice : ℕ) (words : List ℕ) (answer : _) →
-        IsOpened O.line_count O.lawful table → Leaves table (instance_at table O.step O.only_reads) seats r → AreRemainsWritten kind r choice words →
+        IsOpened O.line_count O.lawful table → ClosingWitness table (instance_at table O.step O.only_reads) seats r → AreRemainsWritten kind r choice words →
         MatchResult answer
         (IsTakenUp (O.version_number table.object) (O.lawful table.object) (O.old_format table.object) words)
         (IsWordsFault (O.version_number table.object) (O.lawful table.object) (O.old_format table.object) words) →
@@ -41,7 +41,7 @@ pub fn written_images_are_taken_up<O: Object>()
 /// history's reply to it, and of a caller that has none there what the service was opened with.
 pub fn written_images_tell_outcomes<O: Object>()
     ensures { (table : Running O) (seats : List Seated) (r : _) (kind choice caller : ℕ) (words : List ℕ) (base : _) →
-        IsOpened O.line_count O.lawful table → Leaves table (instance_at table O.step O.only_reads) seats r → AreRemainsWritten kind r choice words →
+        IsOpened O.line_count O.lawful table → ClosingWitness table (instance_at table O.step O.only_reads) seats r → AreRemainsWritten kind r choice words →
         IsTakenUp (O.version_number table.object) (O.lawful table.object) (O.old_format table.object) words base → caller < 8 →
         TellsOutcome (O.step table.object) table.base r.trail.history base caller }
 {
@@ -53,7 +53,7 @@ pub fn written_images_tell_outcomes<O: Object>()
 /// object's step answers by none but those.
 pub fn written_images_keep_replies<O: Object>()
     ensures { (replies : ReplyKind) (table : Running O) (seats : List Seated) (r : _) (kind choice : ℕ) (words : List ℕ) (base : _) →
-        IsOpened O.line_count O.lawful table → Leaves table (instance_at table O.step O.only_reads) seats r → AreRemainsWritten kind r choice words →
+        IsOpened O.line_count O.lawful table → ClosingWitness table (instance_at table O.step O.only_reads) seats r → AreRemainsWritten kind r choice words →
         IsTakenUp (O.version_number table.object) (O.lawful table.object) (O.old_format table.object) words base →
         RepliesGoOn (IsReplyOfKind replies) (O.lawful table.object) (O.step table.object) table.base.words base.words }
 {
@@ -80,7 +80,7 @@ pub fn taken_images_are_taken_up<O: Object>()
 /// those. It is known once the service is closed.
 pub fn taken_images_keep_replies<O: Object>()
     ensures { (replies : ReplyKind) (table : Running O) (seats : List Seated) (r : _) → IsOpened O.line_count O.lawful table →
-        Leaves table (instance_at table O.step O.only_reads) seats r →
+        ClosingWitness table (instance_at table O.step O.only_reads) seats r →
         All (λ (s : Seated). (i : ℕ) (region : List ℕ) → slice_get s.known.images i ≡ Some region →
         RepliesGoOn (IsReplyOfKind replies) (O.lawful table.object) (O.step table.object) table.base.words region) seats }
 {

@@ -9,7 +9,7 @@ use Rattle.std.specs.declared.sync.Arc.{Arc}
 use Rattle.std.specs.Global.{Global}
 use Rattle.std.specs.List.{range_with_len}
 use Rattle.crossbeam_queue.specs.Passes.{Pass, view, IsPassOf}
-use Rattle.cx_rule.specs.Running.{Running}
+use Rattle.table_invariant.specs.Running.{Running}
 use Rattle.cx_service.specs.declared.close.Handed.{Handed}
 use Rattle.seat_pool.specs.Gathering.{AreSame, IsHandedOf, handed_number, kept_list}
 use Rattle.seat_pool.specs.Pooling.{total_weight}
@@ -17,18 +17,18 @@ use Rattle.seat_pool.proofs.Poolings.{total_both, units}
 use Rattle.c_sessions.specs.Closings.{AreAccounted, Closes, ClosesTo}
 use Rattle.c_sessions.specs.Handing.{HasTaken, IsExitOf, IsPassIn, IsSessionRestOf}
 use Rattle.c_sessions.specs.declared.exit.Account.{Account}
-use Rattle.c_sessions.specs.declared.exit.Exit.{Exit}
+use Rattle.c_sessions.specs.declared.exit.ClosingState.{ClosingState}
 use Rattle.c_sessions.specs.Rule.{IsHandedInAt, TellsAll, by_number, callers_known, knows, pass_weighs, pass_with_given, pass_with_taken}
 use Rattle.c_sessions.specs.declared.close.Closing.{Closing}
 use Rattle.c_sessions.specs.declared.close.Closing.TheVariants.{Others, Again, Closed, Kept, Missing, Shared}
-use Rattle.c_sessions.specs.declared.handover.Handover.{Handover}
+use Rattle.c_sessions.specs.declared.handover.ReturnQueue.{ReturnQueue}
 use Rattle.c_sessions.specs.declared.rule.HandedIn.{HandedIn}
 use Rattle.c_sessions.specs.declared.rule.Knows.{Knows}
 use Rattle.c_sessions.specs.declared.session.Session.{Session}
 
 module _ {O : Type 0} (r : Running O) where
   -- a pass that handed in its caller has taken none out
-  pub has_none : (handover : Handover O) (before after : Pass (HandedIn O) (Knows O)) (number : ℕ) (x : HandedIn O) (gathered : List Handed) → IsPassOf handover.line after → view before ≡ knows (Some r) (number ∷ []) [] [] → view after ≡ pass_with_given (view before) x
+  pub has_none : (handover : ReturnQueue O) (before after : Pass (HandedIn O) (Knows O)) (number : ℕ) (x : HandedIn O) (gathered : List Handed) → IsPassOf handover.line after → view before ≡ knows (Some r) (number ∷ []) [] [] → view after ≡ pass_with_given (view before) x
       → gathered ≡ [] → HasTaken r (kept_list x.handed) handover after None gathered
   has_none handover before after number x gathered of was is none = record {
     of = of;
@@ -40,7 +40,7 @@ module _ {O : Type 0} (r : Running O) where
   }
 
   -- one more was taken out
-  pub has_more : (given : List Handed) (handover : Handover O) (before after : Pass (HandedIn O) (Knows O)) (share : Option (Arc (Running O) Global)) (gathered more : List Handed) (x : HandedIn O) (caller : Handed) → x.handed ≡ Some caller → HasTaken r given handover before share gathered → IsPassOf handover.line after
+  pub has_more : (given : List Handed) (handover : ReturnQueue O) (before after : Pass (HandedIn O) (Knows O)) (share : Option (Arc (Running O) Global)) (gathered more : List Handed) (x : HandedIn O) (caller : Handed) → x.handed ≡ Some caller → HasTaken r given handover before share gathered → IsPassOf handover.line after
       → IsHandedInAt (view before).home x → view after ≡ pass_with_taken (view before) x → more ≡ gathered ++ caller ∷ [] → HasTaken r given handover after (Some x.service) more
   has_more given handover before after share gathered more x caller it has of is taken pushed =
       let home : Some (arc_value x.service) ≡ Some r = sym is.share ∙ ap (λ (v : Knows O). v.home) has.is in
@@ -62,7 +62,7 @@ module _ {O : Type 0} (r : Running O) where
       one_caller one two e = cc
 
   -- none was
-  pub has_same : (given : List Handed) (handover : Handover O) (before after : Pass (HandedIn O) (Knows O)) (share : Option (Arc (Running O) Global)) (gathered : List Handed) → HasTaken r given handover before share gathered → IsPassOf handover.line after → view after ≡ view before
+  pub has_same : (given : List Handed) (handover : ReturnQueue O) (before after : Pass (HandedIn O) (Knows O)) (share : Option (Arc (Running O) Global)) (gathered : List Handed) → HasTaken r given handover before share gathered → IsPassOf handover.line after → view after ≡ view before
       → HasTaken r given handover after share gathered
   has_same given handover before after share gathered has of same = record { of = of; taken = has.taken; is = same ∙ has.is; same = has.same; each = has.each; share_is = has.share_is }
 
@@ -71,7 +71,7 @@ module _ {O : Type 0} (r : Running O) where
   none_elsewhere [] none = refl
   none_elsewhere (x ∷ xs) none = absurd (omega (arith, none))
 
-  module _ (given : List Handed) (handover : Handover O) (pass : Pass (HandedIn O) (Knows O)) (share : Option (Arc (Running O) Global)) (gathered : List Handed) (has : HasTaken r given handover pass share gathered) (many : r.callers ≤ length gathered) (tells : TellsAll (view pass)) where
+  module _ (given : List Handed) (handover : ReturnQueue O) (pass : Pass (HandedIn O) (Knows O)) (share : Option (Arc (Running O) Global)) (gathered : List Handed) (has : HasTaken r given handover pass share gathered) (many : r.callers ≤ length gathered) (tells : TellsAll (view pass)) where
     counted : (h : ℕ → ℕ) → total_weight (by_number h) has.taken + (total_weight h tells.due + total_weight (by_number h) tells.left) ≡ total_weight h (range_with_len 0 r.callers)
     counted h =
         let held : pass_weighs h (view pass) ≡ 0 + total_weight (by_number h) has.taken = ap (pass_weighs h) has.is in
@@ -122,18 +122,18 @@ module _ {O : Type 0} (r : Running O) where
       one_share one two e = cc
 
   -- the last session begins with no caller
-  pub rest_begins : (exit : Exit O) (number : ℕ) (x : HandedIn O) (handover : Handover O) (pass : Pass (HandedIn O) (Knows O)) → IsExitOf r (number ∷ []) exit → handover ≡ arc_value exit.handover → IsPassOf handover.line pass → view pass ≡ pass_with_given (view exit.pass) x
+  pub rest_begins : (exit : ClosingState O) (number : ℕ) (x : HandedIn O) (handover : ReturnQueue O) (pass : Pass (HandedIn O) (Knows O)) → IsExitOf r (number ∷ []) exit → handover ≡ arc_value exit.handover → IsPassOf handover.line pass → view pass ≡ pass_with_given (view exit.pass) x
       → IsSessionRestOf r (kept_list x.handed) (record { service = None; exit = record { handover = exit.handover; pass = pass; gathered = exit.gathered; out = exit.out } })
   rest_begins exit number x handover pass is same of given = record {
     some = is.some;
     count = is.count;
-    has = has_none (arc_value exit.handover) exit.pass pass number x exit.gathered.items (subst (λ (h : Handover O). IsPassOf h.line pass) same of) is.pass_of.is given is.gathered.none;
+    has = has_none (arc_value exit.handover) exit.pass pass number x exit.gathered.items (subst (λ (h : ReturnQueue O). IsPassOf h.line pass) same of) is.pass_of.is given is.gathered.none;
     gathered = is.gathered.enough;
     out = is.out;
   }
 
   -- a pass of the callers that it is to hand in
-  pub own_due : (due : List ℕ) (handover : Handover O) (pass : Pass (HandedIn O) (Knows O)) → IsPassIn r due handover pass → IsPassIn r (view pass).due handover pass
+  pub own_due : (due : List ℕ) (handover : ReturnQueue O) (pass : Pass (HandedIn O) (Knows O)) → IsPassIn r due handover pass → IsPassIn r (view pass).due handover pass
   own_due due handover pass is = subst (λ (ns : List ℕ). IsPassIn r ns handover pass) (sym (ap (λ (v : Knows O). v.due) is.is)) is
 
 module _ {O : Type 0} (line_count : O → ℕ) (lawful : O → List ℕ → Type 0) (step : O → List ℕ → List ℕ → List ℕ × List ℕ) (reads : O → List ℕ → Bool) where

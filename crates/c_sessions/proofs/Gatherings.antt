@@ -8,7 +8,7 @@ use mathlib.Core.Option.{some, some-injective, some-ne-none}
 use lib.ListN.{get_elem?}
 use Rattle.crossbeam_queue.specs.Fifo.{Forks, Learns, Pops, Pushes}
 use Rattle.crossbeam_queue.proofs.Lists.{at_set, at_snoc}
-use Rattle.cx_rule.specs.Running.{Running}
+use Rattle.table_invariant.specs.Running.{Running}
 use Rattle.cx_service.specs.declared.close.Handed.{Handed}
 use Rattle.seat_pool.specs.Gathering.{kept_list}
 use Rattle.seat_pool.specs.Pooling.{total_weight}

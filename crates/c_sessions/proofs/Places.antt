@@ -7,8 +7,8 @@ use Rattle.std.specs.List.{slice_get}
 use Rattle.std.specs.Option.{option_map}
 use Rattle.cx_core.specs.declared.local.Answer.{Answer}
 use Rattle.cx_core.specs.declared.local.Linked.{Linked as OwnEntry}
-use Rattle.cx_rule.specs.Running.{Running}
-use Rattle.cx_rule.specs.Seats.{Seated, unanswered_ticket}
+use Rattle.table_invariant.specs.Running.{Running}
+use Rattle.table_invariant.specs.Seats.{Seated, unanswered_ticket}
 use Rattle.cx_service.specs.Callers.{IsCallerOf}
 use Rattle.cx_base.specs.declared.object.Object.{Ghosts}
 use Rattle.cx_service.specs.CatchUps.{HasSeen}
@@ -16,18 +16,18 @@ use Rattle.cx_service.specs.declared.close.Handed.{Handed}
 use Rattle.cx_service.specs.declared.close.Handed.TheVariants.{Idle, Linked, Stopped}
 use Rattle.cx_service.proofs.Seeing.{answered_read_seen, catch_up_seen, driven_seen, image_behind, image_seen, read_behind, read_seen, submit_linked_behind, submit_seen}
 use Rattle.seat_pool.specs.Gathering.{IsHandedOf, handed_number}
-use Rattle.c_sessions.specs.declared.catch_up.Sight.{Sight}
-use Rattle.c_sessions.specs.declared.catch_up.Sight.TheVariants.{Caught, Behind, Stopped as SightStopped, OutOfTurn as SightOutOfTurn}
+use Rattle.c_sessions.specs.declared.catch_up.SessionCatchUp.{SessionCatchUp}
+use Rattle.c_sessions.specs.declared.catch_up.SessionCatchUp.TheVariants.{Caught, Behind, Stopped as SightStopped, OutOfTurn as SightOutOfTurn}
 use Rattle.c_sessions.specs.declared.steps.Called.{Called}
 use Rattle.c_sessions.specs.declared.steps.Called.TheVariants.{Done, Pending, Again, Full, Worn, Stopped as CalledStopped, OutOfTurn}
 use Rattle.c_sessions.specs.Calls.{AsksBy, CallsFrom, DrivesTo, EntersNot, EntersTo, FinishesFrom, LooksTo, place_after}
 use Rattle.c_sessions.specs.Handing.{IsExitOf}
 use Rattle.c_sessions.specs.Images.{TakesFrom, TakesTo, place_taken}
-use Rattle.c_sessions.specs.Places.{HasSeenPlace, SeesFrom, SeesTo, place_seen}
+use Rattle.c_sessions.specs.Places.{HasSeenPlace, CatchesUpFrom, SeesTo, place_seen}
 use Rattle.c_sessions.specs.Sessions.{IsSessionReady, SessionStands}
 use Rattle.c_sessions.specs.declared.session.Session.{Session}
-use Rattle.c_sessions.specs.declared.checkpoint.Taken.{Taken}
-use Rattle.c_sessions.specs.declared.checkpoint.Taken.TheVariants.{At, Again as TakenAgain, Stopped as TakenStopped, OutOfTurn as TakenOutOfTurn}
+use Rattle.c_sessions.specs.declared.checkpoint.SessionCheckpoint.{SessionCheckpoint}
+use Rattle.c_sessions.specs.declared.checkpoint.SessionCheckpoint.TheVariants.{At, Again as TakenAgain, Stopped as TakenStopped, OutOfTurn as TakenOutOfTurn}
 
 -- nothing is below 0
 pub none_seen : {O : Type 0} (r : Running O) (handed : Handed) → HasSeenPlace r 0 handed
@@ -111,22 +111,22 @@ module _ {O : Type 0} (r : Running O) (place : ℕ) where
     | inr more ↦ subst (λ n. HasSeen callers n u.known.local) (omega (arith, more)) a
   ]
 
-  sees_goes : (wanted : ℕ) (u : Seated) (sight : Sight) (after : Handed) → IsCallerOf r u → HasSeen r.callers place u.known.local → SeesTo r wanted u sight after → Goes r (number_at u) place (place_seen sight wanted place) after
+  sees_goes : (wanted : ℕ) (u : Seated) (sight : SessionCatchUp) (after : Handed) → IsCallerOf r u → HasSeen r.callers place u.known.local → SeesTo r wanted u sight after → Goes r (number_at u) place (place_seen sight wanted place) after
   sees_goes wanted u Caught (Idle v) caller was told = record { rises = omega arith; seen = both_seen r.callers place wanted v (catch_up_seen r place u v caller was told.keeps) told.seen; same = told.keeps.number }
   sees_goes wanted u (Behind found) (Idle v) caller was told = stays (number_at u) (Idle v) (catch_up_seen r place u v caller was told.keeps) told.keeps.number
   sees_goes wanted u SightStopped (Stopped v) caller was told = stays (number_at u) (Stopped v) tt told.keeps.number
   sees_goes wanted u sight after caller was told = absurd told
 
-  no_sight : (wanted : ℕ) (sight : Sight) (before after : Handed) → HasSeenPlace r place before → sight ≡ SightOutOfTurn → after ≡ before → Goes r (handed_number before) place (place_seen sight wanted place) after
+  no_sight : (wanted : ℕ) (sight : SessionCatchUp) (before after : Handed) → HasSeenPlace r place before → sight ≡ SightOutOfTurn → after ≡ before → Goes r (handed_number before) place (place_seen sight wanted place) after
   no_sight wanted sight before after seen is same =
-      subst (λ (c : Sight). Goes r (handed_number before) place (place_seen c wanted place) after) (sym is) (subst (λ (h : Handed). Goes r (handed_number before) place place h) (sym same) (stays (handed_number before) before seen refl))
+      subst (λ (c : SessionCatchUp). Goes r (handed_number before) place (place_seen c wanted place) after) (sym is) (subst (λ (h : Handed). Goes r (handed_number before) place place h) (sym same) (stays (handed_number before) before seen refl))
 
-  pub sees_go : (wanted : ℕ) (before : Handed) (sight : Sight) (after : Handed) → IsHandedOf r before → HasSeenPlace r place before → SeesFrom r wanted before sight after → Goes r (handed_number before) place (place_seen sight wanted place) after
+  pub sees_go : (wanted : ℕ) (before : Handed) (sight : SessionCatchUp) (after : Handed) → IsHandedOf r before → HasSeenPlace r place before → CatchesUpFrom r wanted before sight after → Goes r (handed_number before) place (place_seen sight wanted place) after
   sees_go wanted (Idle u) sight after caller was told = sees_goes wanted u sight after caller was told
   sees_go wanted (Linked u) sight after caller was told = no_sight wanted sight (Linked u) after was told.0 told.1
   sees_go wanted (Stopped u) sight after caller was told = no_sight wanted sight (Stopped u) after was told.0 told.1
 
-  takes_goes : (o : Ghosts O) (words : List ℕ) (tries : ℕ) (u : Seated) (taken : Taken) (after : Handed) → IsCallerOf r u → HasSeen r.callers place u.known.local → TakesTo o r words tries u taken after →
+  takes_goes : (o : Ghosts O) (words : List ℕ) (tries : ℕ) (u : Seated) (taken : SessionCheckpoint) (after : Handed) → IsCallerOf r u → HasSeen r.callers place u.known.local → TakesTo o r words tries u taken after →
       Goes r (number_at u) place (place_taken taken place) after
   takes_goes o words tries u (At at) (Idle v) caller was told =
       record { rises = (image_behind o r words at u v told.0 place was).0; seen = image_seen o r words at u v told.0; same = told.0.keeps.lists.number }
@@ -134,11 +134,11 @@ module _ {O : Type 0} (r : Running O) (place : ℕ) where
   takes_goes o words tries u TakenStopped (Stopped v) caller was told = stays (number_at u) (Stopped v) tt told.0.keeps.lists.number
   takes_goes o words tries u taken after caller was told = absurd told
 
-  no_image : (taken : Taken) (before after : Handed) → HasSeenPlace r place before → taken ≡ TakenOutOfTurn → after ≡ before → Goes r (handed_number before) place (place_taken taken place) after
+  no_image : (taken : SessionCheckpoint) (before after : Handed) → HasSeenPlace r place before → taken ≡ TakenOutOfTurn → after ≡ before → Goes r (handed_number before) place (place_taken taken place) after
   no_image taken before after seen is same =
-      subst (λ (t : Taken). Goes r (handed_number before) place (place_taken t place) after) (sym is) (subst (λ (h : Handed). Goes r (handed_number before) place place h) (sym same) (stays (handed_number before) before seen refl))
+      subst (λ (t : SessionCheckpoint). Goes r (handed_number before) place (place_taken t place) after) (sym is) (subst (λ (h : Handed). Goes r (handed_number before) place place h) (sym same) (stays (handed_number before) before seen refl))
 
-  pub takes_go : (o : Ghosts O) (words : List ℕ) (tries : ℕ) (before : Handed) (taken : Taken) (after : Handed) → IsHandedOf r before → HasSeenPlace r place before → TakesFrom o r words tries before taken after →
+  pub takes_go : (o : Ghosts O) (words : List ℕ) (tries : ℕ) (before : Handed) (taken : SessionCheckpoint) (after : Handed) → IsHandedOf r before → HasSeenPlace r place before → TakesFrom o r words tries before taken after →
       Goes r (handed_number before) place (place_taken taken place) after
   takes_go o words tries (Idle u) taken after caller was told = takes_goes o words tries u taken after caller was told
   takes_go o words tries (Linked u) taken after caller was told = no_image taken (Linked u) after was told.0 told.1

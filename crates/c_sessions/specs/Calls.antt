@@ -1,7 +1,7 @@
 -- The result of a call: the service's answer, by what was asked.
 use Rattle.std.specs.Prelude.{◌≡◌, ◌+◌, ◌⊎◌, ℕ, Bool, true, false, List}
-use Rattle.cx_rule.specs.Running.{Running}
-use Rattle.cx_rule.specs.Seats.{Seated}
+use Rattle.table_invariant.specs.Running.{Running}
+use Rattle.table_invariant.specs.Seats.{Seated}
 use Rattle.cx_core.specs.declared.local.FullNote.{FullNote}
 use Rattle.cx_service.specs.declared.close.Handed.{Handed}
 use Rattle.cx_service.specs.declared.close.Handed.TheVariants.{Idle, Linked, Stopped}
@@ -19,7 +19,7 @@ abbrev pub place_after : Called → ℕ → ℕ
 place_after (Done place) before = place
 place_after called before = before
 
--- driving a linked entry in this many turns has this result, with this reply where it is done, and the place after the entry
+-- driving a linked entry in this many attempts has this result, with this reply where it is done, and the place after the entry
 abbrev pub DrivesTo : {O : Type 0} → Running O → ℕ → Seated → Called → Handed → List ℕ → Type 0
 DrivesTo r tries before (Done place) (Idle after) reply = (ticket : ℕ) × (place ≡ ticket + 1) × Drives r tries reply before (DrivenDone after ticket)
 DrivesTo r tries before Pending (Linked after) reply = Drives r tries reply before (DrivenPending after)

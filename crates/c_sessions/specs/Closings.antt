@@ -2,13 +2,13 @@
 use Rattle.std.specs.Prelude.{◌≡◌, ◌<◌, ◌≤◌, ℕ, Bool, List}
 use Rattle.std.specs.Arc.{arc_value}
 use Rattle.crossbeam_queue.specs.Passes.{view, IsPassOf}
-use Rattle.cx_rule.specs.Running.{Running, instance_at}
-use Rattle.cx_rule.specs.Seats.{Seated}
+use Rattle.table_invariant.specs.Running.{Running, instance_at}
+use Rattle.table_invariant.specs.Seats.{Seated}
 use Rattle.cx_service.specs.Closes.{seats_of}
 use Rattle.cx_service.specs.declared.close.Handed.{Handed}
 use Rattle.cx_service.specs.declared.close.Kept.{Kept}
 use Rattle.cx_table.specs.declared.remains.Remains.{Remains}
-use Rattle.cx_table.specs.Remains.{AreSeats, Leaves}
+use Rattle.cx_table.specs.Remains.{AreSeats, ClosingWitness}
 use Rattle.recovery.specs.Kept.{IsOpened}
 use Rattle.cx_service.specs.ClosedOrder.{IsLinearizedBy}
 use Rattle.seat_pool.specs.Gathering.{AreSame, kept_list}
@@ -18,7 +18,7 @@ use Rattle.c_sessions.specs.Sessions.{IsSessionReady}
 use Rattle.c_sessions.specs.declared.close.Closing.{Closing}
 use Rattle.c_sessions.specs.declared.close.Closing.TheVariants.{Others, Again, Closed, Kept as ClosingKept, Missing, Shared}
 use Rattle.c_sessions.specs.declared.exit.Account.{Account}
-use Rattle.c_sessions.specs.declared.handover.Handover.{Handover}
+use Rattle.c_sessions.specs.declared.handover.ReturnQueue.{ReturnQueue}
 use Rattle.c_sessions.specs.declared.session.Session.{Session}
 
 -- a service and all its callers, of caller 0 first
@@ -27,7 +27,7 @@ IsServiceWithCallers r kept = (kept.service ≡ r) × AreSeats r (seats_of kept.
 
 -- These callers are those that the pass of this account took out of the sessions' queue, as they were when they were handed in, with all that they had made and
 -- were answered. What the session handed in itself, these, are among them.
-pub record AreAccounted {O : Type 0} (handover : Handover O) (given : List Handed) (account : Account O) (handed : List Handed) : Type 0 where
+pub record AreAccounted {O : Type 0} (handover : ReturnQueue O) (given : List Handed) (account : Account O) (handed : List Handed) : Type 0 where
   pub of : IsPassOf handover.line account.pass
   pub taken : AreSame handed (view account.pass).taken
   pub own : (view account.pass).given ≡ given
@@ -39,7 +39,7 @@ module _ {O : Type 0} (line_count : O → ℕ) (lawful : O → List ℕ → Type
   pub record IsClosedWith (r : Running O) (seats : List Seated) (remains : Remains) : Type 0 where
     pub opened : IsOpened line_count lawful r
     pub all : AreSeats r seats
-    pub leaves : Leaves r (instance_at r step reads) seats remains
+    pub leaves : ClosingWitness r (instance_at r step reads) seats remains
     pub order : IsLinearizedBy leaves
 
   -- the same with whichever seats
@@ -48,7 +48,7 @@ module _ {O : Type 0} (line_count : O → ℕ) (lawful : O → List ℕ → Type
     pub is : IsClosedWith r seats remains
 
   -- it was closed with the sessions' callers, as they were handed in
-  pub record IsClosedBySessions (r : Running O) (handover : Handover O) (given : List Handed) (account : Account O) (remains : Remains) : Type 0 where
+  pub record IsClosedBySessions (r : Running O) (handover : ReturnQueue O) (given : List Handed) (account : Account O) (remains : Remains) : Type 0 where
     pub handed : List Handed
     pub accounted : AreAccounted handover given account handed
     pub closed : IsClosedWith r (seats_of handed) remains
@@ -56,7 +56,7 @@ module _ {O : Type 0} (line_count : O → ℕ) (lawful : O → List ℕ → Type
   -- The last session, which handed in its caller so, closes the service with what all sessions handed in; where there are others, the service has further callers.
   -- Where it is not closed, what the session has stays: the service with all its callers, or, where a caller is missing or a share of the service is elsewhere, what
   -- it took out.
-  abbrev pub ClosesTo : Running O → Handover O → List Handed → Closing O → Type 0
+  abbrev pub ClosesTo : Running O → ReturnQueue O → List Handed → Closing O → Type 0
   ClosesTo r handover given Others = 1 < r.callers
   ClosesTo r handover given (Again session) = ⊥
   ClosesTo r handover given (Closed remains account) = IsClosedBySessions r handover given account remains

@@ -4,7 +4,7 @@ use Rattle.std.specs.Arc.{arc_value}
 use Rattle.std.specs.List.{range_with_len}
 use mathlib.Core.Option.{some}
 use lib.ListN.{get_elem?}
-use Rattle.cx_rule.specs.Running.{Running}
+use Rattle.table_invariant.specs.Running.{Running}
 use Rattle.cx_service.specs.declared.close.Handed.{Handed}
 use Rattle.seat_pool.specs.Gathering.{IsHandedOf, handed_number, kept_list}
 use Rattle.seat_pool.specs.Pooling.{total_weight}

@@ -6,8 +6,8 @@ use Rattle.std.specs.Arc.{arc_value}
 use Rattle.cx_base.specs.declared.object.Object.{Ghosts}
 use Rattle.cx_core.specs.Base.{fresh_region}
 use Rattle.cx_core.specs.declared.entry.Base.{Base}
-use Rattle.cx_rule.specs.Running.{Running}
-use Rattle.cx_rule.specs.Seats.{Seated}
+use Rattle.table_invariant.specs.Running.{Running}
+use Rattle.table_invariant.specs.Seats.{Seated}
 use Rattle.cx_service.specs.Closes.{seat_of}
 use Rattle.cx_service.specs.Starts.{AreFewCallers, AreFewLines, IsStartFault}
 use Rattle.cx_service.specs.declared.close.Handed.{Handed}
@@ -18,10 +18,10 @@ use Rattle.c_sessions.specs.declared.session.Session.{Session}
 use Rattle.c_sessions.specs.declared.steps.Called.{Called}
 use Rattle.seat_pool.specs.Gathering.{IsHandedOf, handed_number}
 use Rattle.c_sessions.specs.Calls.{CallsFrom, FinishesFrom, place_after}
-use Rattle.c_sessions.specs.Places.{HasSeenPlace, SeesFrom, place_seen}
-use Rattle.c_sessions.specs.declared.catch_up.Sight.{Sight}
+use Rattle.c_sessions.specs.Places.{HasSeenPlace, CatchesUpFrom, place_seen}
+use Rattle.c_sessions.specs.declared.catch_up.SessionCatchUp.{SessionCatchUp}
 use Rattle.c_sessions.specs.Images.{TakesFrom, place_taken}
-use Rattle.c_sessions.specs.declared.checkpoint.Taken.{Taken}
+use Rattle.c_sessions.specs.declared.checkpoint.SessionCheckpoint.{SessionCheckpoint}
 use Rattle.c_sessions.specs.Handing.{IsExitOf}
 
 -- something stands of the session's caller, which has seen the session's place, and the session can be closed
@@ -78,14 +78,14 @@ pub record SessionStands {O : Type 0} (before after : Session O) (place : ℕ) (
 abbrev pub CallsIn : {O : Type 0} → (O → List ℕ → Bool) → List ℕ → ℕ → Session O → Called → Session O → List ℕ → Type 0
 CallsIn reads op tries before called after reply = SessionStands before after (place_after called before.place) (λ b a. CallsFrom reads (arc_value before.service) op tries b called a reply)
 
--- the same of finishing, in this many turns
+-- the same of finishing, in this many attempts
 abbrev pub FinishesIn : {O : Type 0} → ℕ → Session O → Called → Session O → List ℕ → Type 0
 FinishesIn tries before called after reply = SessionStands before after (place_after called before.place) (λ b a. FinishesFrom (arc_value before.service) tries b called a reply)
 
 -- and so did catching up with a place
-abbrev pub SeesIn : {O : Type 0} → ℕ → Session O → Sight → Session O → Type 0
-SeesIn place before sight after = SessionStands before after (place_seen sight place before.place) (λ b a. SeesFrom (arc_value before.service) place b sight a)
+abbrev pub SeesIn : {O : Type 0} → ℕ → Session O → SessionCatchUp → Session O → Type 0
+SeesIn place before sight after = SessionStands before after (place_seen sight place before.place) (λ b a. CatchesUpFrom (arc_value before.service) place b sight a)
 
 -- The same of taking an image, in this many tries, with these words where it is taken. Its place is the session's then, so it is not below the place before.
-abbrev pub TakesIn : {O : Type 0} → Ghosts O → List ℕ → ℕ → Session O → Taken → Session O → Type 0
+abbrev pub TakesIn : {O : Type 0} → Ghosts O → List ℕ → ℕ → Session O → SessionCheckpoint → Session O → Type 0
 TakesIn o words tries before taken after = SessionStands before after (place_taken taken before.place) (λ b a. TakesFrom o (arc_value before.service) words tries b taken a)

@@ -2,14 +2,14 @@
 
 ghost use Rattle.std.specs.Prelude.{◌≡◌};
 ghost use Rattle.seat_pool.specs.Gathering.{IsHandedOf};
-ghost use Rattle.c_sessions.specs.Places.{SeesFrom, place_seen};
+ghost use Rattle.c_sessions.specs.Places.{CatchesUpFrom, place_seen};
 
 use cx_base::Object;
 use cx_service::{CaughtUp, Handed, Service};
 
 /// What catching up with a place returns.
 #[derive(Clone, Copy, Debug, PartialEq, Eq, Drop)]
-pub enum Sight {
+pub enum SessionCatchUp {
     /// The session has seen the place.
     Caught,
     /// The current place is below it: this one.
@@ -20,30 +20,34 @@ pub enum Sight {
     OutOfTurn,
 }
 
-impl Sight {
+impl SessionCatchUp {
     /// The place that a session tells that was to see one, and told this one before.
     pub(crate) fn place_seen(self, place: u64, before: u64) -> u64
         ensures { result ≡ place_seen self place before }
     {
         match self {
-            Sight::Caught => before.max(place),
+            SessionCatchUp::Caught => before.max(place),
             _ => before,
         }
     }
 }
 
 /// Has what stands of a caller see a place.
-pub(crate) fn see<O: Object>(service: &Service<O>, handed: Handed, place: u64) -> (Handed, Sight)
+pub(crate) fn catch_up_idle<O: Object>(
+    service: &Service<O>,
+    handed: Handed,
+    place: u64,
+) -> (Handed, SessionCatchUp)
     requires ready { IsHandedOf service.now handed }
     ensures ready { IsHandedOf service.now result.0 }
-    ensures sees { SeesFrom service.now place handed result.1 result.0 }
+    ensures sees { CatchesUpFrom service.now place handed result.1 result.0 }
 {
     match handed {
         Handed::Idle(caller) => match service.catch_up(caller, place) {
-            CaughtUp::Caught(back) => (Handed::Idle(back), Sight::Caught),
-            CaughtUp::Behind(back, found) => (Handed::Idle(back), Sight::Behind(found)),
-            CaughtUp::Halted(stopped) => (Handed::Stopped(stopped), Sight::Stopped),
+            CaughtUp::Caught(back) => (Handed::Idle(back), SessionCatchUp::Caught),
+            CaughtUp::Behind(back, found) => (Handed::Idle(back), SessionCatchUp::Behind(found)),
+            CaughtUp::Halted(stopped) => (Handed::Stopped(stopped), SessionCatchUp::Stopped),
         },
-        other => (other, Sight::OutOfTurn),
+        other => (other, SessionCatchUp::OutOfTurn),
     }
 }

@@ -10,7 +10,7 @@ use cx_service::{Checkpointed, Handed, Service};
 
 /// What taking an image returns.
 #[derive(Clone, Copy, Debug, PartialEq, Eq, Drop)]
-pub enum Taken {
+pub enum SessionCheckpoint {
     /// The image is there, at this place.
     At(u64),
     /// Others were in the way, in each try.
@@ -21,13 +21,13 @@ pub enum Taken {
     OutOfTurn,
 }
 
-impl Taken {
+impl SessionCheckpoint {
     /// The place that a session tells that was to take an image, and told this one before.
     pub(crate) fn place_taken(self, before: u64) -> u64
         ensures { result ≡ place_taken self before }
     {
         match self {
-            Taken::At(place) => place,
+            SessionCheckpoint::At(place) => place,
             _ => before,
         }
     }
@@ -39,7 +39,7 @@ pub(crate) fn take_image<O: Object>(
     handed: Handed,
     into: &mut [u64],
     tries: Tries,
-) -> (Handed, Taken)
+) -> (Handed, SessionCheckpoint)
     requires ready { IsHandedOf service.now handed }
     requires words { length into.old ≡ length service.now.base.words }
     ensures ready { IsHandedOf service.now result.0 }
@@ -48,10 +48,13 @@ pub(crate) fn take_image<O: Object>(
 {
     match handed {
         Handed::Idle(caller) => match service.checkpoint(caller, into, tries.count) {
-            Checkpointed::Taken(back, place) => (Handed::Idle(back), Taken::At(place)),
-            Checkpointed::Pending(back) => (Handed::Idle(back), Taken::Again),
-            Checkpointed::Halted(stopped) => (Handed::Stopped(stopped), Taken::Stopped),
+            Checkpointed::SessionCheckpoint(back, place) => (
+                Handed::Idle(back),
+                SessionCheckpoint::At(place),
+            ),
+            Checkpointed::Pending(back) => (Handed::Idle(back), SessionCheckpoint::Again),
+            Checkpointed::Halted(stopped) => (Handed::Stopped(stopped), SessionCheckpoint::Stopped),
         },
-        other => (other, Taken::OutOfTurn),
+        other => (other, SessionCheckpoint::OutOfTurn),
     }
 }

@@ -2,16 +2,16 @@
 
 ghost use Rattle.std.specs.Prelude.{◌≡◌, List, MatchResult};
 ghost use Rattle.std.specs.Arc.{arc_value};
-ghost use Rattle.cx_rule.specs.Running.{Running};
+ghost use Rattle.table_invariant.specs.Running.{Running};
 ghost use Rattle.cx_service.specs.Closes.{seats_of};
 ghost use Rattle.cx_service.specs.declared.close.Handed as handed_type;
 ghost use Rattle.cx_table.specs.Remains.{AreSeats};
 ghost use Rattle.c_sessions.specs.Closings.{AreAccounted, Closes, ClosesTo, IsClosedWith};
 ghost use Rattle.c_sessions.specs.Handing.{IsSessionRestOf};
 ghost use Rattle.c_sessions.specs.Sessions.{IsSessionReady};
-ghost use Rattle.c_sessions.specs.declared.handover.Handover.{Handover};
+ghost use Rattle.c_sessions.specs.declared.handover.ReturnQueue.{ReturnQueue};
 
-use crate::exit::{Account, Exit, Rest};
+use crate::exit::{Account, ClosingState, Unclosed};
 use crate::gather::gather;
 use crate::rule::HandedIn;
 use crate::session::Session;
@@ -35,9 +35,9 @@ pub enum Closing<O: Object> {
     /// It was the last, and memory ran out: the service and all its callers, of caller 0 first, and that account.
     Kept(Kept<O>, Account<O>),
     /// It was the last, and a caller of the service is missing: what it has is to be closed again.
-    Missing(Rest<O>),
+    Missing(Unclosed<O>),
     /// It was the last and has all callers, and a share of the service is elsewhere: what it has is to be closed again.
-    Shared(Rest<O>),
+    Shared(Unclosed<O>),
 }
 
 impl<O: Object> Session<O> {
@@ -47,12 +47,12 @@ impl<O: Object> Session<O> {
     /// Each result of it, `closing`, as the library for C takes it. From `crates/githoppu_c/src/content.rt`:
     /// ```rattle
     /// match closing {
-    ///     Closing::Others => (Content::Gone, OTHERS),
-    ///     Closing::Again(session) => (Content::Session(session), AGAIN),
-    ///     Closing::Closed(remains, _) => (Content::Closed(remains), DONE),
-    ///     Closing::Kept(kept, _) => (Content::Kept(kept), NO_MEMORY),
-    ///     Closing::Missing(rest) => (Content::Rest(rest), LOST),
-    ///     Closing::Shared(rest) => (Content::Rest(rest), AGAIN),
+    ///     Closing::Others => (HandleState::Gone, OTHERS),
+    ///     Closing::Again(session) => (HandleState::Session(session), AGAIN),
+    ///     Closing::Closed(remains, _) => (HandleState::Closed(remains), DONE),
+    ///     Closing::Kept(kept, _) => (HandleState::Kept(kept), NO_MEMORY),
+    ///     Closing::Missing(rest) => (HandleState::Unclosed(rest), LOST),
+    ///     Closing::Shared(rest) => (HandleState::Unclosed(rest), AGAIN),
     /// }
     /// ```
     pub fn close(self, alloc: Global) -> Closing<O>
@@ -65,14 +65,14 @@ impl<O: Object> Session<O> {
             handed,
             place,
         } = self;
-        let Exit {
+        let ClosingState {
             handover,
             mut pass,
             gathered,
             out,
         } = exit;
         if let Err(back) = handover.hand_in(&mut pass, HandedIn { service, handed }) {
-            let exit = Exit {
+            let exit = ClosingState {
                 handover,
                 pass,
                 gathered,
@@ -91,7 +91,7 @@ impl<O: Object> Session<O> {
         if came != last && last > 0 {
             return Closing::Others;
         }
-        let exit = Exit {
+        let exit = ClosingState {
             handover,
             pass,
             gathered,
@@ -99,7 +99,7 @@ impl<O: Object> Session<O> {
         };
         close_rest(
             alloc,
-            Rest {
+            Unclosed {
                 service: None,
                 exit,
             },
@@ -108,12 +108,12 @@ impl<O: Object> Session<O> {
 }
 
 /// Gathers the callers that are still in the queue, and closes the service where these are all.
-pub fn close_rest<O: Object>(alloc: Global, rest: Rest<O>) -> Closing<O>
+pub fn close_rest<O: Object>(alloc: Global, rest: Unclosed<O>) -> Closing<O>
     requires { (r : Running O) × (given : List handed_type.Handed) × IsSessionRestOf r given rest }
     ensures { (r : Running O) (given : List handed_type.Handed) → IsSessionRestOf r given rest → ClosesTo O.line_count O.lawful O.step O.only_reads r (arc_value rest.exit.handover) given result }
 {
-    let Rest { service, exit } = rest;
-    let Exit {
+    let Unclosed { service, exit } = rest;
+    let ClosingState {
         handover,
         mut pass,
         gathered,
@@ -121,13 +121,13 @@ pub fn close_rest<O: Object>(alloc: Global, rest: Rest<O>) -> Closing<O>
     } = exit;
     let (service, gathered) = gather(&handover, &mut pass, service, gathered);
     if gathered.len() < handover.callers as usize {
-        let exit = Exit {
+        let exit = ClosingState {
             handover,
             pass,
             gathered,
             out,
         };
-        return Closing::Missing(Rest { service, exit });
+        return Closing::Missing(Unclosed { service, exit });
     }
     handover.learn(&mut pass);
     let Some(service) = service else {
@@ -139,13 +139,13 @@ pub fn close_rest<O: Object>(alloc: Global, rest: Rest<O>) -> Closing<O>
             close_all(alloc, Kept { service, callers }, Account { pass })
         }
         Err(service) => {
-            let exit = Exit {
+            let exit = ClosingState {
                 handover,
                 pass,
                 gathered,
                 out,
             };
-            Closing::Shared(Rest {
+            Closing::Shared(Unclosed {
                 service: Some(service),
                 exit,
             })
@@ -156,7 +156,7 @@ pub fn close_rest<O: Object>(alloc: Global, rest: Rest<O>) -> Closing<O>
 /// Closes a service with all its callers, which have this account.
 fn close_all<O: Object>(alloc: Global, kept: Kept<O>, account: Account<O>) -> Closing<O>
     requires { AreSeats kept.service (seats_of kept.callers.items) }
-    ensures { (handover : Handover O) (given : List handed_type.Handed) → AreAccounted handover given account kept.callers.items → ClosesTo O.line_count O.lawful O.step O.only_reads kept.service handover given result }
+    ensures { (handover : ReturnQueue O) (given : List handed_type.Handed) → AreAccounted handover given account kept.callers.items → ClosesTo O.line_count O.lawful O.step O.only_reads kept.service handover given result }
 {
     match close_kept(alloc, kept) {
         Ok(remains) => Closing::Closed(remains, account),

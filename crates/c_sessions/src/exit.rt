@@ -5,7 +5,7 @@ ghost use Rattle.std.specs.Arc.{arc_value};
 ghost use Rattle.crossbeam_queue.specs.Passes.{view};
 ghost use Rattle.c_sessions.specs.Handing.{IsExitOf, IsPassIn};
 
-use crate::handover::Handover;
+use crate::handover::ReturnQueue;
 use crate::rule::{HandedIn, Knows};
 use crossbeam_queue::Pass;
 use cx_base::Object;
@@ -15,8 +15,8 @@ use std::sync::Arc;
 
 /// A session's pass of the queue in which callers are handed in, and room for all of them, since the last one gathers them.
 #[derive(Drop)]
-pub struct Exit<O: Object> {
-    pub(crate) handover: Arc<Handover<O>, Global>,
+pub struct ClosingState<O: Object> {
+    pub(crate) handover: Arc<ReturnQueue<O>, Global>,
     pub(crate) pass: Pass<HandedIn<O>, Knows<O>>,
     pub(crate) gathered: Vec<Handed>,
     pub(crate) out: Vec<Handed>,
@@ -25,9 +25,9 @@ pub struct Exit<O: Object> {
 /// What the session that was closed last has where it did not close the service: its way out, with the callers that it took out of the queue, and a
 /// share of the service once it has one. `close_rest` goes on from there.
 #[derive(Drop)]
-pub struct Rest<O: Object> {
+pub struct Unclosed<O: Object> {
     pub(crate) service: Option<Arc<Service<O>, Global>>,
-    pub(crate) exit: Exit<O>,
+    pub(crate) exit: ClosingState<O>,
 }
 
 /// The account of the sessions of a service: the pass of their queue that took all callers out. By the rule of the queue it knows each as it was handed in.
@@ -36,15 +36,15 @@ pub struct Account<O: Object> {
     pub(crate) pass: Pass<HandedIn<O>, Knows<O>>,
 }
 
-impl<O: Object> Exit<O> {
+impl<O: Object> ClosingState<O> {
     /// One more way out of a service of this many callers, for the first caller that the pass is still to hand in.
     pub(crate) fn another(
         alloc: Global,
         service: &Service<O>,
         callers: usize,
-        handover: &Arc<Handover<O>, Global>,
+        handover: &Arc<ReturnQueue<O>, Global>,
         pass: &mut Pass<HandedIn<O>, Knows<O>>,
-    ) -> Result<Exit<O>, AllocError>
+    ) -> Result<ClosingState<O>, AllocError>
         requires callers { (callers ≡ service.now.callers) × (0 < callers) }
         requires handover { ((arc_value handover.now).callers ≡ callers) × IsPassIn service.now (view pass.old).due (arc_value handover.now) pass.old }
         ensures { IfOk result (λ exit. IsExitOf service.now (take 1 (view pass.old).due) exit × IsPassIn service.now (drop 1 (view pass.old).due) (arc_value handover.now) pass.new) }
@@ -53,7 +53,7 @@ impl<O: Object> Exit<O> {
         let out = Vec::with_capacity(alloc, callers)?;
         let share = Arc::try_clone(handover)?;
         let own = handover.share(service, pass);
-        Ok(Exit {
+        Ok(ClosingState {
             handover: share,
             pass: own,
             gathered,

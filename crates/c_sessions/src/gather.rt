@@ -1,11 +1,11 @@
 //! The last session gathers all callers of the service.
 
 ghost use Rattle.std.specs.Prelude.{◌≤◌, List, vec_capacity};
-ghost use Rattle.cx_rule.specs.Running.{Running};
+ghost use Rattle.table_invariant.specs.Running.{Running};
 ghost use Rattle.cx_service.specs.declared.close.Handed as handed_type;
 ghost use Rattle.c_sessions.specs.Handing.{HasTaken};
 
-use crate::handover::Handover;
+use crate::handover::ReturnQueue;
 use crate::rule::{HandedIn, Knows};
 use crossbeam_queue::Pass;
 use cx_base::Object;
@@ -16,7 +16,7 @@ use std::sync::Arc;
 /// Takes callers out of the queue, beside those that were taken out before, until they are as many as the service has, or none is found. Of their
 /// shares of the service one is kept.
 pub(crate) fn gather<O: Object>(
-    handover: &Handover<O>,
+    handover: &ReturnQueue<O>,
     pass: &mut Pass<HandedIn<O>, Knows<O>>,
     share: Option<Arc<Service<O>, Global>>,
     gathered: Vec<Handed>,

@@ -4,11 +4,11 @@ ghost use Rattle.std.specs.Prelude.{◌≡◌, ◌<◌, IfOk, MatchOption, Some,
 ghost use Rattle.std.specs.Arc.{arc_value};
 ghost use Rattle.std.specs.List.{range_with_len};
 ghost use Rattle.crossbeam_queue.specs.Passes.{view, IsPassOf};
-ghost use Rattle.cx_rule.specs.Running.{Running};
+ghost use Rattle.table_invariant.specs.Running.{Running};
 ghost use Rattle.c_sessions.specs.Handing.{HandsInTo, IsPassOpen, IsPassIn};
 ghost use Rattle.c_sessions.specs.Rule.{IsHandedInAt, TellsAll, numbers_in, pass_with_taken};
 
-use crate::rule::{Gives, HandedIn, Knows, Line, Opens, Parts, Starts, Takes};
+use crate::rule::{Gives, HandedIn, Knows, Opens, Parts, ReturnedCallers, Starts, Takes};
 use crossbeam_queue::Pass;
 use cx_base::Object;
 use cx_service::Service;
@@ -21,8 +21,8 @@ const TRIES: u32 = 64;
 
 /// The queue, how many of the service's callers were handed in, and how many it has.
 #[derive(Drop)]
-pub struct Handover<O: Object> {
-    pub(crate) line: Line<O>,
+pub struct ReturnQueue<O: Object> {
+    pub(crate) line: ReturnedCallers<O>,
     pub(crate) came: AtomicU64,
     pub(crate) callers: u32,
 }
@@ -41,11 +41,11 @@ pub(crate) fn open_for<O: Object>(
     alloc: Global,
     service: &Arc<Service<O>, Global>,
     callers: u32,
-) -> Result<(Handover<O>, Pass<HandedIn<O>, Knows<O>>), NoQueue>
+) -> Result<(ReturnQueue<O>, Pass<HandedIn<O>, Knows<O>>), NoQueue>
     requires { (0 < callers) × (callers ≡ (arc_value service.now).callers) }
     ensures { IfOk result (λ q. IsPassOpen (arc_value service.now) callers (range_with_len 0 callers) q.0 q.1) }
 {
-    let Ok((line, mut pass)) = Line::ruled(alloc, callers as usize) else {
+    let Ok((line, mut pass)) = ReturnedCallers::ruled(alloc, callers as usize) else {
         return Err(NoQueue::Memory);
     };
     let Ok(share) = Arc::try_clone(service) else {
@@ -62,7 +62,7 @@ pub(crate) fn open_for<O: Object>(
     let Some(_) = line.try_pop_as::<Starts>(&mut pass) else {
         return Err(NoQueue::InTheWay);
     };
-    let handover = Handover {
+    let handover = ReturnQueue {
         line,
         came: AtomicU64::new(0),
         callers,
@@ -70,7 +70,7 @@ pub(crate) fn open_for<O: Object>(
     Ok((handover, pass))
 }
 
-impl<O: Object> Handover<O> {
+impl<O: Object> ReturnQueue<O> {
     /// A further pass, for the first caller that the pass is still to hand in.
     pub(crate) fn share(
         &self,

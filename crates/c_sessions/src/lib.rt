@@ -29,10 +29,10 @@ mod start;
 mod steps;
 mod tries;
 
-pub use catch_up::Sight;
-pub use checkpoint::Taken;
+pub use catch_up::SessionCatchUp;
+pub use checkpoint::SessionCheckpoint;
 pub use close::{Closing, close_kept, close_rest};
-pub use exit::{Account, Rest};
+pub use exit::{Account, Unclosed};
 pub use session::{Session, sessions_cross_threads};
 pub use start::{OpenFault, open, open_from};
 pub use steps::Called;

@@ -40,7 +40,7 @@ impl<O: Object> Protocol<HandedIn<O>, Knows<O>> for OfOneService {
 }
 
 /// The queue.
-pub type Line<O> = RuledArrayQueue<HandedIn<O>, Knows<O>, OfOneService>;
+pub type ReturnedCallers<O> = RuledArrayQueue<HandedIn<O>, Knows<O>, OfOneService>;
 
 /// A share without a caller is put into the new queue, by which the first pass learns the service.
 pub(crate) struct Opens;

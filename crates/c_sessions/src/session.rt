@@ -2,15 +2,15 @@
 
 ghost use Rattle.std.specs.Prelude.{◌≡◌, ◌∷◌, [], Some, length};
 ghost use Rattle.std.specs.Arc.{arc_value};
-ghost use Rattle.cx_rule.specs.Running.{IsRunning};
+ghost use Rattle.table_invariant.specs.Running.{IsRunning};
 ghost use Rattle.seat_pool.specs.Gathering.{IsHandedOf, handed_number};
 ghost use Rattle.c_sessions.specs.Handing.{IsExitOf};
 ghost use Rattle.c_sessions.specs.Sessions.{CallsIn, FinishesIn, IsSessionReady, SeesIn, TakesIn};
 
-use crate::catch_up::{Sight, see};
-use crate::checkpoint::{Taken, take_image};
-use crate::exit::Exit;
-use crate::steps::{Called, end, go_on};
+use crate::catch_up::{SessionCatchUp, catch_up_idle};
+use crate::checkpoint::{SessionCheckpoint, take_image};
+use crate::exit::ClosingState;
+use crate::steps::{Called, call_idle, finish_linked};
 use crate::tries::Tries;
 use cx_base::{Object, OpWords};
 use cx_service::{Handed, Service};
@@ -22,14 +22,18 @@ use std::sync::Arc;
 #[derive(Drop)]
 pub struct Session<O: Object> {
     pub(crate) service: Arc<Service<O>, Global>,
-    pub(crate) exit: Exit<O>,
+    pub(crate) exit: ClosingState<O>,
     pub(crate) handed: Option<Handed>,
     pub(crate) place: u64,
 }
 
 impl<O: Object> Session<O> {
     /// A session of what stands of a caller.
-    pub(crate) fn of(service: Arc<Service<O>, Global>, exit: Exit<O>, handed: Handed) -> Session<O>
+    pub(crate) fn of(
+        service: Arc<Service<O>, Global>,
+        exit: ClosingState<O>,
+        handed: Handed,
+    ) -> Session<O>
         requires handed { IsHandedOf (arc_value service) handed }
         requires exit { IsExitOf (arc_value service) (handed_number handed ∷ []) exit }
         ensures ready { IsSessionReady result }
@@ -48,7 +52,7 @@ impl<O: Object> Session<O> {
     /// From `crates/githoppu_c/src/content.rt`:
     /// ```rattle
     /// match self {
-    ///     Content::Session(session) => session.call(op, reply, tries),
+    ///     HandleState::Session(session) => session.call(op, reply, tries),
     ///     _ => Called::OutOfTurn,
     /// }
     /// ```
@@ -60,13 +64,13 @@ impl<O: Object> Session<O> {
         let Some(handed) = self.handed.take() else {
             unreachable!()
         };
-        let (handed, called) = go_on(&self.service, handed, op, reply, tries);
+        let (handed, called) = call_idle(&self.service, handed, op, reply, tries);
         self.handed = Some(handed);
         self.place = called.place_after(self.place);
         called
     }
 
-    /// Drives the linked entry to its answer, in at most the given number of turns.
+    /// Drives the linked entry to its answer, in at most the given number of attempts.
     pub fn finish(&mut self, reply: &mut OpWords, tries: Tries) -> Called
         requires ready { IsSessionReady self.old }
         ensures ready { IsSessionReady self.new }
@@ -75,7 +79,7 @@ impl<O: Object> Session<O> {
         let Some(handed) = self.handed.take() else {
             unreachable!()
         };
-        let (handed, called) = end(&self.service, handed, reply, tries);
+        let (handed, called) = finish_linked(&self.service, handed, reply, tries);
         self.handed = Some(handed);
         self.place = called.place_after(self.place);
         called
@@ -91,7 +95,7 @@ impl<O: Object> Session<O> {
 
     /// Has the session see a place that another one of the service told, in whatever way. From `Caught` on what it is answered stands at or above
     /// the place. `Behind` comes only where the current place was found below it, which is where nobody was answered at it.
-    pub fn catch_up(&mut self, place: u64) -> Sight
+    pub fn catch_up(&mut self, place: u64) -> SessionCatchUp
         requires ready { IsSessionReady self.old }
         ensures ready { IsSessionReady self.new }
         ensures sees { SeesIn place self.old result self.new }
@@ -99,7 +103,7 @@ impl<O: Object> Session<O> {
         let Some(handed) = self.handed.take() else {
             unreachable!()
         };
-        let (handed, sight) = see(&self.service, handed, place);
+        let (handed, sight) = catch_up_idle(&self.service, handed, place);
         self.handed = Some(handed);
         self.place = sight.place_seen(place, self.place);
         sight
@@ -107,7 +111,7 @@ impl<O: Object> Session<O> {
 
     /// Takes an image of the object, results included, while others go on, in at most the given number of tries. After `At` the words are a base from
     /// which a service may start, at this place, which is the session's then. Else nothing is told of them.
-    pub fn checkpoint(&mut self, into: &mut [u64], tries: Tries) -> Taken
+    pub fn checkpoint(&mut self, into: &mut [u64], tries: Tries) -> SessionCheckpoint
         requires ready { IsSessionReady self.old }
         requires words { length into.old ≡ length (arc_value self.old.service).base.words }
         ensures ready { IsSessionReady self.new }

@@ -7,7 +7,7 @@ ghost use Rattle.cx_service.specs.Callers.{IsCallerOf};
 ghost use Rattle.cx_service.specs.Starts.{AreFewCallers, AreFewLines};
 ghost use Rattle.c_sessions.specs.Sessions.{AreFirst, AreReady, AreReadyOf, IsOpenFault};
 
-use crate::exit::Exit;
+use crate::exit::ClosingState;
 use crate::handover::{NoQueue, open_for};
 use crate::session::Session;
 use cx_base::Object;
@@ -91,7 +91,7 @@ fn shared<O: Object>(
     };
     let mut sessions = Vec::new(alloc);
     for caller in callers {
-        let Ok(exit) = Exit::another(alloc, &service, count, &handover, &mut pass) else {
+        let Ok(exit) = ClosingState::another(alloc, &service, count, &handover, &mut pass) else {
             return Err(NoQueue::Memory);
         };
         let Ok(share) = Arc::try_clone(&service) else {

@@ -41,7 +41,7 @@ impl Called {
 }
 
 /// Does an operation of a caller with no call under way.
-pub(crate) fn go_on<O: Object>(
+pub(crate) fn call_idle<O: Object>(
     service: &Service<O>,
     handed: Handed,
     op: &OpWords,
@@ -53,13 +53,13 @@ pub(crate) fn go_on<O: Object>(
     ensures calls { CallsFrom O.only_reads service.now op.now tries.count handed result.1 result.0 reply.new }
 {
     match handed {
-        Handed::Idle(caller) => ask(service, caller, op, reply, tries),
+        Handed::Idle(caller) => read_or_enter(service, caller, op, reply, tries),
         other => (other, Called::OutOfTurn),
     }
 }
 
 /// Drives the entry of a caller that has one.
-pub(crate) fn end<O: Object>(
+pub(crate) fn finish_linked<O: Object>(
     service: &Service<O>,
     handed: Handed,
     reply: &mut OpWords,
@@ -76,7 +76,7 @@ pub(crate) fn end<O: Object>(
 }
 
 /// Asks an operation of a caller with no call under way: beside the queue where it only reads.
-fn ask<O: Object>(
+fn read_or_enter<O: Object>(
     service: &Service<O>,
     caller: Caller,
     op: &OpWords,
@@ -88,14 +88,14 @@ fn ask<O: Object>(
     ensures calls { Calls O.only_reads service.now op.now tries.count caller result.1 result.0 reply.new }
 {
     if service.object().reads(op) {
-        look(service, caller, op, reply, tries)
+        read_idle(service, caller, op, reply, tries)
     } else {
         enter(service, caller, op, reply, tries)
     }
 }
 
 /// Reads beside the queue.
-fn look<O: Object>(
+fn read_idle<O: Object>(
     service: &Service<O>,
     caller: Caller,
     op: &OpWords,

@@ -2,7 +2,7 @@
 
 ghost use Rattle.std.specs.Prelude.{◌≤◌};
 
-/// A number of tries, or of turns: at least one.
+/// A number of tries, or of attempts: at least one.
 #[derive(Clone, Copy, Debug, Drop)]
 pub struct Tries {
     pub count: u64,

@@ -6,13 +6,13 @@ use Rattle.crossbeam_queue.specs.Passes.{view}
 use Rattle.cx_core.specs.declared.local.Answer.{Answer}
 use Rattle.cx_core.specs.declared.local.FullNote.{FullNote}
 use Rattle.cx_core.specs.declared.local.SeenRead.{SeenRead}
-use Rattle.cx_rule.specs.Running.{Running}
-use Rattle.cx_rule.specs.Seats.{Seated}
+use Rattle.table_invariant.specs.Running.{Running}
+use Rattle.table_invariant.specs.Seats.{Seated}
 use Rattle.cx_service.specs.Callers.{StoppedSeat}
 use Rattle.cx_service.specs.Lookups.{ReadAnswered}
-use Rattle.cx_turns.specs.declared.lookup.Seen.{Seen}
+use Rattle.cx_attempts.specs.declared.lookup.Seen.{Seen}
 use Rattle.seat_pool.specs.Pooling.{total_weight}
-use Rattle.seat_pool.specs.declared.hand.Told.{Told}
+use Rattle.seat_pool.specs.declared.hand.AnsweredCall.{AnsweredCall}
 use Rattle.seat_pool.proofs.Poolings.{total_both}
 use Rattle.client_pool.specs.Clients.{AreInTurn, HasItsCalls, HasNoMore, HasRead, HasUpdated, IsSameClient, IsReadShown, answered_by, entries_called, floor_after, next_place_of, answer_place_of, reads_called}
 use Rattle.client_pool.specs.Lending.{ComesFrom, IsGivenBack, IsLentTo, KeepsFull, KeepsStopped, KeepsWorn, ReturnsFirst, ShowsRead, TellsSame}
@@ -31,17 +31,17 @@ pub in_turn_more : (floor : ℕ) (calls : List Call) (call : Call) → AreInTurn
 in_turn_more floor [] call turn from = (from, tt)
 in_turn_more floor (c ∷ calls) call turn from = (turn.0, in_turn_more (next_place_of c) calls call turn.1 from)
 
-pub entries_more : (calls : List Call) (told : Told) → entries_called (calls ++ Entry told ∷ []) ≡ entries_called calls ++ told ∷ []
+pub entries_more : (calls : List Call) (told : AnsweredCall) → entries_called (calls ++ Entry told ∷ []) ≡ entries_called calls ++ told ∷ []
 entries_more [] told = refl
-entries_more (Entry t ∷ calls) told = ap (λ (l : List Told). t ∷ l) (entries_more calls told)
+entries_more (Entry t ∷ calls) told = ap (λ (l : List AnsweredCall). t ∷ l) (entries_more calls told)
 entries_more (Look x ∷ calls) told = entries_more calls told
 
 pub entries_same : (calls : List Call) (read : SeenRead) → entries_called (calls ++ Look read ∷ []) ≡ entries_called calls
 entries_same [] read = refl
-entries_same (Entry t ∷ calls) read = ap (λ (l : List Told). t ∷ l) (entries_same calls read)
+entries_same (Entry t ∷ calls) read = ap (λ (l : List AnsweredCall). t ∷ l) (entries_same calls read)
 entries_same (Look x ∷ calls) read = entries_same calls read
 
-pub reads_same : (calls : List Call) (told : Told) → reads_called (calls ++ Entry told ∷ []) ≡ reads_called calls
+pub reads_same : (calls : List Call) (told : AnsweredCall) → reads_called (calls ++ Entry told ∷ []) ≡ reads_called calls
 reads_same [] told = refl
 reads_same (Entry t ∷ calls) told = reads_same calls told
 reads_same (Look x ∷ calls) told = ap (λ (l : List SeenRead). x ∷ l) (reads_same calls told)
@@ -72,7 +72,7 @@ module _ {O : Type 0} (r : Running O) (table : TableId) (before after : Client) 
             answers = answers ∙ ap (λ (l : List Answered). l ++ Updated caller answer ∷ []) has.answers ∙ ap (λ (a : Answered). map answered_by calls ++ a ∷ []) (sym mine) ∙ sym (map-append answered_by calls (Entry t ∷ []));
             floor = floor ∙ ap (λ n. n + 1) (sym at) ∙ sym (floor_more r.base.place calls (Entry t));
             in_turn = in_turn_more r.base.place calls (Entry t) has.in_turn (omega (arith, has.floor, above, tells.from, at));
-            told = tells.tells ∙ ap (λ (l : List Told). l ++ t ∷ []) has.told ∙ sym (entries_more calls t);
+            told = tells.tells ∙ ap (λ (l : List AnsweredCall). l ++ t ∷ []) has.told ∙ sym (entries_more calls t);
             shown = λ h. (let same_ : total_weight h (reads_called (calls ++ Entry t ∷ [])) ≡ total_weight h (reads_called calls) = ap (total_weight h) (reads_same calls t) in omega (arith, same_, has.shown h, tells.shows h));
           };
         };

@@ -5,11 +5,11 @@ use Rattle.std.proofs.lemmas.List.{map-append}
 use Rattle.std.proofs.lemmas.List.Elements.{All-map, All-weaker}
 use Rattle.atomic_table.specs.Seated.{TableId}
 use Rattle.crossbeam_queue.specs.Passes.{view}
-use Rattle.cx_rule.specs.Running.{Running}
+use Rattle.table_invariant.specs.Running.{Running}
 use Rattle.cx_service.specs.declared.close.Handed.{Handed}
 use Rattle.cx_service.specs.declared.close.Handed.TheVariants.{Idle, Linked, Stopped}
 use Rattle.seat_pool.specs.Gathering.{Gathers, IsLentOf, kept_list}
-use Rattle.seat_pool.specs.declared.hand.Hand.{Hand}
+use Rattle.seat_pool.specs.declared.hand.LenderPass.{LenderPass}
 use Rattle.seat_pool.specs.declared.lent.Lent.{Lent}
 use Rattle.seat_pool.proofs.Gatherings.{gathers_none}
 use Rattle.seat_pool.proofs.Telling.{idle_kept}
@@ -19,7 +19,7 @@ use Rattle.client_pool.specs.Pools.{lents_of}
 use Rattle.client_pool.specs.declared.client.Client.{Client}
 
 module _ {O : Type 0} (r : Running O) (table : TableId) where
-  gathers_kept : (v : Hand) (kept : Option Handed) → HoldsKept r v kept → Gathers r v.held (kept_list kept)
+  gathers_kept : (v : LenderPass) (kept : Option Handed) → HoldsKept r v kept → Gathers r v.held (kept_list kept)
   gathers_kept v None holds = gathers_none r table v.held [] holds refl
   gathers_kept v (Some (Idle now)) holds = subst (λ l. Gathers r l (Idle now ∷ [])) (sym holds.held) (idle_kept r holds.taken now holds.idle)
   gathers_kept v (Some (Linked seat)) holds = absurd holds

@@ -21,17 +21,17 @@ use Rattle.cx_core.specs.declared.local.Answer.{Answer}
 use Rattle.cx_core.specs.declared.local.Linked.{Linked}
 use Rattle.cx_core.specs.declared.local.Local.{Local}
 use Rattle.cx_core.specs.declared.local.SeenRead.{SeenRead}
-use Rattle.cx_rule.specs.Running.{Running}
-use Rattle.cx_rule.specs.Seats.{Seated}
-use Rattle.cx_rule.specs.declared.rule.Known.{Known}
+use Rattle.table_invariant.specs.Running.{Running}
+use Rattle.table_invariant.specs.Seats.{Seated}
+use Rattle.table_invariant.specs.declared.rule.Known.{Known}
 use Rattle.cx_service.specs.ClosedOrder.{IsLinearizedBy}
 use Rattle.cx_service.specs.Closes.{seat_of, seats_of}
 use Rattle.cx_service.specs.declared.close.Handed.{Handed}
-use Rattle.cx_table.specs.Remains.{Leaves, locals_of}
+use Rattle.cx_table.specs.Remains.{ClosingWitness, locals_of}
 use Rattle.cx_table.specs.declared.remains.Remains.{Remains}
 use Rattle.seat_pool.specs.Gathering.{AreCallsTold, handed_calls, handed_reads, lent_shown, lent_told, one_at}
 use Rattle.seat_pool.specs.Pooling.{calls_from, calls_of, total_weight}
-use Rattle.seat_pool.specs.declared.hand.Told.{Told}
+use Rattle.seat_pool.specs.declared.hand.AnsweredCall.{AnsweredCall}
 use Rattle.client_pool.specs.Answers.{AreAnswered, IsCallOf, IsCallersCall, IsCallersEntry, IsCallersRead, IsEntryOf, IsReadOf, StandsIn}
 use Rattle.client_pool.specs.Clients.{AreInTurn, HasCalls, entries_called, reads_called}
 use Rattle.client_pool.specs.Pools.{lents_of}
@@ -42,13 +42,13 @@ use Rattle.client_pool.proofs.Tickets.{once}
 use Rattle.client_pool.proofs.Weights.{found, read_is, read_self, same_read, same_told, told_is, told_self}
 
 -- a call of a caller has the entry and the answer at its place in the caller's lists
-call_item : (n : ℕ) (own : List Linked) (answers : List Answer) (i : ℕ) (t : Told) → slice_get (calls_from n own answers) i ≡ Some t
+call_item : (n : ℕ) (own : List Linked) (answers : List Answer) (i : ℕ) (t : AnsweredCall) → slice_get (calls_from n own answers) i ≡ Some t
     → (t.caller ≡ n) × (slice_get own i ≡ Some t.entry) × (slice_get answers i ≡ Some t.answer)
 call_item n [] answers i t at = absurd (none-some t at)
 call_item n (x ∷ own) [] i t at = absurd (none-some t at)
 call_item n (x ∷ own) (a ∷ answers) zero t at =
     let same = same_Some _ t at in
-    (sym (ap (λ (u : Told). u.caller) same), ap (λ (u : Told). Some u.entry) same, ap (λ (u : Told). Some u.answer) same)
+    (sym (ap (λ (u : AnsweredCall). u.caller) same), ap (λ (u : AnsweredCall). Some u.entry) same, ap (λ (u : AnsweredCall). Some u.answer) same)
 call_item n (x ∷ own) (a ∷ answers) (suc i) t at = call_item n own answers i t at
 
 -- the own entries of a caller are its own
@@ -69,7 +69,7 @@ some_of : (o : Option Local) (y : Local) → option_map shown o ≡ Some y → (
 some_of None y same = absurd (none-some y same)
 some_of (Some l) y same = (l, refl, same_Some (shown l) y same)
 
-module _ {O : Type 0} (r : Running O) (instance : Instance) (handed : List Handed) (remains : Remains) (leaves : Leaves r instance (seats_of handed) remains) where
+module _ {O : Type 0} (r : Running O) (instance : Instance) (handed : List Handed) (remains : Remains) (leaves : ClosingWitness r instance (seats_of handed) remains) where
   abbrev history : List HistoryEntry
   history = leaves.state.history
 
@@ -88,7 +88,7 @@ module _ {O : Type 0} (r : Running O) (instance : Instance) (handed : List Hande
       let l = some_of (slice_get leaves.whole i) (seat_of g).known.local (sym (slice_get-map shown leaves.whole i) ∙ ap (λ (ls : List Local). slice_get ls i) leaves.shows ∙ locals) in
       record { local = l.0; there = l.1; ends = ap (λ (ls : List Local). slice_get ls i) leaves.locals ∙ locals; is = l.2 }
 
-  entry_here : (i : ℕ) (g : Handed) (j : ℕ) (t : Told) → slice_get handed i ≡ Some g → slice_get (calls_of (seat_of g)) j ≡ Some t → IsEntryOf instance history t × IsCallersEntry remains.trail.locals t
+  entry_here : (i : ℕ) (g : Handed) (j : ℕ) (t : AnsweredCall) → slice_get handed i ≡ Some g → slice_get (calls_of (seat_of g)) j ≡ Some t → IsEntryOf instance history t × IsCallersEntry remains.trail.locals t
   entry_here i g j t at there =
       let b = behind i g at in
       let l = b.local in
@@ -130,11 +130,11 @@ module _ {O : Type 0} (r : Running O) (instance : Instance) (handed : List Hande
   abbrev Stands : Call → Type 0
   Stands call = IsCallOf instance history call × IsCallersCall remains.trail.locals call
 
-  entry_is : (t : Told) → same_told t t ≤ total_weight (handed_calls (same_told t)) handed → Stands (Entry t)
+  entry_is : (t : AnsweredCall) → same_told t t ≤ total_weight (handed_calls (same_told t)) handed → Stands (Entry t)
   entry_is t most =
       let g = found (handed_calls (same_told t)) handed (let self = told_self t in omega (arith, self, most)) in
       let u = found (same_told t) (calls_of (seat_of g.1)) g.3 in
-      subst (λ (x : Told). Stands (Entry x)) (sym (told_is t u.1 u.3)) (entry_here g.0 g.1 u.0 u.1 g.2 u.2)
+      subst (λ (x : AnsweredCall). Stands (Entry x)) (sym (told_is t u.1 u.3)) (entry_here g.0 g.1 u.0 u.1 g.2 u.2)
 
   read_is_one : (x : SeenRead) → same_read x x ≤ total_weight (handed_reads (same_read x)) handed → Stands (Look x)
   read_is_one x most =
@@ -142,14 +142,14 @@ module _ {O : Type 0} (r : Running O) (instance : Instance) (handed : List Hande
       let u = found (same_read x) (seat_of g.1).known.local.seen_reads g.3 in
       subst (λ (y : SeenRead). Stands (Look y)) (sym (read_is x u.1 u.3)) (read_here g.0 g.1 u.0 u.1 g.2 u.2)
 
-  one_client : (cs : List Call) → ((h : Told → ℕ) → total_weight h (entries_called cs) ≤ total_weight (handed_calls h) handed) → ((h : SeenRead → ℕ) → total_weight h (reads_called cs) ≤ total_weight (handed_reads h) handed) → All Stands cs
+  one_client : (cs : List Call) → ((h : AnsweredCall → ℕ) → total_weight h (entries_called cs) ≤ total_weight (handed_calls h) handed) → ((h : SeenRead → ℕ) → total_weight h (reads_called cs) ≤ total_weight (handed_reads h) handed) → All Stands cs
   one_client [] entries reads = All-nil Stands
   one_client (Entry t ∷ cs) entries reads =
       All-cons Stands (Entry t) cs (entry_is t (let most = entries (same_told t) in omega (arith, most))) (one_client cs (λ h. (let most = entries h in omega (arith, most))) reads)
   one_client (Look x ∷ cs) entries reads =
       All-cons Stands (Look x) cs (read_is_one x (let most = reads (same_read x) in omega (arith, most))) (one_client cs entries (λ h. (let most = reads h in omega (arith, most))))
 
-  all_clients : (calls : List (List Call)) → ((h : Told → ℕ) → total_weight (λ (cs : List Call). total_weight h (entries_called cs)) calls ≤ total_weight (handed_calls h) handed)
+  all_clients : (calls : List (List Call)) → ((h : AnsweredCall → ℕ) → total_weight (λ (cs : List Call). total_weight h (entries_called cs)) calls ≤ total_weight (handed_calls h) handed)
       → ((h : SeenRead → ℕ) → total_weight (λ (cs : List Call). total_weight h (reads_called cs)) calls ≤ total_weight (handed_reads h) handed) → All (All Stands) calls
   all_clients [] entries reads = All-nil (All Stands)
   all_clients (cs ∷ calls) entries reads =
@@ -158,7 +158,7 @@ module _ {O : Type 0} (r : Running O) (instance : Instance) (handed : List Hande
       (all_clients calls (λ h. (let most = entries h in omega (arith, most))) (λ h. (let most = reads h in omega (arith, most))))
 
 -- the calls of callers stand in the one order of the closing, as the operations that they are
-module _ {O : Type 0} (r : Running O) (instance : Instance) (handed : List Handed) (remains : Remains) (leaves : Leaves r instance (seats_of handed) remains) (order : IsLinearizedBy leaves) where
+module _ {O : Type 0} (r : Running O) (instance : Instance) (handed : List Handed) (remains : Remains) (leaves : ClosingWitness r instance (seats_of handed) remains) (order : IsLinearizedBy leaves) where
   abbrev operations : List Operation
   operations = order.one_order.order
 
@@ -181,7 +181,7 @@ module _ {O : Type 0} (r : Running O) (instance : Instance) (handed : List Hande
 
 -- what clients were told are the entries of their calls, and what they were shown has their reads
 module _ {O : Type 0} (r : Running O) where
-  pub weighs : (h : Told → ℕ) (clients : List Client) (calls : List (List Call)) → AllZip (HasCalls r) clients calls → total_weight (λ (cs : List Call). total_weight h (entries_called cs)) calls ≡ total_weight (lent_told h) (lents_of clients)
+  pub weighs : (h : AnsweredCall → ℕ) (clients : List Client) (calls : List (List Call)) → AllZip (HasCalls r) clients calls → total_weight (λ (cs : List Call). total_weight h (entries_called cs)) calls ≡ total_weight (lent_told h) (lents_of clients)
   weighs h [] [] are = refl
   weighs h [] (cs ∷ calls) are = absurd are
   weighs h (c ∷ clients) [] are = absurd are
@@ -200,16 +200,16 @@ module _ {O : Type 0} (r : Running O) where
   in_turn (c ∷ clients) (cs ∷ calls) are = All-cons (AreInTurn r.base.place) cs calls are.0.in_turn (in_turn clients calls are.1)
 
   -- all that closing tells of the calls of clients
-  pub are_answered : (instance : Instance) (handed : List Handed) (remains : Remains) (clients : List Client) → instance.base.place ≡ r.base.place → Leaves r instance (seats_of handed) remains → AreCallsTold r (lents_of clients) handed
+  pub are_answered : (instance : Instance) (handed : List Handed) (remains : Remains) (clients : List Client) → instance.base.place ≡ r.base.place → ClosingWitness r instance (seats_of handed) remains → AreCallsTold r (lents_of clients) handed
       → (calls : List (List Call)) → AllZip (HasCalls r) clients calls → AreAnswered instance remains.trail.history remains.trail.locals calls
   are_answered instance handed remains clients place leaves told calls are =
-      let entries = λ (h : Told → ℕ). (let all = told.calls h in let here = weighs h clients calls are in let most : total_weight (λ (cs : List Call). total_weight h (entries_called cs)) calls ≤ total_weight (handed_calls h) handed = omega (arith, all, here) in most) in
+      let entries = λ (h : AnsweredCall → ℕ). (let all = told.calls h in let here = weighs h clients calls are in let most : total_weight (λ (cs : List Call). total_weight h (entries_called cs)) calls ≤ total_weight (handed_calls h) handed = omega (arith, all, here) in most) in
       let reads = λ (h : SeenRead → ℕ). (let all = told.reads h in let here = reads_weigh_ h clients calls are in let most : total_weight (λ (cs : List Call). total_weight h (reads_called cs)) calls ≤ total_weight (handed_reads h) handed = omega (arith, all, here) in most) in
       let stands : Call → Type 0 = λ call. IsCallOf instance leaves.state.history call × IsCallersCall remains.trail.locals call in
       let all = all_clients r instance handed remains leaves calls entries reads in
       record {
         each = subst (λ (history : List HistoryEntry). All (All (IsCallOf instance history)) calls) leaves.history (All-weaker (All stands) (All (IsCallOf instance leaves.state.history)) (λ cs all. All-weaker stands (IsCallOf instance leaves.state.history) (λ call both. both.0) cs all) calls all);
         callers = All-weaker (All stands) (All (IsCallersCall remains.trail.locals)) (λ cs all. All-weaker stands (IsCallersCall remains.trail.locals) (λ call both. both.1) cs all) calls all;
-        once = λ ticket. (let most = entries (λ (t : Told). one_at ticket t.entry.ticket) in let one = once ticket r.base.place remains.trail.history handed leaves.merged in omega (arith, most, one));
+        once = λ ticket. (let most = entries (λ (t : AnsweredCall). one_at ticket t.entry.ticket) in let one = once ticket r.base.place remains.trail.history handed leaves.merged in omega (arith, most, one));
         in_turn = subst (λ (p : ℕ). All (AreInTurn p) calls) (sym place) (in_turn clients calls are);
       }

@@ -9,8 +9,8 @@ use Rattle.cx_core.specs.declared.local.Answer.{Answer}
 use Rattle.cx_core.specs.declared.local.FullNote.{FullNote}
 use Rattle.cx_core.specs.declared.local.Linked.{Linked as OwnEntry}
 use Rattle.cx_core.specs.declared.local.SeenRead.{SeenRead}
-use Rattle.cx_rule.specs.Running.{Running}
-use Rattle.cx_rule.specs.Seats.{Seated}
+use Rattle.table_invariant.specs.Running.{Running}
+use Rattle.table_invariant.specs.Seats.{Seated}
 use Rattle.cx_service.specs.Callers.{IsCallerOf, StoppedSeat}
 use Rattle.cx_service.specs.CatchUps.{CatchUpHalted, CatchUpKeeps}
 use Rattle.cx_service.specs.Drives.{MeetsFewer, answer_with}
@@ -20,18 +20,18 @@ use Rattle.cx_service.specs.Updates.{KeepsLists, ReadQueues, ReadStops, UpdateDo
 use Rattle.cx_service.specs.declared.close.Handed.TheVariants.{Idle, Stopped}
 use Rattle.cx_service.specs.declared.update.Updated.{Updated}
 use Rattle.cx_service.specs.declared.update.Updated.TheVariants.{Done as UpdatedDone, Full as UpdatedFull, Worn as UpdatedWorn, Halted as UpdatedHalted}
-use Rattle.cx_turns.specs.declared.lookup.Seen.{Seen}
+use Rattle.cx_attempts.specs.declared.lookup.Seen.{Seen}
 use Rattle.seat_pool.specs.Gathering.{Gathers, StaysIdle}
 use Rattle.seat_pool.specs.Pooling.{HasLimit, IsFirstOf, IsHomeOf, given_from, limits_at, told_with, total_weight, with_given, with_taken}
-use Rattle.seat_pool.specs.declared.hand.Hand.{Hand}
+use Rattle.seat_pool.specs.declared.hand.LenderPass.{LenderPass}
 use Rattle.seat_pool.specs.declared.hand.Returned.{Returned}
-use Rattle.seat_pool.specs.declared.hand.Told.{Told}
+use Rattle.seat_pool.specs.declared.hand.AnsweredCall.{AnsweredCall}
 use Rattle.seat_pool.specs.declared.lent.Lent.{Lent}
 use Rattle.seat_pool.proofs.Poolings.{total_both}
 use Rattle.seat_pool.proofs.Telling.{are_kept, are_shown, are_told, same_calls}
 use Rattle.client_pool.specs.Clients.{HaltsClientUpdate, HaltsClientRead, IsClientAnswered}
 use Rattle.client_pool.specs.Lending.{ComesFrom, EntersRead, GivesBack, HaltsLater, HaltsBesideQueue, HoldsIdle, HoldsKept, IsBegun, IsFirstCaller, IsGivenBack, IsKeptCaller, IsLentTo, IsOut, IsPart, IsReadRefused, KeepsFull, KeepsStopped, KeepsWorn, LooksOn, MayGive, MaySettle, Returns, ReturnsFirst, Settles, ShowsRead, TellsSame, limits_of}
-use Rattle.client_pool.specs.declared.lend.Served.TheVariants.{Done, Full, Worn, Halted}
+use Rattle.client_pool.specs.declared.lend.EntryOutcome.TheVariants.{Done, Full, Worn, Halted}
 
 -- The call is answered as an entry of this caller, which was so when it entered the queue: it was told with its answer, whose ticket is not below the floor. The
 -- caller was given back.
@@ -39,7 +39,7 @@ pub record TellsEntry {O : Type 0} (r : Running O) (table : TableId) (op : List 
   pub lent : IsLentTo r table after
   pub back : after.kept ≡ None
   pub limits : limits_of after ≡ limits_of before
-  pub told : Told
+  pub told : AnsweredCall
   pub entry : told ≡ told_with asked.known.local.number (next_entry r asked.known.local op answer.ticket) answer
   pub is : (told.caller ≡ caller) × (told.answer ≡ answer)
   pub op_is : told.entry.entry.op ≡ op
@@ -174,11 +174,11 @@ module _ {O : Type 0} (r : Running O) where
       let e = next_entry r x.known.local op answer.ticket in
       done.caller.cells.to (length x.known.local.own) e (ap (λ (l : List OwnEntry). slice_get l (length x.known.local.own)) done.links.own ∙ slice_get-last x.known.local.own e)
 
-  pub holds_on : (v : Hand) (x y : Seated) → HoldsIdle r v x → StaysIdle r x y → HoldsIdle r v y
+  pub holds_on : (v : LenderPass) (x y : Seated) → HoldsIdle r v x → StaysIdle r x y → HoldsIdle r v y
   holds_on v x y holds idle = record { taken = holds.taken; held = holds.held; limit = holds.limit; idle = stays_on holds.taken x y holds.idle idle }
 
   -- it has its limit
-  pub limit_of : (v : Hand) (x y : Seated) → HoldsIdle r v x → y.known.local.number ≡ x.known.local.number → y.known.local.limit ≡ x.known.local.limit → HasLimit (limits_at v.home) y
+  pub limit_of : (v : LenderPass) (x y : Seated) → HoldsIdle r v x → y.known.local.number ≡ x.known.local.number → y.known.local.limit ≡ x.known.local.limit → HasLimit (limits_at v.home) y
   limit_of v x y holds number limit =
       ap (slice_get (limits_at v.home)) (number ∙ holds.idle.number) ∙ holds.limit ∙ ap Some (sym (limit ∙ holds.idle.limit))
 
@@ -189,13 +189,13 @@ module _ {O : Type 0} (r : Running O) where
 
   module _ (table : TableId) where
     -- a pass that knows the same service, with the same part
-    pub part_like : (before after : Lent) (w : Hand) → IsPart r table before → (after.pass.table_id ≡ table) × (after.pass.me.1 ≡ []) → view after.pass ≡ w
+    pub part_like : (before after : Lent) (w : LenderPass) → IsPart r table before → (after.pass.table_id ≡ table) × (after.pass.me.1 ≡ []) → view after.pass ≡ w
         → w.home ≡ (view before.pass).home → w.parts ≡ (view before.pass).parts → w.placed ≡ (view before.pass).placed → IsPart r table after
     part_like before after w part pass is home parts placed = record {
       pass = pass;
-      home = subst (λ h. IsHomeOf r h) (sym (ap (λ (u : Hand). u.home) is ∙ home)) part.home;
-      parts = ap (λ (u : Hand). u.parts) is ∙ parts ∙ part.parts;
-      placed = ap (λ (u : Hand). u.placed) is ∙ placed ∙ part.placed;
+      home = subst (λ h. IsHomeOf r h) (sym (ap (λ (u : LenderPass). u.home) is ∙ home)) part.home;
+      parts = ap (λ (u : LenderPass). u.parts) is ∙ parts ∙ part.parts;
+      placed = ap (λ (u : LenderPass). u.placed) is ∙ placed ∙ part.placed;
     }
 
     pub taken_out : (before after : Lent) (x : Seated) → IsLentTo r table before → before.kept ≡ None → after.kept ≡ None → (after.pass.table_id ≡ table) × (after.pass.me.1 ≡ []) → view after.pass ≡ with_taken (view before.pass) x
@@ -207,12 +207,12 @@ module _ {O : Type 0} (r : Running O) where
             none = none_;
             holds = record {
               taken = x;
-              held = ap (λ (u : Hand). u.held) is ∙ ap (λ (l : List Seated). x ∷ l) held;
-              limit = subst (λ (u : Hand). HasLimit (limits_at u.home) x) (sym is) limit;
+              held = ap (λ (u : LenderPass). u.held) is ∙ ap (λ (l : List Seated). x ∷ l) held;
+              limit = subst (λ (u : LenderPass). HasLimit (limits_at u.home) x) (sym is) limit;
               idle = stays x caller;
             };
           },
-          record { limits = ap (λ (u : Hand). limits_at u.home) is; told = ap (λ (u : Hand). u.told) is; shown = ap (λ (u : Hand). u.shown) is; returned = ap (λ (u : Hand). u.returned) is },
+          record { limits = ap (λ (u : LenderPass). limits_at u.home) is; told = ap (λ (u : LenderPass). u.told) is; shown = ap (λ (u : LenderPass). u.shown) is; returned = ap (λ (u : LenderPass). u.returned) is },
         )
 
     pub out_on : (lent : Lent) (x y : Seated) → IsOut r table lent x → StaysIdle r x y → IsOut r table lent y
@@ -223,7 +223,7 @@ module _ {O : Type 0} (r : Running O) where
     returns mid after x y out is = record {
       taken = out.holds.taken;
       held = out.holds.held;
-      returned = ap (λ (u : Hand). u.returned) is ∙ ap (λ l. (given_from (view mid.pass) l y).returned) out.holds.held;
+      returned = ap (λ (u : LenderPass). u.returned) is ∙ ap (λ l. (given_from (view mid.pass) l y).returned) out.holds.held;
     }
 
     -- and it is the one that the call began with
@@ -252,10 +252,10 @@ module _ {O : Type 0} (r : Running O) where
         record {
           lent = record {
             part = part_like before after (given_from v (holds.taken ∷ []) y) out.part pass given refl refl refl;
-            kept = subst (HoldsKept r (view after.pass)) (sym none) (ap (λ (u : Hand). u.held) given);
+            kept = subst (HoldsKept r (view after.pass)) (sym none) (ap (λ (u : LenderPass). u.held) given);
           };
           back = none;
-          limits = ap (λ (u : Hand). limits_at u.home) given;
+          limits = ap (λ (u : LenderPass). limits_at u.home) given;
           asked = x;
           since = since;
           now = y;
@@ -263,8 +263,8 @@ module _ {O : Type 0} (r : Running O) where
           read = x_;
           is = refl;
           from = from;
-          tells = ap (λ (u : Hand). u.told) is ∙ are.1;
-          shows = λ h. (let same : total_weight h (view after.pass).shown ≡ total_weight h (v.shown ++ (holds.idle.more ++ x_ ∷ [])) = ap (λ (u : Hand). total_weight h u.shown) is ∙ ap (total_weight h) are.2 in omega (arith, same, total_both h v.shown (holds.idle.more ++ x_ ∷ []), total_both h holds.idle.more (x_ ∷ [])));
+          tells = ap (λ (u : LenderPass). u.told) is ∙ are.1;
+          shows = λ h. (let same : total_weight h (view after.pass).shown ≡ total_weight h (v.shown ++ (holds.idle.more ++ x_ ∷ [])) = ap (λ (u : LenderPass). total_weight h u.shown) is ∙ ap (total_weight h) are.2 in omega (arith, same, total_both h v.shown (holds.idle.more ++ x_ ∷ []), total_both h holds.idle.more (x_ ∷ [])));
         }
 
     -- a caller was given back that was in no call
@@ -278,12 +278,12 @@ module _ {O : Type 0} (r : Running O) where
         record {
           lent = record {
             part = part_like before after (given_from v (holds.taken ∷ []) y) out.part pass given refl refl refl;
-            kept = subst (HoldsKept r (view after.pass)) (sym none) (ap (λ (u : Hand). u.held) given);
+            kept = subst (HoldsKept r (view after.pass)) (sym none) (ap (λ (u : LenderPass). u.held) given);
           };
           back = none;
-          limits = ap (λ (u : Hand). limits_at u.home) given;
-          tells = ap (λ (u : Hand). u.told) is ∙ shown.1;
-          shows = λ h. (let same : total_weight h (view after.pass).shown ≡ total_weight h (v.shown ++ idle.more) = ap (λ (u : Hand). total_weight h u.shown) is ∙ ap (total_weight h) shown.2 in omega (arith, same, total_both h v.shown idle.more));
+          limits = ap (λ (u : LenderPass). limits_at u.home) given;
+          tells = ap (λ (u : LenderPass). u.told) is ∙ shown.1;
+          shows = λ h. (let same : total_weight h (view after.pass).shown ≡ total_weight h (v.shown ++ idle.more) = ap (λ (u : LenderPass). total_weight h u.shown) is ∙ ap (total_weight h) shown.2 in omega (arith, same, total_both h v.shown idle.more));
         }
 
     pub tells_on : (a b c : Lent) → TellsSame a b → TellsSame b c → TellsSame a c
@@ -298,15 +298,15 @@ module _ {O : Type 0} (r : Running O) where
       part_kept part = part_like mid after (view mid.pass) part (ap (λ p. p.table_id) same ∙ part.pass.0, ap (λ p. p.me.1) same ∙ part.pass.1) w refl refl refl
 
       tells_kept : TellsSame before after
-      tells_kept = tells_on before mid after tells (record { limits = ap (λ (u : Hand). limits_at u.home) w; told = ap (λ (u : Hand). u.told) w; shown = ap (λ (u : Hand). u.shown) w; returned = ap (λ (u : Hand). u.returned) w })
+      tells_kept = tells_on before mid after tells (record { limits = ap (λ (u : LenderPass). limits_at u.home) w; told = ap (λ (u : LenderPass). u.told) w; shown = ap (λ (u : LenderPass). u.shown) w; returned = ap (λ (u : LenderPass). u.returned) w })
 
       first_kept : IsFirstCaller before.kept (view after.pass) first
-      first_kept = subst (λ (u : Hand). IsFirstCaller before.kept u first) (sym w) begins
+      first_kept = subst (λ (u : LenderPass). IsFirstCaller before.kept u first) (sym w) begins
 
       idle_again : (x y : Seated) → IsOut r table mid x → StaysIdle r x y → after.kept ≡ Some (Idle y) → IsLentTo r table after
       idle_again x y out idle keeps = record {
         part = part_kept out.part;
-        kept = subst (HoldsKept r (view after.pass)) (sym keeps) (subst (λ (u : Hand). HoldsIdle r u y) (sym w) (holds_on (view mid.pass) x y out.holds idle));
+        kept = subst (HoldsKept r (view after.pass)) (sym keeps) (subst (λ (u : LenderPass). HoldsIdle r u y) (sym w) (holds_on (view mid.pass) x y out.holds idle));
       }
 
       pub full_kept : (way : Seated → Seated → Type 0) (x y : Seated) (note : FullNote) → way first x → IsOut r table mid x → UpdateFull r x y note → after.kept ≡ Some (Idle y) → KeepsFull r table way before after note
@@ -317,7 +317,7 @@ module _ {O : Type 0} (r : Running O) where
         is = first_kept;
         asked = x;
         came = came;
-        held = subst (λ (u : Hand). HoldsIdle r u x) (sym w) out.holds;
+        held = subst (λ (u : LenderPass). HoldsIdle r u x) (sym w) out.holds;
         now = y;
         keeps = keeps;
         full = full;
@@ -331,7 +331,7 @@ module _ {O : Type 0} (r : Running O) where
         is = first_kept;
         asked = x;
         came = came;
-        held = subst (λ (u : Hand). HoldsIdle r u x) (sym w) out.holds;
+        held = subst (λ (u : LenderPass). HoldsIdle r u x) (sym w) out.holds;
         now = y;
         keeps = keeps;
         worn = worn;
@@ -347,7 +347,7 @@ module _ {O : Type 0} (r : Running O) where
           record {
             lent = record {
               part = part_kept out.part;
-              kept = subst (HoldsKept r (view after.pass)) (sym keeps) (subst (λ l. Gathers r l (Stopped s ∷ [])) (sym (ap (λ (u : Hand). u.held) w ∙ out.holds.held)) g, subst (λ (u : Hand). HasLimit (limits_at u.home) s.seat) (sym w) limit);
+              kept = subst (HoldsKept r (view after.pass)) (sym keeps) (subst (λ l. Gathers r l (Stopped s ∷ [])) (sym (ap (λ (u : LenderPass). u.held) w ∙ out.holds.held)) g, subst (λ (u : LenderPass). HasLimit (limits_at u.home) s.seat) (sym w) limit);
             };
             tells = tells_kept;
             first = first;
@@ -420,10 +420,10 @@ module _ {O : Type 0} (r : Running O) where
           record {
             lent = record {
               part = part_like mid after (given_from v (holds.taken ∷ []) y) out.part back.pass given refl refl refl;
-              kept = subst (HoldsKept r (view after.pass)) (sym none) (ap (λ (u : Hand). u.held) given);
+              kept = subst (HoldsKept r (view after.pass)) (sym none) (ap (λ (u : LenderPass). u.held) given);
             };
             back = none;
-            limits = ap (λ (u : Hand). limits_at u.home) given ∙ same.limits;
+            limits = ap (λ (u : LenderPass). limits_at u.home) given ∙ same.limits;
             told = t;
             entry = refl;
             is = (sym done.links.number ∙ sym number, refl);
@@ -431,8 +431,8 @@ module _ {O : Type 0} (r : Running O) where
             ticket = refl;
             from = omega (arith, floor_, done.from);
             small = (let below = own_below op x y answer done in omega (arith, below, front));
-            tells = ap (λ (u : Hand). u.told) is ∙ told.1 ∙ ap (λ (l : List Told). l ++ t ∷ []) same.told;
-            shows = λ h. (let first : total_weight h v.shown ≡ total_weight h (view before.pass).shown = ap (total_weight h) same.shown in let more : total_weight h (view after.pass).shown ≡ total_weight h (v.shown ++ new) = ap (λ (u : Hand). total_weight h u.shown) given in omega (arith, first, more, total_both h v.shown new));
+            tells = ap (λ (u : LenderPass). u.told) is ∙ told.1 ∙ ap (λ (l : List AnsweredCall). l ++ t ∷ []) same.told;
+            shows = λ h. (let first : total_weight h v.shown ≡ total_weight h (view before.pass).shown = ap (total_weight h) same.shown in let more : total_weight h (view after.pass).shown ≡ total_weight h (v.shown ++ new) = ap (λ (u : LenderPass). total_weight h u.shown) given in omega (arith, first, more, total_both h v.shown new));
           }
 
       -- which is what its caller answered

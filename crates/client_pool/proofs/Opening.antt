@@ -7,13 +7,13 @@ use Rattle.std.proofs.lemmas.List.Elements.{All-head, All-push, All-tail}
 use Rattle.atomic_table.specs.Seated.{TableId}
 use Rattle.crossbeam_queue.specs.Passes.{view}
 use Rattle.cx_core.specs.declared.local.Linked.{Linked}
-use Rattle.cx_rule.specs.Running.{Running}
-use Rattle.cx_rule.specs.Seats.{Seated}
+use Rattle.table_invariant.specs.Running.{Running}
+use Rattle.table_invariant.specs.Seats.{Seated}
 use Rattle.cx_service.specs.Callers.{IsCallerOf}
 use Rattle.seat_pool.specs.Gathering.{IsRestOf}
 use Rattle.seat_pool.specs.Pooling.{HasLimit, calls_from, calls_of, cut_left, limits_at, total_weight}
-use Rattle.seat_pool.specs.declared.hand.Hand.{Hand}
-use Rattle.seat_pool.specs.declared.hand.Home.{Home}
+use Rattle.seat_pool.specs.declared.hand.LenderPass.{LenderPass}
+use Rattle.seat_pool.specs.declared.hand.ServiceView.{ServiceView}
 use Rattle.seat_pool.specs.declared.lent.Lent.{Lent}
 use Rattle.seat_pool.proofs.Orderings.{range_push}
 use Rattle.client_pool.specs.Clients.{HasCalls, IsClientOf}
@@ -66,7 +66,7 @@ module _ {O : Type 0} (r : Running O) where
     here = sym are ∙ ap (λ (l : List Seated). front ++ l) next
 
     -- there is room for the next caller
-    pub fits : (v : Hand) → v.placed ≡ map (λ (s : Seated). s.known.local.number) front → length v.placed < r.callers
+    pub fits : (v : LenderPass) → v.placed ≡ map (λ (s : Seated). s.known.local.number) front → length v.placed < r.callers
     fits v placed =
         let long = as_long (λ (s : Seated). s.known.local.number) callers 0 r.callers new.numbers in
         let short : length v.placed ≡ length front = ap length placed ∙ length_map (λ (s : Seated). s.known.local.number) front in
@@ -74,7 +74,7 @@ module _ {O : Type 0} (r : Running O) where
         omega (arith, long, short, all, length-append front (x ∷ rest))
 
     -- and it is one of the service, with its limit and without a call
-    pub is_next : (home : Option Home) → limits_at home ≡ map (λ (s : Seated). s.known.local.limit) callers → IsCallerOf r x × HasLimit (limits_at home) x × (calls_of x ≡ [])
+    pub is_next : (home : Option ServiceView) → limits_at home ≡ map (λ (s : Seated). s.known.local.limit) callers → IsCallerOf r x × HasLimit (limits_at home) x × (calls_of x ≡ [])
     is_next home limits =
         let is = each_here (IsNewCaller r) front rest x (subst (All (IsNewCaller r)) here new.each) in
         let limit = λ (s : Seated). s.known.local.limit in
@@ -85,8 +85,8 @@ module _ {O : Type 0} (r : Running O) where
         )
 
   module _ (table : TableId) where
-    pub placed_more : (n : ℕ) (v w : Hand) → AreCallersPlaced r n v → n < 1024 → w ≡ cut_left v → AreCallersPlaced r (n + 1) w
-    placed_more n v w placed few cut = subst (λ (u : Hand). AreCallersPlaced r (n + 1) u) (sym cut) (record {
+    pub placed_more : (n : ℕ) (v w : LenderPass) → AreCallersPlaced r n v → n < 1024 → w ≡ cut_left v → AreCallersPlaced r (n + 1) w
+    placed_more n v w placed few cut = subst (λ (u : LenderPass). AreCallersPlaced r (n + 1) u) (sym cut) (record {
       home = placed.home;
       parts = (let parts = placed.parts in omega (arith, parts, few));
       placed = placed.placed;
@@ -95,7 +95,7 @@ module _ {O : Type 0} (r : Running O) where
       shown = placed.shown;
     })
 
-    pub rest_of : (n : ℕ) (v : Hand) → AreCallersPlaced r n v → n < 1024 → IsRestOf r v n
+    pub rest_of : (n : ℕ) (v : LenderPass) → AreCallersPlaced r n v → n < 1024 → IsRestOf r v n
     rest_of n v placed few = record {
       home = placed.home;
       some = (let parts = placed.parts in omega (arith, parts, few));

@@ -13,7 +13,7 @@ use Rattle.cx_service.specs.declared.close.Handed.{Handed}
 use Rattle.cx_table.specs.Remains.{locals_of}
 use Rattle.seat_pool.specs.Gathering.{handed_calls, one_at}
 use Rattle.seat_pool.specs.Pooling.{calls_from, total_weight}
-use Rattle.seat_pool.specs.declared.hand.Told.{Told}
+use Rattle.seat_pool.specs.declared.hand.AnsweredCall.{AnsweredCall}
 use Rattle.seat_pool.proofs.Orderings.{one_else}
 use Rattle.client_pool.proofs.Weights.{both_of, one_self, single}
 
@@ -21,12 +21,12 @@ use Rattle.client_pool.proofs.Weights.{both_of, one_self, single}
 abbrev owns : ℕ → List Linked → ℕ
 owns k own = total_weight (λ (x : Linked). one_at k x.ticket) own
 
-calls_within : (k n : ℕ) (own : List Linked) (answers : List Answer) → total_weight (λ (t : Told). one_at k t.entry.ticket) (calls_from n own answers) ≤ owns k own
+calls_within : (k n : ℕ) (own : List Linked) (answers : List Answer) → total_weight (λ (t : AnsweredCall). one_at k t.entry.ticket) (calls_from n own answers) ≤ owns k own
 calls_within k n [] answers = omega arith
 calls_within k n (x ∷ own) [] = omega arith
 calls_within k n (x ∷ own) (a ∷ answers) = (let rest = calls_within k n own answers in omega (arith, rest))
 
-handed_within : (k : ℕ) (handed : List Handed) → total_weight (handed_calls (λ (t : Told). one_at k t.entry.ticket)) handed ≤ total_weight (λ (l : Local). owns k l.own) (locals_of (seats_of handed))
+handed_within : (k : ℕ) (handed : List Handed) → total_weight (handed_calls (λ (t : AnsweredCall). one_at k t.entry.ticket)) handed ≤ total_weight (λ (l : Local). owns k l.own) (locals_of (seats_of handed))
 handed_within k [] = omega arith
 handed_within k (g ∷ handed) =
     (let here = calls_within k (seat_of g).known.local.number (seat_of g).known.local.own (seat_of g).known.local.answered in let rest = handed_within k handed in omega (arith, here, rest))
@@ -76,7 +76,7 @@ by_locals k a place history (l ∷ locals) own =
     let rest = by_locals k (a + 1) place history locals (λ i m at. (let next : a + suc i ≡ a + 1 + i = omega arith in own (suc i) m at ∙ ap (λ c. own_of c place history) next)) in
     omega (arith, here, rest)
 
-pub once : (k place : ℕ) (history : List HistoryEntry) (handed : List Handed) → IsHistory place history (locals_of (seats_of handed)) → total_weight (handed_calls (λ (t : Told). one_at k t.entry.ticket)) handed ≤ 1
+pub once : (k place : ℕ) (history : List HistoryEntry) (handed : List Handed) → IsHistory place history (locals_of (seats_of handed)) → total_weight (handed_calls (λ (t : AnsweredCall). one_at k t.entry.ticket)) handed ≤ 1
 once k place history handed merged =
     let locals = locals_of (seats_of handed) in
     let within = handed_within k handed in

@@ -5,7 +5,7 @@ use Rattle.std.proofs.lemmas.Bool.{cases_eq}
 use Rattle.cx_core.specs.declared.local.SeenRead.{SeenRead}
 use Rattle.seat_pool.specs.Gathering.{one_at}
 use Rattle.seat_pool.specs.Pooling.{total_weight}
-use Rattle.seat_pool.specs.declared.hand.Told.{Told}
+use Rattle.seat_pool.specs.declared.hand.AnsweredCall.{AnsweredCall}
 
 -- the second, where the first is something
 abbrev pub both_of : ℕ → ℕ → ℕ
@@ -48,7 +48,7 @@ list_is (x ∷ xs) (y ∷ ys) lt =
     ap (λ (k : ℕ). k ∷ xs) (one_is x y are.0) ∙ ap (λ (l : List ℕ). y ∷ l) (list_is xs ys are.1)
 
 -- 1 at a call, and 0 at others
-abbrev pub same_told : Told → Told → ℕ
+abbrev pub same_told : AnsweredCall → AnsweredCall → ℕ
 same_told t u =
     both_of (one_at t.caller u.caller)
     (both_of (one_at t.entry.ticket u.entry.ticket)
@@ -58,7 +58,7 @@ same_told t u =
     (both_of (one_at t.answer.ticket u.answer.ticket)
     (same_list t.answer.reply u.answer.reply))))))
 
-pub told_self : (t : Told) → same_told t t ≡ 1
+pub told_self : (t : AnsweredCall) → same_told t t ≡ 1
 told_self t =
     both_one _ _ (one_self t.caller)
     (both_one _ _ (one_self t.entry.ticket)
@@ -68,10 +68,10 @@ told_self t =
     (both_one _ _ (one_self t.answer.ticket)
     (list_self t.answer.reply))))))
 
-told_of : ℕ → ℕ → ℕ → ℕ → List ℕ → ℕ → List ℕ → Told
+told_of : ℕ → ℕ → ℕ → ℕ → List ℕ → ℕ → List ℕ → AnsweredCall
 told_of caller ticket of number op at reply = record { caller = caller; entry = record { ticket = ticket; entry = record { caller = of; number = number; op = op } }; answer = record { ticket = at; reply = reply } }
 
-pub told_is : (t u : Told) → 0 < same_told t u → t ≡ u
+pub told_is : (t u : AnsweredCall) → 0 < same_told t u → t ≡ u
 unfolding told_of
 told_is t u lt =
     let a = both_are _ _ lt in

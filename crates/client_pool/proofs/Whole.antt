@@ -12,16 +12,16 @@ use Rattle.cx_core.specs.declared.entry.Entry.{Entry as HistoryEntry}
 use Rattle.cx_core.specs.declared.local.Answer.{Answer}
 use Rattle.cx_core.specs.declared.local.Linked.{Linked as OwnEntry}
 use Rattle.cx_core.specs.declared.local.Local.{Local}
-use Rattle.cx_rule.specs.Running.{Running}
-use Rattle.cx_rule.specs.Seats.{Seated}
+use Rattle.table_invariant.specs.Running.{Running}
+use Rattle.table_invariant.specs.Seats.{Seated}
 use Rattle.cx_service.specs.Closes.{seat_of, seats_of}
 use Rattle.cx_service.specs.declared.close.Handed.{Handed}
 use Rattle.cx_service.specs.declared.close.Handed.TheVariants.{Idle, Linked, Stopped}
-use Rattle.cx_table.specs.Remains.{Leaves, locals_of}
+use Rattle.cx_table.specs.Remains.{ClosingWitness, locals_of}
 use Rattle.cx_table.specs.declared.remains.Remains.{Remains}
 use Rattle.seat_pool.specs.Gathering.{AreCallsTold, IsHandedOf, handed_calls, if_stopped, kept_list, lent_kept, one_at}
 use Rattle.seat_pool.specs.Pooling.{calls_from, calls_of, total_weight}
-use Rattle.seat_pool.specs.declared.hand.Told.{Told}
+use Rattle.seat_pool.specs.declared.hand.AnsweredCall.{AnsweredCall}
 use Rattle.seat_pool.proofs.Poolings.{units}
 use Rattle.client_pool.specs.Answers.{AreWhole, answers_at}
 use Rattle.client_pool.specs.Clients.{HasCalls, entries_called}
@@ -59,7 +59,7 @@ stops_busy (Idle seat ∷ handed) = (let rest = stops_busy handed in omega (arit
 stops_busy (Linked seat ∷ handed) = (let rest = stops_busy handed in omega (arith, rest))
 stops_busy (Stopped stopped ∷ handed) = (let rest = stops_busy handed in omega (arith, rest))
 
-no_weight : (h : Told → ℕ) (xs : List Told) → total_weight (λ (t : Told). 1) xs ≤ 0 → total_weight h xs ≡ 0
+no_weight : (h : AnsweredCall → ℕ) (xs : List AnsweredCall) → total_weight (λ (t : AnsweredCall). 1) xs ≤ 0 → total_weight h xs ≡ 0
 no_weight h [] none = refl
 no_weight h (x ∷ xs) none = absurd (omega (arith, none))
 
@@ -70,12 +70,12 @@ even r (Idle seat) of idle = (let count = of.count in omega (arith, count))
 even r (Linked seat) of idle = absurd (omega (arith, idle))
 even r (Stopped stopped) of idle = absurd (omega (arith, idle))
 
-all_answered : (n : ℕ) (own : List OwnEntry) (answers : List Answer) → length own ≡ length answers → total_weight (λ (t : Told). 1) (calls_from n own answers) ≡ length own
+all_answered : (n : ℕ) (own : List OwnEntry) (answers : List Answer) → length own ≡ length answers → total_weight (λ (t : AnsweredCall). 1) (calls_from n own answers) ≡ length own
 all_answered n [] answers same = refl
 all_answered n (x ∷ own) [] same = absurd (omega (arith, same))
 all_answered n (x ∷ own) (a ∷ answers) same = (let rest = all_answered n own answers (omega (arith, same)) in omega (arith, rest))
 
-call_there : (n : ℕ) (own : List OwnEntry) (answers : List Answer) (k : ℕ) (x : OwnEntry) → length own ≡ length answers → slice_get own k ≡ Some x → (t : Told) × (slice_get (calls_from n own answers) k ≡ Some t) × (t.entry ≡ x)
+call_there : (n : ℕ) (own : List OwnEntry) (answers : List Answer) (k : ℕ) (x : OwnEntry) → length own ≡ length answers → slice_get own k ≡ Some x → (t : AnsweredCall) × (slice_get (calls_from n own answers) k ≡ Some t) × (t.entry ≡ x)
 call_there n [] answers k x same at = absurd (none-some x at)
 call_there n (y ∷ own) [] k x same at = absurd (omega (arith, same))
 call_there n (y ∷ own) (a ∷ answers) zero x same at = (record { caller = n; entry = y; answer = a }, refl, same_Some y x at)
@@ -97,7 +97,7 @@ locals_long [] = refl
 locals_long (h ∷ handed) = ap suc (locals_long handed)
 
 module _ {O : Type 0} (r : Running O) where
-  counted : (handed : List Handed) → All (IsHandedOf r) handed → total_weight busy handed ≡ 0 → total_weight (handed_calls (λ (t : Told). 1)) handed ≡ length (all_own (locals_of (seats_of handed)))
+  counted : (handed : List Handed) → All (IsHandedOf r) handed → total_weight busy handed ≡ 0 → total_weight (handed_calls (λ (t : AnsweredCall). 1)) handed ≡ length (all_own (locals_of (seats_of handed)))
   counted [] of idle = refl
   counted (g ∷ handed) of idle =
       let l = (seat_of g).known.local in
@@ -113,7 +113,7 @@ module _ {O : Type 0} (r : Running O) where
 
   -- each entry of the history is a call of a caller
   has_call : (place : ℕ) (history : List HistoryEntry) (handed : List Handed) → IsHistory place history (locals_of (seats_of handed)) → All (IsHandedOf r) handed → total_weight busy handed ≡ 0
-      → (ticket : ℕ) → place ≤ ticket → ticket < place + length history → 1 ≤ total_weight (handed_calls (λ (t : Told). one_at ticket t.entry.ticket)) handed
+      → (ticket : ℕ) → place ≤ ticket → ticket < place + length history → 1 ≤ total_weight (handed_calls (λ (t : AnsweredCall). one_at ticket t.entry.ticket)) handed
   has_call place history handed merged of idle ticket from below =
       let i = ticket - place in
       let e = item_below history i (omega (arith, from, below)) in
@@ -128,13 +128,13 @@ module _ {O : Type 0} (r : Running O) where
       let t = call_there l.number l.own l.answered mine.0 x (even r g.0 is.0 is.1) there in
       let at : t.0.entry.ticket ≡ ticket = ap (λ (y : OwnEntry). y.ticket) t.2 ∙ omega (arith, from) in
       let one : one_at ticket t.0.entry.ticket ≡ 1 = ap (one_at ticket) at ∙ one_self ticket in
-      let inner = weighs_in (λ (u : Told). one_at ticket u.entry.ticket) (calls_of (seat_of g.0)) mine.0 t.0 t.1 in
-      let outer = weighs_in (handed_calls (λ (u : Told). one_at ticket u.entry.ticket)) handed caller g.0 g.1 in
+      let inner = weighs_in (λ (u : AnsweredCall). one_at ticket u.entry.ticket) (calls_of (seat_of g.0)) mine.0 t.0 t.1 in
+      let outer = weighs_in (handed_calls (λ (u : AnsweredCall). one_at ticket u.entry.ticket)) handed caller g.0 g.1 in
       omega (arith, one, inner, outer)
 
-  lengths : (calls : List (List Call)) → total_weight (λ (cs : List Call). length (entries_called cs)) calls ≡ total_weight (λ (cs : List Call). total_weight (λ (t : Told). 1) (entries_called cs)) calls
+  lengths : (calls : List (List Call)) → total_weight (λ (cs : List Call). length (entries_called cs)) calls ≡ total_weight (λ (cs : List Call). total_weight (λ (t : AnsweredCall). 1) (entries_called cs)) calls
   lengths [] = refl
-  lengths (cs ∷ calls) = (let here = units Told (entries_called cs) in let rest = lengths calls in omega (arith, here, rest))
+  lengths (cs ∷ calls) = (let here = units AnsweredCall (entries_called cs) in let rest = lengths calls in omega (arith, here, rest))
 
   pub are_whole : (history : List HistoryEntry) (handed : List Handed) (clients : List Client) → IsHistory r.base.place history (locals_of (seats_of handed)) → AreCallsTold r (lents_of clients) handed
       → All (λ (c : Client). is_live c.lent.kept ≡ true) clients → (calls : List (List Call)) → AllZip (HasCalls r) clients calls → ((ticket : ℕ) → total_weight (answers_at ticket) calls ≤ 1) → AreWhole r.base.place history calls
@@ -143,18 +143,18 @@ module _ {O : Type 0} (r : Running O) where
       let idle : total_weight busy handed ≡ 0 = told.others busy (λ s. refl) ∙ none_busy clients live in
       let few = told.few (λ (n : ℕ). 1) in
       let stops = stops_busy handed in
-      let all : (h : Told → ℕ) → total_weight (λ (cs : List Call). total_weight h (entries_called cs)) calls ≡ total_weight (handed_calls h) handed = λ h. (
+      let all : (h : AnsweredCall → ℕ) → total_weight (λ (cs : List Call). total_weight h (entries_called cs)) calls ≡ total_weight (handed_calls h) handed = λ h. (
       let none = no_weight h told.untold (omega (arith, few, stops, idle)) in
       let same = weighs r h clients calls are in
       let told_ = told.calls h in
       omega (arith, none, same, told_)) in
       record {
-        all = λ ticket from below. (let one = once ticket in let has = has_call r.base.place history handed merged told.of idle ticket from below in let same = all (λ (t : Told). one_at ticket t.entry.ticket) in omega (arith, one, has, same));
-        count = (let long = lengths calls in let same = all (λ (t : Told). 1) in let count = counted handed told.of idle in let own = own_count r.base.place history (locals_of (seats_of handed)) merged in omega (arith, long, same, count, own));
+        all = λ ticket from below. (let one = once ticket in let has = has_call r.base.place history handed merged told.of idle ticket from below in let same = all (λ (t : AnsweredCall). one_at ticket t.entry.ticket) in omega (arith, one, has, same));
+        count = (let long = lengths calls in let same = all (λ (t : AnsweredCall). 1) in let count = counted handed told.of idle in let own = own_count r.base.place history (locals_of (seats_of handed)) merged in omega (arith, long, same, count, own));
       }
 
 -- the front of a caller that a client keeps is not past the history
-module _ {O : Type 0} (r : Running O) (instance : Instance) (handed : List Handed) (remains : Remains) (clients : List Client) (place : instance.base.place ≡ r.base.place) (leaves : Leaves r instance (seats_of handed) remains)
+module _ {O : Type 0} (r : Running O) (instance : Instance) (handed : List Handed) (remains : Remains) (clients : List Client) (place : instance.base.place ≡ r.base.place) (leaves : ClosingWitness r instance (seats_of handed) remains)
     (told : AreCallsTold r (lents_of clients) handed) where
   lent_at : (cs : List Client) (i : ℕ) (client : Client) → slice_get cs i ≡ Some client → slice_get (lents_of cs) i ≡ Some client.lent
   lent_at [] i client at = absurd (none-some client at)

@@ -11,13 +11,13 @@ use Rattle.cx_core.specs.declared.local.Local.{Local}
 use Rattle.cx_core.specs.declared.local.SeenRead.{SeenRead}
 use Rattle.seat_pool.specs.Gathering.{one_at}
 use Rattle.seat_pool.specs.Pooling.{total_weight}
-use Rattle.seat_pool.specs.declared.hand.Told.{Told}
+use Rattle.seat_pool.specs.declared.hand.AnsweredCall.{AnsweredCall}
 use Rattle.client_pool.specs.Clients.{AreInTurn, entries_called}
 use Rattle.client_pool.specs.declared.call.Call.{Call}
 use Rattle.client_pool.specs.declared.call.Call.TheVariants.{Entry, Look}
 
 -- the entry is this caller's, the history has it at the answer's ticket, and the answer is the object's reply after all entries with lower tickets
-pub record IsEntryOf (instance : Instance) (history : List HistoryEntry) (told : Told) : Type 0 where
+pub record IsEntryOf (instance : Instance) (history : List HistoryEntry) (told : AnsweredCall) : Type 0 where
   pub ticket : told.entry.ticket ≡ told.answer.ticket
   pub caller : told.entry.entry.caller ≡ told.caller
   pub linked : IsLinked instance.base.place history told.answer.ticket told.entry.entry
@@ -34,7 +34,7 @@ IsCallOf instance history (Entry told) = IsEntryOf instance history told
 IsCallOf instance history (Look read) = IsReadOf instance history read
 
 -- the entry and its answer stand in the lists of the caller that is named, both at this index, and the read in those of some caller
-pub record IsCallersEntry (locals : List Local) (told : Told) : Type 0 where
+pub record IsCallersEntry (locals : List Local) (told : AnsweredCall) : Type 0 where
   pub local : Local
   pub of_caller : slice_get locals told.caller ≡ Some local
   pub index : ℕ
@@ -63,7 +63,7 @@ StandsIn locals order call = (is : IsCallersCall locals call) × IsIn order (ope
 
 -- how many of a client's calls are answered as the entry at a ticket
 abbrev pub answers_at : ℕ → List Call → ℕ
-answers_at ticket calls = total_weight (λ (t : Told). one_at ticket t.entry.ticket) (entries_called calls)
+answers_at ticket calls = total_weight (λ (t : AnsweredCall). one_at ticket t.entry.ticket) (entries_called calls)
 
 -- The calls of clients are the history's, and those of the callers that ended with these local states. No ticket answers two of them, and no answer to a
 -- client holds below one before it.

@@ -4,17 +4,17 @@ use Rattle.atomic_table.specs.Seated.{TableId}
 use Rattle.crossbeam_queue.specs.Passes.{view}
 use Rattle.cx_core.specs.declared.local.Answer.{Answer}
 use Rattle.cx_core.specs.declared.local.SeenRead.{SeenRead}
-use Rattle.cx_rule.specs.Running.{Running}
-use Rattle.cx_rule.specs.Seats.{Seated}
+use Rattle.table_invariant.specs.Running.{Running}
+use Rattle.table_invariant.specs.Seats.{Seated}
 use Rattle.cx_service.specs.Callers.{StoppedSeat}
 use Rattle.cx_service.specs.CatchUps.{CatchUpBehind, CatchUpCaught, CatchUpHalted}
 use Rattle.cx_service.specs.Drives.{MeetsFewer, answer_with}
 use Rattle.cx_service.specs.Lookups.{ReadAnswered, seen_with}
 use Rattle.cx_service.specs.Submits.{next_entry}
 use Rattle.cx_service.specs.Updates.{ReadStops, UpdateDone, UpdateHalted}
-use Rattle.cx_turns.specs.declared.lookup.Seen.{Seen}
+use Rattle.cx_attempts.specs.declared.lookup.Seen.{Seen}
 use Rattle.seat_pool.specs.Pooling.{told_with, total_weight}
-use Rattle.seat_pool.specs.declared.hand.Told.{Told}
+use Rattle.seat_pool.specs.declared.hand.AnsweredCall.{AnsweredCall}
 use Rattle.seat_pool.specs.declared.lent.Lent.{Lent}
 use Rattle.client_pool.specs.declared.call.Answered.{Answered}
 use Rattle.client_pool.specs.declared.call.Answered.TheVariants.{Updated, Read}
@@ -22,7 +22,7 @@ use Rattle.client_pool.specs.declared.call.Call.{Call}
 use Rattle.client_pool.specs.declared.call.Call.TheVariants.{Entry, Look}
 use Rattle.client_pool.specs.declared.client.Client.{Client}
 use Rattle.client_pool.specs.declared.pool.PooledCatchUp.{PooledCatchUp}
-use Rattle.client_pool.specs.declared.pool.PooledCatchUp.TheVariants.{Caught, Behind, Stopped as StoppedCatchUp}
+use Rattle.client_pool.specs.declared.pool.PooledCatchUp.TheVariants.{FloorOutcome, Behind, Stopped as StoppedCatchUp}
 use Rattle.client_pool.specs.declared.pool.Pooled.{Pooled}
 use Rattle.client_pool.specs.declared.pool.Pooled.TheVariants.{Done, Full, Worn, Stopped, Memory}
 use Rattle.client_pool.specs.declared.pool.PooledRead.{PooledRead}
@@ -54,7 +54,7 @@ AreInTurn floor [] = Unit {0}
 AreInTurn floor (call ∷ calls) = (floor ≤ answer_place_of call) × AreInTurn (next_place_of call) calls
 
 -- the entries among calls, and the reads
-abbrev pub entries_called : List Call → List Told
+abbrev pub entries_called : List Call → List AnsweredCall
 entries_called [] = []
 entries_called (Entry told ∷ calls) = told ∷ entries_called calls
 entries_called (Look read ∷ calls) = entries_called calls
@@ -94,13 +94,13 @@ pub record HasMade {O : Type 0} (r : Running O) (table : TableId) (before after 
 
 -- the call is an entry of this operation, with this answer
 pub record HasUpdated {O : Type 0} (r : Running O) (table : TableId) (op : List ℕ) (before after : Client) (answer : Answer) : Type 0 where
-  pub told : Told
+  pub told : AnsweredCall
   pub is : (told.answer ≡ answer) × (told.entry.ticket ≡ answer.ticket) × (told.entry.entry.op ≡ op)
   pub made : HasMade r table before after (Entry told)
 
 -- The entry and its answer are of the caller that was asked, the one that the client kept or else one out of the queue, which entered the queue in this way and
 -- was answered so in this call, and was given back so.
-pub record IsClientAnswered {O : Type 0} (r : Running O) (way : Seated → Seated → Type 0) (op : List ℕ) (before after : Lent) (told : Told) : Type 0 where
+pub record IsClientAnswered {O : Type 0} (r : Running O) (way : Seated → Seated → Type 0) (op : List ℕ) (before after : Lent) (told : AnsweredCall) : Type 0 where
   pub first : Seated
   pub asked : Seated
   pub came : way first asked
@@ -195,6 +195,6 @@ ReadsForClient r table op reply before after MemoryRead = HasNoMore r table befo
 
 -- the result of catching up with a place
 abbrev pub ClientCatchesUp : {O : Type 0} → Running O → TableId → ℕ → Client → Client → PooledCatchUp → Type 0
-ClientCatchesUp r table place before after Caught = HasCaughtUp r table place before after
+ClientCatchesUp r table place before after FloorOutcome = HasCaughtUp r table place before after
 ClientCatchesUp r table place before after (Behind found) = IsClientBehind r table place found before after
 ClientCatchesUp r table place before after StoppedCatchUp = HasNoMore r table before after × KeepsStopped r table (CatchUpHalted r) before.lent after.lent None

@@ -4,8 +4,8 @@ use Rattle.atomic_table.specs.Seated.{TableId}
 use Rattle.crossbeam_queue.specs.Passes.{view, ruled_capacity}
 use Rattle.cx_core.specs.declared.local.FullNote.{FullNote}
 use Rattle.cx_core.specs.declared.local.SeenRead.{SeenRead}
-use Rattle.cx_rule.specs.Running.{Running}
-use Rattle.cx_rule.specs.Seats.{Seated}
+use Rattle.table_invariant.specs.Running.{Running}
+use Rattle.table_invariant.specs.Seats.{Seated}
 use Rattle.cx_service.specs.Callers.{IsCallerOf, StoppedSeat}
 use Rattle.cx_service.specs.CatchUps.{CatchUpBehind, CatchUpCaught, CatchUpHalted}
 use Rattle.cx_service.specs.Closes.{seat_of}
@@ -16,21 +16,21 @@ use Rattle.cx_service.specs.declared.close.Handed.{Handed}
 use Rattle.cx_service.specs.declared.close.Handed.TheVariants.{Idle, Linked, Stopped}
 use Rattle.cx_service.specs.declared.update.Updated.{Updated}
 use Rattle.cx_service.specs.declared.update.Updated.TheVariants.{Done as UpdatedDone, Full as UpdatedFull, Worn as UpdatedWorn, Halted as UpdatedHalted}
-use Rattle.cx_turns.specs.Turns.{StepsOn}
-use Rattle.cx_turns.specs.declared.lookup.Seen.{Seen}
+use Rattle.cx_attempts.specs.Attempts.{StepsOn}
+use Rattle.cx_attempts.specs.declared.lookup.Seen.{Seen}
 use Rattle.seat_pool.specs.Gathering.{Gathers, StaysIdle}
 use Rattle.seat_pool.specs.Pooling.{HasLimit, IsFirstOf, IsHomeOf, limits_at, total_weight, with_given}
-use Rattle.seat_pool.specs.declared.hand.Hand.{Hand}
+use Rattle.seat_pool.specs.declared.hand.LenderPass.{LenderPass}
 use Rattle.seat_pool.specs.declared.lent.Lent.{Lent}
 use Rattle.client_pool.specs.declared.pool.Pool.{Pool}
 use Rattle.client_pool.specs.declared.pool.PooledCatchUp.{PooledCatchUp}
-use Rattle.client_pool.specs.declared.pool.PooledCatchUp.TheVariants.{Caught as PlaceSeen, Behind as PlaceBehind, Stopped as PlaceStopped}
-use Rattle.client_pool.specs.declared.lend.Caught.{Caught}
-use Rattle.client_pool.specs.declared.lend.Caught.TheVariants.{Up, Ended}
-use Rattle.client_pool.specs.declared.look.Looked.{Looked}
-use Rattle.client_pool.specs.declared.look.Looked.TheVariants.{Found, Entered}
-use Rattle.client_pool.specs.declared.lend.Served.{Served}
-use Rattle.client_pool.specs.declared.lend.Served.TheVariants.{Done, Full, Worn, Halted}
+use Rattle.client_pool.specs.declared.pool.PooledCatchUp.TheVariants.{FloorOutcome as PlaceSeen, Behind as PlaceBehind, Stopped as PlaceStopped}
+use Rattle.client_pool.specs.declared.lend.FloorOutcome.{FloorOutcome}
+use Rattle.client_pool.specs.declared.lend.FloorOutcome.TheVariants.{Up, Ended}
+use Rattle.client_pool.specs.declared.read_beside.LookupOutcome.{LookupOutcome}
+use Rattle.client_pool.specs.declared.read_beside.LookupOutcome.TheVariants.{Found, Entered}
+use Rattle.client_pool.specs.declared.lend.EntryOutcome.{EntryOutcome}
+use Rattle.client_pool.specs.declared.lend.EntryOutcome.TheVariants.{Done, Full, Worn, Halted}
 
 -- its pass is one of the queue of this table, with one part
 pub record IsPart {O : Type 0} (r : Running O) (table : TableId) (lent : Lent) : Type 0 where
@@ -40,14 +40,14 @@ pub record IsPart {O : Type 0} (r : Running O) (table : TableId) (lent : Lent) :
   pub placed : (view lent.pass).placed ≡ []
 
 -- a pass holds this caller, which is in no call and was answered nothing since it was taken
-pub record HoldsIdle {O : Type 0} (r : Running O) (v : Hand) (now : Seated) : Type 0 where
+pub record HoldsIdle {O : Type 0} (r : Running O) (v : LenderPass) (now : Seated) : Type 0 where
   pub taken : Seated
   pub held : v.held ≡ taken ∷ []
   pub limit : HasLimit (limits_at v.home) taken
   pub idle : StaysIdle r taken now
 
 -- what a pass holds is the caller that its client keeps
-abbrev pub HoldsKept : {O : Type 0} → Running O → Hand → Option Handed → Type 0
+abbrev pub HoldsKept : {O : Type 0} → Running O → LenderPass → Option Handed → Type 0
 HoldsKept r v None = v.held ≡ []
 HoldsKept r v (Some (Idle now)) = HoldsIdle r v now
 HoldsKept r v (Some (Linked seat)) = ⊥
@@ -88,7 +88,7 @@ IsKeptCaller None x = Unit {0}
 IsKeptCaller (Some handed) x = seat_of handed ≡ x
 
 -- The caller that a call begins with: the one that its client keeps, or else one that it took out of the queue, which the pass holds as it was then.
-pub record IsFirstCaller (keeps : Option Handed) (v : Hand) (x : Seated) : Type 0 where
+pub record IsFirstCaller (keeps : Option Handed) (v : LenderPass) (x : Seated) : Type 0 where
   pub kept : IsKeptCaller keeps x
   pub taken : keeps ≡ None → v.held ≡ x ∷ []
 
@@ -121,7 +121,7 @@ pub record IsReadRefused {O : Type 0} (r : Running O) (first now : Seated) : Typ
   pub since : ComesFrom r first looked
   pub refused : ReadPending r 8 looked now
 
--- The step limit was reached in a read beside the queue, in 8 turns of it.
+-- The step limit was reached in a read beside the queue, in 8 attempts of it.
 pub record HaltsBesideQueue {O : Type 0} (r : Running O) (before : Seated) (stopped : StoppedSeat) : Type 0 where
   pub op : List ℕ
   pub halted : ReadHalted r op before stopped
@@ -134,9 +134,9 @@ pub record HaltsLater {O : Type 0} (r : Running O) (before : Seated) (stopped : 
   pub halts : HaltsBesideQueue r asked stopped
 
 -- the result of having a caller see all that is below a floor
-abbrev pub Catches : {O : Type 0} → Running O → ℕ → Seated → Caught → Type 0
-Catches r floor before (Up after) = ComesFrom r before after × (floor ≤ after.known.local.front)
-Catches r floor before (Ended stopped) = HaltsLater r before stopped
+abbrev pub CatchesUpToFloor : {O : Type 0} → Running O → ℕ → Seated → FloorOutcome → Type 0
+CatchesUpToFloor r floor before (Up after) = ComesFrom r before after × (floor ≤ after.known.local.front)
+CatchesUpToFloor r floor before (Ended stopped) = HaltsLater r before stopped
 
 -- The call is answered beside the queue by the caller that was out, and the read was shown, whose place is not below the floor. The caller was given back.
 pub record ShowsRead {O : Type 0} (r : Running O) (table : TableId) (op : List ℕ) (floor : ℕ) (caller : Seated) (before after : Lent) (seen : Seen) : Type 0 where
@@ -236,7 +236,7 @@ abbrev pub KeepsNow : Lent → Lent → Handed → Type 0
 KeepsNow before after handed = (after.pass ≡ before.pass) × (after.kept ≡ Some handed)
 
 -- What is left of the caller that was out: it was given back where its operation is answered, and else the client keeps it.
-abbrev pub Settles : TableId → Lent → Lent → Updated → Served → Type 0
+abbrev pub Settles : TableId → Lent → Lent → Updated → EntryOutcome → Type 0
 Settles table before after updated (Done caller ticket) = (back : Seated) × (updated ≡ UpdatedDone back ticket) × (caller ≡ back.known.local.number) × (back.known.local.front ≤ 2 ^ 40) × GivesBack table before after back
 Settles table before after updated (Full note) = (back : Seated) × (updated ≡ UpdatedFull back note) × KeepsNow before after (Idle back)
 Settles table before after updated Worn = (back : Seated) × (updated ≡ UpdatedWorn back) × KeepsNow before after (Idle back)
@@ -250,7 +250,7 @@ EntersRead r op reply asked (UpdatedWorn after) = ReadQueues r op reply asked (U
 EntersRead r op reply asked (UpdatedHalted stopped) = ReadStops r op asked stopped
 
 -- The caller that was out was asked for a read that was not answered beside the queue, and this is left of it.
-pub record LooksOn {O : Type 0} (r : Running O) (table : TableId) (op reply : List ℕ) (caller : Seated) (before after : Lent) (served : Served) : Type 0 where
+pub record LooksOn {O : Type 0} (r : Running O) (table : TableId) (op reply : List ℕ) (caller : Seated) (before after : Lent) (served : EntryOutcome) : Type 0 where
   pub asked : Seated
   pub since : ComesFrom r caller asked
   pub updated : Updated
@@ -258,7 +258,7 @@ pub record LooksOn {O : Type 0} (r : Running O) (table : TableId) (op reply : Li
   pub settles : Settles table before after updated served
 
 -- the result of an operation that only reads, which left these words in the client's buffer
-abbrev pub ReadsBesideQueue : {O : Type 0} → Running O → TableId → List ℕ → List ℕ → ℕ → Seated → Lent → Lent → Looked → Type 0
+abbrev pub ReadsBesideQueue : {O : Type 0} → Running O → TableId → List ℕ → List ℕ → ℕ → Seated → Lent → Lent → LookupOutcome → Type 0
 ReadsBesideQueue r table op reply floor caller before after (Found place) = (shows : ShowsRead r table op floor caller before after (seen_with place reply)) × Returns before after shows.now
 ReadsBesideQueue r table op reply floor caller before after (Entered served) = LooksOn r table op reply caller before after served
 

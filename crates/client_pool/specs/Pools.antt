@@ -4,17 +4,17 @@ use Rattle.std.specs.List.{AllZip, range_with_len}
 use Rattle.atomic_table.specs.Seated.{TableId}
 use Rattle.crossbeam_queue.specs.Passes.{view}
 use Rattle.cx_core.specs.State.{Instance}
-use Rattle.cx_rule.specs.Running.{Running}
-use Rattle.cx_rule.specs.Seats.{Seated}
+use Rattle.table_invariant.specs.Running.{Running}
+use Rattle.table_invariant.specs.Seats.{Seated}
 use Rattle.cx_service.specs.Callers.{IsCallerOf}
 use Rattle.cx_service.specs.Closes.{seats_of}
 use Rattle.cx_service.specs.declared.close.Handed.{Handed}
 use Rattle.cx_service.specs.declared.close.Handed.TheVariants.{Idle}
-use Rattle.cx_table.specs.Remains.{AreSeats, Leaves}
+use Rattle.cx_table.specs.Remains.{AreSeats, ClosingWitness}
 use Rattle.cx_table.specs.declared.remains.Remains.{Remains}
 use Rattle.seat_pool.specs.Gathering.{AreCallsTold, IsRestOf, IsRoomFor}
 use Rattle.seat_pool.specs.Pooling.{IsHomeOf, all_parts}
-use Rattle.seat_pool.specs.declared.hand.Hand.{Hand}
+use Rattle.seat_pool.specs.declared.hand.LenderPass.{LenderPass}
 use Rattle.seat_pool.specs.declared.lent.Lent.{Lent}
 use Rattle.cx_service.specs.ClosedOrder.{IsLinearizedBy}
 use Rattle.client_pool.specs.Answers.{AreAnswered, AreWhole, StandsIn}
@@ -38,7 +38,7 @@ pub record AreNewCallers {O : Type 0} (r : Running O) (callers : List Seated) : 
   pub numbers : map (λ (x : Seated). x.known.local.number) callers ≡ range_with_len 0 r.callers
 
 -- all callers were placed in the queue, and this many parts of the right to know the whole were given to clients
-pub record AreCallersPlaced {O : Type 0} (r : Running O) (clients : ℕ) (v : Hand) : Type 0 where
+pub record AreCallersPlaced {O : Type 0} (r : Running O) (clients : ℕ) (v : LenderPass) : Type 0 where
   pub home : IsHomeOf r v.home
   pub parts : v.parts + clients ≡ all_parts
   pub placed : v.placed ≡ range_with_len 0 r.callers
@@ -106,7 +106,7 @@ former_of c = record { number = c.number; floor = c.floor; answers = c.answers }
 -- has its front past the history.
 pub record IsClosed {O : Type 0} (r : Running O) (instance : Instance) (clients : List Client) (remains : Remains) : Type 0 where
   pub handed : List Handed
-  pub leaves : Leaves r instance (seats_of handed) remains
+  pub leaves : ClosingWitness r instance (seats_of handed) remains
   pub order : IsLinearizedBy leaves
   pub told : AreCallsTold r (lents_of clients) handed
   pub answered : (calls : List (List Call)) → AllZip (HasCalls r) clients calls → AreAnswered instance remains.trail.history remains.trail.locals calls

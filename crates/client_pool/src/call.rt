@@ -2,7 +2,7 @@
 
 use cx_core::SeenRead;
 use cx_service::{Answer, Seen};
-use seat_pool::Told;
+use seat_pool::AnsweredCall;
 
 /// What a client was answered.
 #[derive(Clone, Copy, Debug, PartialEq, Eq, Drop)]
@@ -15,6 +15,6 @@ pub enum Answered {
 
 /// A call of a client that is answered, with what it is an answer of. No value of it is made.
 pub enum Call {
-    Entry(Told),
+    Entry(AnsweredCall),
     Look(SeenRead),
 }

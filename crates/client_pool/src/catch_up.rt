@@ -13,16 +13,21 @@ use seat_pool::{Lent, give};
 use std::sync::Wait;
 
 /// Has a caller of the client's see a place, and gives it back unless its step limit was reached.
-fn see<O: Object, R: Wait>(rt: &R, pool: &Pool<O>, lent: &mut Lent, place: u64) -> PooledCatchUp
+fn catch_up_lent<O: Object, R: Wait>(
+    rt: &R,
+    pool: &Pool<O>,
+    lent: &mut Lent,
+    place: u64,
+) -> PooledCatchUp
     requires pool { IsPool O.only_reads pool.now }
     requires lent { IsLentTo pool.now.service pool.now.line.table.shared.table_id lent.old × (is_live lent.old.kept ≡ true) }
     ensures { ClientSees pool.now.service pool.now.line.table.shared.table_id place lent.old lent.new result }
 {
     let caller = take_for(rt, &pool.service, &pool.line, lent);
     match pool.service.catch_up(caller, place) {
-        CaughtUp::Caught(back) => {
+        CaughtUp::FloorOutcome(back) => {
             give(rt, &pool.service, &pool.line, &mut lent.pass, back);
-            PooledCatchUp::Caught
+            PooledCatchUp::FloorOutcome
         }
         CaughtUp::Behind(back, found) => {
             give(rt, &pool.service, &pool.line, &mut lent.pass, back);
@@ -37,7 +42,7 @@ fn see<O: Object, R: Wait>(rt: &R, pool: &Pool<O>, lent: &mut Lent, place: u64) 
 
 impl<O: Object> Pool<O> {
     /// Has a client that was not told `Stopped` see a place that another one told, in whatever way: `Client::place` of another client, or of a
-    /// caller's answers the ticket plus 1 of an update and the place of a read. From `Caught` on no answer to the client holds below the place, by
+    /// caller's answers the ticket plus 1 of an update and the place of a read. From `FloorOutcome` on no answer to the client holds below the place, by
     /// whichever caller it is made. `Behind` comes only where the current place was found below it, which is where nobody was answered at it;
     /// nothing is changed then. It waits for a caller. `Stopped` comes only where the caller's step limit was reached: the client keeps it,
     /// and makes no further call.
@@ -46,10 +51,10 @@ impl<O: Object> Pool<O> {
         requires client { IsClientOf self.now.service self.now.line.table.shared.table_id client.old × (is_live client.old.lent.kept ≡ true) }
         ensures { ClientCatchesUp self.now.service self.now.line.table.shared.table_id place client.old client.new result }
     {
-        match see(rt, self, &mut client.lent, place) {
-            PooledCatchUp::Caught => {
+        match catch_up_lent(rt, self, &mut client.lent, place) {
+            PooledCatchUp::FloorOutcome => {
                 client.caught_up = client.caught_up.max(place);
-                PooledCatchUp::Caught
+                PooledCatchUp::FloorOutcome
             }
             PooledCatchUp::Behind(found) => PooledCatchUp::Behind(found),
             PooledCatchUp::Stopped => PooledCatchUp::Stopped,

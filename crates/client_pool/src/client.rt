@@ -7,7 +7,7 @@ use crate::call::Answered;
 use crate::pool::FormerClient;
 use crossbeam_queue::Pass;
 use cx_service::{Caller, Handed};
-use seat_pool::{Hand, Lent};
+use seat_pool::{LenderPass, Lent};
 
 /// One of those that share the callers of a service.
 #[derive(Drop)]
@@ -24,7 +24,7 @@ pub struct Client {
 /// pass is shared by threads.
 #[derive(Drop)]
 pub(crate) struct Closing {
-    pub(crate) rest: Pass<Caller, Hand>,
+    pub(crate) rest: Pass<Caller, LenderPass>,
     pub(crate) lents: Vec<Lent>,
     pub(crate) former: Vec<FormerClient>,
     pub(crate) gathered: Vec<Handed>,

@@ -1,7 +1,7 @@
 //! A pool is closed.
 
 ghost use Rattle.std.specs.Prelude.{◌≡◌, IfErr, IfOk, map, vec_capacity, vec_len};
-ghost use Rattle.cx_rule.specs.Running.{instance_at};
+ghost use Rattle.table_invariant.specs.Running.{instance_at};
 ghost use Rattle.seat_pool.specs.Gathering.{IsRoomFor};
 ghost use Rattle.client_pool.specs.Pools.{AreClients, IsClosed, IsLeftOpen, former_of};
 

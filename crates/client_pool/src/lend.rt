@@ -5,23 +5,23 @@ ghost use Rattle.crossbeam_queue.specs.Passes.{view, IsPassOf};
 ghost use Rattle.cx_service.specs.Callers.{IsCallerOf};
 ghost use Rattle.cx_service.specs.declared.close.Handed.TheVariants as handed_cases;
 ghost use Rattle.seat_pool.specs.Pooling.{HasLimit, IsHomeOf, limits_at, with_taken};
-ghost use Rattle.client_pool.specs.Lending.{Begins, Catches, IsFirstCaller, IsLentTo, IsOut, IsPart, IsPool, MaySettle, Settles, TellsSame, is_live};
+ghost use Rattle.client_pool.specs.Lending.{Begins, CatchesUpToFloor, IsFirstCaller, IsLentTo, IsOut, IsPart, IsPool, MaySettle, Settles, TellsSame, is_live};
 
 use crate::pool::Pool;
 use crossbeam_queue::Pass;
 use cx_base::{Object, OpWords};
 use cx_core::FullNote;
 use cx_service::{Caller, Handed, ReadTried, Service, Stopped, Updated};
-use seat_pool::{Hand, Lent, Line, give, take};
+use seat_pool::{LenderPass, LenderQueue, Lent, give, take};
 use std::sync::Wait;
 use std::thread;
 
-/// The turns of a read of the probe before it is begun again.
+/// The attempts of a read of the probe before it is begun again.
 const TURNS: u64 = 8;
 
 /// The result of having a caller see all below a floor.
 #[derive(Drop)]
-pub(crate) enum Caught {
+pub(crate) enum FloorOutcome {
     /// Its front is not below the floor.
     Up(Caller),
     /// Its step limit was reached.
@@ -30,7 +30,7 @@ pub(crate) enum Caught {
 
 /// The result of an operation that enters the queue.
 #[derive(Drop)]
-pub(crate) enum Served {
+pub(crate) enum EntryOutcome {
     /// It is answered, as an entry of this caller at this ticket.
     Done(u32, u64),
     /// No cell of the caller is idle.
@@ -45,8 +45,8 @@ pub(crate) enum Served {
 fn take_waiting<O: Object, R: Wait>(
     rt: &R,
     service: &Service<O>,
-    line: &Line,
-    pass: &mut Pass<Caller, Hand>,
+    line: &LenderQueue,
+    pass: &mut Pass<Caller, LenderPass>,
 ) -> Caller
     requires { IsPassOf line.now pass.old × IsHomeOf service.now (view pass.old).home × (0 < (view pass.old).parts) }
     ensures pass { IsPassOf line.now pass.new × (view pass.new ≡ with_taken (view pass.old) result) }
@@ -65,7 +65,7 @@ fn take_waiting<O: Object, R: Wait>(
 pub(crate) fn take_for<O: Object, R: Wait>(
     rt: &R,
     service: &Service<O>,
-    line: &Line,
+    line: &LenderQueue,
     lent: &mut Lent,
 ) -> Caller
     requires lent { IsLentTo service.now line.now.table.shared.table_id lent.old }
@@ -89,15 +89,15 @@ fn catch_up<O: Object, R: Wait>(
     caller: Caller,
     floor: u64,
     buffer: &mut OpWords,
-) -> Caught
+) -> FloorOutcome
     requires caller { IsCallerOf service.now caller }
     requires probe { IsTrue (O.only_reads service.now.object probe.now) }
-    ensures { Catches service.now floor caller result }
+    ensures { CatchesUpToFloor service.now floor caller result }
 {
     let mut caller = caller;
     for _ in rt.forever() {
         if caller.front() >= floor {
-            return Caught::Up(caller);
+            return FloorOutcome::Up(caller);
         }
         match service.try_read(caller, probe, buffer, TURNS) {
             ReadTried::Read(back, _) => caller = back,
@@ -105,7 +105,7 @@ fn catch_up<O: Object, R: Wait>(
                 thread::yield_now();
                 caller = back;
             }
-            ReadTried::Halted(stopped) => return Caught::Ended(stopped),
+            ReadTried::Halted(stopped) => return FloorOutcome::Ended(stopped),
         }
     }
     unreachable!()
@@ -136,8 +136,8 @@ pub(crate) fn begin<O: Object, R: Wait>(
 {
     let caller = take_for(rt, &pool.service, &pool.line, lent);
     match catch_up(rt, &pool.service, &pool.probe, caller, floor, buffer) {
-        Caught::Up(caller) => Ok(caller),
-        Caught::Ended(stopped) => Err(keep_stopped(lent, stopped)),
+        FloorOutcome::Up(caller) => Ok(caller),
+        FloorOutcome::Ended(stopped) => Err(keep_stopped(lent, stopped)),
     }
 }
 
@@ -147,7 +147,7 @@ pub(crate) fn settle<O: Object, R: Wait>(
     pool: &Pool<O>,
     lent: &mut Lent,
     updated: Updated,
-) -> Served
+) -> EntryOutcome
     requires pool { IsPool O.only_reads pool.now }
     requires lent { IsPart pool.now.service pool.now.line.table.shared.table_id lent.old }
     requires updated { MaySettle pool.now.service lent.old updated }
@@ -159,16 +159,16 @@ pub(crate) fn settle<O: Object, R: Wait>(
             // its ticket is below this
             let _front = back.front();
             give(rt, &pool.service, &pool.line, &mut lent.pass, back);
-            Served::Done(number, ticket)
+            EntryOutcome::Done(number, ticket)
         }
         Updated::Full(back, note) => {
             lent.kept = Some(Handed::Idle(back));
-            Served::Full(note)
+            EntryOutcome::Full(note)
         }
         Updated::Worn(back) => {
             lent.kept = Some(Handed::Idle(back));
-            Served::Worn
+            EntryOutcome::Worn
         }
-        Updated::Halted(stopped) => Served::Halted(keep_stopped(lent, stopped)),
+        Updated::Halted(stopped) => EntryOutcome::Halted(keep_stopped(lent, stopped)),
     }
 }

@@ -22,9 +22,9 @@ mod catch_up;
 mod client;
 mod close;
 mod lend;
-mod look;
 mod open;
 mod pool;
+mod read_beside;
 mod threads;
 mod update;
 

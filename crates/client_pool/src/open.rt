@@ -11,7 +11,7 @@ use crate::pool::{FormerClient, Pool};
 use crossbeam_queue::Pass;
 use cx_base::{Object, OpWords};
 use cx_service::{Caller, Handed, Service};
-use seat_pool::{Hand, Lent, Line, place, share};
+use seat_pool::{LenderPass, LenderQueue, Lent, place, share};
 use std::alloc::{AllocError, Global};
 use std::sync::Wait;
 
@@ -49,10 +49,10 @@ fn rooms_for(alloc: Global, callers: usize, clients: usize) -> Result<Rooms, All
 fn place_all<O: Object, R: Wait>(
     rt: &R,
     service: &Service<O>,
-    line: &Line,
-    pass: Pass<Caller, Hand>,
+    line: &LenderQueue,
+    pass: Pass<Caller, LenderPass>,
     callers: Vec<Caller>,
-) -> Pass<Caller, Hand>
+) -> Pass<Caller, LenderPass>
     requires pass { IsPassOf line.now pass × IsPassOpened service.now (map (λ c. c.known.local.limit) callers.items) (view pass) }
     requires room { ruled_capacity line.now ≡ service.now.callers }
     requires callers { AreNewCallers service.now callers.items }
@@ -70,8 +70,8 @@ fn place_all<O: Object, R: Wait>(
 fn new_client<O: Object>(
     alloc: Global,
     service: &Service<O>,
-    line: &Line,
-    pass: &mut Pass<Caller, Hand>,
+    line: &LenderQueue,
+    pass: &mut Pass<Caller, LenderPass>,
     number: u32,
 ) -> Client
     requires { IsPassOf line.now pass.old × IsHomeOf service.now (view pass.old).home × (1 < (view pass.old).parts) }
@@ -95,8 +95,8 @@ fn new_client<O: Object>(
 fn new_clients<O: Object>(
     alloc: Global,
     service: &Service<O>,
-    line: &Line,
-    pass: Pass<Caller, Hand>,
+    line: &LenderQueue,
+    pass: Pass<Caller, LenderPass>,
     rooms: Rooms,
     count: u32,
 ) -> Vec<Client>

@@ -4,13 +4,13 @@ use crate::call::Answered;
 use cx_base::{Object, OpWords};
 use cx_core::FullNote;
 use cx_service::{Handed, Service};
-use seat_pool::Line;
+use seat_pool::LenderQueue;
 
 /// A service whose callers clients share. It is shared by threads.
 #[derive(Drop)]
 pub struct Pool<O: Object> {
     pub(crate) service: Service<O>,
-    pub(crate) line: Line,
+    pub(crate) line: LenderQueue,
     pub(crate) probe: OpWords,
 }
 
@@ -49,7 +49,7 @@ pub enum Pooled {
 #[derive(Clone, Copy, Debug, PartialEq, Eq, Drop)]
 pub enum PooledCatchUp {
     /// The client has seen the place.
-    Caught,
+    FloorOutcome,
     /// The current place is below it: this one.
     Behind(u64),
     /// The caller's step limit was reached. The client keeps it, and makes no further call.

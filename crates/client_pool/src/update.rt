@@ -6,7 +6,7 @@ ghost use Rattle.client_pool.specs.Lending.{IsPool, is_live};
 
 use crate::call::Answered;
 use crate::client::Client;
-use crate::lend::{Served, begin, settle};
+use crate::lend::{EntryOutcome, begin, settle};
 use crate::pool::{Pool, Pooled};
 use cx_base::{Object, OpWords};
 use cx_service::Answer;
@@ -48,7 +48,7 @@ impl<O: Object> Pool<O> {
             Ok(caller) => {
                 let updated = self.service.update(rt, caller, op, reply);
                 match settle(rt, self, &mut client.lent, updated) {
-                    Served::Done(caller, ticket) => {
+                    EntryOutcome::Done(caller, ticket) => {
                         let reply = *reply;
                         let answer = Answer { ticket, reply };
                         client
@@ -57,9 +57,9 @@ impl<O: Object> Pool<O> {
                         client.floor = ticket + 1;
                         Pooled::Done(ticket)
                     }
-                    Served::Full(note) => Pooled::Full(note),
-                    Served::Worn => Pooled::Worn,
-                    Served::Halted(linked) => Pooled::Stopped { linked },
+                    EntryOutcome::Full(note) => Pooled::Full(note),
+                    EntryOutcome::Worn => Pooled::Worn,
+                    EntryOutcome::Halted(linked) => Pooled::Stopped { linked },
                 }
             }
             Err(linked) => Pooled::Stopped { linked },

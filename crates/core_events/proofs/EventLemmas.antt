@@ -7,7 +7,7 @@ use Rattle.std.proofs.lemmas.Option.{none-some, same_Some, slice_get_within}
 use Rattle.std.specs.List.{slice_get}
 use Rattle.core_events.specs.Codes.{HasCode, IsSoundCore}
 use Rattle.core_events.specs.Told.{Tells}
-use Rattle.core_events.specs.declared.events.Told.{Told}
+use Rattle.core_events.specs.declared.events.HistoryFacts.{HistoryFacts}
 use Rattle.cx_core.specs.declared.entry.Base.{Base}
 use Rattle.cx_core.specs.declared.kinds.Event.{Event}
 use Rattle.cx_core.specs.declared.kinds.Kind.{Kind}
@@ -203,7 +203,7 @@ IfOk-then (Ok x) P Q p f = f x p
 IfOk-then (Err e) P Q p f = tt
 
 -- a step that is told what holds of its state is the caller's step there, where the words are read from elsewhere
-pub did_here : {E : Type 0} (core : Core) (step : List ℕ → List ℕ → List ℕ × List ℕ) (reads : List ℕ → Bool) (told : Told) (event : Event) (words words' : List ℕ) (l l' : Local) (r : Result Bool E) →
+pub did_here : {E : Type 0} (core : Core) (step : List ℕ → List ℕ → List ℕ × List ℕ) (reads : List ℕ → Bool) (told : HistoryFacts) (event : Event) (words words' : List ℕ) (l l' : Local) (r : Result Bool E) →
     words ≡ core.state.words → slice_get core.state.locals event.caller ≡ Some l →
     ((x : Local) → slice_get core.state.locals event.caller ≡ Some x → Tells told (instance_of core step reads) (scene_of (instance_of core step reads) core.state) event.kind x) →
     IfOk r (λ made. EachScene core.callers core.base words (λ instance scene. Tells told instance scene event.kind l → Did made instance scene event.kind l l' words')) →

@@ -2,7 +2,7 @@
 use Rattle.std.specs.Prelude.{◌≡◌, ◌+◌, ◌↔◌, ℕ, Bool, IsTrue, List, Option, None, Some, length}
 use Rattle.std.specs.Option.{option_to_list}
 use Rattle.core_events.specs.declared.replies.Acknowledged.{Acknowledged}
-use Rattle.core_events.specs.declared.events.Told.{Told}
+use Rattle.core_events.specs.declared.events.HistoryFacts.{HistoryFacts}
 use Rattle.cx_base.specs.Codes.{root_place_of}
 use Rattle.cx_core.specs.declared.kinds.Kind.{Kind}
 use Rattle.cx_core.specs.declared.kinds.Kind.TheVariants.{Downgrade, ReleaseExclusive, Raise, Offer, NoteGap}
@@ -33,7 +33,7 @@ abbrev pub AllowsGapNote : Bool → Instance → Scene → ℕ → ℕ → ℕ �
 AllowsGapNote gap instance scene s i v = IsTrue gap ↔ CanNoteGap instance scene.history s i v
 
 -- of a kind that ends an exclusive right, whether the words held are the full image after their place
-abbrev pub Tells : Told → Instance → Scene → Kind → Local → Type 0
+abbrev pub Tells : HistoryFacts → Instance → Scene → Kind → Local → Type 0
 Tells told instance scene (Downgrade r) l = TellsFull told.full instance scene (Downgrade r) l
 Tells told instance scene (ReleaseExclusive r) l = TellsFull told.full instance scene (ReleaseExclusive r) l
 Tells told instance scene (Raise code read) l = TellsRaise told.answers instance scene code read l

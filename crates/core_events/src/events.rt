@@ -62,7 +62,7 @@ pub fn apply<O: Object>(
 /// after their place; of a raise what it answers, and of an offer the offer word, where these are allowed; of a note of a gap
 /// whether it is allowed.
 #[derive(Drop)]
-pub(crate) struct Told {
+pub(crate) struct HistoryFacts {
     full: bool,
     answers: Option<Acknowledged>,
     offer: Option<u64>,
@@ -78,7 +78,7 @@ fn step(
     words: &mut [u64],
     local: &mut Local,
     kind: &Kind,
-    told: &Told,
+    told: &HistoryFacts,
 ) -> Result<bool, AllocError>
     requires regions { HasRegions callers.number base.now words.old }
     requires caller { local.old.number < callers.number }
@@ -141,7 +141,7 @@ fn tells<O: Object>(
     state: &CoreState,
     caller: usize,
     kind: &Kind,
-) -> Result<Told, AllocError>
+) -> Result<HistoryFacts, AllocError>
     requires base { LawfulBase (O.line_count object.now) (O.lawful object.now) state.now.base }
     requires caller { caller < length state.now.state.locals }
     ensures { let instance = instance_of state.now (O.step object.now) (O.only_reads object.now) in IfOk result (λ told. (l : Local) → slice_get state.now.state.locals caller ≡ Some l → Tells told instance (scene_of instance state.now.state) kind.now l) }
@@ -151,19 +151,19 @@ fn tells<O: Object>(
         Kind::ReleaseExclusive { r: _ } => {
             Ok(only_full(holds_full(alloc, object, state, caller)?))
         }
-        Kind::Raise { code, read } => Ok(Told {
+        Kind::Raise { code, read } => Ok(HistoryFacts {
             full: false,
             answers: answers_of(alloc, object, state, caller, code, &read)?,
             offer: None,
             gap: false,
         }),
-        Kind::Offer { j } => Ok(Told {
+        Kind::Offer { j } => Ok(HistoryFacts {
             full: false,
             answers: None,
             offer: offer_of(alloc, object, state, caller, j)?,
             gap: false,
         }),
-        Kind::NoteGap { s, i, v } => Ok(Told {
+        Kind::NoteGap { s, i, v } => Ok(HistoryFacts {
             full: false,
             answers: None,
             offer: None,
@@ -174,10 +174,10 @@ fn tells<O: Object>(
 }
 
 /// What a step is told that answers nothing.
-fn only_full(full: bool) -> Told
+fn only_full(full: bool) -> HistoryFacts
     ensures { result ≡ record { full = full; answers = None; offer = None; gap = false } }
 {
-    Told {
+    HistoryFacts {
         full,
         answers: None,
         offer: None,

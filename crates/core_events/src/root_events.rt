@@ -26,13 +26,13 @@ pub(crate) fn load_cur(callers: Callers, words: &[u64], local: &mut Local) -> bo
     requires table { HasTableWords callers.number words.now }
     ensures { (base : _) → EachScene callers.number base words.now (λ instance scene. Did result instance scene LoadCur local.old local.new words.now) }
 {
-    see(callers, local, words[CUR_AT]);
+    note_code(callers, local, words[CUR_AT]);
     local.fresh = true;
     true
 }
 
 /// A code is now the last one found in CUR, or put there. Every ticket below its place is linked. It is one step.
-fn see(callers: Callers, local: &mut Local, code: u64)
+fn note_code(callers: Callers, local: &mut Local, code: u64)
     ensures { local.new ≡ record local.old { seen_cur = code; front = max local.old.front (root_place_of callers.number code); steps = one_more local.old.steps } }
 {
     local.seen_cur = code;
@@ -82,7 +82,7 @@ fn win(callers: Callers, local: &mut Local) -> u64
         code,
         before: local.seen_cur,
     });
-    see(callers, local, code);
+    note_code(callers, local, code);
     local.fresh = false;
     code
 }
@@ -94,7 +94,7 @@ fn lose(callers: Callers, local: &mut Local, found: u64)
     if local.fresh {
         local.met = local.met.saturating_add(1);
     }
-    see(callers, local, found);
+    note_code(callers, local, found);
     local.fresh = false;
 }
 

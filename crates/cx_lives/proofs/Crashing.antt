@@ -16,14 +16,14 @@ use Rattle.cx_core.specs.declared.local.Local.{Local}
 use Rattle.core_order.specs.CrashedLives.{IsCrashedLife}
 use Rattle.core_order.specs.TotalOrder.{IsUnmade}
 use Rattle.core_runs.proofs.WholeLaws.{crash_kept}
-use Rattle.cx_rule.proofs.Opening.{limited_lawful}
-use Rattle.cx_rule.specs.Ending.{Ending}
-use Rattle.cx_rule.specs.Rule.{opening_limited}
-use Rattle.cx_rule.specs.Running.{Running, instance_at}
-use Rattle.cx_rule.specs.Seats.{Seated, opening_known}
-use Rattle.cx_rule.specs.declared.rule.Known.{Known}
+use Rattle.table_invariant.proofs.Opening.{limited_lawful}
+use Rattle.table_invariant.specs.Ending.{Ending}
+use Rattle.table_invariant.specs.Rule.{opening_limited}
+use Rattle.table_invariant.specs.Running.{Running, instance_at}
+use Rattle.table_invariant.specs.Seats.{Seated, opening_known}
+use Rattle.table_invariant.specs.declared.rule.Known.{Known}
 use Rattle.cx_service.specs.ClosedOrder.{IsClosedLinearizable, IsLinearizedBy}
-use Rattle.cx_table.specs.Remains.{Leaves}
+use Rattle.cx_table.specs.Remains.{ClosingWitness}
 use Rattle.cx_table.specs.declared.remains.Remains.{Remains}
 use Rattle.life_records.specs.Meanings.{object_instance}
 use Rattle.life_records.specs.Records.{Meaning}
@@ -58,13 +58,13 @@ kept_same instance history s t a b is other place =
 
 -- a table that was closed, said over its trail
 pub closed_table : {O : Type 0} {object : O} {lines callers : ℕ} {base : Base} {service : Running O} {seats : List Seated} {remains : Remains} (step : O → List ℕ → List ℕ → List ℕ × List ℕ) (reads : O → List ℕ → Bool) → IsServiceOf object lines callers base service
-    → (leaves : Leaves service (instance_at service step reads) seats remains) → IsLinearizedBy leaves → IsClosedLinearizable (table_of callers lines remains.trail) (object_instance (step object) (reads object) callers remains.trail.base) seats remains
+    → (leaves : ClosingWitness service (instance_at service step reads) seats remains) → IsLinearizedBy leaves → IsClosedLinearizable (table_of callers lines remains.trail) (object_instance (step object) (reads object) callers remains.trail.base) seats remains
 closed_table {object = object} {lines = lines} {callers = callers} {service = service} {seats = seats} {remains = remains} step reads is l by =
     let steps_same : instance_at service step reads ≡ object_instance (step object) (reads object) callers remains.trail.base =
     λ i. record { callers = is.callers_are i; base = sym l.base i; step = step (is.same i); reads = reads (is.same i) } in
     let of_table : Running (Unit {0}) = record { table = service.table; callers = service.callers; lines = service.lines; base = service.base; object = tt } in
     let same : of_table ≡ table_of callers lines remains.trail = λ i. record { table = sym l.of i; callers = is.callers_are i; lines = is.lines_are i; base = sym l.base i; object = tt } in
-    let leaves : Leaves of_table (instance_at service step reads) seats remains = record {
+    let leaves : ClosingWitness of_table (instance_at service step reads) seats remains = record {
       callers = l.callers;
       lines = l.lines;
       first = l.first;

@@ -10,8 +10,8 @@ use Rattle.std.proofs.lemmas.List.Elements.{All-push}
 use Rattle.cx_core.proofs.Locals.{slice_get-last, slice_get-push}
 use Rattle.cx_core.proofs.ListLemmas.{slice_get-append_left}
 use Rattle.cx_core.specs.declared.local.Local.{Local}
-use Rattle.cx_rule.specs.Running.{IsSeatOf, Running}
-use Rattle.cx_rule.specs.Seats.{Seated}
+use Rattle.table_invariant.specs.Running.{IsSeatOf, Running}
+use Rattle.table_invariant.specs.Seats.{Seated}
 use Rattle.cx_service.specs.Closes.{seat_of, seats_of}
 use Rattle.cx_service.specs.declared.close.Handed.{Handed}
 use Rattle.cx_table.specs.Remains.{AreSeats, locals_of}
@@ -20,7 +20,7 @@ use Rattle.life_records.specs.Records.{FullLine, JournalLine, Life, Meaning, Rea
 use Rattle.cx_lives.specs.declared.progress.End.{End}
 use Rattle.cx_lives.specs.declared.progress.End.TheVariants.{Whole, Stopped, Full, Never}
 use Rattle.cx_lives.specs.declared.progress.Work.{Work}
-use Rattle.cx_lives.specs.declared.gather.Gathered.{Gathered}
+use Rattle.cx_lives.specs.declared.gather.GatheredWork.{GatheredWork}
 use Rattle.cx_lives.specs.Ends.{CannotBe, IsEndOf, IsWorkOf, full_in, stop_in}
 use Rattle.cx_lives.specs.Works.{AreResultsFrom, AreResultsOf}
 use Rattle.cx_lives.specs.Gathering.{AddsWork, AreGathered, HasNever, IsLocalIn, is_never}
@@ -78,7 +78,7 @@ module _ {Op Reply Store : Type 0} where
       AreWorks m.encoding life locals entries reads stops fulls → IsWork m.encoding life (length locals) l es rs stop full →
       AreWorks m.encoding life (locals ++ l ∷ []) (entries ++ es) (reads ++ rs) (stops ++ option_to_list stop) (fulls ++ option_to_list full)
 
-pub gathered_more : {O Op Reply Store : Type 0} (m : Meaning Op Reply Store) (life : Life Op) (r : Running O) (before after : Gathered Reply) (work : Work Reply) → GoesOn m life → AreGathered m life r before → AddsWork before after work → IsWorkOf m life r (length before.handed.items) work
+pub gathered_more : {O Op Reply Store : Type 0} (m : Meaning Op Reply Store) (life : Life Op) (r : Running O) (before after : GatheredWork Reply) (work : Work Reply) → GoesOn m life → AreGathered m life r before → AddsWork before after work → IsWorkOf m life r (length before.handed.items) work
     → AreGathered m life r after
 gathered_more m life r before after work go_on g adds w =
     let hs = before.handed.items in
@@ -124,7 +124,7 @@ pub seats_long : {O : Type 0} (r : Running O) (seats : List Seated) → AreSeats
 seats_long r seats are = omega (arith, ap length are.numbers, length-map seats number, length-range_with_len 0 r.callers)
 
 -- what is put together of all callers has all seats
-pub gathered_seats : {O Op Reply Store : Type 0} (m : Meaning Op Reply Store) (life : Life Op) (r : Running O) (callers : List Seated) (g : Gathered Reply) → AreSeats r callers → length g.handed.items ≡ length callers → AreGathered m life r g → AreSeats r (seats_of g.handed.items)
+pub gathered_seats : {O Op Reply Store : Type 0} (m : Meaning Op Reply Store) (life : Life Op) (r : Running O) (callers : List Seated) (g : GatheredWork Reply) → AreSeats r callers → length g.handed.items ≡ length callers → AreGathered m life r g → AreSeats r (seats_of g.handed.items)
 gathered_seats m life r callers g are long gathered =
     let few = seats_long r callers are in
     let all : length g.handed.items ≡ r.callers = omega (arith, long, few) in

@@ -8,7 +8,7 @@ use Rattle.std.proofs.lemmas.List.Elements.{All-append, All-weaker}
 use Rattle.life_records.specs.Lives.{is_stopped}
 use Rattle.life_records.specs.Records.{FullLine, StopLine}
 use Rattle.cx_lives.specs.Works.{stop_told, stops_left}
-use Rattle.cx_lives.specs.declared.work.Served.{Served}
+use Rattle.cx_lives.specs.declared.work.WorkerOutcome.{WorkerOutcome}
 
 -- a client is stopped in two lists of lines where it is in one of them
 pub stopped_both : (client : ℕ) (xs ys : List StopLine) → is_stopped client (xs ++ ys) ≡ is_stopped client xs || is_stopped client ys
@@ -19,11 +19,11 @@ stopped_both client (x ∷ xs) ys = ap (λ b. (x.client == client) || b) (stoppe
     or_assoc true b c = refl
     or_assoc false b c = refl
 
-module _ {Reply : Type 0} (client i : ℕ) (works : List (Result (Served Reply) AllocError)) (work : Result (Served Reply) AllocError) (within : i < length works) (is : work ≡ get_or works i work) where
+module _ {Reply : Type 0} (client i : ℕ) (works : List (Result (WorkerOutcome Reply) AllocError)) (work : Result (WorkerOutcome Reply) AllocError) (within : i < length works) (is : work ≡ get_or works i work) where
   next_left : drop i works ≡ work ∷ drop (i + 1) works
   next_left =
       let next : suc i ≡ i + 1 = omega arith in
-      drop-cons works i work within ∙ ap (λ (w : Result (Served Reply) AllocError). w ∷ drop (suc i) works) (sym is) ∙ ap (λ (n : ℕ). work ∷ drop n works) next
+      drop-cons works i work within ∙ ap (λ (w : Result (WorkerOutcome Reply) AllocError). w ∷ drop (suc i) works) (sym is) ∙ ap (λ (n : ℕ). work ∷ drop n works) next
 
   parts : is_stopped client (stops_left (drop i works)) ≡ is_stopped client (stop_told work) || is_stopped client (stops_left (drop (i + 1) works))
   parts = ap (λ ws. is_stopped client (stops_left ws)) next_left ∙ stopped_both client (stop_told work) (stops_left (drop (i + 1) works))
@@ -37,7 +37,7 @@ module _ {Reply : Type 0} (client i : ℕ) (works : List (Result (Served Reply) 
   stopped_later b here so_far = so_far ∙ parts ∙ ap (λ t. t || is_stopped client (stops_left (drop (i + 1) works))) here
 
 -- none is left
-pub stopped_never : {Reply : Type 0} → (client i : ℕ) (works : List (Result (Served Reply) AllocError)) (b : Bool) → length works ≤ i → b ≡ is_stopped client (stops_left (drop i works)) → b ≡ false
+pub stopped_never : {Reply : Type 0} → (client i : ℕ) (works : List (Result (WorkerOutcome Reply) AllocError)) (b : Bool) → length works ≤ i → b ≡ is_stopped client (stops_left (drop i works)) → b ≡ false
 stopped_never client i works b over so_far = so_far ∙ ap (λ ws. is_stopped client (stops_left ws)) (drop_all i works over)
 
 or_more : (a t s r : Bool) → (t ≡ true → s ≡ true) → a || (t || r) ≡ true → (a || s) || r ≡ true

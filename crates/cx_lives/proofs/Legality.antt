@@ -8,7 +8,7 @@ use Rattle.cx_core.specs.State.{Instance}
 use Rattle.cx_core.specs.declared.entry.Base.{Base}
 use Rattle.cx_core.specs.declared.entry.Entry.{Entry}
 use Rattle.cx_core.specs.declared.local.Local.{Local}
-use Rattle.cx_rule.specs.Running.{Running}
+use Rattle.table_invariant.specs.Running.{Running}
 use Rattle.cx_table.specs.declared.remains.Remains.{Remains}
 use Rattle.life_records.specs.Ended.{IsEnded}
 use Rattle.life_records.specs.Told.{IsTold}

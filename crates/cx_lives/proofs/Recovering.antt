@@ -10,7 +10,7 @@ use Rattle.cx_core.specs.State.{Instance}
 use Rattle.cx_core.specs.declared.entry.Base.{Base}
 use Rattle.cx_core.specs.declared.entry.Entry.{Entry}
 use Rattle.cx_core.specs.declared.entry.Image.{Image}
-use Rattle.cx_rule.specs.Running.{instance_at}
+use Rattle.table_invariant.specs.Running.{instance_at}
 use Rattle.cx_table.specs.declared.remains.Remains.{Remains}
 use Rattle.life_records.specs.Meanings.{object_instance}
 use Rattle.life_records.specs.Recorded.{IsKeptIn}

@@ -13,9 +13,9 @@ use Rattle.cx_core.specs.declared.local.Answer.{Answer}
 use Rattle.cx_core.specs.declared.local.Linked.{Linked}
 use Rattle.cx_core.specs.declared.local.Local.{Local}
 use Rattle.cx_core.specs.declared.local.SeenRead.{SeenRead}
-use Rattle.cx_rule.specs.Seats.{IsAtLimit}
-use Rattle.cx_turns.specs.declared.lookup.Seen.{Seen}
-use Rattle.cx_turns.specs.Answering.{with_answer}
+use Rattle.table_invariant.specs.Seats.{IsAtLimit}
+use Rattle.cx_attempts.specs.declared.lookup.Seen.{Seen}
+use Rattle.cx_attempts.specs.Answering.{with_answer}
 use Rattle.life_records.specs.Works.{HasCommandWords, IsDoneEntry, IsEnd, IsEntryBefore, IsFullOf, IsLineOf, IsLineReply, IsReadLine, IsReplyAt, IsSeenBefore, IsStopOf, IsStoppedRead, IsUnderWay, IsWork, StandsBetween, client_lines, stops_in}
 use Rattle.life_records.specs.Scripts.{limit_in, named_op, own_ops}
 use Rattle.life_records.specs.Records.{FullLine, JournalLine, Life, Meaning, ReadLine, StopLine}

@@ -11,10 +11,10 @@ use Rattle.cx_core.specs.Shown.{shown}
 use Rattle.cx_core.specs.State.{Instance, State}
 use Rattle.cx_core.specs.declared.entry.Base.{Base}
 use Rattle.cx_core.specs.declared.entry.Image.{Image}
-use Rattle.cx_rule.specs.Running.{Running, instance_at}
-use Rattle.cx_rule.specs.Seats.{Seated}
+use Rattle.table_invariant.specs.Running.{Running, instance_at}
+use Rattle.table_invariant.specs.Seats.{Seated}
 use Rattle.cx_service.specs.Starts.{AreFewLines}
-use Rattle.cx_table.specs.Remains.{Leaves}
+use Rattle.cx_table.specs.Remains.{ClosingWitness}
 use Rattle.cx_table.specs.declared.remains.Remains.{Remains}
 use Rattle.life_records.specs.Meanings.{object_instance}
 use Rattle.life_records.specs.Records.{Meaning}
@@ -32,7 +32,7 @@ pub record HasClosed {O : Type 0} (o : Ghosts O) (object : O) (base : Base) (rem
   pub service : Running O
   pub is : IsServiceOf object (o.line_count object) callers base service
   pub seats : List Seated
-  pub leaves : Leaves service (instance_at service o.step o.only_reads) seats remains
+  pub leaves : ClosingWitness service (instance_at service o.step o.only_reads) seats remains
 
 -- a lawful state has the history and the callers of what was left, and this base was kept of it
 pub record KeepsState (instance : Instance) (remains : Remains) (next : Base) : Type 0 where

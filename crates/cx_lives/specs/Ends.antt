@@ -5,8 +5,8 @@ use Rattle.cx_core.specs.declared.local.FullNote.{FullNote}
 use Rattle.cx_core.specs.declared.local.Linked.{Linked}
 use Rattle.cx_core.specs.declared.local.Local.{Local}
 use Rattle.cx_core.specs.declared.local.SeenRead.{SeenRead}
-use Rattle.cx_rule.specs.Running.{IsSeatOf, Running}
-use Rattle.cx_rule.specs.Seats.{Seated}
+use Rattle.table_invariant.specs.Running.{IsSeatOf, Running}
+use Rattle.table_invariant.specs.Seats.{Seated}
 use Rattle.cx_service.specs.Callers.{IsCallerOf}
 use Rattle.cx_service.specs.Closes.{seat_of}
 use Rattle.cx_service.specs.Submits.{NamesHolder}
@@ -16,8 +16,8 @@ use Rattle.life_records.specs.Records.{AreOfNoReply, FullLine, OpHasWords, Journ
 use Rattle.cx_lives.specs.declared.progress.End.{End}
 use Rattle.cx_lives.specs.declared.progress.End.TheVariants.{Whole, Stopped, Full, Never}
 use Rattle.cx_lives.specs.declared.progress.Progress.{Progress}
-use Rattle.cx_lives.specs.declared.progress.Turn.{Turn}
-use Rattle.cx_lives.specs.declared.progress.Turn.TheVariants.{Next, Over, Full as FullTurn}
+use Rattle.cx_lives.specs.declared.progress.CommandOutcome.{CommandOutcome}
+use Rattle.cx_lives.specs.declared.progress.CommandOutcome.TheVariants.{Next, Over, Full as FullTurn}
 use Rattle.cx_lives.specs.declared.progress.Work.{Work}
 use Rattle.cx_lives.specs.Serving.{IsServed}
 
@@ -83,10 +83,10 @@ pub record IsKeptOut {O Op Reply Store : Type 0} (m : Meaning Op Reply Store) (l
   pub names : NamesHolder r.callers progress.caller.known.local note
 
 -- the result of a command of this number; no client ends Full in it
-abbrev pub Turned : {O Op Reply Store : Type 0} → (m : Meaning Op Reply Store) → Life Op → Running O → ℕ → ℕ → Turn Reply → Type 0
-Turned m life r client number (Next progress) = IsServed m life r client number progress
-Turned m life r client number (Over work) = IsWorkOf m life r client work × (full_in work.end ≡ [])
-Turned m life r client number (FullTurn progress note) = IsKeptOut m life r client (number - 1) progress note
+abbrev pub IsCommandOutcome : {O Op Reply Store : Type 0} → (m : Meaning Op Reply Store) → Life Op → Running O → ℕ → ℕ → CommandOutcome Reply → Type 0
+IsCommandOutcome m life r client number (Next progress) = IsServed m life r client number progress
+IsCommandOutcome m life r client number (Over work) = IsWorkOf m life r client work × (full_in work.end ≡ [])
+IsCommandOutcome m life r client number (FullTurn progress note) = IsKeptOut m life r client (number - 1) progress note
 
 -- a caller of this service that made no call yet, with its client's limit
 pub record IsNewIn {O Op : Type 0} (life : Life Op) (r : Running O) (seat : Seated) : Type 0 where

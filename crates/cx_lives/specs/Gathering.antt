@@ -3,8 +3,8 @@ use Rattle.std.specs.Prelude.{◌≡◌, ◌≤◌, ℕ, Bool, true, false, ◌|
 use Rattle.std.specs.List.{range_with_len}
 use Rattle.cx_core.specs.declared.local.Local.{Local}
 use Rattle.cx_core.specs.State.{EachLocal}
-use Rattle.cx_rule.specs.Running.{IsSeatOf, Running}
-use Rattle.cx_rule.specs.Seats.{Seated}
+use Rattle.table_invariant.specs.Running.{IsSeatOf, Running}
+use Rattle.table_invariant.specs.Seats.{Seated}
 use Rattle.cx_service.specs.Closes.{seats_of}
 use Rattle.cx_table.specs.Remains.{locals_of}
 use Rattle.life_records.specs.Works.{AreWorks}
@@ -13,7 +13,7 @@ use Rattle.life_records.specs.Records.{Life, Meaning}
 use Rattle.cx_lives.specs.declared.progress.End.{End}
 use Rattle.cx_lives.specs.declared.progress.End.TheVariants.{Never}
 use Rattle.cx_lives.specs.declared.progress.Work.{Work}
-use Rattle.cx_lives.specs.declared.gather.Gathered.{Gathered}
+use Rattle.cx_lives.specs.declared.gather.GatheredWork.{GatheredWork}
 use Rattle.cx_lives.specs.Ends.{CannotBe, full_in, stop_in}
 
 -- some caller has what none can have
@@ -30,7 +30,7 @@ pub record IsLocalIn {Op : Type 0} (life : Life Op) (client : ℕ) (l : Local) :
 
 -- What is put together: the seats are those of the first callers in order; the lines are those of their lists, where no caller has
 -- what none can have.
-pub record AreGathered {O Op Reply Store : Type 0} (m : Meaning Op Reply Store) (life : Life Op) (r : Running O) (g : Gathered Reply) : Type 0 where
+pub record AreGathered {O Op Reply Store : Type 0} (m : Meaning Op Reply Store) (life : Life Op) (r : Running O) (g : GatheredWork Reply) : Type 0 where
   pub of : All (IsSeatOf r) (seats_of g.handed.items)
   pub numbers : map (λ (s : Seated). s.known.local.number) (seats_of g.handed.items) ≡ range_with_len 0 (length g.handed.items)
   pub each : EachLocal (locals_of (seats_of g.handed.items)) (IsLocalIn life)
@@ -42,7 +42,7 @@ is_never Never = true
 is_never _ = false
 
 -- one client's work more
-pub record AddsWork {Reply : Type 0} (before after : Gathered Reply) (work : Work Reply) : Type 0 where
+pub record AddsWork {Reply : Type 0} (before after : GatheredWork Reply) (work : Work Reply) : Type 0 where
   pub handed : after.handed.items ≡ before.handed.items ++ work.handed ∷ []
   pub entries : after.lines.entries.items ≡ before.lines.entries.items ++ work.lines.entries.items
   pub reads : after.lines.reads.items ≡ before.lines.reads.items ++ work.lines.reads.items

@@ -1,9 +1,9 @@
 -- The result of a life that is run.
 use Rattle.std.specs.Prelude.{◌≡◌, ◌+◌, ◌^◌, ◌≤◌, ℕ, Bool, List, length, All}
 use Rattle.cx_core.specs.declared.entry.Base.{Base}
-use Rattle.cx_rule.specs.Running.{Running, instance_at}
-use Rattle.cx_rule.specs.Seats.{Seated}
-use Rattle.cx_table.specs.Remains.{AreSeats, Leaves}
+use Rattle.table_invariant.specs.Running.{Running, instance_at}
+use Rattle.table_invariant.specs.Seats.{Seated}
+use Rattle.cx_table.specs.Remains.{AreSeats, ClosingWitness}
 use Rattle.cx_table.specs.declared.remains.Remains.{Remains}
 use Rattle.life_records.specs.Told.{IsTold}
 use Rattle.life_records.specs.Works.{AreWorks}
@@ -34,7 +34,7 @@ pub record HasRun {O Op Reply Store : Type 0} (m : Meaning Op Reply Store) (step
   -- the callers as they ended, with whom the service was closed
   pub seats : List Seated
   pub are : AreSeats r seats
-  pub leaves : Leaves r (instance_at r step reads) seats remains
+  pub leaves : ClosingWitness r (instance_at r step reads) seats remains
   -- by the order of their steps, which are those of the closing, the history is a linearization
   pub order : IsLinearizedBy leaves
   pub is_told : IsTold m.encoding life r.base.place remains.trail.history remains.trail.locals told

@@ -1,7 +1,7 @@
 -- The line that is noted of a client's answer.
 use Rattle.std.specs.Prelude.{◌≡◌, ℕ, Bool, true, false, [], ◌∷◌, ◌++◌, Some}
 use Rattle.cx_core.specs.declared.local.Answer.{Answer}
-use Rattle.cx_turns.specs.declared.lookup.Seen.{Seen}
+use Rattle.cx_attempts.specs.declared.lookup.Seen.{Seen}
 use Rattle.life_records.specs.Records.{AreOfNoReply, Meaning}
 use Rattle.cx_lives.specs.declared.lines.Lines.{Lines}
 

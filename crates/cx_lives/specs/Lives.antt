@@ -7,10 +7,10 @@ use Rattle.core_order.specs.CrashedLives.{AllStand, AreCrashedLives, EndsAs, IsC
 use Rattle.cx_core.specs.Base.{LawfulBase}
 use Rattle.cx_core.specs.declared.entry.Base.{Base}
 use Rattle.cx_core.specs.declared.entry.Image.{Image}
-use Rattle.cx_rule.specs.Ending.{Ending}
-use Rattle.cx_rule.specs.Rule.{opening_limited}
-use Rattle.cx_rule.specs.Running.{Running}
-use Rattle.cx_rule.specs.Seats.{Seated}
+use Rattle.table_invariant.specs.Ending.{Ending}
+use Rattle.table_invariant.specs.Rule.{opening_limited}
+use Rattle.table_invariant.specs.Running.{Running}
+use Rattle.table_invariant.specs.Seats.{Seated}
 use Rattle.cx_table.specs.declared.remains.Remains.{Remains}
 use Rattle.life_records.specs.Ended.{IsFlagged, IsSameButKept}
 use Rattle.life_records.specs.Told.{IsTold}

@@ -5,7 +5,7 @@ use Rattle.cx_core.specs.declared.local.Answer.{Answer}
 use Rattle.cx_core.specs.declared.local.Linked.{Linked}
 use Rattle.cx_core.specs.declared.local.Local.{Local}
 use Rattle.cx_core.specs.declared.local.SeenRead.{SeenRead}
-use Rattle.cx_rule.specs.Running.{Running}
+use Rattle.table_invariant.specs.Running.{Running}
 use Rattle.cx_service.specs.Callers.{IsCallerOf}
 use Rattle.life_records.specs.Works.{IsEntryBefore, IsLineOf, IsReadLine, IsSeenBefore, StandsBetween, client_lines}
 use Rattle.life_records.specs.Scripts.{limit_in}

@@ -7,8 +7,8 @@ use Rattle.cx_lives.specs.declared.progress.Progress.{Progress}
 use Rattle.cx_lives.specs.declared.progress.End.{End}
 use Rattle.cx_lives.specs.declared.progress.End.TheVariants.{Stopped, Never}
 use Rattle.cx_lives.specs.declared.lines.Lines.{Lines}
-use Rattle.cx_lives.specs.declared.progress.Turn.{Turn}
-use Rattle.cx_lives.specs.declared.progress.Turn.TheVariants.{Next, Over}
+use Rattle.cx_lives.specs.declared.progress.CommandOutcome.{CommandOutcome}
+use Rattle.cx_lives.specs.declared.progress.CommandOutcome.TheVariants.{Next, Over}
 use Rattle.cx_lives.specs.declared.progress.Work.{Work}
 
 -- the end of a client whose caller is in no call
@@ -16,9 +16,9 @@ abbrev pub ended : {Reply : Type 0} → Progress Reply → End → Work Reply
 ended progress end_ = record { handed = Idle progress.caller; lines = progress.lines; end = end_ }
 
 -- a client after its answer, by whether the words of that are a reply's
-abbrev pub turn_after : {Reply : Type 0} → Progress Reply → Bool → Turn Reply
-turn_after progress true = Next progress
-turn_after progress false = Over (ended progress Never)
+abbrev pub attempt_after : {Reply : Type 0} → Progress Reply → Bool → CommandOutcome Reply
+attempt_after progress true = Next progress
+attempt_after progress false = Over (ended progress Never)
 
 -- the stop line of a client that is stopped in its command of this number
 abbrev pub stop_line : ℕ → ℕ → StoppedSeat → StopLine

@@ -1,15 +1,15 @@
 -- The results of workers: their clients are at their ends, or are left.
 use Rattle.std.specs.Prelude.{◌≡◌, ◌+◌, ◌<◌, ◌≤◌, ℕ, List, [], ◌∷◌, ◌++◌, length, take, IfOk, Result, Ok, slice_index_or}
 use Rattle.std.specs.declared.alloc.AllocError.{AllocError}
-use Rattle.cx_rule.specs.Running.{Running}
+use Rattle.table_invariant.specs.Running.{Running}
 use Rattle.life_records.specs.Works.{IsFullOf}
 use Rattle.life_records.specs.Scripts.{own_ops}
 use Rattle.life_records.specs.Records.{FullLine, Life, Meaning, StopLine}
 use Rattle.cx_lives.specs.Ends.{IsWorkOf, full_in, stop_in}
 use Rattle.cx_lives.specs.Serving.{IsServed}
 use Rattle.cx_lives.specs.declared.work.Left.{Left}
-use Rattle.cx_lives.specs.declared.work.Served.{Served}
-use Rattle.cx_lives.specs.declared.work.Served.TheVariants.{Done, Full}
+use Rattle.cx_lives.specs.declared.work.WorkerOutcome.{WorkerOutcome}
+use Rattle.cx_lives.specs.declared.work.WorkerOutcome.TheVariants.{Done, Full}
 
 -- a client that is left: it was answered its own among the script's first commands, up to the one at which it was left
 pub record IsClientLeft {O Op Reply Store : Type 0} (m : Meaning Op Reply Store) (life : Life Op) (r : Running O) (client : ℕ) (left : Left Reply) : Type 0 where
@@ -23,7 +23,7 @@ pub record IsFullLeft {O Op Reply Store : Type 0} (m : Meaning Op Reply Store) (
   pub full : IsFullOf life client left.number left.progress.caller.known.local line
 
 -- the result of a worker whose client ended Full in no command yet
-abbrev pub ServedOf : {O Op Reply Store : Type 0} → (m : Meaning Op Reply Store) → Life Op → Running O → ℕ → Served Reply → Type 0
+abbrev pub ServedOf : {O Op Reply Store : Type 0} → (m : Meaning Op Reply Store) → Life Op → Running O → ℕ → WorkerOutcome Reply → Type 0
 ServedOf m life r client (Done work) = IsWorkOf m life r client work × (full_in work.end ≡ [])
 ServedOf m life r client (Full left line) = IsFullLeft m life r client left line
 
@@ -38,10 +38,10 @@ AreResultsFrom IsOf client [] = Unit {0}
 AreResultsFrom IsOf client (work ∷ works) = IfOk work (IsOf client) × AreResultsFrom IsOf (client + 1) works
 
 -- the stop line that a worker tells, and those of all
-abbrev pub stop_told : {Reply : Type 0} → Result (Served Reply) AllocError → List StopLine
+abbrev pub stop_told : {Reply : Type 0} → Result (WorkerOutcome Reply) AllocError → List StopLine
 stop_told (Ok (Done work)) = stop_in work.end
 stop_told _ = []
 
-abbrev pub stops_left : {Reply : Type 0} → List (Result (Served Reply) AllocError) → List StopLine
+abbrev pub stops_left : {Reply : Type 0} → List (Result (WorkerOutcome Reply) AllocError) → List StopLine
 stops_left [] = []
 stops_left (work ∷ works) = stop_told work ++ stops_left works

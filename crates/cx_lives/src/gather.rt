@@ -9,7 +9,7 @@ ghost use Rattle.cx_lives.specs.Works.{AreResultsFrom, ServedOf, stop_told, stop
 
 use crate::lines::Lines;
 use crate::progress::{End, Work};
-use crate::work::{Served, go_on};
+use crate::work::{WorkerOutcome, go_on};
 use cx_base::Gate;
 use cx_service::{Handed, Service};
 use life_records::laws::{works_begin, works_go_on};
@@ -20,7 +20,7 @@ use typed_object::TypedObject;
 
 /// The callers as they ended, and the lines of all.
 #[derive(Drop)]
-pub(crate) struct Gathered<Reply> {
+pub(crate) struct GatheredWork<Reply> {
     pub(crate) handed: Vec<Handed>,
     pub(crate) lines: Lines<Reply>,
     pub(crate) ends: Ends,
@@ -34,18 +34,18 @@ pub(crate) struct Ends {
     pub(crate) never: bool,
 }
 
-impl<Reply: Drop> Gathered<Reply> {
+impl<Reply: Drop> GatheredWork<Reply> {
     /// With one client's work more.
-    fn with(self, work: Work<Reply>) -> Result<Gathered<Reply>, AllocError>
+    fn with(self, work: Work<Reply>) -> Result<GatheredWork<Reply>, AllocError>
         ensures { IfOk result (λ after. AddsWork self after work) }
     {
-        let Gathered {
+        let GatheredWork {
             mut handed,
             lines,
             ends,
         } = self;
         handed.push(work.handed)?;
-        Ok(Gathered {
+        Ok(GatheredWork {
             handed,
             lines: lines.joined(work.lines)?,
             ends: with_end(ends, work.end)?,
@@ -77,8 +77,8 @@ pub(crate) fn gather<O: TypedObject, R: Wait, G: Gate>(
     service: &Service<O>,
     life: &BorrowedLife<'_, O::Op>,
     gate: &G,
-    works: Vec<Result<Served<O::Reply>, AllocError>>,
-) -> Result<Gathered<O::Reply>, AllocError>
+    works: Vec<Result<WorkerOutcome<O::Reply>, AllocError>>,
+) -> Result<GatheredWork<O::Reply>, AllocError>
     requires works { AreResultsFrom (ServedOf (O.meaning service.now.object) life.now service.now) 0 works.items }
     requires life { IsLifeInLimits (O.meaning service.now.object).is_op 8 life.now }
     ensures gathered { IfOk result (AreGathered (O.meaning service.now.object) life.now service.now) }
@@ -92,7 +92,7 @@ pub(crate) fn gather<O: TypedObject, R: Wait, G: Gate>(
         fulls: Vec::new(alloc),
         never: false,
     };
-    let mut all = Gathered {
+    let mut all = GatheredWork {
         handed: Vec::new(alloc),
         lines: Lines::new(alloc),
         ends,
@@ -131,9 +131,9 @@ fn at_end<O: TypedObject, R: Wait, G: Gate>(
     service: &Service<O>,
     life: &BorrowedLife<'_, O::Op>,
     gate: &G,
-    served: Served<O::Reply>,
+    served: WorkerOutcome<O::Reply>,
     stops: &[StopLine],
-    rest: &[Result<Served<O::Reply>, AllocError>],
+    rest: &[Result<WorkerOutcome<O::Reply>, AllocError>],
 ) -> Result<Work<O::Reply>, AllocError>
     requires served { (client : ℕ) × ServedOf (O.meaning service.now.object) life.now service.now client served }
     requires life { IsLifeInLimits (O.meaning service.now.object).is_op 8 life.now }
@@ -142,7 +142,7 @@ fn at_end<O: TypedObject, R: Wait, G: Gate>(
     ensures stopped { IfOk result (λ work. All (λ line. is_stopped line.note.holder (stops.now ++ stops_left rest.now) ≡ true) (full_in work.end)) }
 {
     match served {
-        Served::Done(work) => Ok(work),
-        Served::Full(left, _) => go_on(rt, alloc, service, life, gate, left, stops, rest),
+        WorkerOutcome::Done(work) => Ok(work),
+        WorkerOutcome::Full(left, _) => go_on(rt, alloc, service, life, gate, left, stops, rest),
     }
 }

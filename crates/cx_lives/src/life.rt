@@ -4,7 +4,7 @@ ghost use Rattle.std.specs.Prelude.{IfOk};
 ghost use Rattle.cx_lives.specs.Life.{CanRun, HasRun};
 ghost use Rattle.life_records.specs.Meanings.{IsMeant};
 
-use crate::gather::{Ends, Gathered, gather};
+use crate::gather::{Ends, GatheredWork, gather};
 use crate::lines::Lines;
 use crate::workers::run_workers;
 use cx_base::{Gate, Items};
@@ -46,7 +46,7 @@ pub fn run_life<O: TypedObject + Sync, R: Threads + Wait + Sync, G: Gate + Sync>
     ensures { IfOk result (λ r. HasRun (O.meaning service.object) O.step O.only_reads life.now service r.0 r.1) }
 {
     let works = run_workers(rt, alloc, &service, callers, life, gate)?;
-    let Gathered {
+    let GatheredWork {
         handed,
         lines,
         ends,

@@ -1,7 +1,7 @@
 //! A life that was run, ended by a crash and recovered is a legal life, witnessed by its execution log.
 
 ghost use Rattle.cx_core.specs.Base.{LawfulBase};
-ghost use Rattle.cx_rule.specs.Running.{Running};
+ghost use Rattle.table_invariant.specs.Running.{Running};
 ghost use Rattle.life_records.specs.Begins.{Begun, IsBaseOf};
 ghost use Rattle.life_records.specs.Records.{Life, LifeRecord};
 ghost use Rattle.cx_lives.specs.Life.{HasRun, IsServiceOf};

@@ -2,9 +2,9 @@
 
 ghost use Rattle.std.specs.Prelude.{◌≡◌, ◌-◌, ◌≤◌, IfOk, IsTrue, Some};
 ghost use Rattle.life_records.specs.Scripts.{named_op};
-ghost use Rattle.cx_lives.specs.Ends.{Turned};
+ghost use Rattle.cx_lives.specs.Ends.{IsCommandOutcome};
 ghost use Rattle.cx_lives.specs.Serving.{IsServed};
-ghost use Rattle.cx_lives.specs.Turns.{StopsIn, ended, turn_after};
+ghost use Rattle.cx_lives.specs.Turns.{StopsIn, ended, attempt_after};
 
 use crate::calls::ask;
 use crate::lines::{Lines, note_entry, note_read};
@@ -48,7 +48,7 @@ pub(crate) struct Progress<Reply> {
 /// The result of a command: the client goes on, or it is at its end, or the command is not begun, since another caller keeps the
 /// client's cells, as the note says.
 #[derive(Drop)]
-pub(crate) enum Turn<Reply> {
+pub(crate) enum CommandOutcome<Reply> {
     Next(Progress<Reply>),
     Over(Work<Reply>),
     Full(Progress<Reply>, FullNote),
@@ -65,12 +65,12 @@ pub(crate) fn make<O: TypedObject, R: Wait>(
     number: u64,
     command: &Command<O::Op>,
     most: Option<u64>,
-) -> Result<Turn<O::Reply>, AllocError>
+) -> Result<CommandOutcome<O::Reply>, AllocError>
     requires served { IsServed (O.meaning service.now.object) life.now service.now command.now.client (number - 1) progress }
     requires number { 1 ≤ number }
     requires named { named_op life.now command.now.client number ≡ Some command.now.op }
     requires op { (O.meaning service.now.object).is_op command.now.op }
-    ensures { IfOk result (Turned (O.meaning service.now.object) life.now service.now command.now.client number) }
+    ensures { IfOk result (IsCommandOutcome (O.meaning service.now.object) life.now service.now command.now.client number) }
 {
     let Progress { caller, mut lines } = progress;
     let _ = life;
@@ -87,11 +87,14 @@ pub(crate) fn make<O: TypedObject, R: Wait>(
             let is_reply = note_read(alloc, object, &mut lines, client, number, place, &reply)?;
             Ok(after_answer(Progress { caller, lines }, is_reply))
         }
-        ReadDone::Full(caller, note) => Ok(Turn::Full(Progress { caller, lines }, note)),
-        ReadDone::Worn(caller) => Ok(Turn::Over(over(Progress { caller, lines }, End::Never))),
+        ReadDone::Full(caller, note) => Ok(CommandOutcome::Full(Progress { caller, lines }, note)),
+        ReadDone::Worn(caller) => Ok(CommandOutcome::Over(over(
+            Progress { caller, lines },
+            End::Never,
+        ))),
         ReadDone::Halted(stopped) => {
             let work = stopped_in(client, number, stopped, lines)?;
-            Ok(Turn::Over(work))
+            Ok(CommandOutcome::Over(work))
         }
     }
 }
@@ -107,13 +110,13 @@ fn service_words<O: TypedObject>(service: &Service<O>, op: &O::Op) -> (OpWords, 
 }
 
 /// A client goes on after its answer, unless that was no reply.
-fn after_answer<Reply: Drop>(progress: Progress<Reply>, is_reply: bool) -> Turn<Reply>
-    ensures { result ≡ turn_after progress is_reply }
+fn after_answer<Reply: Drop>(progress: Progress<Reply>, is_reply: bool) -> CommandOutcome<Reply>
+    ensures { result ≡ attempt_after progress is_reply }
 {
     if is_reply {
-        Turn::Next(progress)
+        CommandOutcome::Next(progress)
     } else {
-        Turn::Over(over(progress, End::Never))
+        CommandOutcome::Over(over(progress, End::Never))
     }
 }
 

@@ -10,7 +10,7 @@ ghost use Rattle.cx_lives.specs.Works.{IsClientLeft, ServedOf, stop_told, stops_
 
 use crate::lines::Lines;
 use crate::operations::command_at;
-use crate::progress::{End, Progress, Turn, Work, make, over};
+use crate::progress::{CommandOutcome, End, Progress, Work, make, over};
 use cx_base::Gate;
 use cx_service::{Caller, Service};
 use life_records::{BorrowedLife, FullLine, StopLine};
@@ -33,7 +33,7 @@ pub(crate) struct Left<Reply> {
 
 /// The result of a worker.
 #[derive(Drop)]
-pub(crate) enum Served<Reply> {
+pub(crate) enum WorkerOutcome<Reply> {
     /// The client is at its end.
     Done(Work<Reply>),
     /// The client's next command was last answered Full. The line is the one that it has where it ends Full.
@@ -49,7 +49,7 @@ pub(crate) fn serve<O: TypedObject, R: Wait, G: Gate>(
     life: &BorrowedLife<'_, O::Op>,
     gate: &G,
     caller: Caller,
-) -> Result<Served<O::Reply>, AllocError>
+) -> Result<WorkerOutcome<O::Reply>, AllocError>
     requires new { IsNewIn life.now service.now caller }
     requires life { IsLifeInLimits (O.meaning service.now.object).is_op 8 life.now }
     ensures { IfOk result (ServedOf (O.meaning service.now.object) life.now service.now caller.known.local.number) }
@@ -84,7 +84,7 @@ fn serve_on<O: TypedObject, R: Wait, G: Gate>(
     gate: &G,
     left: Left<O::Reply>,
     most: Option<u64>,
-) -> Result<Served<O::Reply>, AllocError>
+) -> Result<WorkerOutcome<O::Reply>, AllocError>
     requires left { IsClientLeft (O.meaning service.now.object) life.now service.now left.progress.caller.known.local.number left }
     requires life { IsLifeInLimits (O.meaning service.now.object).is_op 8 life.now }
     ensures { IfOk result (ServedOf (O.meaning service.now.object) life.now service.now left.progress.caller.known.local.number) }
@@ -105,13 +105,13 @@ fn serve_on<O: TypedObject, R: Wait, G: Gate>(
             let turn = make(rt, alloc, service, life, progress, next, command, most)?;
             pass_behind(gate, client, next, &turn);
             match turn {
-                Turn::Next(back) => {
+                CommandOutcome::Next(back) => {
                     progress = back;
                     number = next;
                     begun = false;
                 }
-                Turn::Over(work) => return Ok(Served::Done(work)),
-                Turn::Full(back, note) => {
+                CommandOutcome::Over(work) => return Ok(WorkerOutcome::Done(work)),
+                CommandOutcome::Full(back, note) => {
                     let line = FullLine {
                         client,
                         command: next,
@@ -123,12 +123,12 @@ fn serve_on<O: TypedObject, R: Wait, G: Gate>(
                         number,
                         begun: true,
                     };
-                    return Ok(Served::Full(left, line));
+                    return Ok(WorkerOutcome::Full(left, line));
                 }
             }
         }
     }
-    Ok(Served::Done(over(progress, End::Whole)))
+    Ok(WorkerOutcome::Done(over(progress, End::Whole)))
 }
 
 // Passes the gate before a command, unless the client did so already.
@@ -139,10 +139,10 @@ fn pass_before<G: Gate>(gate: &G, client: u32, number: u64, begun: bool) {
 }
 
 // Passes the gate after a command, unless it is still to be made.
-fn pass_behind<G: Gate, Reply>(gate: &G, client: u32, number: u64, turn: &Turn<Reply>) {
+fn pass_behind<G: Gate, Reply>(gate: &G, client: u32, number: u64, turn: &CommandOutcome<Reply>) {
     match turn {
-        Turn::Next(_) | Turn::Over(_) => gate.pass(client, number, true),
-        Turn::Full(..) => {}
+        CommandOutcome::Next(_) | CommandOutcome::Over(_) => gate.pass(client, number, true),
+        CommandOutcome::Full(..) => {}
     }
 }
 
@@ -156,7 +156,7 @@ pub(crate) fn go_on<O: TypedObject, R: Wait, G: Gate>(
     gate: &G,
     left: Left<O::Reply>,
     stops: &[StopLine],
-    rest: &[Result<Served<O::Reply>, AllocError>],
+    rest: &[Result<WorkerOutcome<O::Reply>, AllocError>],
 ) -> Result<Work<O::Reply>, AllocError>
     requires left { IsClientLeft (O.meaning service.now.object) life.now service.now left.progress.caller.known.local.number left }
     requires life { IsLifeInLimits (O.meaning service.now.object).is_op 8 life.now }
@@ -166,8 +166,8 @@ pub(crate) fn go_on<O: TypedObject, R: Wait, G: Gate>(
     let mut left = left;
     for _ in rt.forever() {
         match serve_on(rt, alloc, service, life, gate, left, Some(1))? {
-            Served::Done(work) => return Ok(work),
-            Served::Full(back, line) => {
+            WorkerOutcome::Done(work) => return Ok(work),
+            WorkerOutcome::Full(back, line) => {
                 if has_stopped(stops, rest, line.note.holder) {
                     return Ok(give_up(gate, back, line));
                 }
@@ -189,7 +189,7 @@ fn give_up<G: Gate, Reply: Drop>(gate: &G, left: Left<Reply>, line: FullLine) ->
 /// Whether a client was stopped, as one of these lines says or the rest of the works.
 fn has_stopped<Reply>(
     stops: &[StopLine],
-    rest: &[Result<Served<Reply>, AllocError>],
+    rest: &[Result<WorkerOutcome<Reply>, AllocError>],
     client: u32,
 ) -> bool
     ensures { result ≡ is_stopped client (stops.now ++ stops_left rest.now) }
@@ -206,7 +206,7 @@ fn is_told(stops: &[StopLine], client: u32) -> bool
 
 /// Whether the rest of the works has a stop line of this client's.
 #[tactic(auto, using(crate::proofs::Leaving::stopped_here, crate::proofs::Leaving::stopped_later, crate::proofs::Leaving::stopped_never))]
-fn is_left<Reply>(rest: &[Result<Served<Reply>, AllocError>], client: u32) -> bool
+fn is_left<Reply>(rest: &[Result<WorkerOutcome<Reply>, AllocError>], client: u32) -> bool
     ensures { result ≡ is_stopped client (stops_left rest.now) }
 {
     for served in rest {
@@ -218,14 +218,14 @@ fn is_left<Reply>(rest: &[Result<Served<Reply>, AllocError>], client: u32) -> bo
 }
 
 /// Whether a worker's client is this one and was stopped.
-fn tells_stop<Reply>(served: &Result<Served<Reply>, AllocError>, client: u32) -> bool
+fn tells_stop<Reply>(served: &Result<WorkerOutcome<Reply>, AllocError>, client: u32) -> bool
     ensures { result ≡ is_stopped client (stop_told served.now) }
 {
     match served {
-        Ok(Served::Done(work)) => match &work.end {
+        Ok(WorkerOutcome::Done(work)) => match &work.end {
             End::Stopped(line) => line.client == client,
             End::Whole | End::Full(_) | End::Never => false,
         },
-        Ok(Served::Full(..)) | Err(AllocError) => false,
+        Ok(WorkerOutcome::Full(..)) | Err(AllocError) => false,
     }
 }

@@ -5,7 +5,7 @@ ghost use Rattle.life_records.specs.Limits.{IsLifeInLimits};
 ghost use Rattle.cx_lives.specs.Ends.{IsNewIn};
 ghost use Rattle.cx_lives.specs.Works.{AreResultsOf, ServedOf};
 
-use crate::work::{Served, serve};
+use crate::work::{WorkerOutcome, serve};
 use cx_base::Gate;
 use cx_service::{Caller, Service};
 use life_records::BorrowedLife;
@@ -22,7 +22,7 @@ pub(crate) fn run_workers<O: TypedObject + Sync, R: Threads + Wait + Sync, G: Ga
     callers: Vec<Caller>,
     life: &BorrowedLife<'_, O::Op>,
     gate: &G,
-) -> Result<Vec<Result<Served<O::Reply>, AllocError>>, AllocError>
+) -> Result<Vec<Result<WorkerOutcome<O::Reply>, AllocError>>, AllocError>
     requires callers { All (IsNewIn life.now service.now) callers.items }
     requires life { IsLifeInLimits (O.meaning service.now.object).is_op 8 life.now }
     ensures len { IfOk result (λ works. vec_len works ≡ vec_len callers) }
@@ -33,7 +33,7 @@ pub(crate) fn run_workers<O: TypedObject + Sync, R: Threads + Wait + Sync, G: Ga
     map_vec(
         rt,
         callers,
-        &|caller: Caller| -> Result<Served<O::Reply>, AllocError>
+        &|caller: Caller| -> Result<WorkerOutcome<O::Reply>, AllocError>
             requires { IsNewIn life.now service.now caller × IsLifeInLimits (O.meaning service.now.object).is_op 8 life.now }
             ensures { IfOk result (ServedOf (O.meaning service.entry.now.object) life.entry.now service.entry.now caller.known.local.number) }
         { serve(rt, alloc, service, life, gate, caller) },

@@ -12,11 +12,11 @@ use Rattle.cx_program.specs.Commands.{CommandMeaning, command, command_asked, lo
 use Rattle.cx_program.specs.Input.{IsInput}
 use Rattle.cx_program.specs.Status.{status_of}
 use Rattle.cx_program.specs.Texts.{too_long_text}
-use Rattle.cx_program.specs.declared.asked.Asked.{Asked}
-use Rattle.cx_program.specs.declared.asked.Asked.TheVariants.{Run, Image, Recover, Fifo, Trace, Load, Pool}
+use Rattle.cx_program.specs.declared.asked.AskedCommand.{AskedCommand}
+use Rattle.cx_program.specs.declared.asked.AskedCommand.TheVariants.{Run, Image, Recover, Fifo, Trace, Load, Pool}
 use Rattle.cx_program.specs.declared.status.Status.{Status}
 use Rattle.cx_program.specs.declared.status.Status.TheVariants.{Fine, Usage, Refused, ReadFault, WriteFault, Memory, TooLong}
-use Rattle.cx_rule.specs.Ending.{Ending}
+use Rattle.table_invariant.specs.Ending.{Ending}
 
 -- a status that comes in place of the one that an input calls for
 abbrev pub GivesUp : Status → Type 0
@@ -62,7 +62,7 @@ always command wanted tells is = record {
   plain = λ input status calls gives. tells (subst GivesUp (is input status calls) gives);
 }
 
-pub sound : (asked : Option Asked) → IsSound (command_asked asked)
+pub sound : (asked : Option AskedCommand) → IsSound (command_asked asked)
 sound (Some Run) = record { one = script_one IsScript; plain = script_plain IsScript }
 sound (Some Image) = record { one = script_one IsScript; plain = script_plain IsScript }
 sound (Some Recover) = recover_sound
@@ -87,7 +87,7 @@ pub owed_plain : (words : List (List ℕ)) (told : Option (List ℕ)) (status : 
 owed_plain words told status trails text owed = calls_plain (command_asked owed.asked) owed.input status (sound owed.asked) owed.owes.calls
 
 -- what is owed for an input that calls for a status
-owed_as : (asked : Option Asked) (words : List (List ℕ)) (told : Option (List ℕ)) (input : List ℕ) (status : Status) (trails : List Ending) (text : List ℕ)
+owed_as : (asked : Option AskedCommand) (words : List (List ℕ)) (told : Option (List ℕ)) (input : List ℕ) (status : Status) (trails : List Ending) (text : List ℕ)
     → (command_asked asked).asked words → IsInput (command_asked asked).reads told input → CallsForStatus (command_asked asked) input status
     → (16777216 < length input → text ≡ too_long_text) → (length input ≤ 16777216 → (command_asked asked).writes input status trails text) → Owed words told status trails text
 owed_as asked words told input status trails text asks is wanted long short = record {
@@ -99,19 +99,19 @@ owed_as asked words told input status trails text asks is wanted long short = re
 }
 
 -- of one within the limit, and of a longer one
-pub owed_short : (asked : Option Asked) (words : List (List ℕ)) (told : Option (List ℕ)) (input : List ℕ) (status : Status) (trails : List Ending) (text : List ℕ)
+pub owed_short : (asked : Option AskedCommand) (words : List (List ℕ)) (told : Option (List ℕ)) (input : List ℕ) (status : Status) (trails : List Ending) (text : List ℕ)
     → (command_asked asked).asked words → IsInput (command_asked asked).reads told input → length input ≤ 16777216
     → (command_asked asked).calls input status → (command_asked asked).writes input status trails text → Owed words told status trails text
 owed_short asked words told input status trails text asks is short calls writes =
     owed_as asked words told input status trails text asks is (inr (short, calls)) (λ past. absurd (omega (arith, past, short))) (λ within. writes)
 
-pub owed_long : (asked : Option Asked) (words : List (List ℕ)) (told : Option (List ℕ)) (input : List ℕ)
+pub owed_long : (asked : Option AskedCommand) (words : List (List ℕ)) (told : Option (List ℕ)) (input : List ℕ)
     → (command_asked asked).asked words → IsInput (command_asked asked).reads told input → 16777216 < length input → Owed words told TooLong [] too_long_text
 owed_long asked words told input asks is past =
     owed_as asked words told input TooLong [] too_long_text asks is (inl (past, refl)) (λ more. refl) (λ within. absurd (omega (arith, past, within)))
 
 -- where no word asks for what reads, nothing is read for what they ask for
-pub none_read : (words : List (List ℕ)) (asked : Asked) → (command asked).asked words → (Read words → ⊥) → (command asked).reads ≡ false
+pub none_read : (words : List (List ℕ)) (asked : AskedCommand) → (command asked).asked words → (Read words → ⊥) → (command asked).reads ≡ false
 none_read words asked asks none = elim (cases_Bool (command asked).reads) [
   | inl reads ↦ absurd (none (record { asked = Some asked; asks = asks; reads = reads }))
   | inr not ↦ not

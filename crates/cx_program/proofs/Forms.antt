@@ -11,8 +11,8 @@ use Rattle.std.proofs.lemmas.List.Elements.{All-cons, All-nil}
 use Rattle.cx_program.specs.CommandLine.{HasForm, IsLone, begins_with_hyphen}
 use Rattle.cx_program.specs.Commands.{command}
 use Rattle.cx_program.specs.Words.{IsAlone, IsLoadOf, IsPoolOf}
-use Rattle.cx_program.specs.declared.asked.Asked.{Asked}
-use Rattle.cx_program.specs.declared.asked.Asked.TheVariants.{Run, Image, Recover, Fifo, Trace, Load, Pool}
+use Rattle.cx_program.specs.declared.asked.AskedCommand.{AskedCommand}
+use Rattle.cx_program.specs.declared.asked.AskedCommand.TheVariants.{Run, Image, Recover, Fifo, Trace, Load, Pool}
 
 abbrev IsPlain : List ℕ → Type 0
 IsPlain word = begins_with_hyphen word ≡ false
@@ -47,7 +47,7 @@ same_word : (word other : List ℕ) → word ∷ [] ≡ other ∷ [] → word �
 same_word word other is = cc
 
 -- words that ask for a command have its form
-pub has_form : (words : List (List ℕ)) (asked : Asked) → (command asked).asked words → HasForm words
+pub has_form : (words : List (List ℕ)) (asked : AskedCommand) → (command asked).asked words → HasForm words
 has_form words Run is = lone_has_form (codes "run") words (inl refl) refl is
 has_form words Image is = lone_has_form (codes "image") words (inr (inl refl)) refl is
 has_form words Recover is = lone_has_form (codes "recover") words (inr (inr (inl refl))) refl is
@@ -58,7 +58,7 @@ has_form words (Pool seats) is = pool_has_form seats.count words is
 
 -- four words that are those of no load ask for nothing
 pub none_of_load : (words : List (List ℕ)) (first second third : List ℕ) → words ≡ codes "load" ∷ first ∷ second ∷ third ∷ []
-    → ((from clients ops : ℕ) → IsLoadOf from clients ops words → ⊥) → (asked : Asked) → (command asked).asked words → ⊥
+    → ((from clients ops : ℕ) → IsLoadOf from clients ops words → ⊥) → (asked : AskedCommand) → (command asked).asked words → ⊥
 none_of_load words first second third are no_load Run is =
     let bad : codes "load" ∷ first ∷ second ∷ third ∷ [] ≡ codes "run" ∷ [] = sym are ∙ is in cc
 none_of_load words first second third are no_load Image is =
@@ -74,7 +74,7 @@ none_of_load words first second third are no_load (Pool seats) is =
     let bad : codes "load" ∷ first ∷ second ∷ third ∷ [] ≡ codes "pool" ∷ decimal seats.count ∷ [] = sym are ∙ is.are in cc
 
 -- nor do two words that are those of no pool
-pub none_of_pool : (words : List (List ℕ)) (seats : List ℕ) → words ≡ codes "pool" ∷ seats ∷ [] → ((n : ℕ) → IsPoolOf n words → ⊥) → (asked : Asked) → (command asked).asked words → ⊥
+pub none_of_pool : (words : List (List ℕ)) (seats : List ℕ) → words ≡ codes "pool" ∷ seats ∷ [] → ((n : ℕ) → IsPoolOf n words → ⊥) → (asked : AskedCommand) → (command asked).asked words → ⊥
 none_of_pool words seats are no_pool Run is = let bad : codes "pool" ∷ seats ∷ [] ≡ codes "run" ∷ [] = sym are ∙ is in cc
 none_of_pool words seats are no_pool Image is = let bad : codes "pool" ∷ seats ∷ [] ≡ codes "image" ∷ [] = sym are ∙ is in cc
 none_of_pool words seats are no_pool Recover is = let bad : codes "pool" ∷ seats ∷ [] ≡ codes "recover" ∷ [] = sym are ∙ is in cc
@@ -86,7 +86,7 @@ none_of_pool words seats are no_pool (Pool pool) is = no_pool pool.count is
 
 -- a word that is none of these asks for nothing alone
 pub none_alone : (word : List ℕ) → (word ≡ codes "run" → ⊥) → (word ≡ codes "image" → ⊥) → (word ≡ codes "recover" → ⊥) → (word ≡ codes "fifo" → ⊥) → (word ≡ codes "trace" → ⊥)
-    → (asked : Asked) → (command asked).asked (word ∷ []) → ⊥
+    → (asked : AskedCommand) → (command asked).asked (word ∷ []) → ⊥
 none_alone word no_run no_image no_recover no_fifo no_trace Run is = no_run (same_word word (codes "run") is)
 none_alone word no_run no_image no_recover no_fifo no_trace Image is = no_image (same_word word (codes "image") is)
 none_alone word no_run no_image no_recover no_fifo no_trace Recover is = no_recover (same_word word (codes "recover") is)

@@ -1,13 +1,13 @@
 -- What a run answers: the status and the text that the words and the input call for.
 use Rattle.std.specs.Prelude.{◌≡◌, ◌⊎◌, ◌<◌, ◌≤◌, ℕ, List, length, Option, IsTrue}
 use Rattle.cx_base.specs.Outside.{Rose}
-use Rattle.cx_rule.specs.Ending.{Ending}
+use Rattle.table_invariant.specs.Ending.{Ending}
 use Rattle.cx_program.specs.Commands.{CommandMeaning, command_asked}
 use Rattle.cx_program.specs.Input.{IsInput}
 use Rattle.cx_program.specs.Output.{Appends, AppendsFront}
 use Rattle.cx_program.specs.Texts.{too_long_text}
-use Rattle.cx_program.specs.declared.asked.Asked.{Asked}
-use Rattle.cx_program.specs.declared.status.Ended.{Ended}
+use Rattle.cx_program.specs.declared.asked.AskedCommand.{AskedCommand}
+use Rattle.cx_program.specs.declared.status.FinishedRun.{FinishedRun}
 use Rattle.cx_program.specs.declared.status.Status.{Status}
 use Rattle.cx_program.specs.declared.status.Status.TheVariants.{ReadFault, WriteFault, Memory, TooLong}
 
@@ -24,7 +24,7 @@ pub record Owes (command : CommandMeaning) (input : List ℕ) (status : Status) 
 
 -- What words and input call for. The input is what the source told, where it told one, and empty for a command that reads nothing.
 pub record Owed (words : List (List ℕ)) (told : Option (List ℕ)) (status : Status) (trails : List Ending) (text : List ℕ) : Type 0 where
-  pub asked : Option Asked
+  pub asked : Option AskedCommand
   pub asks : (command_asked asked).asked words
   pub input : List ℕ
   pub is : IsInput (command_asked asked).reads told input
@@ -38,7 +38,7 @@ pub record IsOwed (words : List (List ℕ)) (told : Option (List ℕ)) (text : L
 
 -- the words ask for what reads an input
 pub record Read (words : List (List ℕ)) : Type 0 where
-  pub asked : Option Asked
+  pub asked : Option AskedCommand
   pub asks : (command_asked asked).asked words
   pub reads : IsTrue (command_asked asked).reads
 
@@ -57,7 +57,7 @@ HasCause WriteFault reads reads' writes writes' = Rose writes writes'
 HasCause _ reads reads' writes writes' = Unit {0}
 
 -- a whole text was written, and the run ended as it calls for; or the sink failed after a prefix of it
-abbrev pub Wrote : List ℕ → Ended → Ended → Option (List ℕ) → Option (List ℕ) → ℕ → ℕ → Type 0
+abbrev pub Wrote : List ℕ → FinishedRun → FinishedRun → Option (List ℕ) → Option (List ℕ) → ℕ → ℕ → Type 0
 Wrote text owed result before after faults faults' =
     ((result ≡ owed) × Appends text before after)
     ⊎ ((result.status ≡ WriteFault) × AppendsFront text before after × Rose faults faults')

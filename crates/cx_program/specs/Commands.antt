@@ -1,6 +1,6 @@
 -- The commands: for each the words that ask for it, whether it reads an input, and what it owes for one.
 use Rattle.std.specs.Prelude.{◌≡◌, ℕ, Bool, true, false, List, [], Option, Some, None, codes}
-use Rattle.cx_rule.specs.Ending.{Ending}
+use Rattle.table_invariant.specs.Ending.{Ending}
 use Rattle.doc_commands.specs.ImageTexts.{HasEnd, Writes}
 use Rattle.doc_commands.specs.declared.image_answer.ImageEnd.{ImageEnd}
 use Rattle.doc_text.specs.Grammar.{IsPoolScript, IsScript, document_grammar, pool_grammar}
@@ -15,8 +15,8 @@ use Rattle.trace_text.specs.Traces.{IsTrace}
 use Rattle.cx_program.specs.Status.{status_of}
 use Rattle.cx_program.specs.Texts.{IsRefusalText, IsTraceRefusal, usage_text}
 use Rattle.cx_program.specs.Words.{IsAlone, IsLoadOf, IsPoolOf}
-use Rattle.cx_program.specs.declared.asked.Asked.{Asked}
-use Rattle.cx_program.specs.declared.asked.Asked.TheVariants.{Run, Image, Recover, Fifo, Trace, Load, Pool}
+use Rattle.cx_program.specs.declared.asked.AskedCommand.{AskedCommand}
+use Rattle.cx_program.specs.declared.asked.AskedCommand.TheVariants.{Run, Image, Recover, Fifo, Trace, Load, Pool}
 use Rattle.cx_program.specs.declared.status.Status.{Status}
 use Rattle.cx_program.specs.declared.status.Status.TheVariants.{Fine, Usage, Refused}
 
@@ -103,7 +103,7 @@ pool_command seats = record {
   writes = script_writes IsPoolScript (IsRefusalText pool_grammar reason_text) (IsPoolReport seats);
 }
 
-abbrev pub command : Asked → CommandMeaning
+abbrev pub command : AskedCommand → CommandMeaning
 command Run = run_command
 command Image = image_command
 command Recover = recover_command
@@ -115,13 +115,13 @@ command (Pool seats) = pool_command seats.count
 -- words that ask for none of these are told which there are
 abbrev pub usage_command : CommandMeaning
 usage_command = record {
-  asked = λ words. (asked : Asked) → (command asked).asked words → ⊥;
+  asked = λ words. (asked : AskedCommand) → (command asked).asked words → ⊥;
   reads = false;
   calls = λ input status. status ≡ Usage;
   writes = λ input status trails text. text ≡ usage_text;
 }
 
 -- what words ask for, if anything
-abbrev pub command_asked : Option Asked → CommandMeaning
+abbrev pub command_asked : Option AskedCommand → CommandMeaning
 command_asked (Some asked) = command asked
 command_asked None = usage_command

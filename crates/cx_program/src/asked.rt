@@ -71,7 +71,7 @@ impl Seats {
 
 /// A command that words ask for.
 #[derive(Drop)]
-pub(crate) enum Asked {
+pub(crate) enum AskedCommand {
     /// That a script is run, and reported.
     Run,
     /// That a script is run, and what the last crash left is written.

@@ -9,13 +9,16 @@ ghost use Rattle.clap.specs.declared.builder.command.Command.TheViews.{out-Comma
 ghost use Rattle.cx_program.specs.CommandLine.{HasForm, IsJudged, begins_with_hyphen, load_app, number_rule, pool_app, program};
 ghost use Rattle.cx_program.specs.Commands.{command_asked};
 
-use crate::asked::{Asked, Load, Seats};
+use crate::asked::{AskedCommand, Load, Seats};
 use clap::error::ErrorKind;
 use clap::{Arg, ArgAction, ArgMatches, Command, Error};
 use std::alloc::{AllocError, Global};
 
 /// What words ask for, if anything. `Err` means out of memory.
-pub(crate) fn read_words(alloc: Global, words: &[String]) -> Result<Option<Asked>, AllocError>
+pub(crate) fn read_words(
+    alloc: Global,
+    words: &[String],
+) -> Result<Option<AskedCommand>, AllocError>
     ensures { IfOk result (λ asked. (command_asked asked).asked (map string_bytes words.now)) }
 {
     if have_form(alloc, words)? {
@@ -26,17 +29,17 @@ pub(crate) fn read_words(alloc: Global, words: &[String]) -> Result<Option<Asked
 }
 
 /// What words ask for that have the form of a command: one word alone, `pool` and one more, or `load` and three more.
-fn asked_by(words: &[String]) -> Option<Asked>
+fn asked_by(words: &[String]) -> Option<AskedCommand>
     requires { HasForm (map string_bytes words.now) }
     ensures { (command_asked result).asked (map string_bytes words.now) }
 {
     match words {
         [_load, from, clients, ops] => match Load::read(from, clients, ops) {
-            Some(load) => Some(Asked::Load(load)),
+            Some(load) => Some(AskedCommand::Load(load)),
             None => None,
         },
         [_pool, seats] => match Seats::read(seats) {
-            Some(seats) => Some(Asked::Pool(seats)),
+            Some(seats) => Some(AskedCommand::Pool(seats)),
             None => None,
         },
         [word] => asked_alone(word.as_str()),
@@ -45,15 +48,15 @@ fn asked_by(words: &[String]) -> Option<Asked>
 }
 
 /// What a word alone asks for, if anything.
-fn asked_alone(word: &str) -> Option<Asked>
+fn asked_alone(word: &str) -> Option<AskedCommand>
     ensures { (command_asked result).asked (word.now ∷ []) }
 {
     match word {
-        "run" => Some(Asked::Run),
-        "image" => Some(Asked::Image),
-        "recover" => Some(Asked::Recover),
-        "fifo" => Some(Asked::Fifo),
-        "trace" => Some(Asked::Trace),
+        "run" => Some(AskedCommand::Run),
+        "image" => Some(AskedCommand::Image),
+        "recover" => Some(AskedCommand::Recover),
+        "fifo" => Some(AskedCommand::Fifo),
+        "trace" => Some(AskedCommand::Trace),
         _ => None,
     }
 }

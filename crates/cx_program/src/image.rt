@@ -4,7 +4,7 @@ ghost use Rattle.std.specs.Prelude.{◌≤◌, length, IfOk};
 ghost use Rattle.cx_program.specs.Commands.{image_command};
 
 use crate::refusal::refusal;
-use crate::status::{Ended, Status};
+use crate::status::{FinishedRun, Status};
 use cx_base::Gate;
 use doc_commands::image_of_script;
 use doc_text::{TextFault, read_script};
@@ -18,7 +18,7 @@ pub(crate) fn image_text<R: Threads + Wait + Sync, G: Gate + Sync>(
     alloc: Global,
     bytes: &[u8],
     gate: &G,
-) -> Result<(Vec<u8>, Ended), AllocError>
+) -> Result<(Vec<u8>, FinishedRun), AllocError>
     requires { length bytes.now ≤ 16777216 }
     ensures calls { IfOk result (λ made. image_command.calls bytes.now made.1.status) }
     ensures writes { IfOk result (λ made. image_command.writes bytes.now made.1.status made.1.trails made.0.items) }
@@ -26,11 +26,11 @@ pub(crate) fn image_text<R: Threads + Wait + Sync, G: Gate + Sync>(
     match read_script(alloc, bytes) {
         Ok(script) => {
             let (text, trails) = image_of_script(rt, alloc, &script, gate)?;
-            Ok((text, Ended::new(Status::Fine, trails)))
+            Ok((text, FinishedRun::new(Status::Fine, trails)))
         }
         Err(TextFault::Refused { line, reason }) => {
             let text = refusal(alloc, line, reason.word())?;
-            Ok((text, Ended::without_lives(alloc, Status::Refused)))
+            Ok((text, FinishedRun::without_lives(alloc, Status::Refused)))
         }
         Err(TextFault::Memory) => Err(AllocError),
     }

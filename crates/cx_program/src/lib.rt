@@ -29,5 +29,5 @@ mod trace;
 pub use arguments::words;
 pub use patient::Patient;
 pub use standard::{StdSink, StdSource};
-pub use status::{Ended, Status};
+pub use status::{FinishedRun, Status};
 pub use top_call::cx_run;

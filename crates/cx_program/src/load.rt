@@ -5,7 +5,7 @@ ghost use Rattle.doc_commands.specs.ScriptTexts.{IsSummary};
 ghost use Rattle.cx_program.specs.declared.status.Status.TheVariants.{Fine};
 
 use crate::asked::Load;
-use crate::status::{Ended, Status};
+use crate::status::{FinishedRun, Status};
 use cx_base::Gate;
 use doc_commands::summary_of_load;
 use std::alloc::{AllocError, Global};
@@ -18,10 +18,10 @@ pub(crate) fn load_text<R: Threads + Wait + Sync, G: Gate + Sync>(
     alloc: Global,
     load: &Load,
     gate: &G,
-) -> Result<(Vec<u8>, Ended), AllocError>
+) -> Result<(Vec<u8>, FinishedRun), AllocError>
     ensures calls { IfOk result (λ made. made.1.status ≡ Fine) }
     ensures writes { IfOk result (λ made. IsSummary load.now.from load.now.clients load.now.ops made.1.trails made.0.items) }
 {
     let (text, trails) = summary_of_load(rt, alloc, load.from, load.clients, load.ops, gate)?;
-    Ok((text, Ended::new(Status::Fine, trails)))
+    Ok((text, FinishedRun::new(Status::Fine, trails)))
 }

@@ -5,7 +5,7 @@ ghost use Rattle.cx_program.specs.Commands.{pool_command};
 
 use crate::asked::Seats;
 use crate::refusal::refusal;
-use crate::status::{Ended, Status};
+use crate::status::{FinishedRun, Status};
 use cx_base::Gate;
 use doc_commands::report_of_pool;
 use doc_text::{TextFault, read_pool_script};
@@ -20,18 +20,18 @@ pub(crate) fn pool_text<R: Threads + Wait + Sync, G: Gate + Sync>(
     seats: &Seats,
     bytes: &[u8],
     gate: &G,
-) -> Result<(Vec<u8>, Ended), AllocError>
+) -> Result<(Vec<u8>, FinishedRun), AllocError>
     ensures calls { IfOk result (λ made. (pool_command seats.now.count).calls bytes.now made.1.status) }
     ensures writes { IfOk result (λ made. (pool_command seats.now.count).writes bytes.now made.1.status made.1.trails made.0.items) }
 {
     match read_pool_script(alloc, bytes) {
         Ok(script) => {
             let (text, trails) = report_of_pool(rt, alloc, &script, seats.count, gate)?;
-            Ok((text, Ended::new(Status::Fine, trails)))
+            Ok((text, FinishedRun::new(Status::Fine, trails)))
         }
         Err(TextFault::Refused { line, reason }) => {
             let text = refusal(alloc, line, reason.word())?;
-            Ok((text, Ended::without_lives(alloc, Status::Refused)))
+            Ok((text, FinishedRun::without_lives(alloc, Status::Refused)))
         }
         Err(TextFault::Memory) => Err(AllocError),
     }

@@ -4,17 +4,20 @@ ghost use Rattle.std.specs.Prelude.{◌≡◌, IfOk};
 ghost use Rattle.cx_program.specs.Commands.{recover_command};
 ghost use Rattle.cx_program.specs.Status.{status_of};
 
-use crate::status::{Ended, Status};
+use crate::status::{FinishedRun, Status};
 use doc_commands::{ImageEnd, answer_image};
 use std::alloc::{AllocError, Global};
 
 /// The text that an input calls for, and how the run ends. `Err` means out of memory.
-pub(crate) fn recover_text(alloc: Global, bytes: &[u8]) -> Result<(Vec<u8>, Ended), AllocError>
+pub(crate) fn recover_text(
+    alloc: Global,
+    bytes: &[u8],
+) -> Result<(Vec<u8>, FinishedRun), AllocError>
     ensures calls { IfOk result (λ made. recover_command.calls bytes.now made.1.status) }
     ensures writes { IfOk result (λ made. recover_command.writes bytes.now made.1.status made.1.trails made.0.items) }
 {
     let answer = answer_image(alloc, bytes)?;
-    let ended = Ended::without_lives(alloc, status_of(answer.end));
+    let ended = FinishedRun::without_lives(alloc, status_of(answer.end));
     Ok((answer.text, ended))
 }
 

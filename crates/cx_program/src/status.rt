@@ -50,25 +50,25 @@ impl Status {
 /// What a run leaves behind: how it ended, and the trail of each life that was run, in order. Where the status is not `Fine` there is
 /// none.
 #[derive(Drop)]
-pub struct Ended {
+pub struct FinishedRun {
     pub status: Status,
     pub trails: Items<Trail>,
     pub ghost none: { (status ≡ Fine → ⊥) → trails ≡ [] },
 }
 
-impl Ended {
+impl FinishedRun {
     /// A run that ended so, with the trails of its lives. Every run ends by this.
-    pub(crate) fn new(status: Status, trails: Items<Trail>) -> Ended
+    pub(crate) fn new(status: Status, trails: Items<Trail>) -> FinishedRun
         requires { (status ≡ Fine → ⊥) → trails ≡ [] }
         ensures { (result.status ≡ status) × (result.trails ≡ trails) }
     {
-        Ended { status, trails }
+        FinishedRun { status, trails }
     }
 
     /// A run that ended without lives.
-    pub(crate) fn without_lives(alloc: Global, status: Status) -> Ended
+    pub(crate) fn without_lives(alloc: Global, status: Status) -> FinishedRun
         ensures { (result.status ≡ status) × (result.trails ≡ []) }
     {
-        Ended::new(status, Items::new(alloc))
+        FinishedRun::new(status, Items::new(alloc))
     }
 }

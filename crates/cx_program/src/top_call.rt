@@ -5,7 +5,7 @@ ghost use Rattle.cx_program.specs.Answer.{IsWrittenWith, HasCause, Read, Wrote};
 ghost use Rattle.cx_program.specs.Commands.{command};
 ghost use Rattle.cx_program.specs.Input.{Draws, IsInput, ShowsInput};
 
-use crate::asked::Asked;
+use crate::asked::AskedCommand;
 use crate::command_line::read_words;
 use crate::fifo::queue_text;
 use crate::image::image_text;
@@ -15,7 +15,7 @@ use crate::output::write_text;
 use crate::pool::pool_text;
 use crate::recover::recover_text;
 use crate::run::run_text;
-use crate::status::{Ended, Status};
+use crate::status::{FinishedRun, Status};
 use crate::trace::verdict_text;
 use cx_base::{Gate, Sink, Source};
 use std::alloc::{AllocError, Global};
@@ -40,7 +40,7 @@ pub fn cx_run<R: Threads + Wait + Sync, S: Source, K: Sink, G: Gate + Sync>(
     source: &mut S,
     sink: &mut K,
     gate: &G,
-) -> Ended
+) -> FinishedRun
     // What was written is what the command that the words ask for owes, with the one status that its input calls for. For `run` and
     // `Fine` it is the report of legal lives of the script that the input is, each witnessed by the execution log of the service that ran it; for
     // `image` the image from which the base is recovered that such lives end with; for `recover` what is recovered from the input; for
@@ -55,20 +55,25 @@ pub fn cx_run<R: Threads + Wait + Sync, S: Source, K: Sink, G: Gate + Sync>(
     match read_words(alloc, words) {
         Ok(Some(asked)) => run_asked(rt, alloc, &asked, source, sink, gate),
         Ok(None) => {
-            let ended = Ended::without_lives(alloc, Status::Usage);
+            let ended = FinishedRun::without_lives(alloc, Status::Usage);
             write_answer(alloc, sink, USAGE, ended)
         }
-        Err(_) => Ended::without_lives(alloc, Status::Memory),
+        Err(_) => FinishedRun::without_lives(alloc, Status::Memory),
     }
 }
 
 /// Writes a whole text, and answers how the run ended that it stands for, or that the sink failed.
-fn write_answer<K: Sink>(alloc: Global, sink: &mut K, text: &[u8], ended: Ended) -> Ended
+fn write_answer<K: Sink>(
+    alloc: Global,
+    sink: &mut K,
+    text: &[u8],
+    ended: FinishedRun,
+) -> FinishedRun
     ensures wrote { Wrote text.now ended result (K.written sink.old) (K.written sink.new) (K.faults sink.old) (K.faults sink.new) }
 {
     match write_text(sink, text) {
         Ok(()) => ended,
-        Err(_) => Ended::without_lives(alloc, Status::WriteFault),
+        Err(_) => FinishedRun::without_lives(alloc, Status::WriteFault),
     }
 }
 
@@ -76,21 +81,21 @@ fn write_answer<K: Sink>(alloc: Global, sink: &mut K, text: &[u8], ended: Ended)
 fn run_asked<R: Threads + Wait + Sync, S: Source, K: Sink, G: Gate + Sync>(
     rt: &R,
     alloc: Global,
-    asked: &Asked,
+    asked: &AskedCommand,
     source: &mut S,
     sink: &mut K,
     gate: &G,
-) -> Ended
+) -> FinishedRun
     ensures answer { (words : List (List ℕ)) → (command asked.now).asked words → IsWrittenWith words (S.left source.old) result.status result.trails (K.written sink.old) (K.written sink.new) }
     ensures cause { HasCause result.status (S.faults source.old) (S.faults source.new) (K.faults sink.old) (K.faults sink.new) }
     ensures drawn { Draws S.Source 16777217 source.old source.new }
     ensures unread { (command asked.now).reads ≡ false → source.new ≡ source.old }
 {
     match input_of(alloc, asked, source) {
-        Err(_) => Ended::without_lives(alloc, Status::Memory),
-        Ok(Input::Failed) => Ended::without_lives(alloc, Status::ReadFault),
+        Err(_) => FinishedRun::without_lives(alloc, Status::Memory),
+        Ok(Input::Failed) => FinishedRun::without_lives(alloc, Status::ReadFault),
         Ok(Input::TooLong) => {
-            let ended = Ended::without_lives(alloc, Status::TooLong);
+            let ended = FinishedRun::without_lives(alloc, Status::TooLong);
             write_answer(alloc, sink, b"refused: input over 16777216 bytes\n", ended)
         }
         Ok(Input::Whole(bytes)) => run_input(rt, alloc, asked, &bytes, sink, gate),
@@ -98,22 +103,26 @@ fn run_asked<R: Threads + Wait + Sync, S: Source, K: Sink, G: Gate + Sync>(
 }
 
 /// Whether a command reads an input.
-fn reads(asked: &Asked) -> bool
+fn reads(asked: &AskedCommand) -> bool
     ensures { result ≡ (command asked.now).reads }
 {
     match asked {
-        Asked::Run => true,
-        Asked::Image => true,
-        Asked::Recover => true,
-        Asked::Fifo => true,
-        Asked::Trace => true,
-        Asked::Load(_) => false,
-        Asked::Pool(_) => true,
+        AskedCommand::Run => true,
+        AskedCommand::Image => true,
+        AskedCommand::Recover => true,
+        AskedCommand::Fifo => true,
+        AskedCommand::Trace => true,
+        AskedCommand::Load(_) => false,
+        AskedCommand::Pool(_) => true,
     }
 }
 
 /// The input of a command: all of the source, or nothing. `Err` means out of memory.
-fn input_of<S: Source>(alloc: Global, asked: &Asked, source: &mut S) -> Result<Input, AllocError>
+fn input_of<S: Source>(
+    alloc: Global,
+    asked: &AskedCommand,
+    source: &mut S,
+) -> Result<Input, AllocError>
     ensures input { IfOk result (ShowsInput (command asked.now).reads (S.left source.old) (S.faults source.old) (S.faults source.new)) }
     ensures drawn { Draws S.Source 16777217 source.old source.new }
     ensures unread { (command asked.now).reads ≡ false → source.new ≡ source.old }
@@ -129,17 +138,17 @@ fn input_of<S: Source>(alloc: Global, asked: &Asked, source: &mut S) -> Result<I
 fn run_input<R: Threads + Wait + Sync, K: Sink, G: Gate + Sync>(
     rt: &R,
     alloc: Global,
-    asked: &Asked,
+    asked: &AskedCommand,
     bytes: &[u8],
     sink: &mut K,
     gate: &G,
-) -> Ended
+) -> FinishedRun
     requires { length bytes.now ≤ 16777216 }
     ensures answer { (words : List (List ℕ)) (told : Option (List ℕ)) → (command asked.now).asked words → IsInput (command asked.now).reads told bytes.now → IsWrittenWith words told result.status result.trails (K.written sink.old) (K.written sink.new) }
     ensures cause { (reads reads' : ℕ) → HasCause result.status reads reads' (K.faults sink.old) (K.faults sink.new) }
 {
     match text_of(rt, alloc, asked, bytes, gate) {
-        Err(_) => Ended::without_lives(alloc, Status::Memory),
+        Err(_) => FinishedRun::without_lives(alloc, Status::Memory),
         Ok((text, ended)) => write_answer(alloc, sink, &text, ended),
     }
 }
@@ -148,21 +157,21 @@ fn run_input<R: Threads + Wait + Sync, K: Sink, G: Gate + Sync>(
 fn text_of<R: Threads + Wait + Sync, G: Gate + Sync>(
     rt: &R,
     alloc: Global,
-    asked: &Asked,
+    asked: &AskedCommand,
     bytes: &[u8],
     gate: &G,
-) -> Result<(Vec<u8>, Ended), AllocError>
+) -> Result<(Vec<u8>, FinishedRun), AllocError>
     requires { length bytes.now ≤ 16777216 }
     ensures calls { IfOk result (λ made. (command asked.now).calls bytes.now made.1.status) }
     ensures writes { IfOk result (λ made. (command asked.now).writes bytes.now made.1.status made.1.trails made.0.items) }
 {
     match asked {
-        Asked::Run => run_text(rt, alloc, bytes, gate),
-        Asked::Image => image_text(rt, alloc, bytes, gate),
-        Asked::Recover => recover_text(alloc, bytes),
-        Asked::Fifo => queue_text(rt, alloc, bytes, gate),
-        Asked::Trace => verdict_text(alloc, bytes),
-        Asked::Load(load) => load_text(rt, alloc, load, gate),
-        Asked::Pool(seats) => pool_text(rt, alloc, seats, bytes, gate),
+        AskedCommand::Run => run_text(rt, alloc, bytes, gate),
+        AskedCommand::Image => image_text(rt, alloc, bytes, gate),
+        AskedCommand::Recover => recover_text(alloc, bytes),
+        AskedCommand::Fifo => queue_text(rt, alloc, bytes, gate),
+        AskedCommand::Trace => verdict_text(alloc, bytes),
+        AskedCommand::Load(load) => load_text(rt, alloc, load, gate),
+        AskedCommand::Pool(seats) => pool_text(rt, alloc, seats, bytes, gate),
     }
 }

@@ -3,12 +3,12 @@ use Rattle.std.proofs.Common.{◌≡◌, ◌+◌, ◌<◌, ◌≤◌, ℕ, Bool,
 use Rattle.std.proofs.lemmas.Bool.{cases_eq, eq-eqb, ne_eqb}
 use Rattle.std.proofs.Common.{cond}
 use Rattle.cx_core.specs.QueueEvents.{cell_of, next_number}
-use Rattle.cx_rule.specs.Running.{Running}
-use Rattle.cx_rule.specs.Seats.{Seated}
+use Rattle.table_invariant.specs.Running.{Running}
+use Rattle.table_invariant.specs.Seats.{Seated}
 use Rattle.mutation_queue.specs.Cells.{HaltsIn, differing, writes}
 use Rattle.cx_service.specs.Callers.{IsCallerOf, unlinked}
 use Rattle.cx_service.specs.Submits.{IsWriting, SubmitHalted}
-use Rattle.cx_service.proofs.Entering.{beside_submit, halts, stale}
+use Rattle.cx_service.proofs.Entering.{unchanged_by_submit, halts, stale}
 
 -- two lists differ at no more places than there are
 some_differ : (xs ys : List ℕ) → differing xs ys ≤ length ys
@@ -29,7 +29,7 @@ halted_in r j most op s t caller room many long halted =
     let few = some_differ (drop 1 (cell_of s.known.local j).words) op in
     let cur = ap (λ (x : Seated). x.known.local.seen_cur) halted.rest in
     let front = ap (λ (x : Seated). x.known.local.front) halted.rest in (
-      halts r (stale s) t (ap beside_submit halted.rest) most caller (ap (λ (x : Seated). x.known.local.own) halted.rest) (ap (λ (x : Seated). x.known.times.linked) halted.rest) (omega (arith, front)) (omega (arith, cur))
+      halts r (stale s) t (ap unchanged_by_submit halted.rest) most caller (ap (λ (x : Seated). x.known.local.own) halted.rest) (ap (λ (x : Seated). x.known.times.linked) halted.rest) (omega (arith, front)) (omega (arith, cur))
           (omega (arith, limit, few, halted.limit.0, halted.short, many, long))
           (λ k within idle. record { free = ap (λ (x : Seated). x.known.local.seen_free) halted.rest; scans = ap (λ (x : Seated). x.known.local.scans) halted.rest })
           halted.limit (let since = halted.since in omega (arith, since)),

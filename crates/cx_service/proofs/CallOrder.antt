@@ -27,11 +27,11 @@ use Rattle.core_runs.proofs.Ordering.{keeps_real_time}
 use Rattle.core_runs.proofs.Keeps.{run_kept}
 use Rattle.core_runs.proofs.WholeLaws.{crash_kept}
 use Rattle.core_order.proofs.Imaging.{durable_run}
-use Rattle.cx_rule.specs.declared.rule.ImageTimes.{ImageTimes}
-use Rattle.cx_rule.specs.declared.rule.Known.{Known}
-use Rattle.cx_rule.specs.Rule.{opening_limited}
-use Rattle.cx_rule.specs.Seats.{Seated, opening_known}
-use Rattle.cx_rule.specs.Timing.{AllBelow, AreTimes, BeginsAt, BelowAt, ComesBy, DurableAt, EndsAt}
+use Rattle.table_invariant.specs.declared.rule.ImageTimes.{ImageTimes}
+use Rattle.table_invariant.specs.declared.rule.Known.{Known}
+use Rattle.table_invariant.specs.Rule.{opening_limited}
+use Rattle.table_invariant.specs.Seats.{Seated, opening_known}
+use Rattle.table_invariant.specs.Timing.{AllBelow, AreTimes, BeginsAt, BelowAt, ComesBy, DurableAt, EndsAt}
 use Rattle.cx_service.specs.CallOrder.{IsBeginningOf, IsBy, IsOperationEnd, IsPointBelow, KeepsCalls, KeepsImages, caller_of}
 
 -- a caller's steps of two lists, one behind the other, are those of both

@@ -14,7 +14,7 @@ use Rattle.cx_core.specs.State.{Instance}
 use Rattle.cx_core.proofs.ListLemmas.{slice_get-append_left, slice_get-take}
 use Rattle.cx_core.proofs.Locals.{slice_get-last, slice_get-push}
 use Rattle.core_queue.proofs.Pigeonhole.{pigeonhole}
-use Rattle.cx_rule.specs.Rule.{IsLawfulLocal}
+use Rattle.table_invariant.specs.Rule.{IsLawfulLocal}
 use Rattle.mutation_queue.specs.Cells.{IsInUse, IsInUseAt}
 use Rattle.cx_service.specs.Callers.{HasOwnCells}
 

@@ -13,12 +13,12 @@ use Rattle.cx_core.specs.Layout.{max_word}
 use Rattle.cx_core.specs.QueueEvents.{IsIdle, IsIdleAt, cell_of, entry_in, next_number}
 use Rattle.cx_core.specs.Region.{slot_number}
 use Rattle.cx_core.proofs.Locals.{slice_get-last}
-use Rattle.cx_rule.specs.Running.{IsSeatOf, Running}
-use Rattle.cx_rule.specs.Seats.{IsAtLimit, Seated, images_of, unanswered_ticket}
+use Rattle.table_invariant.specs.Running.{IsSeatOf, Running}
+use Rattle.table_invariant.specs.Seats.{IsAtLimit, Seated, images_of, unanswered_ticket}
 use Rattle.mutation_queue.specs.declared.links.LinkTried.{LinkTried}
 use Rattle.mutation_queue.specs.declared.links.LinkTried.TheVariants.{Again, Linked as LinkedAt, Worn}
 use Rattle.mutation_queue.specs.Cells.{writes}
-use Rattle.cx_turns.specs.Turns.{StepsOn}
+use Rattle.cx_attempts.specs.Attempts.{StepsOn}
 use Rattle.mutation_queue.specs.Links.{EndsBy, LinksAgain, LinksAt, LinksNone, LosesTries, LosesTry, MakesTries, IsWorn, Tried, WinsTry}
 use Rattle.cx_service.specs.Callers.{HasOwnCells, IsBetweenCalls, IsCallerOf, IsLinkedOf, unlinked}
 use Rattle.cx_service.specs.Submits.{EntersIn, LooksForNothing, SubmitAgain, SubmitHalted, SubmitKeeps, SubmitLinked, SubmitWorn, TriesOf, next_entry}
@@ -26,14 +26,14 @@ use Rattle.cx_service.proofs.Cells.{default, own_kept, own_more}
 
 -- what no step of a submit changes: the seat but for its entries, cells, steps and scans, its front, the slot last looked at, what was
 -- found of FREE and of the callers' needs, and what was loaded from CUR
-abbrev pub beside_submit : Seated → Seated
-beside_submit s = record s { known = record s.known { local = record s.known.local { own = []; cells = []; front = 0; seen_slot = None; seen_free = 0; seen_need = None; seen_cur = 0; fresh = false; scan = None; steps = 0; scans = 0 }; times = record s.known.times { linked = []; loaded = 0; seen = false } } }
+abbrev pub unchanged_by_submit : Seated → Seated
+unchanged_by_submit s = record s { known = record s.known { local = record s.known.local { own = []; cells = []; front = 0; seen_slot = None; seen_free = 0; seen_need = None; seen_cur = 0; fresh = false; scan = None; steps = 0; scans = 0 }; times = record s.known.times { linked = []; loaded = 0; seen = false } } }
 
 -- a seat as if what was loaded from CUR were not fresh
 abbrev pub stale : Seated → Seated
 stale s = record s { known = record s.known { local = record s.known.local { fresh = false } } }
 
-module _ {O : Type 0} (r : Running O) (s v : Seated) (kept : beside_submit v ≡ beside_submit s) where
+module _ {O : Type 0} (r : Running O) (s v : Seated) (kept : unchanged_by_submit v ≡ unchanged_by_submit s) where
   number_kept : v.known.local.number ≡ s.known.local.number
   number_kept = ap (λ (x : Seated). x.known.local.number) kept
 
@@ -132,8 +132,8 @@ module _ {O : Type 0} (r : Running O) (j : ℕ) (op : List ℕ) (s t : Seated) (
     (cell : cell_of t.known.local j ≡ record (cell_of s.known.local j) { words = next_number r.base s.known.local ∷ op; ticket = None })
     (others : (k : ℕ) → k ≢ j → cell_of t.known.local k ≡ cell_of s.known.local k)
     (rest : t ≡ record s { known = record s.known { local = record s.known.local { cells = t.known.local.cells; fresh = false; steps = t.known.local.steps } } }) where
-  announced_kept : beside_submit t ≡ beside_submit s
-  announced_kept = ap beside_submit rest
+  announced_kept : unchanged_by_submit t ≡ unchanged_by_submit s
+  announced_kept = ap unchanged_by_submit rest
 
   -- the cell has no ticket, and other cells have the same
   no_ticket : (cell_of t.known.local j).ticket ≡ None
@@ -173,8 +173,8 @@ module _ {O : Type 0} (r : Running O) (j : ℕ) (op : List ℕ) (s t : Seated) (
 
   -- nothing was linked
   module _ (v : Seated) (none : LinksNone t v) where
-    none_kept : beside_submit v ≡ beside_submit s
-    none_kept = ap beside_submit none.same ∙ announced_kept
+    none_kept : unchanged_by_submit v ≡ unchanged_by_submit s
+    none_kept = ap unchanged_by_submit none.same ∙ announced_kept
 
     none_own : v.known.local.own ≡ s.known.local.own
     none_own = ap (λ (x : Seated). x.known.local.own) none.same ∙ same_own
@@ -242,8 +242,8 @@ module _ {O : Type 0} (r : Running O) (j : ℕ) (op : List ℕ) (s t : Seated) (
 
   -- the entry was linked
   module _ (ticket : ℕ) (v : Seated) (at : LinksAt j ticket t v) where
-    at_kept : beside_submit v ≡ beside_submit s
-    at_kept = ap beside_submit at.same ∙ announced_kept
+    at_kept : unchanged_by_submit v ≡ unchanged_by_submit s
+    at_kept = ap unchanged_by_submit at.same ∙ announced_kept
 
     entry_is : entry_in t.known.local j ≡ (next_entry r s.known.local op ticket).entry
     entry_is =

@@ -1,24 +1,24 @@
--- What turns by which an image is taken leave of their caller.
+-- What attempts by which an image is taken leave of their caller.
 use Rattle.std.proofs.Common.{◌≡◌, ◌<◌, ◌≤◌, inl, inr, ℕ, List, [], ◌∷◌, ◌++◌, refl, ap, subst, ◌∙◌, arith, None}
 use Rattle.std.specs.List.{slice_get}
 use Rattle.cx_base.specs.declared.object.Object.{Ghosts}
 use Rattle.cx_core.specs.declared.local.Answer.{Answer}
 use Rattle.cx_core.specs.declared.local.SeenRead.{SeenRead}
 use Rattle.cx_core.specs.Layout.{max_word}
-use Rattle.cx_rule.specs.declared.rule.ImageTimes.{ImageTimes}
-use Rattle.cx_rule.specs.Running.{IsSeatOf, Running}
-use Rattle.cx_rule.specs.Seats.{IsAtLimit, Seated, StepsBy}
+use Rattle.table_invariant.specs.declared.rule.ImageTimes.{ImageTimes}
+use Rattle.table_invariant.specs.Running.{IsSeatOf, Running}
+use Rattle.table_invariant.specs.Seats.{IsAtLimit, Seated, StepsBy}
 use Rattle.cx_service.specs.Callers.{IsCallerOf, StoppedSeat}
 use Rattle.cx_service.specs.Checkpoints.{CheckpointHalted, CheckpointKeeps, CheckpointTaken}
 use Rattle.cx_service.specs.Drives.{MeetsFewer}
 use Rattle.cx_service.specs.Lookups.{ReadDue, ReadPending}
-use Rattle.cx_service.proofs.Turning.{LooksOn, beside_look, look_keeps, look_rests, looks_met, meets_one, most_one, read_keeps_then, rises_one}
-use Rattle.cx_turns.specs.Checkpointing.{HaltsImage, TakesImage, TakesNone, beside_checkpoint}
-use Rattle.cx_turns.specs.Turns.{IsAtRest, StepsOn, TurnRefused}
+use Rattle.cx_service.proofs.Attempting.{LooksOn, unchanged_by_look, look_keeps, look_rests, looks_met, meets_one, most_one, read_keeps_then, rises_one}
+use Rattle.cx_attempts.specs.Checkpointing.{HaltsImage, TakesCheckpoint, TakesNone, unchanged_by_checkpoint}
+use Rattle.cx_attempts.specs.Attempts.{IsAtRest, StepsOn, AttemptRefused}
 
--- one turn
-module _ {O : Type 0} (o : Ghosts O) (r : Running O) (s v : Seated) (caller : IsCallerOf r s) (rest : beside_checkpoint v ≡ beside_checkpoint s) (front : s.known.local.front ≤ v.known.local.front) (of : IsSeatOf r v) (rises : s.known.local.seen_cur ≤ v.known.local.seen_cur) (on : StepsOn s v) where
-  look_rest : beside_look v ≡ beside_look s
+-- one attempt
+module _ {O : Type 0} (o : Ghosts O) (r : Running O) (s v : Seated) (caller : IsCallerOf r s) (rest : unchanged_by_checkpoint v ≡ unchanged_by_checkpoint s) (front : s.known.local.front ≤ v.known.local.front) (of : IsSeatOf r v) (rises : s.known.local.seen_cur ≤ v.known.local.seen_cur) (on : StepsOn s v) where
+  look_rest : unchanged_by_look v ≡ unchanged_by_look s
   look_rest = ap (λ (x : Seated). (let y : Seated = record x { known = record x.known { local = record x.known.local { seen_reads = [] }; times = record x.known.times { reads = [] } } } in y)) rest
 
   keeps : s.known.local.met ≤ v.known.local.met → CheckpointKeeps s v
@@ -31,7 +31,7 @@ module _ {O : Type 0} (o : Ghosts O) (r : Running O) (s v : Seated) (caller : Is
   still : IsAtRest v.known.local → IsCallerOf r v
   still = look_rests r s v caller look_rest front of rises on
 
-  pub image_taken : (words : List ℕ) (place : ℕ) → ¬ IsAtLimit s.known.local → TakesImage o r s.known.local.steps words place s v → CheckpointTaken o r words place s v × MeetsFewer 1 s v
+  pub image_taken : (words : List ℕ) (place : ℕ) → ¬ IsAtLimit s.known.local → TakesCheckpoint o r s.known.local.steps words place s v → CheckpointTaken o r words place s v × MeetsFewer 1 s v
   image_taken words place allowed taken =
       let met = taken.met in (
         record {
@@ -50,7 +50,7 @@ module _ {O : Type 0} (o : Ghosts O) (r : Running O) (s v : Seated) (caller : Is
         omega (arith, met),
       )
 
-  pub image_refused : ¬ IsAtLimit s.known.local → s.known.local.met ≤ max_word → TurnRefused s v × StepsBy 4 s v × StepsOn s v × TakesNone s v → ReadPending r 1 s v
+  pub image_refused : ¬ IsAtLimit s.known.local → s.known.local.met ≤ max_word → AttemptRefused s v × StepsBy 4 s v × StepsOn s v × TakesNone s v → ReadPending r 1 s v
   image_refused allowed small (refused, steps, _, none) = record {
     caller = still refused.rest;
     keeps = (keeps (rises_one s v small refused.refusal.met)).lists;
@@ -63,7 +63,7 @@ module _ {O : Type 0} (o : Ghosts O) (r : Running O) (s v : Seated) (caller : Is
     images = none;
   }
 
--- a turn behind others, in each of which a refusal was met
+-- an attempt behind others, in each of which a refusal was met
 module _ {O : Type 0} (r : Running O) (n : ℕ) (s u : Seated) (before : ReadPending r n s u) where
   keeps_then : (v : Seated) → CheckpointKeeps u v → CheckpointKeeps s v
   keeps_then v k = record { lists = read_keeps_then r [] n s u before v k.lists; reads = k.reads ∙ before.reads; times = k.times ∙ before.times }

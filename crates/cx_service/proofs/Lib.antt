@@ -7,5 +7,5 @@ pub mod Looking
 pub mod Seeing
 pub mod Starting
 pub mod Tickets
-pub mod Turning
+pub mod Attempting
 pub mod Updating

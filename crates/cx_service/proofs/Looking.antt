@@ -10,29 +10,29 @@ use Rattle.cx_core.specs.Layout.{max_word}
 use Rattle.cx_core.specs.Region.{slot_number}
 use Rattle.cx_core.specs.RingEvents.{need_word}
 use Rattle.cx_core.specs.State.{Instance, one_more}
-use Rattle.cx_rule.specs.declared.rule.Noted.{Noted}
-use Rattle.cx_turns.specs.Turns.{StepsOn}
+use Rattle.table_invariant.specs.declared.rule.Noted.{Noted}
+use Rattle.cx_attempts.specs.Attempts.{StepsOn}
 use Rattle.mutation_queue.specs.Cells.{IsInUse, IsInUseAt, writes}
 use Rattle.mutation_queue.specs.Links.{EndsBy, HaltsTry, LosesTries}
-use Rattle.mutation_queue.specs.Collecting.{Collects, HaltsCollecting, but_collected}
+use Rattle.mutation_queue.specs.Collecting.{Collects, HaltsCollecting, except_collected}
 use Rattle.mutation_queue.specs.declared.reclamation.Collected.{Collected}
 use Rattle.mutation_queue.specs.declared.links.LinkTried.{LinkTried}
 use Rattle.mutation_queue.specs.declared.links.LinkTried.TheVariants.{Again as TriedAgain, Linked as TriedLinked, Worn as TriedWorn}
 use Rattle.cx_core.specs.QueueEvents.{IsIdle, IsIdleAt, cell_of, next_number}
-use Rattle.cx_rule.specs.Rule.{IsLawfulLocal}
-use Rattle.cx_rule.specs.Running.{Running}
-use Rattle.cx_rule.specs.Seats.{IsAtLimit, Seated, images_of, stepped}
+use Rattle.table_invariant.specs.Rule.{IsLawfulLocal}
+use Rattle.table_invariant.specs.Running.{Running}
+use Rattle.table_invariant.specs.Seats.{IsAtLimit, Seated, images_of, stepped}
 use Rattle.cx_core.specs.declared.local.FullNote.{FullNote}
 use Rattle.cx_service.specs.declared.submit.Submitted.{Submitted}
 use Rattle.cx_service.specs.declared.submit.Submitted.TheVariants.{Linked as LinkedIs, Again, Full, Worn, Halted}
 use Rattle.cx_service.specs.Callers.{IsCallerOf, StoppedSeat, unlinked}
 use Rattle.cx_service.specs.Submits.{AreInUse, AreTickets, EndsLooking, EntersOperation, EntersIn, FindsAgain, FindsCell, FindsIdle, FindsNone, HaltsEntering, HaltsLooking, IsLooking, IsWriting, LooksBy, LooksForCell, LooksForNothing, NamesHolder, SubmitAgain, SubmitFull, SubmitHalted, SubmitKeeps, SubmitLinked, SubmitWorn, SubmitsIn, TriesOf, next_entry}
 use Rattle.cx_service.proofs.Cells.{answered_below, many_own, own_kept, used_ticket}
-use Rattle.cx_service.proofs.Entering.{beside_submit, between, halts, keeps, stale}
+use Rattle.cx_service.proofs.Entering.{unchanged_by_submit, between, halts, keeps, stale}
 
 -- what comes before an operation is announced: at most so many steps, which the limit allowed, that change no entry and no cell
 pub record Precedes (more : ℕ) (s t : Seated) : Type 0 where
-  pub kept : beside_submit t ≡ beside_submit s
+  pub kept : unchanged_by_submit t ≡ unchanged_by_submit s
   pub own : t.known.local.own ≡ s.known.local.own
   pub cells : t.known.local.cells ≡ s.known.local.cells
   pub front : s.known.local.front ≤ t.known.local.front
@@ -56,8 +56,8 @@ looked_idle s t (inr same) j within idle = record { free = ap (λ (x : Seated). 
 
 -- what looking for a cell leaves
 module _ (most : ℕ) (s t : Seated) (looked : LooksForCell most s t) where
-  pub looked_kept : beside_submit t ≡ beside_submit s
-  looked_kept = ap beside_submit looked.same
+  pub looked_kept : unchanged_by_submit t ≡ unchanged_by_submit s
+  looked_kept = ap unchanged_by_submit looked.same
 
   pub looked_own : t.known.local.own ≡ s.known.local.own
   looked_own = ap (λ (x : Seated). x.known.local.own) looked.same
@@ -238,10 +238,10 @@ module _ {O : Type 0} (r : Running O) (more : ℕ) (s t : Seated) (first : Prece
 -- CUR was loaded
 pub cur_loaded : (instance : Instance) (s t : Seated) (found : ℕ) → t ≡ stepped instance LoadCur s found → s.known.local.seen_cur ≤ found → ¬ IsAtLimit s.known.local → Precedes 1 s (stale t)
 cur_loaded instance s t found made rises allowed =
-    let b = beside_submit s in
+    let b = unchanged_by_submit s in
     let front = ap (λ (x : Seated). x.known.local.front) made in
     let steps = ap (λ (x : Seated). x.known.local.steps) made in record {
-      kept = ap beside_submit made ∙ ap (λ (ns : List Noted). record b { known = record b.known { noted = ns } }) (append-nil s.known.noted);
+      kept = ap unchanged_by_submit made ∙ ap (λ (ns : List Noted). record b { known = record b.known { noted = ns } }) (append-nil s.known.noted);
       own = ap (λ (x : Seated). x.known.local.own) made;
       cells = ap (λ (x : Seated). x.known.local.cells) made;
       front = omega (arith, front);
@@ -263,7 +263,7 @@ pub free_loaded : (instance : Instance) (s t : Seated) (found : ℕ) → t ≡ s
 free_loaded instance s t found made =
     let with = λ (ns : List Noted). (let x : Seated = record s { known = record s.known { noted = ns } } in x) in
     let steps = ap (λ (x : Seated). x.known.local.steps) made in record {
-      same = ap but_collected made ∙ ap (λ ns. but_collected (with ns)) (append-nil s.known.noted);
+      same = ap except_collected made ∙ ap (λ ns. except_collected (with ns)) (append-nil s.known.noted);
       steps = omega (arith, steps);
     }
 

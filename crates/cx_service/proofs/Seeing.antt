@@ -12,9 +12,9 @@ use Rattle.cx_core.specs.RootEvents.{unanswered}
 use Rattle.cx_core.proofs.HeldLists.{mapped}
 use Rattle.cx_core.proofs.Locals.{slice_get-last}
 use Rattle.cx_core.proofs.RootCodes.{place_up}
-use Rattle.cx_rule.specs.Raises.{AnswersOf, TellsAnswers, known_answered}
-use Rattle.cx_rule.specs.Running.{IsSeatOf, Running, instance_at}
-use Rattle.cx_rule.specs.Seats.{IsAtLimit, Seated, images_of, stepped}
+use Rattle.table_invariant.specs.Raises.{AnswersOf, TellsAnswers, known_answered}
+use Rattle.table_invariant.specs.Running.{IsSeatOf, Running, instance_at}
+use Rattle.table_invariant.specs.Seats.{IsAtLimit, Seated, images_of, stepped}
 use Rattle.cx_service.specs.Callers.{IsCallerOf}
 use Rattle.cx_base.specs.declared.object.Object.{Ghosts}
 use Rattle.cx_service.specs.Checkpoints.{CheckpointTaken}
@@ -28,9 +28,9 @@ use Rattle.cx_service.specs.declared.update.Updated.TheVariants.{Done as Updated
 use Rattle.cx_service.specs.Drives.{DriveDone, answer_with}
 use Rattle.cx_service.specs.Lookups.{ReadAnswered, ReadKeeps, seen_with}
 use Rattle.cx_service.specs.Submits.{SubmitKeeps, SubmitLinked, next_entry}
-use Rattle.cx_service.specs.Updates.{KeepsLists, ReadQueues, ReadsInAll, UpdateDone, Updates}
+use Rattle.cx_service.specs.Updates.{KeepsLists, ReadQueues, ReadOutcome, UpdateDone, Updates}
 use Rattle.cx_service.proofs.Cells.{own_kept}
-use Rattle.cx_turns.specs.declared.lookup.Seen.{Seen}
+use Rattle.cx_attempts.specs.declared.lookup.Seen.{Seen}
 
 module _ {O : Type 0} (r : Running O) (op : List ℕ) (before after : Seated) where
   -- an own entry that was answered is below the front
@@ -131,7 +131,7 @@ pub queued_sees : {O : Type 0} (r : Running O) (op reply : List ℕ) (place : �
 queued_sees r op reply place before updated caller was queues =
     update_sees r op reply place queues.refused updated queues.pending.caller (still_seen r place before queues.refused caller was queues.pending.keeps.front queues.pending.keeps.cur queues.pending.keeps.answered) queues.entered
 
-pub read_sees : {O : Type 0} (r : Running O) (op reply : List ℕ) (place : ℕ) (before : Seated) (done : ReadDone) → IsCallerOf r before → HasSeen r.callers place before.known.local → ReadsInAll r op reply before done →
+pub read_sees : {O : Type 0} (r : Running O) (op reply : List ℕ) (place : ℕ) (before : Seated) (done : ReadDone) → IsCallerOf r before → HasSeen r.callers place before.known.local → ReadOutcome r op reply before done →
     ReadSees r.callers place done
 read_sees r op reply place before (Read after at) caller was read = read_behind r op before after place (seen_with at reply) was read.0
 read_sees r op reply place before (Queued after ticket) caller was queues = queued_sees r op reply place before (UpdatedDone after ticket) caller was queues

@@ -9,13 +9,13 @@ use Rattle.std.proofs.lemmas.List.FromFn.{get_or-map-range_with_len, length-map-
 use Rattle.std.proofs.lemmas.Option.{none-some}
 use Rattle.cx_core.specs.declared.local.Cell.{Cell}
 use Rattle.cx_core.specs.State.{blank_cell}
-use Rattle.cx_rule.specs.Running.{IsSeatOf, Running}
-use Rattle.cx_rule.specs.Seats.{Seated}
+use Rattle.table_invariant.specs.Running.{IsSeatOf, Running}
+use Rattle.table_invariant.specs.Seats.{Seated}
 use Rattle.cx_table.specs.Remains.{opening_seat}
 use Rattle.cx_service.specs.Callers.{IsCallerOf}
 use Rattle.cx_service.specs.Starts.{HasNoSets}
 use Rattle.cx_service.proofs.Cells.{default}
-use Rattle.cx_turns.specs.Turns.{IsCounted}
+use Rattle.cx_attempts.specs.Attempts.{IsCounted}
 use Rattle.redo_set.specs.Taking.{sets_read}
 
 -- a cell never written has no ticket

@@ -6,9 +6,9 @@ use Rattle.cx_core.specs.Layout.{max_word}
 use Rattle.cx_core.specs.declared.local.Answer.{Answer}
 use Rattle.cx_core.specs.declared.local.Linked.{Linked as OwnEntry}
 use Rattle.cx_core.specs.Region.{slot_number}
-use Rattle.cx_rule.specs.Running.{Running}
-use Rattle.cx_rule.specs.Seats.{IsAtLimit, Seated, images_of}
-use Rattle.cx_rule.specs.Timing.{KeepsTimes}
+use Rattle.table_invariant.specs.Running.{Running}
+use Rattle.table_invariant.specs.Seats.{IsAtLimit, Seated, images_of}
+use Rattle.table_invariant.specs.Timing.{KeepsTimes}
 use Rattle.cx_core.specs.declared.local.FullNote.{FullNote}
 use Rattle.cx_service.specs.Callers.{StoppedSeat}
 use Rattle.cx_service.specs.Drives.{DriveDone, DriveHalted, answer_with}
@@ -20,11 +20,11 @@ use Rattle.cx_service.specs.declared.update.ReadDone.{ReadDone}
 use Rattle.cx_service.specs.declared.update.ReadDone.TheVariants.{Read, Queued, Full as FullRead, Worn as WornRead, Halted as HaltedRead}
 use Rattle.cx_service.specs.declared.update.Updated.{Updated}
 use Rattle.cx_service.specs.declared.update.Updated.TheVariants.{Done as UpdateIs, Full as FullUpdate, Worn as WornUpdate, Halted as HaltedUpdate}
-use Rattle.cx_service.specs.Updates.{Finishes, KeepsLists, LinksEntry, QueuesRead, ReadsInAll, UpdateDone, UpdateFull, UpdateHalted, UpdateWorn, Updates}
+use Rattle.cx_service.specs.Updates.{FinishOutcome, KeepsLists, LinksEntry, QueuedReadOutcome, ReadOutcome, UpdateDone, UpdateFull, UpdateHalted, UpdateWorn, Updates}
 use Rattle.cx_service.specs.Updates.{SubmitsAgain}
-use Rattle.cx_turns.specs.Answering.{with_answer}
-use Rattle.cx_turns.proofs.Bringing.{brings_around}
-use Rattle.cx_turns.specs.Turns.{StepsOn}
+use Rattle.cx_attempts.specs.Answering.{with_answer}
+use Rattle.cx_attempts.proofs.Bringing.{brings_around}
+use Rattle.cx_attempts.specs.Attempts.{StepsOn}
 
 pub keeps_all : (s : Seated) → KeepsLists s s
 keeps_all s = record { number = refl; limit = refl; own = refl; answered = refl; reads = refl; front = omega arith; cur = omega arith }
@@ -175,14 +175,14 @@ module _ {O : Type 0} (r : Running O) (op : List ℕ) (s u : Seated) (same : Kee
     }
 
     -- what it comes to that the linked entry is driven to its end
-    pub finished : (reply : List ℕ) (d : Updated) → u.known.sets ≡ s.known.sets → s.known.local.front ≤ u.known.local.front → Finishes r reply l d → Updates r op reply s d
+    pub finished : (reply : List ℕ) (d : Updated) → u.known.sets ≡ s.known.sets → s.known.local.front ≤ u.known.local.front → FinishOutcome r reply l d → Updates r op reply s d
     finished reply (UpdateIs v ticket) still rise done = update_done v (answer_with ticket reply) still rise done
     finished reply (FullUpdate v note) still rise none = absurd none
     finished reply (WornUpdate v) still rise none = absurd none
     finished reply (HaltedUpdate v) still rise halted = drive_halted v halted
 
 -- a read that was refused beside the queue, and entered it
-pub queued : {O : Type 0} (r : Running O) (op reply : List ℕ) (s u : Seated) (d : ReadDone) → ReadPending r 8 s u → QueuesRead r op reply u d → ReadsInAll r op reply s d
+pub queued : {O : Type 0} (r : Running O) (op reply : List ℕ) (s u : Seated) (d : ReadDone) → ReadPending r 8 s u → QueuedReadOutcome r op reply u d → ReadOutcome r op reply s d
 queued r op reply s u (Read v place) refused entered = absurd entered
 queued r op reply s u (Queued v ticket) refused entered = record { refused = u; pending = refused; entered = entered }
 queued r op reply s u (FullRead v note) refused entered = record { refused = u; pending = refused; entered = entered }

@@ -9,8 +9,8 @@ use Rattle.cx_core.specs.Crash.{CrashImage, IsCrashImage, recovered}
 use Rattle.cx_core.specs.Events.{Run}
 use Rattle.cx_core.specs.Layout.{max_word}
 use Rattle.cx_core.specs.State.{Instance, State}
-use Rattle.cx_rule.specs.declared.rule.ImageTimes.{ImageTimes}
-use Rattle.cx_rule.specs.Seats.{Seated}
+use Rattle.table_invariant.specs.declared.rule.ImageTimes.{ImageTimes}
+use Rattle.table_invariant.specs.Seats.{Seated}
 
 -- A prefix of the list of all callers' steps has at least m of caller c and at most n of caller d. So in that list step m of c stands before each
 -- step of d but its first n.

@@ -4,9 +4,9 @@ use Rattle.cx_core.specs.declared.local.Linked.{Linked}
 use Rattle.cx_core.specs.declared.local.Local.{Local}
 use Rattle.cx_core.specs.Layout.{max_word}
 use Rattle.cx_core.specs.QueueEvents.{cell_of}
-use Rattle.cx_rule.specs.Running.{IsSeatOf, Running}
-use Rattle.cx_rule.specs.Seats.{IsAtLimit, Seated}
-use Rattle.cx_turns.specs.Turns.{IsAtRest}
+use Rattle.table_invariant.specs.Running.{IsSeatOf, Running}
+use Rattle.table_invariant.specs.Seats.{IsAtLimit, Seated}
+use Rattle.cx_attempts.specs.Attempts.{IsAtRest}
 
 -- Each ticket of a caller's cells is that of an own entry, no two cells have the same, and own tickets are below the front.
 pub record HasOwnCells (l : Local) : Type 0 where

@@ -4,9 +4,9 @@ use Rattle.cx_base.specs.Codes.{root_place_of}
 use Rattle.cx_core.specs.declared.local.Answer.{Answer}
 use Rattle.cx_core.specs.declared.local.Local.{Local}
 use Rattle.cx_core.specs.Layout.{max_word}
-use Rattle.cx_rule.specs.Running.{Running}
-use Rattle.cx_rule.specs.Seats.{IsAtLimit, Seated, images_of}
-use Rattle.cx_rule.specs.Timing.{KeepsTimes}
+use Rattle.table_invariant.specs.Running.{Running}
+use Rattle.table_invariant.specs.Seats.{IsAtLimit, Seated, images_of}
+use Rattle.table_invariant.specs.Timing.{KeepsTimes}
 use Rattle.cx_service.specs.declared.catch_up.CaughtUp.{CaughtUp}
 use Rattle.cx_service.specs.declared.catch_up.CaughtUp.TheVariants.{Caught, Behind, Halted}
 use Rattle.cx_service.specs.declared.update.ReadDone.{ReadDone}
@@ -14,7 +14,7 @@ use Rattle.cx_service.specs.declared.update.ReadDone.TheVariants.{Read, Queued, 
 use Rattle.cx_service.specs.declared.update.Updated.{Updated}
 use Rattle.cx_service.specs.declared.update.Updated.TheVariants.{Done as UpdatedDone, Full as UpdatedFull, Worn as UpdatedWorn, Halted as UpdatedHalted}
 use Rattle.cx_service.specs.Callers.{FindsCurrent, IsCallerOf, IsStoppedOf, StoppedSeat}
-use Rattle.cx_turns.specs.Turns.{StepsOn}
+use Rattle.cx_attempts.specs.Attempts.{StepsOn}
 
 -- A caller has seen a place: its front is at the place or above it, and so is what it found in CUR or what is behind an entry that it was
 -- answered. So it links no entry below the place, and reads nothing below it.

@@ -5,9 +5,9 @@ use Rattle.cx_base.specs.declared.object.Object.{Ghosts}
 use Rattle.cx_core.specs.Base.{LawfulBase}
 use Rattle.cx_core.specs.declared.local.Answer.{Answer}
 use Rattle.cx_core.specs.declared.local.SeenRead.{SeenRead}
-use Rattle.cx_rule.specs.Running.{Running}
-use Rattle.cx_rule.specs.Seats.{IsAtLimit, Seated, images_of}
-use Rattle.cx_rule.specs.Timing.{ImageIn}
+use Rattle.table_invariant.specs.Running.{Running}
+use Rattle.table_invariant.specs.Seats.{IsAtLimit, Seated, images_of}
+use Rattle.table_invariant.specs.Timing.{ImageIn}
 use Rattle.cx_service.specs.declared.checkpoint.Checkpointed.{Checkpointed}
 use Rattle.cx_service.specs.declared.checkpoint.Checkpointed.TheVariants.{Taken, Pending, Halted}
 use Rattle.cx_service.specs.Callers.{FindsCurrent, IsCallerOf, IsStoppedOf, StoppedSeat}
@@ -44,7 +44,7 @@ pub record CheckpointHalted {O : Type 0} (r : Running O) (before : Seated) (afte
   pub keeps : CheckpointKeeps before after.seat
   pub images : images_of after.seat.known ≡ images_of before.known
 
--- The result of a checkpoint in this many turns. The turn that takes the image meets no refusal; one that is refused is as a read's.
+-- The result of a checkpoint in this many attempts. The attempt that takes the image meets no refusal; one that is refused is as a read's.
 abbrev pub Checkpoints : {O : Type 0} → Ghosts O → Running O → List ℕ → ℕ → Seated → Checkpointed → Type 0
 Checkpoints o r words tries before (Taken after place) = CheckpointTaken o r words place before after × MeetsFewer tries before after
 Checkpoints o r words tries before (Pending after) = ReadPending r tries before after

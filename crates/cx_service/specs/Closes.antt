@@ -1,6 +1,6 @@
 -- The callers that are handed to the closing of a service.
 use Rattle.std.specs.Prelude.{List, map}
-use Rattle.cx_rule.specs.Seats.{Seated}
+use Rattle.table_invariant.specs.Seats.{Seated}
 use Rattle.cx_service.specs.declared.close.Handed.{Handed}
 use Rattle.cx_service.specs.declared.close.Handed.TheVariants.{Idle, Linked, Stopped}
 

@@ -3,15 +3,15 @@ use Rattle.std.specs.Prelude.{◌≡◌, ◌≢◌, ◌+◌, ◌<◌, ◌≤◌,
 use Rattle.cx_base.specs.Codes.{root_place_of}
 use Rattle.cx_core.specs.declared.local.Answer.{Answer}
 use Rattle.cx_core.specs.Layout.{max_word}
-use Rattle.cx_rule.specs.Running.{Running}
-use Rattle.cx_rule.specs.Seats.{IsAtLimit, Seated, images_of, unanswered_ticket}
-use Rattle.cx_rule.specs.Timing.{EndsIn}
+use Rattle.table_invariant.specs.Running.{Running}
+use Rattle.table_invariant.specs.Seats.{IsAtLimit, Seated, images_of, unanswered_ticket}
+use Rattle.table_invariant.specs.Timing.{EndsIn}
 use Rattle.cx_service.specs.declared.drive.Driven.{Driven}
 use Rattle.cx_service.specs.declared.drive.Driven.TheVariants.{Done, Pending, Halted}
 use Rattle.cx_service.specs.Callers.{IsCallerOf, IsLinkedOf, IsStoppedOf, StoppedSeat}
-use Rattle.cx_turns.specs.Answering.{with_answer}
-use Rattle.cx_turns.specs.Bringing.{BringsEntries}
-use Rattle.cx_turns.specs.Turns.{StepsOn}
+use Rattle.cx_attempts.specs.Answering.{with_answer}
+use Rattle.cx_attempts.specs.Bringing.{BringsEntries}
+use Rattle.cx_attempts.specs.Attempts.{StepsOn}
 use Rattle.strong_trylock.specs.Held.{all_rights, no_rights}
 
 -- at least this many refusals were met, where the count is not at its end
@@ -57,7 +57,7 @@ pub record DriveDone {O : Type 0} (r : Running O) (before after : Seated) (answe
   pub brought : BringsEntries before after
   pub ended : EndsIn after.known.local.steps before.known.times.answered after.known.times.answered
 
--- In each of the given number of turns one refusal was met, and no word of a set was read. The entry stands, unanswered. The limit allowed a step.
+-- In each of the given number of attempts one refusal was met, and no word of a set was read. The entry stands, unanswered. The limit allowed a step.
 pub record DrivePending {O : Type 0} (r : Running O) (tries : ℕ) (before after : Seated) : Type 0 where
   pub caller : IsLinkedOf r after
   pub keeps : DriveKeeps before after
@@ -80,13 +80,13 @@ pub record DriveHalted {O : Type 0} (r : Running O) (before : Seated) (after : S
       ⊎ ((reply : List ℕ) × (after.seat.known.local.answered ≡ with_answer ticket reply before.known.local.answered) × (after.seat.known.local.won ≢ None))
   pub ended : EndsOrNot before after.seat
 
--- A further step is due to a drive in this many turns: fewer refusals were met, a right stands that is still to be released, or a code is
--- found in CUR whose place is above the entry's ticket, by which DUR is still to be raised. No turn meets more than one refusal.
+-- A further step is due to a drive in this many attempts: fewer refusals were met, a right stands that is still to be released, or a code is
+-- found in CUR whose place is above the entry's ticket, by which DUR is still to be raised. No attempt meets more than one refusal.
 pub record DriveDue {O : Type 0} (r : Running O) (tries : ℕ) (before : Seated) (after : StoppedSeat) : Type 0 where
   pub most : MeetsAtMost tries before after.seat
   pub due : all_rights after.seat ≡ no_rights → MeetsFewer tries before after.seat ⊎ ((ticket : ℕ) × (after.linked ≡ Some ticket) × (ticket < root_place_of r.callers after.seat.known.local.seen_cur))
 
--- The result of a drive of a linked entry in this many turns, which left these words in the caller's buffer. A turn meets at most one
+-- The result of a drive of a linked entry in this many attempts, which left these words in the caller's buffer. An attempt meets at most one
 -- refusal, also the last one where a publication was lost in it.
 abbrev pub Drives : {O : Type 0} → Running O → ℕ → List ℕ → Seated → Driven → Type 0
 Drives r tries reply before (Done after ticket) = DriveDone r before after (answer_with ticket reply) × MeetsAtMost tries before after

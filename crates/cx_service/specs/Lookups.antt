@@ -3,16 +3,16 @@ use Rattle.std.specs.Prelude.{◌≡◌, ◌≢◌, ◌*◌, ◌<◌, ◌≤◌,
 use Rattle.cx_base.specs.Codes.{root_place_of}
 use Rattle.cx_core.specs.declared.local.Answer.{Answer}
 use Rattle.cx_core.specs.declared.local.SeenRead.{SeenRead}
-use Rattle.cx_rule.specs.Running.{Running}
-use Rattle.cx_rule.specs.Seats.{IsAtLimit, Seated, StepsBy, images_of}
-use Rattle.cx_rule.specs.Timing.{ReadsIn}
+use Rattle.table_invariant.specs.Running.{Running}
+use Rattle.table_invariant.specs.Seats.{IsAtLimit, Seated, StepsBy, images_of}
+use Rattle.table_invariant.specs.Timing.{ReadsIn}
 use Rattle.cx_service.specs.declared.lookup.ReadTried.{ReadTried}
 use Rattle.cx_service.specs.declared.lookup.ReadTried.TheVariants.{Read, Pending, Halted}
 use Rattle.cx_service.specs.Callers.{IsCallerOf, IsStoppedOf, StoppedSeat}
 use Rattle.cx_service.specs.Drives.{MeetsAtMost, MeetsFewer, MeetsMore}
-use Rattle.cx_turns.specs.declared.lookup.Seen.{Seen}
-use Rattle.cx_turns.specs.Answering.{reads_with}
-use Rattle.cx_turns.specs.Turns.{StepsOn}
+use Rattle.cx_attempts.specs.declared.lookup.Seen.{Seen}
+use Rattle.cx_attempts.specs.Answering.{reads_with}
+use Rattle.cx_attempts.specs.Attempts.{StepsOn}
 use Rattle.strong_trylock.specs.Held.{all_rights, no_rights}
 
 -- what each answer of a read leaves as it was, a front and a code found in CUR that do not fall, and no refusal and no step that is taken back
@@ -49,7 +49,7 @@ pub record ReadAnswered {O : Type 0} (r : Running O) (op : List ℕ) (before aft
   pub times : ReadsIn before.known.local.steps after.known.local.steps before.known.times.reads after.known.times.reads
   pub images : images_of after.known ≡ images_of before.known
 
--- In each of the given number of turns one refusal was met, by at most four steps. The limit allowed a step.
+-- In each of the given number of attempts one refusal was met, by at most four steps. The limit allowed a step.
 pub record ReadPending {O : Type 0} (r : Running O) (tries : ℕ) (before after : Seated) : Type 0 where
   pub caller : IsCallerOf r after
   pub keeps : ReadKeeps before after
@@ -72,13 +72,13 @@ pub record ReadHalted {O : Type 0} (r : Running O) (op : List ℕ) (before : Sea
   pub times : (after.seat.known.times.reads ≡ before.known.times.reads) ⊎ ReadsIn before.known.local.steps after.seat.known.local.steps before.known.times.reads after.seat.known.times.reads
   pub images : images_of after.seat.known ≡ images_of before.known
 
--- A further step is due to a read in this many turns: fewer refusals were met, or a right stands that is still to be released. No turn meets
+-- A further step is due to a read in this many attempts: fewer refusals were met, or a right stands that is still to be released. No attempt meets
 -- more than one.
 pub record ReadDue (tries : ℕ) (before after : Seated) : Type 0 where
   pub most : MeetsAtMost tries before after
   pub due : all_rights after ≡ no_rights → MeetsFewer tries before after
 
--- The result of a read of this operation in this many turns, which left these words in the caller's buffer. The turn that answers it meets
+-- The result of a read of this operation in this many attempts, which left these words in the caller's buffer. The attempt that answers it meets
 -- no refusal.
 abbrev pub Looks : {O : Type 0} → Running O → List ℕ → ℕ → List ℕ → Seated → ReadTried → Type 0
 Looks r op tries reply before (Read after place) = ReadAnswered r op before after (seen_with place reply) × MeetsFewer tries before after

@@ -2,8 +2,8 @@
 use Rattle.std.specs.Prelude.{◌≡◌, ◌≤◌, ℕ, List, [], All, map}
 use Rattle.std.specs.List.{range_with_len}
 use Rattle.cx_core.specs.declared.entry.Base.{Base}
-use Rattle.cx_rule.specs.Running.{Running}
-use Rattle.cx_rule.specs.Seats.{Seated}
+use Rattle.table_invariant.specs.Running.{Running}
+use Rattle.table_invariant.specs.Seats.{Seated}
 use Rattle.cx_table.specs.Remains.{AreSeats, opening_seat}
 use Rattle.cx_service.specs.declared.start.StartFault.{StartFault}
 use Rattle.cx_service.specs.declared.start.StartFault.TheVariants.{Callers, Lines, Memory}

@@ -7,17 +7,17 @@ use Rattle.cx_core.specs.Layout.{max_word}
 use Rattle.cx_core.specs.QueueEvents.{IsIdle, cell_of, next_number}
 use Rattle.cx_core.specs.State.{one_more}
 use Rattle.cx_table.specs.Seats.{HasMadeSteps}
-use Rattle.cx_rule.specs.Running.{Running}
-use Rattle.cx_rule.specs.Seats.{IsAtLimit, Seated, images_of, unanswered_ticket}
-use Rattle.cx_rule.specs.declared.rule.Times.{Times}
-use Rattle.cx_rule.specs.Timing.{BeginsIn}
+use Rattle.table_invariant.specs.Running.{Running}
+use Rattle.table_invariant.specs.Seats.{IsAtLimit, Seated, images_of, unanswered_ticket}
+use Rattle.table_invariant.specs.declared.rule.Times.{Times}
+use Rattle.table_invariant.specs.Timing.{BeginsIn}
 use Rattle.cx_core.specs.declared.local.FullNote.{FullNote}
 use Rattle.cx_service.specs.declared.submit.Submitted.{Submitted}
 use Rattle.cx_service.specs.declared.submit.Submitted.TheVariants.{Linked, Again, Full, Worn, Halted}
 use Rattle.cx_service.specs.Callers.{IsCallerOf, IsLinkedOf, IsStoppedOf, StoppedSeat}
 use Rattle.mutation_queue.specs.Cells.{IsInUse, writes}
-use Rattle.mutation_queue.specs.Collecting.{but_collected}
-use Rattle.cx_turns.specs.Turns.{StepsOn}
+use Rattle.mutation_queue.specs.Collecting.{except_collected}
+use Rattle.cx_attempts.specs.Attempts.{StepsOn}
 use Rattle.mutation_queue.specs.declared.links.LinkTried.{LinkTried}
 use Rattle.mutation_queue.specs.Links.{EndsBy, HaltsTry, LosesTries}
 use Rattle.mutation_queue.specs.declared.links.LinkTried.TheVariants.{Linked as TriedLinked, Again as TriedAgain, Worn as TriedWorn}
@@ -214,7 +214,7 @@ Submits r op tries before submitted = SubmitsIn (200 + r.callers + 3 * tries) r 
 -- A cell was looked for, in at most this many steps: nothing is changed but what was found of FREE and of the callers' needs, a scan
 -- under way, whether what was seen of CUR is fresh, and the counts of steps and scans.
 pub record LooksForCell (most : ℕ) (before after : Seated) : Type 0 where
-  pub same : but_collected after ≡ but_collected before
+  pub same : except_collected after ≡ except_collected before
   pub steps : after.known.local.steps ≤ before.known.local.steps + most
 
 -- no scan is under way, what was seen of CUR is not fresh, and no step is taken back

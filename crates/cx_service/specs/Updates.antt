@@ -4,9 +4,9 @@ use Rattle.cx_core.specs.declared.local.Answer.{Answer}
 use Rattle.cx_core.specs.Layout.{max_word}
 use Rattle.cx_core.specs.QueueEvents.{IsIdle}
 use Rattle.cx_table.specs.Seats.{HasMadeSteps}
-use Rattle.cx_rule.specs.Running.{Running}
-use Rattle.cx_rule.specs.Seats.{IsAtLimit, Seated, images_of}
-use Rattle.cx_rule.specs.Timing.{BeginsIn, EndsIn, KeepsTimes}
+use Rattle.table_invariant.specs.Running.{Running}
+use Rattle.table_invariant.specs.Seats.{IsAtLimit, Seated, images_of}
+use Rattle.table_invariant.specs.Timing.{BeginsIn, EndsIn, KeepsTimes}
 use Rattle.cx_core.specs.declared.local.FullNote.{FullNote}
 use Rattle.cx_service.specs.declared.submit.Submitted.TheVariants.{Again as SubmitsBack, Halted as SubmitHalts}
 use Rattle.cx_service.specs.declared.update.ReadDone.{ReadDone}
@@ -17,9 +17,9 @@ use Rattle.cx_service.specs.Callers.{IsCallerOf, IsStoppedOf, StoppedSeat}
 use Rattle.cx_service.specs.Drives.{DriveDone, DriveHalted, EndsOrNot, MeetsFewer, answer_with}
 use Rattle.cx_service.specs.Lookups.{ReadAnswered, ReadDue, ReadHalted, ReadPending, seen_with}
 use Rattle.cx_service.specs.Submits.{NamesHolder, Submits, next_entry}
-use Rattle.cx_turns.specs.Answering.{with_answer}
-use Rattle.cx_turns.specs.Bringing.{BringsEntries}
-use Rattle.cx_turns.specs.Turns.{StepsOn}
+use Rattle.cx_attempts.specs.Answering.{with_answer}
+use Rattle.cx_attempts.specs.Bringing.{BringsEntries}
+use Rattle.cx_attempts.specs.Attempts.{StepsOn}
 
 -- the caller's number, its limit and its lists are as they were, and its front and what it found in CUR do not fall
 pub record KeepsLists (before after : Seated) : Type 0 where
@@ -126,19 +126,19 @@ Updates r op reply before (Worn after) = UpdateWorn r before after
 Updates r op reply before (Halted after) = UpdateHalted r op before after
 
 -- the result of driving a linked entry to its end
-abbrev pub Finishes : {O : Type 0} → Running O → List ℕ → Seated → Updated → Type 0
-Finishes r reply before (Done after ticket) = DriveDone r before after (answer_with ticket reply)
-Finishes r reply before (Full after note) = ⊥
-Finishes r reply before (Worn after) = ⊥
-Finishes r reply before (Halted after) = DriveHalted r before after
+abbrev pub FinishOutcome : {O : Type 0} → Running O → List ℕ → Seated → Updated → Type 0
+FinishOutcome r reply before (Done after ticket) = DriveDone r before after (answer_with ticket reply)
+FinishOutcome r reply before (Full after note) = ⊥
+FinishOutcome r reply before (Worn after) = ⊥
+FinishOutcome r reply before (Halted after) = DriveHalted r before after
 
--- A read was refused in each of 8 turns beside the queue, so that just as many refusals more are met, and then it entered the queue.
+-- A read was refused in each of 8 attempts beside the queue, so that just as many refusals more are met, and then it entered the queue.
 pub record ReadQueues {O : Type 0} (r : Running O) (op reply : List ℕ) (before : Seated) (updated : Updated) : Type 0 where
   pub refused : Seated
   pub pending : ReadPending r 8 before refused
   pub entered : Updates r op reply refused updated
 
--- A further step was to be made and the steps equal the limit: in a turn beside the queue, or in the update by which the read had entered it,
+-- A further step was to be made and the steps equal the limit: in an attempt beside the queue, or in the update by which the read had entered it,
 -- which has no reply.
 pub record ReadStops {O : Type 0} (r : Running O) (op : List ℕ) (before : Seated) (after : StoppedSeat) : Type 0 where
   pub caller : IsStoppedOf r after.seat
@@ -147,17 +147,17 @@ pub record ReadStops {O : Type 0} (r : Running O) (op : List ℕ) (before : Seat
   pub images : images_of after.seat.known ≡ images_of before.known
 
 -- the result of a read of this operation, which left these words in the caller's buffer
-abbrev pub ReadsInAll : {O : Type 0} → Running O → List ℕ → List ℕ → Seated → ReadDone → Type 0
-ReadsInAll r op reply before (Read after place) = ReadAnswered r op before after (seen_with place reply) × MeetsFewer 8 before after
-ReadsInAll r op reply before (Queued after ticket) = ReadQueues r op reply before (Done after ticket)
-ReadsInAll r op reply before (FullRead after note) = ReadQueues r op reply before (Full after note)
-ReadsInAll r op reply before (WornRead after) = ReadQueues r op reply before (Worn after)
-ReadsInAll r op reply before (HaltedRead after) = ReadStops r op before after
+abbrev pub ReadOutcome : {O : Type 0} → Running O → List ℕ → List ℕ → Seated → ReadDone → Type 0
+ReadOutcome r op reply before (Read after place) = ReadAnswered r op before after (seen_with place reply) × MeetsFewer 8 before after
+ReadOutcome r op reply before (Queued after ticket) = ReadQueues r op reply before (Done after ticket)
+ReadOutcome r op reply before (FullRead after note) = ReadQueues r op reply before (Full after note)
+ReadOutcome r op reply before (WornRead after) = ReadQueues r op reply before (Worn after)
+ReadOutcome r op reply before (HaltedRead after) = ReadStops r op before after
 
 -- the result of a read that enters the queue
-abbrev pub QueuesRead : {O : Type 0} → Running O → List ℕ → List ℕ → Seated → ReadDone → Type 0
-QueuesRead r op reply before (Read after place) = ⊥
-QueuesRead r op reply before (Queued after ticket) = Updates r op reply before (Done after ticket)
-QueuesRead r op reply before (FullRead after note) = Updates r op reply before (Full after note)
-QueuesRead r op reply before (WornRead after) = Updates r op reply before (Worn after)
-QueuesRead r op reply before (HaltedRead after) = Updates r op reply before (Halted after)
+abbrev pub QueuedReadOutcome : {O : Type 0} → Running O → List ℕ → List ℕ → Seated → ReadDone → Type 0
+QueuedReadOutcome r op reply before (Read after place) = ⊥
+QueuedReadOutcome r op reply before (Queued after ticket) = Updates r op reply before (Done after ticket)
+QueuedReadOutcome r op reply before (FullRead after note) = Updates r op reply before (Full after note)
+QueuedReadOutcome r op reply before (WornRead after) = Updates r op reply before (Worn after)
+QueuedReadOutcome r op reply before (HaltedRead after) = Updates r op reply before (Halted after)

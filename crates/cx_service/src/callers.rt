@@ -1,18 +1,18 @@
-//! The callers of a service. Contracts see of each its seat: what it knows, linked and was answered. A seat and the room that its turns
+//! The callers of a service. Contracts see of each its seat: what it knows, linked and was answered. A seat and the room that its attempts
 //! work in lie in memory of their own, so that callers are handed on by a word.
 
 ghost use Rattle.std.specs.Prelude.{◌≡◌, ◌+◌, ◌^◌, ◌<◌, ◌≤◌, Some, length, min};
 ghost use Rattle.cx_core.specs.Layout.{max_word};
-ghost use Rattle.cx_rule.specs.Seats.{IsWithinLimit, unanswered_ticket};
+ghost use Rattle.table_invariant.specs.Seats.{IsWithinLimit, unanswered_ticket};
 ghost use Rattle.redo_set.specs.Taking.{sets_read};
 
+use cx_attempts::Scratch;
 use cx_table::CallerSeat;
-use cx_turns::Scratch;
 use std::marker::Model;
 
 /// A caller's seat, and the room that its turns work in.
 #[derive(Drop)]
-pub(crate) struct Desk {
+pub(crate) struct CallerState {
     pub(crate) seat: CallerSeat,
     pub(crate) scratch: Scratch,
 }
@@ -20,15 +20,15 @@ pub(crate) struct Desk {
 /// A caller with no call under way.
 #[derive(Drop)]
 pub struct Caller {
-    pub(crate) desk: Box<Desk>,
+    pub(crate) desk: Box<CallerState>,
 }
 
 impl Model for Caller {
-    ghost use Rattle.cx_rule.specs.Seats.{Seated};
+    ghost use Rattle.table_invariant.specs.Seats.{Seated};
 
     ghost Value = { Seated };
 
-    ghost use Rattle.cx_turns.specs.Turns.{IsCounted};
+    ghost use Rattle.cx_attempts.specs.Attempts.{IsCounted};
 
     ghost view = { λ c. c.desk.value.seat };
 
@@ -38,16 +38,16 @@ impl Model for Caller {
 /// A caller whose entry is linked and not answered.
 #[derive(Drop)]
 pub struct Linked {
-    pub(crate) desk: Box<Desk>,
+    pub(crate) desk: Box<CallerState>,
 }
 
 impl Model for Linked {
-    ghost use Rattle.cx_rule.specs.Seats.{Seated};
+    ghost use Rattle.table_invariant.specs.Seats.{Seated};
 
     ghost Value = { Seated };
 
     ghost use Rattle.std.specs.Prelude.{◌≡◌, ◌+◌, length};
-    ghost use Rattle.cx_turns.specs.Turns.{IsCounted};
+    ghost use Rattle.cx_attempts.specs.Attempts.{IsCounted};
 
     ghost view = { λ c. c.desk.value.seat };
 
@@ -58,12 +58,12 @@ impl Model for Linked {
 /// that no call has answered.
 #[derive(Drop)]
 pub struct Stopped {
-    pub(crate) desk: Box<Desk>,
+    pub(crate) desk: Box<CallerState>,
     pub(crate) linked: Option<u64>,
 }
 
 impl Model for Stopped {
-    ghost use Rattle.cx_rule.specs.Seats.{IsAtLimit};
+    ghost use Rattle.table_invariant.specs.Seats.{IsAtLimit};
     ghost use Rattle.cx_service.specs.Callers.{StoppedSeat};
 
     ghost Value = { StoppedSeat };

@@ -6,25 +6,25 @@ ghost use Rattle.cx_service.specs.Checkpoints.{Checkpoints};
 
 use crate::callers::{Caller, Stopped};
 use crate::service::Service;
+use cx_attempts::try_checkpoint_once;
 use cx_base::{Halt, Object};
-use cx_turns::checkpoint_turn;
 
 /// The result of a checkpoint.
 #[derive(Drop)]
 pub enum Checkpointed {
     /// The image was taken, at this place.
     Taken(Caller, u64),
-    /// In each turn a refusal was met.
+    /// In each attempt a refusal was met.
     Pending(Caller),
     /// The step limit was reached.
     Halted(Stopped),
 }
 
 impl<O: Object> Service<O> {
-    /// Takes the image of the current replica, results included, in at most `tries` turns. `Taken` is told by a raise of the durable root: the
+    /// Takes the image of the current replica, results included, in at most `tries` attempts. `Taken` is told by a raise of the durable root: the
     /// words are the image after the entries below the place, all of which a loss of power keeps, and a base from which a service may start. Only
     /// a caller that wants that replica exclusively is kept from it, by one copy. `Pending` comes only where the count of refusals rose in each
-    /// turn. `Halted` comes exactly where a further step is to be made and the steps equal the limit.
+    /// attempt. `Halted` comes exactly where a further step is to be made and the steps equal the limit.
     ///
     /// The image becomes a base, from which the next service may start. From `crates/service_tests/src/checkpoint_starts.rt`:
     /// ```rattle
@@ -45,7 +45,7 @@ impl<O: Object> Service<O> {
         ensures length { length into.new ≡ length into.old }
     {
         let mut caller = caller;
-        for _turn in 0..tries {
+        for _attempt in 0..tries {
             match self.checkpoint_once(caller, into) {
                 Checkpointed::Pending(back) => caller = back,
                 Checkpointed::Taken(back, place) => return Checkpointed::Taken(back, place),
@@ -55,7 +55,7 @@ impl<O: Object> Service<O> {
         Checkpointed::Pending(caller)
     }
 
-    /// One turn of it.
+    /// One attempt of it.
     fn checkpoint_once(&self, caller: Caller, into: &mut [u64]) -> Checkpointed
         requires caller { IsCallerOf self.now caller }
         requires words { length into.old ≡ length self.now.base.words }
@@ -66,7 +66,7 @@ impl<O: Object> Service<O> {
         let seat = &mut desk.seat;
         // refusals are counted in a word
         let _met = seat.met();
-        match checkpoint_turn(&self.shared, seat, into) {
+        match try_checkpoint_once(&self.shared, seat, into) {
             Ok(Some(place)) => Checkpointed::Taken(Caller { desk }, place),
             Ok(None) => Checkpointed::Pending(Caller { desk }),
             Err(Halt) => Checkpointed::Halted(Stopped { desk, linked: None }),

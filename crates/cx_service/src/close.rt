@@ -1,12 +1,12 @@
 //! Closing a service.
 
 ghost use Rattle.std.specs.Prelude.{◌≡◌, ◌≤◌, [], IfErr, IfOk, map, vec_capacity, vec_len};
-ghost use Rattle.cx_rule.specs.Running.{instance_at};
+ghost use Rattle.table_invariant.specs.Running.{instance_at};
 ghost use Rattle.cx_table.specs.Remains.{AreSeats};
 ghost use Rattle.cx_service.specs.Closes.{seat_of, seats_of};
 ghost use Rattle.cx_service.specs.ClosedOrder.{IsClosedLinearizable};
 
-use crate::callers::{Caller, Desk, Linked, Stopped};
+use crate::callers::{Caller, CallerState, Linked, Stopped};
 use crate::closed_order::closed_tables_are_linearizable;
 use crate::service::Service;
 use cx_base::Object;
@@ -88,6 +88,6 @@ fn as_seat(handed: Handed) -> CallerSeat
         Handed::Linked(Linked { desk }) => desk,
         Handed::Stopped(Stopped { desk, .. }) => desk,
     };
-    let Desk { seat, .. } = Box::into_inner(desk);
+    let CallerState { seat, .. } = Box::into_inner(desk);
     seat
 }

@@ -1,9 +1,9 @@
 //! What a closed table tells of the order of its callers' operations.
 
 ghost use Rattle.std.specs.Prelude.{List};
-ghost use Rattle.cx_rule.specs.Running.{IsRunning, Running, instance_at};
-ghost use Rattle.cx_rule.specs.Seats.{Seated};
-ghost use Rattle.cx_table.specs.Remains.{Leaves};
+ghost use Rattle.table_invariant.specs.Running.{IsRunning, Running, instance_at};
+ghost use Rattle.table_invariant.specs.Seats.{Seated};
+ghost use Rattle.cx_table.specs.Remains.{ClosingWitness};
 ghost use Rattle.cx_table.specs.declared.remains.Remains.{Remains};
 ghost use Rattle.cx_service.specs.ClosedOrder.{IsLinearizedBy};
 
@@ -17,7 +17,7 @@ use cx_base::Object;
 /// Where by these counts, in the order of all steps, one operation ended before another one began, it stands before it in the history (`KeepsCalls`).
 pub fn closed_tables_are_linearizable<O: Object>()
     ensures { (table : Running O) (seats : List Seated) (r : Remains) → IsRunning O.line_count O.lawful table →
-        (leaves : Leaves table (instance_at table O.step O.only_reads) seats r) → IsLinearizedBy leaves }
+        (leaves : ClosingWitness table (instance_at table O.step O.only_reads) seats r) → IsLinearizedBy leaves }
 {
     runs_have_one_order::<O>();
 }

@@ -15,7 +15,7 @@
 //! A caller that drives its entry brings a replica up to it. Another's entry it applies by its write set, where its caller offered that,
 //! and else by its step: `Caller::taken` counts the sets that it read. Of each the drive that read it tells a seat from which to a next
 //! just its pairs are stored (`DriveDone`: `brought`), and no other call reads one. No clause of a drive says that its own steps led through
-//! these seats: that a set which was read is stored over the replica, and no step done instead, is a clause of `replay_offered` of `replica_sets`.
+//! these seats: that a set which was read is stored over the replica, and no step done instead, is a clause of `replay_offered` of `redo_replay`.
 //!
 //! The steps of a caller are counted, up to 2^64 - 1, and no answer of any call takes one back (`StepsOn`: `since` of `ReadKeeps`, `DriveKeeps`,
 //! `LinksEntry`, `SubmitHalted`, `HaltsUnlinked`, or an exact count). The refusals that it met are counted so too, and no answer takes one back (`met`
@@ -45,8 +45,8 @@ pub use callers::{Caller, Linked, Stopped};
 pub use catch_up::CaughtUp;
 pub use checkpoint::Checkpointed;
 pub use close::{Handed, Kept};
+pub use cx_attempts::Seen;
 pub use cx_core::Answer;
-pub use cx_turns::Seen;
 pub use drive::Driven;
 pub use lookup::ReadTried;
 pub use service::Service;

@@ -3,19 +3,19 @@
 
 ghost use Rattle.std.specs.Prelude.{◌≤◌, ◌+◌, List, ℕ};
 ghost use Rattle.cx_core.specs.declared.local.Answer.{Answer};
-ghost use Rattle.cx_rule.specs.Running.{Running};
-ghost use Rattle.cx_rule.specs.Seats.{Seated};
+ghost use Rattle.table_invariant.specs.Running.{Running};
+ghost use Rattle.table_invariant.specs.Seats.{Seated};
 ghost use Rattle.cx_service.specs.Callers.{IsCallerOf};
 ghost use Rattle.cx_service.specs.CatchUps.{CatchUpSees, CatchesUp, HasSeen, ReadSees, UpdateSees};
 ghost use Rattle.cx_service.specs.Checkpoints.{CheckpointTaken};
 ghost use Rattle.cx_service.specs.Drives.{DriveDone};
 ghost use Rattle.cx_service.specs.Lookups.{ReadAnswered, ReadKeeps};
 ghost use Rattle.cx_service.specs.Submits.{SubmitKeeps, SubmitLinked};
-ghost use Rattle.cx_service.specs.Updates.{ReadsInAll, UpdateDone, Updates};
+ghost use Rattle.cx_service.specs.Updates.{ReadOutcome, UpdateDone, Updates};
 ghost use Rattle.cx_service.specs.declared.catch_up.CaughtUp.{CaughtUp};
 ghost use Rattle.cx_service.specs.declared.update.ReadDone.{ReadDone};
 ghost use Rattle.cx_service.specs.declared.update.Updated.{Updated};
-ghost use Rattle.cx_turns.specs.declared.lookup.Seen.{Seen};
+ghost use Rattle.cx_attempts.specs.declared.lookup.Seen.{Seen};
 
 use cx_base::Object;
 
@@ -71,7 +71,7 @@ pub fn updates_keep_what_was_seen<O: Object>()
 
 /// The same of a read, which may have entered the queue.
 pub fn queued_reads_keep_what_was_seen<O: Object>()
-    ensures { (r : Running O) (op reply : List ℕ) (place : ℕ) (before : Seated) (done : ReadDone) → IsCallerOf r before → HasSeen r.callers place before.known.local → ReadsInAll r op reply before done → ReadSees r.callers place done }
+    ensures { (r : Running O) (op reply : List ℕ) (place : ℕ) (before : Seated) (done : ReadDone) → IsCallerOf r before → HasSeen r.callers place before.known.local → ReadOutcome r op reply before done → ReadSees r.callers place done }
 {}
 
 /// Catching up with another place, which may be a lower one, leaves what was seen before.

@@ -1,7 +1,7 @@
 //! A service of an object.
 
 ghost use Rattle.std.specs.Prelude.{◌≡◌};
-ghost use Rattle.cx_rule.specs.Running.{IsRunning};
+ghost use Rattle.table_invariant.specs.Running.{IsRunning};
 
 use cx_base::Object;
 use cx_table::Shared;
@@ -16,7 +16,7 @@ pub struct Service<O: Object> {
 }
 
 impl<O: Object> Model for Service<O> {
-    ghost use Rattle.cx_rule.specs.Running.{Running};
+    ghost use Rattle.table_invariant.specs.Running.{Running};
 
     ghost Value = { Running O };
 

@@ -4,12 +4,12 @@ ghost use Rattle.std.specs.Prelude.{◌≡◌, ◌≤◌, [], All, IfOk, MatchRe
 ghost use Rattle.cx_core.specs.Base.{LawfulBase};
 ghost use Rattle.cx_service.specs.Starts.{AreFewCallers, AreFewLines, HasNoSets, IsStartFault, Starts};
 
-use crate::callers::{Caller, Desk};
+use crate::callers::{Caller, CallerState};
 use crate::service::Service;
+use cx_attempts::Scratch;
 use cx_base::Object;
 use cx_core::Base;
 use cx_table::{CallerSeat, Shared};
-use cx_turns::Scratch;
 use std::alloc::{AllocError, Global};
 
 /// Why a service was not started.
@@ -96,6 +96,6 @@ fn as_caller(alloc: Global, seat: CallerSeat) -> Result<Caller, AllocError>
     ensures { IfOk result (λ made. made ≡ seat) }
 {
     let scratch = Scratch::new(alloc)?;
-    let desk = Box::new(alloc, Desk { seat, scratch })?;
+    let desk = Box::new(alloc, CallerState { seat, scratch })?;
     Ok(Caller { desk })
 }

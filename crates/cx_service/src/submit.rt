@@ -2,9 +2,9 @@
 
 ghost use Rattle.std.specs.Prelude.{◌≡◌, ◌+◌, ◌*◌, ◌<◌, ◌≤◌, IfOk, OnErr};
 ghost use Rattle.cx_core.specs.QueueEvents.{IsIdle};
-ghost use Rattle.cx_rule.specs.Rule.{IsLawfulLocal};
-ghost use Rattle.cx_rule.specs.Running.{instance_at};
-ghost use Rattle.cx_rule.specs.Seats.{IsAtLimit};
+ghost use Rattle.table_invariant.specs.Rule.{IsLawfulLocal};
+ghost use Rattle.table_invariant.specs.Running.{instance_at};
+ghost use Rattle.table_invariant.specs.Seats.{IsAtLimit};
 ghost use Rattle.cx_service.specs.Callers.{IsCallerOf, unlinked};
 ghost use Rattle.cx_service.specs.Submits.{AreInUse, AreTickets, EntersOperation, EntersIn, FindsAgain, FindsCell, HaltsInCell, HaltsLooking, LooksForCell, Submits};
 
@@ -120,12 +120,12 @@ fn find_cell<O: Object>(
     if let Some(cell) = idle_cell(seat) {
         return Ok(Ok(cell));
     }
-    give_again(shared, seat)
+    reclaim_cells(shared, seat)
 }
 
 /// Gives cells of the caller again, all of which are in use, but those that some caller needs. An idle one, or a note of that
 /// caller.
-fn give_again<O: Object>(
+fn reclaim_cells<O: Object>(
     shared: &Shared<O>,
     seat: &mut CallerSeat,
 ) -> Result<Result<u32, FullNote>, Halt>

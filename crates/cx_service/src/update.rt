@@ -2,7 +2,7 @@
 
 ghost use Rattle.std.specs.Prelude.{IsTrue};
 ghost use Rattle.cx_service.specs.Callers.{IsCallerOf, IsLinkedOf};
-ghost use Rattle.cx_service.specs.Updates.{Finishes, QueuesRead, ReadsInAll, Updates};
+ghost use Rattle.cx_service.specs.Updates.{FinishOutcome, QueuedReadOutcome, ReadOutcome, Updates};
 
 use crate::callers::{Caller, Linked, Stopped};
 use crate::drive::Driven;
@@ -14,10 +14,10 @@ use cx_core::FullNote;
 use std::sync::Wait;
 use std::thread;
 
-/// The tries of one submit, and the turns of one drive, before they are begun again.
+/// The tries of one submit, and the attempts of one drive, before they are begun again.
 const TRIES: u64 = 16;
 
-/// The turns of a read beside the queue before it enters the queue.
+/// The attempts of a read beside the queue before it enters the queue.
 const READ_TRIES: u64 = 8;
 
 /// The result of an update.
@@ -95,7 +95,7 @@ impl<O: Object> Service<O> {
     /// Drives a linked entry to its answer.
     fn finish<R: Wait>(&self, rt: &R, linked: Linked, reply: &mut OpWords) -> Updated
         requires { IsLinkedOf self.now linked }
-        ensures { Finishes self.now reply.new linked result }
+        ensures { FinishOutcome self.now reply.new linked result }
     {
         let mut linked = linked;
         for _ in rt.forever() {
@@ -111,7 +111,7 @@ impl<O: Object> Service<O> {
         unreachable!()
     }
 
-    /// Answers an operation that only reads: beside the queue where the current replica can be read in 8 turns, and else as an entry
+    /// Answers an operation that only reads: beside the queue where the current replica can be read in 8 attempts, and else as an entry
     /// of the queue, which it may wait for as an update does. So no read is kept out for good by those who publish. The reply is written
     /// into the caller's buffer, of which nothing is said where the read is not answered. `Halted` comes
     /// exactly where a further step is to be made and the steps equal the limit.
@@ -119,10 +119,10 @@ impl<O: Object> Service<O> {
     /// The two answers that have a reply; the others are those of `update`. From `crates/service_parts/src/call.rt`:
     /// ```rattle
     /// match service.read(rt, caller, op, reply) {
-    ///     ReadDone::Read(back, place) => return Asked::Told(back, place),
+    ///     ReadDone::Read(back, place) => return AskOutcome::Told(back, place),
     ///     ReadDone::Queued(back, ticket) => {
     ///         let place = back.place_behind(ticket);
-    ///         return Asked::Told(back, place);
+    ///         return AskOutcome::Told(back, place);
     ///     }
     /// ```
     pub fn read<R: Wait>(
@@ -134,7 +134,7 @@ impl<O: Object> Service<O> {
     ) -> ReadDone
         requires caller { IsCallerOf self.now caller }
         requires reads { IsTrue (O.only_reads self.now.object op.now) }
-        ensures { ReadsInAll self.now op.now reply.new caller result }
+        ensures { ReadOutcome self.now op.now reply.new caller result }
     {
         match self.try_read(caller, op, reply, READ_TRIES) {
             ReadTried::Read(back, place) => ReadDone::Read(back, place),
@@ -146,7 +146,7 @@ impl<O: Object> Service<O> {
     /// Enters a read into the queue.
     fn queue<R: Wait>(&self, rt: &R, caller: Caller, op: &OpWords, reply: &mut OpWords) -> ReadDone
         requires { IsCallerOf self.now caller }
-        ensures { QueuesRead self.now op.now reply.new caller result }
+        ensures { QueuedReadOutcome self.now op.now reply.new caller result }
     {
         match self.update(rt, caller, op, reply) {
             Updated::Done(back, ticket) => ReadDone::Queued(back, ticket),

@@ -17,20 +17,20 @@ use Rattle.cx_core.specs.declared.local.Linked.{Linked}
 use Rattle.cx_core.specs.Merge.{IsHistory, all_own, history_of, in_order}
 use Rattle.cx_core.specs.Shown.{shown}
 use Rattle.cx_core.specs.State.{Instance}
-use Rattle.cx_rule.specs.declared.rule.Known.{Known}
+use Rattle.table_invariant.specs.declared.rule.Known.{Known}
 use Rattle.cx_core.specs.Layout.{vol_at, per_at}
 use Rattle.cx_table.specs.declared.remains.Remains.{Remains}
 use Rattle.cx_core.specs.Chain.{IsCodeChain, Leads}
 use Rattle.cx_core.specs.LawfulRoot.{Root}
-use Rattle.seat_memory.specs.Wins.{IsWayBy, wins_of}
-use Rattle.seat_memory.proofs.Chaining.{leads_shown, way_up, wins_append, wins_shown}
-use Rattle.cx_table.specs.Remains.{AreSeats, Leaves, MarksDirty, known_by, locals_of, opening_seat}
-use Rattle.cx_rule.specs.Rule.{AreImages, RuleHolds, NotesHold, opening_limited}
-use Rattle.cx_rule.specs.Running.{IsSeatOf, Running}
-use Rattle.cx_rule.specs.Seats.{Seated}
-use Rattle.cx_rule.specs.Timing.{AreTimes}
+use Rattle.caller_cache.specs.Wins.{IsWayBy, wins_of}
+use Rattle.caller_cache.proofs.Chaining.{leads_shown, way_up, wins_append, wins_shown}
+use Rattle.cx_table.specs.Remains.{AreSeats, ClosingWitness, MarksDirty, known_by, locals_of, opening_seat}
+use Rattle.table_invariant.specs.Rule.{AreImages, RuleHolds, NotesHold, opening_limited}
+use Rattle.table_invariant.specs.Running.{IsSeatOf, Running}
+use Rattle.table_invariant.specs.Seats.{Seated}
+use Rattle.table_invariant.specs.Timing.{AreTimes}
 use Rattle.cx_core.proofs.MergeLemmas.{history_is}
-use Rattle.cx_rule.proofs.Moves.{same_items}
+use Rattle.table_invariant.proofs.Moves.{same_items}
 
 map-id : {A : Type 0} (xs : List A) → map (λ (x : A). x) xs ≡ xs
 map-id [] = refl
@@ -165,7 +165,7 @@ pub record Handed {O : Type 0} (t : Running O) (seats : List Seated) (words : Li
   pub dirty : MarksDirty (locals_of seats) (2 * t.callers) (length t.base.words) r.dirty.items
 
 pub leaves : {O : Type 0} (t : Running O) (instance : Instance) (seats : List Seated) (r : Remains) (s : State ℕ (List Known)) (id : ℕ) → instance.callers ≡ t.callers → instance.base ≡ t.base →
-    AreSeats t seats → RuleHolds instance s → get_elem? s.views id ≡ some (known_by seats) → Handed t seats s.words r → Leaves t instance seats r
+    AreSeats t seats → RuleHolds instance s → get_elem? s.views id ≡ some (known_by seats) → Handed t seats s.words r → ClosingWitness t instance seats r
 leaves t instance seats r s id callers base are held me h =
     let locals = locals_are t instance seats s id callers are held me in
     let law = held.law in

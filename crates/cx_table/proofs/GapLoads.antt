@@ -7,16 +7,16 @@ use Rattle.cx_base.specs.declared.object.Object.{Ghosts}
 use Rattle.cx_core.specs.declared.kinds.Kind.TheVariants.{LoadGap}
 use Rattle.cx_core.specs.Gaps.{Gap}
 use Rattle.cx_core.specs.State.{Instance, one_more}
-use Rattle.cx_rule.specs.declared.rule.Known.{Known}
-use Rattle.cx_rule.specs.declared.rule.Noted.{Noted}
-use Rattle.cx_rule.specs.Fitting.{Fitting}
-use Rattle.cx_rule.specs.Listed.{HasGap}
-use Rattle.cx_rule.specs.Running.{IsSeatOf, Running, instance_at}
-use Rattle.cx_rule.specs.Seats.{Seated, StepsBy, StepsOn, stepped}
-use Rattle.cx_rule.proofs.Stepping.{on_same, on_then_one}
+use Rattle.table_invariant.specs.declared.rule.Known.{Known}
+use Rattle.table_invariant.specs.declared.rule.Noted.{Noted}
+use Rattle.table_invariant.specs.Fitting.{Fitting}
+use Rattle.table_invariant.specs.Listed.{HasGap}
+use Rattle.table_invariant.specs.Running.{IsSeatOf, Running, instance_at}
+use Rattle.table_invariant.specs.Seats.{Seated, StepsBy, StepsOn, stepped}
+use Rattle.table_invariant.proofs.Stepping.{on_same, on_then_one}
 use Rattle.cx_table.specs.Gaps.{gaps_from}
 use Rattle.cx_table.specs.Runs.{Runs, no_step, one_more_step}
-use Rattle.cx_table.specs.GapMarks.{LeavesLoads, gap_notes, with_gaps}
+use Rattle.cx_table.specs.GapMarks.{KeepsLoads, gap_notes, with_gaps}
 use Rattle.cx_table.specs.GapWords.{IsNamed}
 
 abbrev note : ℕ → ℕ → Noted
@@ -75,11 +75,11 @@ module _ {O : Type 0} (o : Ghosts O) (r : Running O) where
         fits = inr fits;
       })
 
-  pub loads_leave : (slot : ℕ) (words : List ℕ) (before after : Seated) → IsSeatOf r after → LoadsGaps o r slot words before after → LeavesLoads o r before after
+  pub loads_leave : (slot : ℕ) (words : List ℕ) (before after : Seated) → IsSeatOf r after → LoadsGaps o r slot words before after → KeepsLoads o r before after
   loads_leave slot words before after of loads = record { notes = gap_notes slot words; seat = loads.seat; of = of; since = loads.since; fits = loads.fits }
 
   -- where none was loaded, nothing is changed
-  pub leaves_none : (before after : Seated) → IsSeatOf r before → after ≡ before → LeavesLoads o r before after
+  pub leaves_none : (before after : Seated) → IsSeatOf r before → after ≡ before → KeepsLoads o r before after
   leaves_none before after of same = record {
     notes = [];
     seat = shown_so before.known.local.steps [] before after (same ∙ none_is before);
@@ -89,7 +89,7 @@ module _ {O : Type 0} (o : Ghosts O) (r : Running O) where
   }
 
   -- loads behind loads
-  pub leaves_more : (before mid after : Seated) → LeavesLoads o r before mid → LeavesLoads o r mid after → LeavesLoads o r before after
+  pub leaves_more : (before mid after : Seated) → KeepsLoads o r before mid → KeepsLoads o r mid after → KeepsLoads o r before after
   leaves_more before mid after one two = record {
     notes = one.notes ++ two.notes;
     seat = shown_so after.known.local.steps (one.notes ++ two.notes) before after (
@@ -130,7 +130,7 @@ has_named instance slot words before after are g named = record {
 }
 
 -- a gap stays had when more is noted
-pub has_still : {O : Type 0} (o : Ghosts O) (r : Running O) (instance : Instance) (before after : Seated) → LeavesLoads o r before after → (g : Gap) → HasGap instance before.known g → HasGap instance after.known g
+pub has_still : {O : Type 0} (o : Ghosts O) (r : Running O) (instance : Instance) (before after : Seated) → KeepsLoads o r before after → (g : Gap) → HasGap instance before.known g → HasGap instance after.known g
 has_still o r instance before after leaves g has = record {
   n = has.n;
   note = has.note;

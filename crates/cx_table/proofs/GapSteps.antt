@@ -2,8 +2,8 @@
 use Rattle.std.proofs.Common.{◌<◌, inl, inr, ℕ, length, arith}
 use Rattle.cx_core.specs.Layout.{gap_at, gap_slots, word_count}
 use Rattle.cx_core.specs.State.{Instance}
-use Rattle.cx_rule.specs.Seats.{Seated}
-use Rattle.seat_memory.specs.Copies.{CopiesDirty}
+use Rattle.table_invariant.specs.Seats.{Seated}
+use Rattle.caller_cache.specs.Copies.{CopiesDirty}
 use Rattle.cx_table.specs.Gaps.{IsListedFrom}
 use Rattle.cx_table.specs.Right.{Right}
 

@@ -5,8 +5,8 @@ use Rattle.std.proofs.lemmas.List.{get_or-take}
 use Rattle.std.specs.List.{Contains}
 use Rattle.cx_core.specs.Gaps.{Gap, Walk, gap_of}
 use Rattle.cx_core.specs.State.{Instance}
-use Rattle.cx_rule.specs.declared.rule.Known.{Known}
-use Rattle.cx_rule.specs.Listed.{HasGap}
+use Rattle.table_invariant.specs.declared.rule.Known.{Known}
+use Rattle.table_invariant.specs.Listed.{HasGap}
 use Rattle.cx_table.specs.GapMarks.{AreMarked, IsMarked, MarksChanged, MarksTicket}
 use Rattle.cx_table.specs.GapWords.{IsNamed, TellsLines, lines_from, start_at}
 

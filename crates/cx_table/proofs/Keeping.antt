@@ -5,18 +5,18 @@ use Rattle.atomic_table.specs.Seated.{TableId}
 use Rattle.atomic_table.specs.Table.{Me}
 use Rattle.cx_core.proofs.HistoryLemmas.{ObjectLaws}
 use Rattle.cx_core.proofs.Locals.{slice_get-last}
-use Rattle.cx_rule.specs.declared.rule.KeptSet.{KeptSet}
-use Rattle.cx_rule.specs.declared.rule.Known.{Known}
-use Rattle.cx_rule.specs.Fitting.{Fitting, IsSetWithin}
-use Rattle.cx_rule.specs.Offers.{TellsSet}
-use Rattle.cx_rule.specs.Running.{IsRunning, IsSeatOf, Running, instance_at}
-use Rattle.cx_rule.specs.Seats.{Seated, known_kept, known_of}
-use Rattle.cx_rule.specs.Steps.{KeepsSet, TeachesKept}
-use Rattle.cx_rule.proofs.Fitting.{fitting}
-use Rattle.seat_memory.specs.declared.summary.Summary.{Summary}
-use Rattle.seat_memory.specs.Copies.{Copied, IsCopied, IsKeptAs}
-use Rattle.seat_memory.specs.Summaries.{HasSummary}
-use Rattle.seat_memory.proofs.SummaryLaws.{IsSeat, seated}
+use Rattle.table_invariant.specs.declared.rule.KeptSet.{KeptSet}
+use Rattle.table_invariant.specs.declared.rule.Known.{Known}
+use Rattle.table_invariant.specs.Fitting.{Fitting, IsSetWithin}
+use Rattle.table_invariant.specs.Offers.{TellsSet}
+use Rattle.table_invariant.specs.Running.{IsRunning, IsSeatOf, Running, instance_at}
+use Rattle.table_invariant.specs.Seats.{Seated, known_kept, known_of}
+use Rattle.table_invariant.specs.Steps.{KeepsSet, TeachesKept}
+use Rattle.table_invariant.proofs.Fitting.{fitting}
+use Rattle.caller_cache.specs.declared.summary.CachedLocal.{CachedLocal}
+use Rattle.caller_cache.specs.Copies.{Copied, IsCopied, IsKeptAs}
+use Rattle.caller_cache.specs.Summaries.{HasSummary}
+use Rattle.caller_cache.proofs.SummaryLaws.{IsSeat, seated}
 
 -- what is in plain memory of the replica and of the cells stays, beside a set that is kept
 copy_kept : (k k' : Known) (c : Copied) (kept : Option KeptSet) → k'.local ≡ k.local → k'.accesses ≡ k.accesses → ((x : KeptSet) → kept ≡ Some x → IsKeptAs (length c.words) k' x) → IsCopied k c → IsCopied k' (record c { kept = kept })
@@ -36,7 +36,7 @@ copy_kept k k' c kept local accesses good is =
 pub told_within : (lines : ℕ) (lawful : List ℕ → Type 0) (step : List ℕ → List ℕ → List ℕ × List ℕ) {O : Type 0} (r : Running O) (known : Known) (ticket : ℕ) (pairs : List ℕ) (region : ℕ) → region ≡ length r.base.words → TellsSet lines lawful r.base step known ticket pairs → IsSetWithin region pairs
 told_within lines lawful step r known ticket pairs region is tells = subst (λ n. IsSetWithin n pairs) (sym is) (record { few = tells.few; within = tells.within })
 
-module _ {O : Type 0} (r : Running O) (step : O → List ℕ → List ℕ → List ℕ × List ℕ) (reads : O → List ℕ → Bool) (ticket : ℕ) (pairs : List ℕ) (me me' : Me ℕ (List Known)) (summary : Summary) (copy copy' : Copied) (table table' : TableId) (before : ℕ) where
+module _ {O : Type 0} (r : Running O) (step : O → List ℕ → List ℕ → List ℕ × List ℕ) (reads : O → List ℕ → Bool) (ticket : ℕ) (pairs : List ℕ) (me me' : Me ℕ (List Known)) (summary : CachedLocal) (copy copy' : Copied) (table table' : TableId) (before : ℕ) where
   -- a set that was noted, and is in plain memory, is kept
   pub kept_made : (old : Seated) → IsSeat me summary before copy → seated table me before copy ≡ old → IsSeatOf r old → IsSetWithin old.region pairs → table' ≡ table → TeachesKept (instance_at r step reads) ticket pairs (known_of me.0) me' →
       copy' ≡ record copy { kept = Some (record { ticket = ticket; set = pairs }) } → IsSeat me' summary before copy' × KeepsSet r ticket pairs old (seated table' me' before copy')

@@ -7,12 +7,12 @@ use Rattle.cx_core.specs.declared.kinds.Kind.TheVariants.{Downgrade, LoadWord, N
 use Rattle.cx_core.specs.declared.local.Local.{Local}
 use Rattle.cx_core.specs.Events.{Guard, step_word}
 use Rattle.cx_core.specs.State.{Instance}
-use Rattle.cx_rule.specs.declared.rule.Known.{Known}
-use Rattle.cx_rule.specs.Learns.{LearnsAnyway}
-use Rattle.cx_rule.specs.Running.{Running, instance_at}
-use Rattle.cx_rule.specs.Seats.{IsByShown, Seated, SeenGuard, WordFits, kind_found, known_after, unseen}
-use Rattle.cx_rule.specs.Steps.{IsLearned, Puts, Steps}
-use Rattle.cx_rule.proofs.Keeps.{learns_shown}
+use Rattle.table_invariant.specs.declared.rule.Known.{Known}
+use Rattle.table_invariant.specs.Learns.{LearnsInAnyState}
+use Rattle.table_invariant.specs.Running.{Running, instance_at}
+use Rattle.table_invariant.specs.Seats.{IsByShown, Seated, SeenGuard, WordFits, kind_found, known_after, unseen}
+use Rattle.table_invariant.specs.Steps.{MayStepKnowing, Puts, Steps}
+use Rattle.table_invariant.proofs.Keeps.{learns_shown}
 use Rattle.cx_table.specs.Calls.{MakesFittingStep}
 
 -- the word found marks no kind that is shown
@@ -33,10 +33,10 @@ guard_seen instance kind l by guard = guard
 
 -- so it is learned
 pub learns_made : (instance : Instance) (kind : Kind) (known : Known) (word : ℕ) (put : ℕ → ℕ) → IsByShown kind → WordFits kind → SeenGuard instance kind known.local → word ≡ step_word instance kind known.local → Puts instance kind known.local put →
-    IsLearned instance kind known word put
+    MayStepKnowing instance kind known word put
 learns_made instance kind known word put by fits guard at puts words within =
     let found = slice_index words word in
-    subst (λ (k : Kind). LearnsAnyway instance words k known word (put found) (known_after instance k known found)) (sym (shown_found instance kind known.local found by))
+    subst (λ (k : Kind). LearnsInAnyState instance words k known word (put found) (known_after instance k known found)) (sym (shown_found instance kind known.local found by))
     (learns_shown instance kind known words word (put found) by fits (guard_seen instance kind known.local by guard) at (sym (puts found)))
 
 -- and what its step leaves is what the step of its kind leaves

@@ -8,9 +8,9 @@ use Rattle.cx_core.specs.declared.local.HeldExclusive.{HeldExclusive}
 use Rattle.cx_core.specs.declared.local.Local.{Local}
 use Rattle.cx_core.specs.Rights.{exclusive_on, held_dirty}
 use Rattle.cx_core.proofs.HeldLists.{mapped}
-use Rattle.cx_rule.specs.Seats.{Seated}
-use Rattle.seat_memory.specs.Marks.{MarksMore}
-use Rattle.seat_memory.proofs.Rows.{same_row}
+use Rattle.table_invariant.specs.Seats.{Seated}
+use Rattle.caller_cache.specs.Marks.{MarksMore}
+use Rattle.caller_cache.proofs.Rows.{same_row}
 use Rattle.cx_table.specs.Remains.{MarksDirty, locals_of}
 
 -- of the first seats, each word that is dirty is marked

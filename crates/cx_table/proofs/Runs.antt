@@ -17,14 +17,14 @@ use Rattle.cx_core.specs.RegionEvents.{CanLoad, loaded_into}
 use Rattle.cx_core.specs.Rights.{exclusive_on, is_at}
 use Rattle.cx_core.specs.State.{Instance, one_more}
 use Rattle.cx_core.proofs.HistoryLemmas.{ObjectLaws}
-use Rattle.cx_rule.specs.declared.rule.Known.{Known}
-use Rattle.cx_rule.specs.Running.{IsRunning, IsSeatOf, Running, instance_at}
-use Rattle.cx_rule.specs.Seats.{IsAtLimit, SeenGuard, Seated, known_after, known_local, known_of}
-use Rattle.cx_rule.specs.Steps.{Teaches}
-use Rattle.seat_memory.specs.declared.summary.Summary.{Summary}
-use Rattle.seat_memory.specs.Copies.{Copied, copied_after}
-use Rattle.seat_memory.specs.Summaries.{summary_of}
-use Rattle.seat_memory.proofs.SummaryLaws.{IsSeat, seated, step_made_at}
+use Rattle.table_invariant.specs.declared.rule.Known.{Known}
+use Rattle.table_invariant.specs.Running.{IsRunning, IsSeatOf, Running, instance_at}
+use Rattle.table_invariant.specs.Seats.{IsAtLimit, SeenGuard, Seated, known_after, known_local, known_of}
+use Rattle.table_invariant.specs.Steps.{KnowledgeAfter}
+use Rattle.caller_cache.specs.declared.summary.CachedLocal.{CachedLocal}
+use Rattle.caller_cache.specs.Copies.{Copied, copied_after}
+use Rattle.caller_cache.specs.Summaries.{summary_of}
+use Rattle.caller_cache.proofs.SummaryLaws.{IsSeat, seated, step_made_at}
 use Rattle.cx_table.specs.Runs.{AreLoaded, Runs, TeachesRun, loads_from, no_step, one_more_step, taught_more, taught_none}
 use Rattle.cx_table.proofs.Handing.{step_fits}
 
@@ -58,10 +58,10 @@ pub taught_nothing : (instance : Instance) (kinds : ℕ → Kind) (words : List 
 taught_nothing instance kinds words me = taught_none _ _ _ refl refl
 
 -- one step more was made
-pub taught_on : (instance : Instance) (kinds : ℕ → Kind) (words : List ℕ) (i v : ℕ) (me mid after : Me ℕ (List Known)) → i < length words → TeachesRun instance kinds (take i words) me mid → Teaches instance (kinds i) (known_of mid.0) v after →
+pub taught_on : (instance : Instance) (kinds : ℕ → Kind) (words : List ℕ) (i v : ℕ) (me mid after : Me ℕ (List Known)) → i < length words → TeachesRun instance kinds (take i words) me mid → KnowledgeAfter instance (kinds i) (known_of mid.0) v after →
     TeachesRun instance kinds (take (i + 1) (set words i v)) me after
 taught_on instance kinds words i v me mid after below run taught =
-    taught_more _ _ _ (take i words) v mid (take_set words i v below) run (subst (λ k. Teaches instance (kinds k) (known_of mid.0) v after) (sym (length-take-le i words (omega arith))) taught)
+    taught_more _ _ _ (take i words) v mid (take_set words i v below) run (subst (λ k. KnowledgeAfter instance (kinds k) (known_of mid.0) v after) (sym (length-take-le i words (omega arith))) taught)
 
 -- which replica is held shared does not change when a word of one is loaded
 shared_loaded : (r i found : ℕ) (o : Option HeldShared) → option_map (λ (h : HeldShared). h.replica) (option_map (loaded_into r i found) o) ≡ option_map (λ (h : HeldShared). h.replica) o
@@ -89,7 +89,7 @@ kept_loading r i v k c behind =
 
 -- one word more was loaded, and the others may be still
 pub loaded_on : (instance : Instance) (replica from i n v : ℕ) (begun : Me ℕ (List Known)) (words : List ℕ) (mid after : Me ℕ (List Known)) → n ≡ i + 1 → i < length words → AreLoaded instance replica from begun i words mid →
-    Teaches instance (LoadWord replica (from + i) false) (known_of mid.0) v after → AreLoaded instance replica from begun n (set words i v) after
+    KnowledgeAfter instance (LoadWord replica (from + i) false) (known_of mid.0) v after → AreLoaded instance replica from begun n (set words i v) after
 loaded_on instance replica from i n v begun words mid after more below was taught =
     let known = ap (λ (m : Me ℕ (List Known)). known_of m.0) taught.knows in
     record {
@@ -104,9 +104,9 @@ module _ {O : Type 0} (line_count : O → ℕ) (lawful : O → List ℕ → Type
     (laws : ObjectLaws r.lines (lawful r.object) (step r.object)) (kinds : ℕ → Kind) (n : ℕ) (May : Known → Type 0) (guard : (k : Known) (i : ℕ) → i < n → May k → SeenGuard (instance_at r step reads) (kinds i) k.local)
     (stays : (k : Known) (i v : ℕ) → May k → May (known_after (instance_at r step reads) (kinds i) k v))
     (numbers : (k : Known) (i v : ℕ) → summary_of (known_local (instance_at r step reads) (kinds i) k v) ≡ record (summary_of k.local) { steps = one_more k.local.steps })
-    (kept : (k : Known) (i v : ℕ) (c : Copied) → copied_after (kinds i) k v c ≡ c) (me : Me ℕ (List Known)) (summary : Summary) (copy : Copied) (table : TableId) (before : ℕ) where
+    (kept : (k : Known) (i v : ℕ) (c : Copied) → copied_after (kinds i) k v c ≡ c) (me : Me ℕ (List Known)) (summary : CachedLocal) (copy : Copied) (table : TableId) (before : ℕ) where
   -- the numbers after i further steps
-  abbrev pub counted : ℕ → Summary
+  abbrev pub counted : ℕ → CachedLocal
   counted i = record summary { steps = summary.steps + i }
 
   pub record Led (words : List ℕ) (me' : Me ℕ (List Known)) : Type 0 where
@@ -128,11 +128,11 @@ module _ {O : Type 0} (line_count : O → ℕ) (lawful : O → List ℕ → Type
       let i = length first in
       let one : one_more (summary.steps + i) ≡ summary.steps + length words = omega (arith, long, small) in
       let at : counted i ≡ summary_of (known_of mid.0).local = was.seat.0.is in
-      let now : counted (length words) ≡ summary_of (known_local instance (kinds i) (known_of mid.0) found) = (λ j. record summary { steps = sym one j }) ∙ ap (λ (m : Summary). record m { steps = one_more m.steps }) at ∙ sym (numbers (known_of mid.0) i found) in
+      let now : counted (length words) ≡ summary_of (known_local instance (kinds i) (known_of mid.0) found) = (λ j. record summary { steps = sym one j }) ∙ ap (λ (m : CachedLocal). record m { steps = one_more m.steps }) at ∙ sym (numbers (known_of mid.0) i found) in
       let may_it = guard (known_of mid.0) i (omega (arith, long, few)) was.may in
       let allowed : (l : Local) → counted i ≡ summary_of l → ¬ IsAtLimit l = λ l is end. (
-      let a : summary.steps + i ≡ l.steps = ap (λ (m : Summary). m.steps) is in
-      let b : summary.limit ≡ l.limit = ap (λ (m : Summary). m.limit) is in
+      let a : summary.steps + i ≡ l.steps = ap (λ (m : CachedLocal). m.steps) is in
+      let b : summary.limit ≡ l.limit = ap (λ (m : CachedLocal). m.limit) is in
       let c = end.0 in omega (arith, a, b, c, within, long)) in
       let made = step_made_at r step reads (kinds i) found mid me' (counted i) (counted (length words)) copy copy table table before (seated table mid before copy) was.seat refl allowed was.of may_it refl taught now (sym (kept (known_of mid.0) i found copy)) in
       record {
@@ -143,7 +143,7 @@ module _ {O : Type 0} (line_count : O → ℕ) (lawful : O → List ℕ → Type
       }
 
   -- the same from what contracts see of the seat, where its numbers were counted at once
-  pub led_to : (old : Seated) (words : List ℕ) (me' : Me ℕ (List Known)) (table' : TableId) (summary' : Summary) → seated table me before copy ≡ old → summary' ≡ counted (length words) → table' ≡ table → length words ≤ n → summary.steps + length words ≤ summary.limit →
+  pub led_to : (old : Seated) (words : List ℕ) (me' : Me ℕ (List Known)) (table' : TableId) (summary' : CachedLocal) → seated table me before copy ≡ old → summary' ≡ counted (length words) → table' ≡ table → length words ≤ n → summary.steps + length words ≤ summary.limit →
       summary.steps + length words < 2 ^ 64 → IsSeat me summary before copy → May old.known → IsSeatOf r old → TeachesRun (instance_at r step reads) kinds words me me' →
       IsSeat me' summary' before copy × Runs r step reads (lawful r.object) kinds words old (seated table' me' before copy) × IsSeatOf r (seated table' me' before copy)
   led_to old words me' table' summary' view numbered same few within small is may of run =

@@ -10,27 +10,27 @@ use Rattle.cx_core.specs.Events.{step_word}
 use Rattle.cx_core.specs.QueueEvents.{cell_of, entry_in}
 use Rattle.cx_core.specs.SetEvents.{CanWriteSet, IsUnoffered, offer_of}
 use Rattle.cx_core.proofs.HistoryLemmas.{ObjectLaws}
-use Rattle.cx_rule.specs.declared.rule.Known.{Known}
-use Rattle.cx_rule.specs.Fitting.{IsOwnSet}
-use Rattle.cx_rule.specs.Learns.{LearnsBy}
-use Rattle.cx_rule.specs.Offers.{TellsOffer}
-use Rattle.cx_rule.specs.Running.{IsRunning, Running, instance_at}
-use Rattle.cx_rule.specs.Seats.{Seated, known_of}
-use Rattle.cx_rule.proofs.Offering.{learns_offer}
+use Rattle.table_invariant.specs.declared.rule.Known.{Known}
+use Rattle.table_invariant.specs.Fitting.{IsOwnSet}
+use Rattle.table_invariant.specs.Learns.{LearnsBy}
+use Rattle.table_invariant.specs.Offers.{TellsOffer}
+use Rattle.table_invariant.specs.Running.{IsRunning, Running, instance_at}
+use Rattle.table_invariant.specs.Seats.{Seated, known_of}
+use Rattle.table_invariant.proofs.Offering.{learns_offer}
 use Rattle.cx_table.specs.OwnCells.{HasTicketAs}
-use Rattle.seat_memory.specs.declared.summary.Summary.{Summary}
-use Rattle.seat_memory.specs.Summaries.{HasSummary}
-use Rattle.seat_memory.proofs.FollowedSteps.{ticket_at}
-use Rattle.seat_memory.proofs.SetNumbers.{part_at}
+use Rattle.caller_cache.specs.declared.summary.CachedLocal.{CachedLocal}
+use Rattle.caller_cache.specs.Summaries.{HasSummary}
+use Rattle.caller_cache.proofs.FollowedSteps.{ticket_at}
+use Rattle.caller_cache.proofs.SetNumbers.{part_at}
 
 abbrev no_cell : Cell
 no_cell = record { words = []; ticket = None; set = []; offer = 0 }
 
 -- the offer word of a cell is among the numbers
-pub offer_at : (me : Me ℕ (List Known)) (summary : Summary) (before j : ℕ) → HasSummary me summary before → slice_index summary.offers j ≡ (cell_of (known_of me.0).local j).offer
-offer_at me summary before j has = ap (λ (m : Summary). slice_index m.offers j) has.is ∙ part_at (λ (c : Cell). c.offer) (known_of me.0).local.cells j
+pub offer_at : (me : Me ℕ (List Known)) (summary : CachedLocal) (before j : ℕ) → HasSummary me summary before → slice_index summary.offers j ≡ (cell_of (known_of me.0).local j).offer
+offer_at me summary before j has = ap (λ (m : CachedLocal). slice_index m.offers j) has.is ∙ part_at (λ (c : Cell). c.offer) (known_of me.0).local.cells j
 
-pub can_write : (me : Me ℕ (List Known)) (summary : Summary) (before j t : ℕ) → HasSummary me summary before → j < 16 → (cell_of (known_of me.0).local j).ticket ≡ Some t → (cell_of (known_of me.0).local j).offer ≢ t + 1 → CanWriteSet (known_of me.0).local j
+pub can_write : (me : Me ℕ (List Known)) (summary : CachedLocal) (before j t : ℕ) → HasSummary me summary before → j < 16 → (cell_of (known_of me.0).local j).ticket ≡ Some t → (cell_of (known_of me.0).local j).offer ≢ t + 1 → CanWriteSet (known_of me.0).local j
 can_write me summary before j t has small named apart =
     let l = (known_of me.0).local in
     let own = (has.own j t small named).own in
@@ -47,7 +47,7 @@ no_own_set l t None count none = λ set own.
     })
 
 -- a cell that has the ticket and is not offered with it may be written, and no other with that ticket
-pub cell_to_write : (me : Me ℕ (List Known)) (summary : Summary) (before t : ℕ) (o : Option ℕ) → HasSummary me summary before → (let l = (known_of me.0).local in IfSome o (λ j. (j < 16) × HasTicketAs l j t false) → IfSome o (λ j. CanWriteSet l j × ((cell_of l j).ticket ≡ Some t)))
+pub cell_to_write : (me : Me ℕ (List Known)) (summary : CachedLocal) (before t : ℕ) (o : Option ℕ) → HasSummary me summary before → (let l = (known_of me.0).local in IfSome o (λ j. (j < 16) × HasTicketAs l j t false) → IfSome o (λ j. CanWriteSet l j × ((cell_of l j).ticket ≡ Some t)))
 cell_to_write me summary before t None has is = tt
 cell_to_write me summary before t (Some j) has is = (can_write me summary before j t has is.0 is.1.named (λ offered. false≢true (is.1.offers.1 offered)), is.1.named)
 
@@ -58,7 +58,7 @@ no_cell_to_write l t None none = λ j can named.
     none j can.0 (record { named = named; offers = (λ no. absurd (false≢true no), λ offered. absurd (apart offered)) })
 
 -- a set that is told is offered
-pub learns_offering : {O : Type 0} (line_count : O → ℕ) (lawful : O → List ℕ → Type 0) (step : O → List ℕ → List ℕ → List ℕ × List ℕ) (reads : O → List ℕ → Bool) (r : Running O) (j word new : ℕ) (me : Me ℕ (List Known)) (summary : Summary) (before : ℕ) (old : Seated) →
+pub learns_offering : {O : Type 0} (line_count : O → ℕ) (lawful : O → List ℕ → Type 0) (step : O → List ℕ → List ℕ → List ℕ × List ℕ) (reads : O → List ℕ → Bool) (r : Running O) (j word new : ℕ) (me : Me ℕ (List Known)) (summary : CachedLocal) (before : ℕ) (old : Seated) →
     IsRunning line_count lawful r → ObjectLaws r.lines (lawful r.object) (step r.object) → HasSummary me summary before → known_of me.0 ≡ old.known → CanWriteSet old.known.local j → TellsOffer r.lines (lawful r.object) r.base (step r.object) old.known j →
     word ≡ step_word (instance_at r step reads) (Offer j) old.known.local → new ≡ offer_of (slice_index_or summary.tickets j None) (slice_index summary.offers j) →
     LearnsBy (instance_at r step reads) (λ _. Offer j) old.known word (λ _. new)

@@ -8,24 +8,24 @@ use Rattle.cx_core.specs.declared.local.Local.{Local}
 use Rattle.cx_core.specs.LockEvents.{CanBackOff}
 use Rattle.cx_core.specs.State.{Instance}
 use Rattle.cx_core.proofs.HistoryLemmas.{ObjectLaws}
-use Rattle.cx_rule.specs.declared.rule.Known.{Known}
+use Rattle.table_invariant.specs.declared.rule.Known.{Known}
 use Rattle.cx_core.specs.Base.{LawfulBase}
-use Rattle.cx_rule.specs.Fitting.{Fitting, base_of}
-use Rattle.cx_rule.specs.Running.{IsRunning, IsSeatOf, Running, instance_at}
-use Rattle.cx_rule.specs.Seats.{IsAtLimit, Seated, known_after, known_of}
-use Rattle.cx_rule.specs.Steps.{Steps, StepsTaking, TeachesImage, known_taken}
-use Rattle.cx_rule.proofs.Fitting.{fitting, image_base}
-use Rattle.seat_memory.specs.declared.summary.Summary.{Summary}
-use Rattle.seat_memory.specs.Copies.{Copied, IsCopied}
-use Rattle.seat_memory.specs.Summaries.{Follows, HasSummary, summary_of}
-use Rattle.seat_memory.proofs.FollowedSteps.{step_made}
-use Rattle.seat_memory.proofs.SummaryLaws.{IsSeat, seated}
+use Rattle.table_invariant.specs.Fitting.{Fitting, base_of}
+use Rattle.table_invariant.specs.Running.{IsRunning, IsSeatOf, Running, instance_at}
+use Rattle.table_invariant.specs.Seats.{IsAtLimit, Seated, known_after, known_of}
+use Rattle.table_invariant.specs.Steps.{Steps, StepsTaking, TeachesImage, known_taken}
+use Rattle.table_invariant.proofs.Fitting.{fitting, image_base}
+use Rattle.caller_cache.specs.declared.summary.CachedLocal.{CachedLocal}
+use Rattle.caller_cache.specs.Copies.{Copied, IsCopied}
+use Rattle.caller_cache.specs.Summaries.{Follows, HasSummary, summary_of}
+use Rattle.caller_cache.proofs.FollowedSteps.{step_made}
+use Rattle.caller_cache.proofs.SummaryLaws.{IsSeat, seated}
 
 -- Plain memory has nothing of the images that were taken.
 copy_taken : (instance : Instance) (kind : Kind) (image : List ℕ) (found : ℕ) (k : Known) (c : Copied) → IsCopied (known_after instance kind k found) c → IsCopied (known_taken instance kind image k found) c
 copy_taken instance kind image found k c is = record { long = is.long; place = is.place; marks = is.marks; cells = is.cells; sets = is.sets; words = is.words; kept = λ x there. (let was = is.kept x there in record { known_as = was.known_as; within = was.within }) }
 
-module _ {O : Type 0} (r : Running O) (step : O → List ℕ → List ℕ → List ℕ × List ℕ) (reads : O → List ℕ → Bool) (replica found : ℕ) (image : List ℕ) (me me' : Me ℕ (List Known)) (summary summary' : Summary) (copy : Copied) (table table' : TableId) (before : ℕ) where
+module _ {O : Type 0} (r : Running O) (step : O → List ℕ → List ℕ → List ℕ × List ℕ) (reads : O → List ℕ → Bool) (replica found : ℕ) (image : List ℕ) (me me' : Me ℕ (List Known)) (summary summary' : CachedLocal) (copy : Copied) (table table' : TableId) (before : ℕ) where
   pub taken_made : (callers : ℕ) (old : Seated) → IsSeat me summary before copy → seated table me before copy ≡ old → ((l : Local) → summary ≡ summary_of l → ¬ IsAtLimit l) → IsSeatOf r old →
       CanBackOff r.callers replica old.known.local → table' ≡ table → TeachesImage (instance_at r step reads) (BackOff replica) image (known_of me.0) found me' → callers ≡ r.callers → Follows callers (BackOff replica) found summary summary' →
       IsSeat me' summary' before copy × StepsTaking r step reads replica found image old (seated table' me' before copy)

@@ -2,10 +2,10 @@
 use Rattle.std.specs.Prelude.{IfOk, OnErr, OnOk, Result}
 use Rattle.cx_base.specs.declared.object.Object.{Ghosts}
 use Rattle.cx_core.specs.declared.kinds.Kind.{Kind}
-use Rattle.cx_rule.specs.Fitting.{Fitting}
-use Rattle.cx_rule.specs.Running.{IsSeatOf, Running, instance_at}
-use Rattle.cx_rule.specs.Seats.{Seated, SeenGuard}
-use Rattle.cx_rule.specs.Steps.{Halts}
+use Rattle.table_invariant.specs.Fitting.{Fitting}
+use Rattle.table_invariant.specs.Running.{IsSeatOf, Running, instance_at}
+use Rattle.table_invariant.specs.Seats.{Seated, SeenGuard}
+use Rattle.table_invariant.specs.Steps.{Halts}
 
 -- the seat is one of this table, and as far as it shows, its caller may make a step of this kind
 pub record MayStep {O : Type 0} (o : Ghosts O) (r : Running O) (kind : Kind) (s : Seated) : Type 0 where

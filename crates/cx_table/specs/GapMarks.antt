@@ -4,12 +4,12 @@ use Rattle.std.specs.List.{Contains}
 use Rattle.cx_base.specs.declared.object.Object.{Ghosts}
 use Rattle.cx_core.specs.Gaps.{AreWalked, Walk}
 use Rattle.cx_core.specs.State.{Instance}
-use Rattle.cx_rule.specs.declared.rule.Known.{Known}
-use Rattle.cx_rule.specs.declared.rule.Noted.{Noted}
-use Rattle.cx_rule.specs.Fitting.{Fitting}
-use Rattle.cx_rule.specs.Listed.{HasGap}
-use Rattle.cx_rule.specs.Running.{IsSeatOf, Running}
-use Rattle.cx_rule.specs.Seats.{Seated, StepsOn}
+use Rattle.table_invariant.specs.declared.rule.Known.{Known}
+use Rattle.table_invariant.specs.declared.rule.Noted.{Noted}
+use Rattle.table_invariant.specs.Fitting.{Fitting}
+use Rattle.table_invariant.specs.Listed.{HasGap}
+use Rattle.table_invariant.specs.Running.{IsSeatOf, Running}
+use Rattle.table_invariant.specs.Seats.{Seated, StepsOn}
 
 -- gaps are noted and read in a table with these callers and lines
 abbrev pub AreKept : ℕ → ℕ → Type 0
@@ -45,7 +45,7 @@ abbrev pub with_gaps : ℕ → List Noted → Seated → Seated
 with_gaps steps notes s = record s { known = record s.known { local = record s.known.local { steps = steps }; noted = s.known.noted ++ notes } }
 
 -- Nothing changed but the steps, of which none is taken back, and there may be more notes: of what really is there some fits what is known.
-pub record LeavesLoads {O : Type 0} (o : Ghosts O) (r : Running O) (before after : Seated) : Type 0 where
+pub record KeepsLoads {O : Type 0} (o : Ghosts O) (r : Running O) (before after : Seated) : Type 0 where
   pub notes : List Noted
   pub seat : after ≡ with_gaps after.known.local.steps notes before
   pub of : IsSeatOf r after

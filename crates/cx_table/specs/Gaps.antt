@@ -5,9 +5,9 @@ use Rattle.cx_core.specs.declared.kinds.Kind.{Kind}
 use Rattle.cx_core.specs.declared.kinds.Kind.TheVariants.{LoadGap}
 use Rattle.cx_core.specs.Rights.{held_dirty}
 use Rattle.cx_core.specs.State.{Instance}
-use Rattle.cx_rule.specs.Listed.{AgreeListed}
-use Rattle.cx_rule.specs.Seats.{Seated}
-use Rattle.seat_memory.specs.Copies.{IsCopiedWord}
+use Rattle.table_invariant.specs.Listed.{AgreeListed}
+use Rattle.table_invariant.specs.Seats.{Seated}
+use Rattle.caller_cache.specs.Copies.{IsCopiedWord}
 use Rattle.cx_table.specs.Right.{Right}
 use Rattle.cx_table.specs.Tokens.{IsExclusiveOf, IsSharedOf}
 

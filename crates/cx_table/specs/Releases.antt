@@ -4,16 +4,16 @@ use Rattle.atomic_table.specs.Table.{Allows, Me}
 use Rattle.cx_core.specs.declared.kinds.Kind.TheVariants.{BackOff}
 use Rattle.cx_core.specs.Layout.{lock_at}
 use Rattle.cx_core.specs.State.{Instance}
-use Rattle.cx_rule.specs.declared.rule.Known.{Known}
-use Rattle.cx_rule.specs.Learns.{LearnsBy}
-use Rattle.cx_rule.specs.Rule.{RuleHolds}
-use Rattle.cx_rule.specs.Seats.{Seated, known_of}
-use Rattle.cx_rule.specs.Steps.{IsCopyLearned}
+use Rattle.table_invariant.specs.declared.rule.Known.{Known}
+use Rattle.table_invariant.specs.Learns.{LearnsBy}
+use Rattle.table_invariant.specs.Rule.{RuleHolds}
+use Rattle.table_invariant.specs.Seats.{Seated, known_of}
+use Rattle.table_invariant.specs.Steps.{MayReleaseKnowing}
 use Rattle.cx_table.specs.Right.{Right}
 use Rattle.cx_table.specs.Tokens.{IsExclusiveOf, IsSharedOf}
 use Rattle.cx_table.specs.Words.{put_by}
 use Rattle.cx_table.specs.declared.events.Instruction.TheVariants.{Subtract}
-use Rattle.seat_memory.specs.Copies.{CopiesDirty}
+use Rattle.caller_cache.specs.Copies.{CopiesDirty}
 
 -- a release that tells its caller's seat this is allowed, since the event by itself is
 abbrev pub MayRelease : Instance → ℕ → ℕ → ℕ → Me ℕ (List Known) → (ℕ → Me ℕ (List Known) → Type 0) → Type 0
@@ -26,4 +26,4 @@ pub record IsMovedFrom (instance : Instance) (seat : Seated) (mine other : Right
   pub held : IsExclusiveOf instance.callers seat mine
   pub source : IsSharedOf instance.callers seat other
   pub dirty : 0 < length instance.base.words → CopiesDirty seat.region seat.known
-  pub learned : IsCopyLearned instance (BackOff other.replica) seat.known (lock_at instance.callers other.replica) (put_by (Subtract 1))
+  pub learned : MayReleaseKnowing instance (BackOff other.replica) seat.known (lock_at instance.callers other.replica) (put_by (Subtract 1))

@@ -10,14 +10,14 @@ use Rattle.cx_core.specs.Merge.{IsHistory}
 use Rattle.cx_core.specs.Region.{slot_number}
 use Rattle.cx_core.specs.Shown.{shown}
 use Rattle.cx_core.specs.State.{Instance}
-use Rattle.cx_rule.specs.declared.rule.Known.{Known}
+use Rattle.table_invariant.specs.declared.rule.Known.{Known}
 use Rattle.cx_table.specs.declared.remains.Remains.{Remains}
 use Rattle.cx_core.specs.Chain.{IsCodeChain}
-use Rattle.cx_rule.specs.Ending.{locals_known}
-use Rattle.cx_rule.specs.Rule.{AreImages, IsReached, NotesHold, opening_limited}
-use Rattle.cx_rule.specs.Running.{IsSeatOf, Running}
-use Rattle.cx_rule.specs.Seats.{Seated, opening_known}
-use Rattle.cx_rule.specs.Timing.{AreTimes}
+use Rattle.table_invariant.specs.Ending.{locals_known}
+use Rattle.table_invariant.specs.Rule.{AreImages, IsReached, NotesHold, opening_limited}
+use Rattle.table_invariant.specs.Running.{IsSeatOf, Running}
+use Rattle.table_invariant.specs.Seats.{Seated, opening_known}
+use Rattle.table_invariant.specs.Timing.{AreTimes}
 
 -- what the seats know of their callers
 abbrev pub known_by : List Seated → List Known
@@ -70,7 +70,7 @@ pub record MarksDirty (locals : List Local) (replicas region : ℕ) (marks : Lis
 -- What a closed table leaves whose callers had these seats. There are words that with the callers' local states are a
 -- lawful state of the core, whose history is the trail's: each caller's own entries are in it, each once and in order. Of the
 -- local states the seats show all but the words of replicas held exclusively.
-pub record Leaves {O : Type 0} (table : Running O) (instance : Instance) (seats : List Seated) (r : Remains) : Type 0 where
+pub record ClosingWitness {O : Type 0} (table : Running O) (instance : Instance) (seats : List Seated) (r : Remains) : Type 0 where
   pub callers : r.callers ≡ table.callers
   pub lines : r.lines ≡ table.lines
   pub first : r.first ≡ table.base.place

@@ -6,11 +6,11 @@ use Rattle.cx_core.specs.declared.kinds.Kind.TheVariants.{LoadWord, ReadCell, Re
 use Rattle.cx_core.specs.Layout.{vol_at}
 use Rattle.cx_core.specs.RegionEvents.{CanLoad}
 use Rattle.cx_core.specs.State.{Instance}
-use Rattle.cx_rule.specs.declared.rule.Known.{Known}
-use Rattle.cx_rule.specs.Fitting.{Fitting}
-use Rattle.cx_rule.specs.Running.{Running}
-use Rattle.cx_rule.specs.Seats.{Seated, known_of}
-use Rattle.cx_rule.specs.Steps.{Steps, Teaches}
+use Rattle.table_invariant.specs.declared.rule.Known.{Known}
+use Rattle.table_invariant.specs.Fitting.{Fitting}
+use Rattle.table_invariant.specs.Running.{Running}
+use Rattle.table_invariant.specs.Seats.{Seated, known_of}
+use Rattle.table_invariant.specs.Steps.{Steps, KnowledgeAfter}
 
 -- the kinds of the loads of a replica's words, of a cell's, and of a set's
 abbrev pub loads_from : ℕ → ℕ → ℕ → Kind
@@ -35,7 +35,7 @@ pub data Runs {O : Type 0} (r : Running O) (step : O → List ℕ → List ℕ �
 -- they teach their caller's seat this
 pub data TeachesRun (instance : Instance) (kinds : ℕ → Kind) : List ℕ → Me ℕ (List Known) → Me ℕ (List Known) → Type 0 where
   taught_none : (words : List ℕ) (before after : Me ℕ (List Known)) → words ≡ [] → after ≡ before → TeachesRun instance kinds words before after
-  taught_more : (words : List ℕ) (before after : Me ℕ (List Known)) (first : List ℕ) (found : ℕ) (mid : Me ℕ (List Known)) → words ≡ first ++ found ∷ [] → TeachesRun instance kinds first before mid → Teaches instance (kinds (length first)) (known_of mid.0) found after →
+  taught_more : (words : List ℕ) (before after : Me ℕ (List Known)) (first : List ℕ) (found : ℕ) (mid : Me ℕ (List Known)) → words ≡ first ++ found ∷ [] → TeachesRun instance kinds first before mid → KnowledgeAfter instance (kinds (length first)) (known_of mid.0) found after →
       TeachesRun instance kinds words before after
 
 -- the first n of these words were loaded of a replica, from one on, since the seat was that one, and the words may be loaded now

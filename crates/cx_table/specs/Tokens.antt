@@ -4,8 +4,8 @@ use Rattle.cx_base.specs.Codes.{root_replica_of}
 use Rattle.cx_core.specs.LockEvents.{exclusive_mark}
 use Rattle.cx_core.specs.RootEvents.{code_in}
 use Rattle.cx_core.specs.Rights.{downgraded_on, exclusive_on, shared_on}
-use Rattle.cx_rule.specs.Fitting.{AgreeTo, TellsWords}
-use Rattle.cx_rule.specs.Seats.{Seated}
+use Rattle.table_invariant.specs.Fitting.{AgreeTo, TellsWords}
+use Rattle.table_invariant.specs.Seats.{Seated}
 use Rattle.cx_table.specs.Right.{Right, WonRight}
 use Rattle.cx_table.specs.declared.tokens.SharedRight.{SharedRight}
 use Rattle.cx_table.specs.declared.tokens.SharedRight.TheVariants.{Hold, Passer, Downgraded}

@@ -2,9 +2,9 @@
 use Rattle.std.specs.Prelude.{◌≡◌, ◌+◌, ◌-◌, ◌%◌, ◌^◌, ◌<◌, ◌==◌, if◌then◌else◌, ℕ, max, List, [], ◌∷◌}
 use Rattle.atomic_table.specs.Seated.{TableId}
 use Rattle.atomic_table.specs.Table.{Me}
-use Rattle.cx_rule.specs.declared.rule.Known.{Known}
-use Rattle.cx_rule.specs.Running.{Running}
-use Rattle.cx_rule.specs.Seats.{known_of}
+use Rattle.table_invariant.specs.declared.rule.Known.{Known}
+use Rattle.table_invariant.specs.Running.{Running}
+use Rattle.table_invariant.specs.Seats.{known_of}
 use Rattle.cx_table.specs.declared.events.Instruction.{Instruction}
 use Rattle.cx_table.specs.declared.events.Instruction.TheVariants.{Load, Exchange, Add, Subtract, Raise}
 
@@ -28,6 +28,6 @@ pub record IsOnWord {O : Type 0} (r : Running O) (word : ℕ) (table : TableId) 
   pub within : word < r.table.words
 
 -- the seat is of the table that it was of, and it is taught this
-pub record IsTaught (before after : TableId) (lesson : Type 0) : Type 0 where
+pub record KeepsTableKnowing (before after : TableId) (lesson : Type 0) : Type 0 where
   pub table : after ≡ before
   pub taught : lesson

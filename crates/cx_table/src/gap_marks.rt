@@ -1,9 +1,9 @@
 //! The lines that entries changed are marked, by what the ring of gaps tells.
 
 ghost use Rattle.std.specs.Prelude.{◌≡◌, ◌+◌, ◌-◌, ◌*◌, ◌/◌, ◌%◌, ◌^◌, ◌<◌, ◌↔◌, ℕ, IsTrue, length, slice_index};
-ghost use Rattle.cx_rule.specs.Running.{IsSeatOf, instance_at};
-ghost use Rattle.cx_rule.specs.Seats.{StepsBy};
-ghost use Rattle.cx_table.specs.GapMarks.{AreKept, IsMarked, LeavesLoads, MarksChanged, MarksTicket};
+ghost use Rattle.table_invariant.specs.Running.{IsSeatOf, instance_at};
+ghost use Rattle.table_invariant.specs.Seats.{StepsBy};
+ghost use Rattle.cx_table.specs.GapMarks.{AreKept, IsMarked, KeepsLoads, MarksChanged, MarksTicket};
 
 use crate::gap_words::{gap_slot, lines_told};
 use crate::seat::CallerSeat;
@@ -41,7 +41,7 @@ pub fn mark_changed<O: Object>(
 ) -> bool
     requires { IsSeatOf shared.now seat.old }
     ensures marks { IsTrue result → MarksChanged (instance_at shared.now O.step O.only_reads) lines from to marks.new seat.new.known }
-    ensures leaves { LeavesLoads O.Object shared.now seat.old seat.new }
+    ensures leaves { KeepsLoads O.Object shared.now seat.old seat.new }
     ensures steps { StepsBy (16 * (to - from)) seat.old seat.new }
     ensures long { length marks.new ≡ length marks.old }
 {
@@ -64,7 +64,7 @@ fn mark_ticket<O: Object>(
     requires { IsSeatOf shared.now seat.old }
     ensures marks { IsTrue result → MarksTicket (instance_at shared.now O.step O.only_reads) lines ticket marks.new seat.new.known }
     ensures kept { (piece : ℕ) → IsMarked marks.old piece → IsMarked marks.new piece }
-    ensures leaves { LeavesLoads O.Object shared.now seat.old seat.new }
+    ensures leaves { KeepsLoads O.Object shared.now seat.old seat.new }
     ensures steps { StepsBy 16 seat.old seat.new }
     ensures long { length marks.new ≡ length marks.old }
 {

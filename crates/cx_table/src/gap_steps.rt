@@ -6,14 +6,14 @@ ghost use Rattle.std.specs.Prelude.{◌≡◌, ◌+◌, ◌<◌, ◌≤◌, ℕ,
 ghost use Rattle.cx_core.specs.Gaps.{gap_of};
 ghost use Rattle.cx_core.specs.Layout.{gap_slots};
 ghost use Rattle.cx_core.specs.declared.kinds.Kind.TheVariants.{LoadGap, NoteGap};
-ghost use Rattle.cx_rule.specs.Listed.{TellsGap};
-ghost use Rattle.cx_rule.specs.Running.{IsSeatOf, instance_at};
-ghost use Rattle.cx_rule.specs.Steps.{Steps, StepsCopied};
+ghost use Rattle.table_invariant.specs.Listed.{TellsGap};
+ghost use Rattle.table_invariant.specs.Running.{IsSeatOf, instance_at};
+ghost use Rattle.table_invariant.specs.Steps.{Steps, StepsCopied};
 ghost use Rattle.cx_table.specs.Calls.{MakesFittingStep, MayStep};
 ghost use Rattle.cx_table.specs.Gaps.{IsListedFrom, gaps_from};
 ghost use Rattle.cx_table.specs.Runs.{Runs, TeachesRun};
 ghost use Rattle.cx_table.specs.Tokens.{IsExclusiveOf};
-ghost use Rattle.cx_table.specs.Words.{IsOfOne, IsTaught};
+ghost use Rattle.cx_table.specs.Words.{IsOfOne, KeepsTableKnowing};
 
 use crate::events::Instruction;
 use crate::seat::CallerSeat;
@@ -23,7 +23,7 @@ use atomic_table::Seat;
 use core_guards::gaps::gap_at;
 use cx_base::{Halt, Object};
 use cx_core::Kind;
-use cx_rule::View;
+use table_invariant::View;
 
 impl<O: Object> Shared<O> {
     /// Stores a word into a slot of the ring of gaps. It names a gap of a ticket: whatever fits what the caller noted tells a write set of the ticket,
@@ -68,7 +68,7 @@ impl<O: Object> Shared<O> {
         requires one { IsOfOne self.now seat.old.table_id seat.old.me }
         requires within { from + length into.old ≤ 16 }
         requires slot { s < gap_slots self.now.callers }
-        ensures taught { IsTaught seat.old.table_id seat.new.table_id (TeachesRun (instance_at self.now O.step O.only_reads) (gaps_from s from) into.new seat.old.me seat.new.me) }
+        ensures taught { KeepsTableKnowing seat.old.table_id seat.new.table_id (TeachesRun (instance_at self.now O.step O.only_reads) (gaps_from s from) into.new seat.old.me seat.new.me) }
         ensures length { length into.new ≡ length into.old }
     {
         let callers = self.callers.number;

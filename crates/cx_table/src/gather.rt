@@ -1,24 +1,24 @@
 //! Closing a table: its callers' seats are joined, and its words are handed out.
 
 ghost use Rattle.std.specs.Prelude.{◌≡◌, ◌+◌, ◌*◌, ◌≤◌, ◌∷◌, List, [], false, All, IfErr, IfOk, length, replicate, vec_capacity, vec_len};
-ghost use Rattle.cx_table.specs.Remains.{AreSeats, IsRoomOf, Leaves, MarksDirty, known_by, locals_of};
-ghost use Rattle.seat_memory.specs.Wins.{wins_of};
+ghost use Rattle.cx_table.specs.Remains.{AreSeats, IsRoomOf, ClosingWitness, MarksDirty, known_by, locals_of};
+ghost use Rattle.caller_cache.specs.Wins.{wins_of};
 ghost use Rattle.cx_core.specs.Region.{region_words};
-ghost use Rattle.cx_rule.specs.Running.{instance_at};
-ghost use Rattle.cx_rule.specs.Seats.{Seated};
+ghost use Rattle.table_invariant.specs.Running.{instance_at};
+ghost use Rattle.table_invariant.specs.Seats.{Seated};
 
 use crate::remains::{Remains, Trail};
 use crate::seat::CallerSeat;
 use crate::shared::Shared;
 use atomic_table::{Join, Play, Seat};
+use caller_cache::{copy_words, lead_on, mark_replica};
 use cx_base::Object;
 use cx_core::layout::{DUR_AT, replicas_at};
 use cx_core::{HEAD_LINES, LINE_WORDS, WonCode};
-use cx_rule::View;
-use seat_memory::{copy_words, lead_on, mark_replica};
 use std::alloc::{AllocError, Global};
 use std::marker::Model;
 use std::snapshot::Snapshot;
+use table_invariant::View;
 
 /// A table that was not closed, since memory ran out, and its seats: all as it was.
 #[derive(Drop)]
@@ -108,7 +108,7 @@ impl<O: Object> Shared<O> {
     /// `Err` comes only where memory runs out, and hands all back as it was.
     pub fn gather(self, alloc: Global, seats: Vec<CallerSeat>) -> Result<Remains, KeptTable<O>>
         requires { AreSeats self seats.items }
-        ensures remains { IfOk result (λ r. Leaves self (instance_at self O.step O.only_reads) seats.items r) }
+        ensures remains { IfOk result (λ r. ClosingWitness self (instance_at self O.step O.only_reads) seats.items r) }
         ensures kept { IfErr result (λ k. (k.shared ≡ self) × (k.seats ≡ seats)) }
     {
         let Ok(room) = self.room(alloc) else {
@@ -138,7 +138,7 @@ impl<O: Object> Shared<O> {
     pub fn gather_in(self, room: Room, seats: Vec<CallerSeat>) -> Remains
         requires seats { AreSeats self seats.items }
         requires room { IsRoomOf self room }
-        ensures { Leaves self (instance_at self O.step O.only_reads) seats.items result }
+        ensures { ClosingWitness self (instance_at self O.step O.only_reads) seats.items result }
     {
         let region = LINE_WORDS as usize * (HEAD_LINES as usize + self.lines as usize);
         let replicas = 2 * self.callers.number as usize;
@@ -187,7 +187,7 @@ impl<O: Object> Shared<O> {
         requires published { (space.published.items ≡ []) × (vec_len space.wins + 1 ≤ vec_capacity space.published) }
         requires volatile { (space.volatile.items ≡ []) × (region_words self.lines * (2 * self.callers) ≤ vec_capacity space.volatile) }
         requires durable { (space.durable.items ≡ []) × (region_words self.lines * (2 * self.callers) ≤ vec_capacity space.durable) }
-        ensures { (seats : List Seated) → AreSeats self seats → closing.me ≡ (known_by seats, []) → MarksDirty (locals_of seats) (2 * self.callers) (length self.base.words) space.dirty.items → space.wins.items ≡ wins_of (locals_of seats) → Leaves self (instance_at self O.step O.only_reads) seats result }
+        ensures { (seats : List Seated) → AreSeats self seats → closing.me ≡ (known_by seats, []) → MarksDirty (locals_of seats) (2 * self.callers) (length self.base.words) space.dirty.items → space.wins.items ≡ wins_of (locals_of seats) → ClosingWitness self (instance_at self O.step O.only_reads) seats result }
     {
         let Space {
             mut published,

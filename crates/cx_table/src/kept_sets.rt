@@ -1,14 +1,14 @@
 //! The write set that a caller keeps in plain memory and offers to nobody: where a table has one caller, no other reads it. Neither call is a step.
 
 ghost use Rattle.std.specs.Prelude.{◌≡◌, IsTrue};
-ghost use Rattle.cx_rule.specs.Fitting.{IsKeptSet, IsSetWithin};
-ghost use Rattle.cx_rule.specs.Offers.{TellsSet};
-ghost use Rattle.cx_rule.specs.Running.{IsSeatOf, instance_at};
-ghost use Rattle.cx_rule.specs.Seats.{known_of};
-ghost use Rattle.cx_rule.specs.Steps.{KeepsSet, TeachesKept};
-ghost use Rattle.cx_rule.specs.Stores.{FittingIn};
-ghost use Rattle.cx_table.specs.Words.{IsOfOne, IsTaught};
-ghost use Rattle.seat_memory.specs.Copies.{IsSetList};
+ghost use Rattle.table_invariant.specs.Fitting.{IsKeptSet, IsSetWithin};
+ghost use Rattle.table_invariant.specs.Offers.{TellsSet};
+ghost use Rattle.table_invariant.specs.Running.{IsSeatOf, instance_at};
+ghost use Rattle.table_invariant.specs.Seats.{known_of};
+ghost use Rattle.table_invariant.specs.Steps.{KeepsSet, TeachesKept};
+ghost use Rattle.table_invariant.specs.Stores.{FittingIn};
+ghost use Rattle.cx_table.specs.Words.{IsOfOne, KeepsTableKnowing};
+ghost use Rattle.caller_cache.specs.Copies.{IsSetList};
 
 use crate::events::Instruction;
 use crate::seat::CallerSeat;
@@ -16,8 +16,8 @@ use crate::shared::Shared;
 use atomic_table::Seat;
 use cx_base::Object;
 use cx_core::layout::CUR_AT;
-use cx_rule::View;
 use std::marker::Brand;
+use table_invariant::View;
 
 impl<O: Object> Shared<O> {
     /// Keeps the set of the caller's own entry with a ticket, in place of the one that it kept before, where whatever fits what the caller noted
@@ -39,7 +39,7 @@ impl<O: Object> Shared<O> {
     fn note_kept(&self, seat: &mut Seat<u8, View>, ticket: u64, set: &[u64])
         requires one { IsOfOne self.now seat.old.table_id seat.old.me }
         requires told { TellsSet self.now.lines (O.lawful self.now.object) self.now.base (O.step self.now.object) (known_of seat.old.me.0) ticket set.now }
-        ensures { IsTaught seat.old.table_id seat.new.table_id (TeachesKept (instance_at self.now O.step O.only_reads) ticket set.now (known_of seat.old.me.0) seat.new.me) }
+        ensures { KeepsTableKnowing seat.old.table_id seat.new.table_id (TeachesKept (instance_at self.now O.step O.only_reads) ticket set.now (known_of seat.old.me.0) seat.new.me) }
     {
         self.table_is_running();
         let about = (ticket, set);

@@ -69,7 +69,6 @@ mod steps;
 mod threads;
 mod tokens;
 
-pub use cx_rule::{CoreRule, Key, Known, Noted, View};
 pub use gap_marks::{keeps_gaps, mark_changed, piece_of};
 pub use gap_words::{gap_end, gap_slot, gap_word, lines_told};
 pub use gather::{KeptTable, Room};
@@ -77,6 +76,7 @@ pub use raise_step::AnsweredRead;
 pub use remains::{Remains, Trail};
 pub use seat::CallerSeat;
 pub use shared::Shared;
+pub use table_invariant::{CoreRule, Key, Known, Noted, View};
 pub use threads::cross_threads;
 pub use tokens::{
     Alone, Downgraded, Exclusive, Lowered, Passer, Passing, SharedHold, SharedRight, Together,

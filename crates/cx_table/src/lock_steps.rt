@@ -5,28 +5,28 @@ ghost use Rattle.std.specs.Prelude.{◌≡◌, OnOk, IfOk};
 ghost use Rattle.cx_core.specs.declared.kinds.Kind.TheVariants.{BackOff, Downgrade, ReleaseExclusive, TryExclusive, TryShared};
 ghost use Rattle.cx_core.specs.Base.{LawfulBase};
 ghost use Rattle.cx_core.specs.LockEvents.{CanBackOff};
-ghost use Rattle.cx_rule.specs.Fitting.{base_of};
-ghost use Rattle.cx_rule.specs.Running.{IsSeatOf, instance_at};
-ghost use Rattle.cx_rule.specs.Seats.{known_of};
-ghost use Rattle.cx_rule.specs.Steps.{Steps, StepsCopied, StepsTaking};
-ghost use Rattle.cx_rule.specs.Stores.{IsReplayedIn, IsReplayedToPlaceIn};
+ghost use Rattle.table_invariant.specs.Fitting.{base_of};
+ghost use Rattle.table_invariant.specs.Running.{IsSeatOf, instance_at};
+ghost use Rattle.table_invariant.specs.Seats.{known_of};
+ghost use Rattle.table_invariant.specs.Steps.{Steps, StepsCopied, StepsTaking};
+ghost use Rattle.table_invariant.specs.Stores.{IsReplayedIn, IsReplayedToPlaceIn};
 ghost use Rattle.cx_table.specs.Tokens.{HandsExclusive, HandsShared, IsCopiedFrom, IsDowngradedOf, IsExclusiveOf, IsRightOf, IsTakenFrom, TriedExclusive, TriedShared, replica_of};
 ghost use Rattle.cx_table.specs.Calls.{MakesFittingStep, MakesStep, MayStep};
 ghost use Rattle.cx_table.specs.Releases.{IsMovedFrom, MayRelease};
-ghost use Rattle.cx_table.specs.Words.{IsOfOne, IsTaught};
-ghost use Rattle.seat_memory.specs.Summaries.{Follows};
+ghost use Rattle.cx_table.specs.Words.{IsOfOne, KeepsTableKnowing};
+ghost use Rattle.caller_cache.specs.Summaries.{Follows};
 
-use crate::events::{Instruction, Named};
+use crate::events::{Instruction, StepEffect};
 use crate::seat::CallerSeat;
 use crate::shared::Shared;
 use crate::tokens::{Downgraded, Exclusive, Passer, SharedHold, SharedRight, Token};
 use atomic_table::Seat;
+use caller_cache::CachedLocal;
 use cx_base::{Halt, Object};
 use cx_core::Kind;
 use cx_core::layout::{EXCLUSIVE_MARK, lock_at};
-use cx_rule::View;
-use seat_memory::Summary;
 use std::marker::{Brand, PhantomData};
+use table_invariant::View;
 
 impl<O: Object> Shared<O> {
     /// Tries to take a replica exclusively: a compare-exchange of its lock word from 0. It gives the word found, and where
@@ -111,7 +111,7 @@ impl<O: Object> Shared<O> {
 
     /// Releases a shared right on a replica all of whose words were loaded: they are these, a lawful base, and one image more that the
     /// caller took. It gives the word found. `Halt` comes only where the limit leaves no step.
-    pub fn release_taken(
+    pub fn release_with_image(
         &self,
         seat: &mut CallerSeat,
         source: SharedHold,
@@ -129,17 +129,17 @@ impl<O: Object> Shared<O> {
 
     /// Takes a shared right back by a step that tells this: subtracts 1 from the lock word. It gives the word found. What it is about is for the
     /// proofs alone.
-    fn give_back<J: Named, A>(
+    fn give_back<J: StepEffect, A>(
         &self,
         seat: &mut Seat<u8, View>,
-        summary: &mut Summary,
+        summary: &mut CachedLocal,
         about: &A,
         source: SharedHold,
     ) -> u64
         requires one { IsOfOne self.now seat.old.table_id seat.old.me }
         requires right { CanBackOff self.now.callers source.replica (known_of seat.old.me.0).local }
         requires allows { MayRelease (instance_at self.now O.step O.only_reads) source.replica self.now.table.slots seat.old.id seat.old.me J.tells }
-        ensures taught { IsTaught seat.old.table_id seat.new.table_id (J.tells result seat.new.me) }
+        ensures taught { KeepsTableKnowing seat.old.table_id seat.new.table_id (J.tells result seat.new.me) }
         ensures summary { Follows self.now.callers (BackOff source.replica) result summary.old summary.new }
     {
         let Token {

@@ -5,19 +5,19 @@
 ghost use Rattle.std.specs.Prelude.{◌≡◌, ◌<◌, ℕ};
 ghost use Rattle.cx_core.specs.declared.local.Local.{Local};
 ghost use Rattle.cx_core.specs.Events.{step_word};
-ghost use Rattle.cx_rule.specs.Running.{instance_at};
-ghost use Rattle.cx_rule.specs.Seats.{IsByShown, WordFits, kind_found};
-ghost use Rattle.cx_rule.specs.Steps.{IsBlind, IsLearned, IsStoreEvent, Puts, Steps};
+ghost use Rattle.table_invariant.specs.Running.{instance_at};
+ghost use Rattle.table_invariant.specs.Seats.{IsByShown, WordFits, kind_found};
+ghost use Rattle.table_invariant.specs.Steps.{IsBlind, MayStepKnowing, IsStoreEvent, Puts, Steps};
 ghost use Rattle.cx_table.specs.Calls.{MakesFittingStep, MayStep};
 ghost use Rattle.cx_table.specs.Words.{put_by};
-ghost use Rattle.seat_memory.specs.Following.{IsFollowed};
+ghost use Rattle.caller_cache.specs.Following.{IsFollowed};
 
 use crate::events::Instruction;
 use crate::seat::CallerSeat;
 use crate::shared::Shared;
+use caller_cache::follow;
 use cx_base::{Halt, Object};
 use cx_core::Kind;
-use seat_memory::follow;
 
 impl<O: Object> Shared<O> {
     /// Makes the step of this kind: an instruction on its word. It gives the word found.
@@ -53,7 +53,7 @@ impl<O: Object> Shared<O> {
         requires followed { IsFollowed self.now.callers kind.now seat.old.known.local }
         requires may { MayStep O.Object self.now kind.now seat.old }
         requires within { word < self.now.table.words }
-        requires learns { IsLearned (instance_at self.now O.step O.only_reads) kind.now seat.old.known word (put_by instruction) }
+        requires learns { MayStepKnowing (instance_at self.now O.step O.only_reads) kind.now seat.old.known word (put_by instruction) }
         ensures { MakesFittingStep O.Object self.now seat.old seat.new result (λ found. Steps self.now O.step O.only_reads (kind_found (instance_at self.now O.step O.only_reads) kind.now seat.old.known.local found) found seat.old seat.new) }
     {
         seat.summary.check()?;
@@ -95,7 +95,7 @@ impl<O: Object> Shared<O> {
         requires followed { IsFollowed self.now.callers kind.now seat.old.known.local }
         requires may { MayStep O.Object self.now kind.now seat.old }
         requires within { word < self.now.table.words }
-        requires learns { IsLearned (instance_at self.now O.step O.only_reads) kind.now seat.old.known word (λ _. new) }
+        requires learns { MayStepKnowing (instance_at self.now O.step O.only_reads) kind.now seat.old.known word (λ _. new) }
         requires plain { (l : Local) (found : ℕ) → kind_found (instance_at self.now O.step O.only_reads) kind.now l found ≡ kind.now }
         requires blind { IsBlind (instance_at self.now O.step O.only_reads) kind.now seat.old.known }
         ensures { MakesFittingStep O.Object self.now seat.old seat.new result (λ _. Steps self.now O.step O.only_reads kind.now 0 seat.old seat.new) }

@@ -4,21 +4,21 @@ ghost use Rattle.std.specs.Prelude.{◌≡◌, ◌+◌, ◌<◌, ◌≤◌, [], 
 ghost use Rattle.std.specs.List.{range_with_len};
 ghost use Rattle.cx_base.specs.Callers.{AreCallers};
 ghost use Rattle.cx_core.specs.Base.{LawfulBase};
-ghost use Rattle.seat_memory.specs.Copies.{blank_copy};
+ghost use Rattle.caller_cache.specs.Copies.{blank_copy};
 ghost use Rattle.cx_table.specs.Remains.{IsMade, opening_seat};
-ghost use Rattle.cx_rule.specs.Seats.{opening_view};
+ghost use Rattle.table_invariant.specs.Seats.{opening_view};
 
 use crate::seat::CallerSeat;
 use crate::shared::Shared;
 use atomic_table::{Seat, Split, Table};
+use caller_cache::{Copies, opening_summary};
 use core_events::opening_words;
 use core_guards::callers::Callers;
 use cx_base::{Items, Object};
 use cx_core::{Base, slot_start};
-use cx_rule::{Key, View};
-use seat_memory::{Copies, opening_summary};
 use std::alloc::{AllocError, Global};
 use std::snapshot::Snapshot;
+use table_invariant::{Key, View};
 
 /// Cuts the first caller off.
 pub struct CutFirst;

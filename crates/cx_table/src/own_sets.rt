@@ -3,7 +3,7 @@
 ghost use Rattle.std.specs.Prelude.{◌≡◌, ◌≢◌, ◌+◌, ◌<◌, ◌↔◌, ℕ, List, IfNone, IfSome, IsTrue, Some, slice_index};
 ghost use Rattle.cx_core.specs.QueueEvents.{cell_of};
 ghost use Rattle.cx_core.specs.SetEvents.{CanWriteSet};
-ghost use Rattle.cx_rule.specs.Fitting.{IsOwnSet};
+ghost use Rattle.table_invariant.specs.Fitting.{IsOwnSet};
 ghost use Rattle.cx_table.specs.OwnCells.{HasTicketAs};
 
 use crate::seat::CallerSeat;

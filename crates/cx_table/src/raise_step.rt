@@ -5,8 +5,8 @@ ghost use Rattle.std.specs.Prelude.{List};
 ghost use Rattle.cx_base.specs.Codes.{root_place_of};
 ghost use Rattle.cx_core.specs.declared.kinds.Kind.TheVariants.{Raise};
 ghost use Rattle.cx_core.specs.declared.local.Answer.{Answer};
-ghost use Rattle.cx_rule.specs.Raises.{Raises, read_op_in};
-ghost use Rattle.cx_rule.specs.Stores.{TellsAnswersIn, TellsReadsIn};
+ghost use Rattle.table_invariant.specs.Raises.{Raises, read_op_in};
+ghost use Rattle.table_invariant.specs.Stores.{TellsAnswersIn, TellsReadsIn};
 ghost use Rattle.cx_table.specs.Calls.{MakesFittingStep, MayStep};
 
 use crate::seat::CallerSeat;

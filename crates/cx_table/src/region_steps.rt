@@ -1,9 +1,9 @@
 //! The step calls on words of replicas. `Halt` comes exactly where the seat's steps equal its limit, and then nothing changes.
 
 ghost use Rattle.cx_core.specs.declared.kinds.Kind.TheVariants.{LoadWord, Persist, StoreWord};
-ghost use Rattle.cx_rule.specs.Running.{instance_at};
-ghost use Rattle.cx_rule.specs.Seats.{marked_load};
-ghost use Rattle.cx_rule.specs.Steps.{Steps};
+ghost use Rattle.table_invariant.specs.Running.{instance_at};
+ghost use Rattle.table_invariant.specs.Seats.{marked_load};
+ghost use Rattle.table_invariant.specs.Steps.{Steps};
 ghost use Rattle.cx_table.specs.Calls.{MakesFittingStep, MakesStep, MayStep};
 
 use crate::events::Instruction;

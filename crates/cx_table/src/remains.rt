@@ -2,9 +2,9 @@
 
 use atomic_table::Seat;
 use cx_core::Base;
-use cx_rule::View;
 use std::marker::Model;
 use std::snapshot::Snapshot;
+use table_invariant::View;
 
 /// What a table was: which one, the base that it was made with, its history, the chain of codes with which it ended, and
 /// the local states that its callers ended with. It has no bytes, only `gather` makes one, and it cannot be copied.
@@ -17,7 +17,7 @@ pub struct Trail {
 
 impl Model for Trail {
     ghost use Rattle.cx_core.specs.Merge.{history_of};
-    ghost use Rattle.cx_rule.specs.Ending.{Ending, locals_known};
+    ghost use Rattle.table_invariant.specs.Ending.{Ending, locals_known};
 
     ghost Value = { Ending };
 

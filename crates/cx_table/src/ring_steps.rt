@@ -3,7 +3,7 @@
 //! changes.
 
 ghost use Rattle.cx_core.specs.declared.kinds.Kind.TheVariants.{Protect, Confirm, Unprotect, CloseLow, Scan, OpenFree};
-ghost use Rattle.cx_rule.specs.Steps.{Steps};
+ghost use Rattle.table_invariant.specs.Steps.{Steps};
 ghost use Rattle.cx_table.specs.Calls.{MakesStep, MayStep};
 
 use crate::events::Instruction;

@@ -4,8 +4,8 @@
 
 ghost use Rattle.std.specs.Prelude.{IfOk};
 ghost use Rattle.cx_core.specs.declared.kinds.Kind.TheVariants.{LoadCur, Publish, Retire};
-ghost use Rattle.cx_rule.specs.Running.{IsSeatOf};
-ghost use Rattle.cx_rule.specs.Steps.{Steps};
+ghost use Rattle.table_invariant.specs.Running.{IsSeatOf};
+ghost use Rattle.table_invariant.specs.Steps.{Steps};
 ghost use Rattle.cx_table.specs.Tokens.{HandsWon, IsDowngradedOf, IsWonOf, TriedPublish};
 ghost use Rattle.cx_table.specs.Calls.{MakesFittingStep, MakesStep, MayStep};
 

@@ -6,11 +6,11 @@ ghost use Rattle.atomic_table.specs.Table.{Me};
 ghost use Rattle.cx_core.specs.Events.{Guard};
 ghost use Rattle.cx_core.specs.declared.kinds.Kind.TheVariants.{ReadCell, ReadSet};
 ghost use Rattle.cx_core.specs.RegionEvents.{CanLoad};
-ghost use Rattle.cx_rule.specs.declared.rule.Known.{Known};
-ghost use Rattle.cx_rule.specs.Running.{IsSeatOf, instance_at};
-ghost use Rattle.cx_rule.specs.Seats.{known_of, unseen};
+ghost use Rattle.table_invariant.specs.declared.rule.Known.{Known};
+ghost use Rattle.table_invariant.specs.Running.{IsSeatOf, instance_at};
+ghost use Rattle.table_invariant.specs.Seats.{known_of, unseen};
 ghost use Rattle.cx_table.specs.Runs.{AreLoaded, Runs, StartsAt, TeachesRun, loads_from, reads_of, set_reads_from};
-ghost use Rattle.cx_table.specs.Words.{IsOfOne, IsTaught};
+ghost use Rattle.cx_table.specs.Words.{IsOfOne, KeepsTableKnowing};
 
 use crate::events::Instruction;
 use crate::seat::CallerSeat;
@@ -19,7 +19,7 @@ use atomic_table::Seat;
 use cx_base::{ENTRY_WORDS, Object, SET_WORDS};
 use cx_core::Kind;
 use cx_core::layout::{CELL_WORDS, cell_at, set_at, vol_at};
-use cx_rule::View;
+use table_invariant::View;
 
 /// The words that are loaded by a turn of the loop.
 const TURN: usize = 8;
@@ -72,7 +72,7 @@ impl<O: Object> Shared<O> {
         requires one { IsOfOne self.now seat.old.table_id seat.old.me }
         requires start { StartsAt self.now r start }
         requires guard { (i : ℕ) → i < length into.old → CanLoad self.now.callers (length self.now.base.words) r (from + i) (known_of seat.old.me.0).local }
-        ensures taught { IsTaught seat.old.table_id seat.new.table_id (TeachesRun (instance_at self.now O.step O.only_reads) (loads_from r from) into.new seat.old.me seat.new.me) }
+        ensures taught { KeepsTableKnowing seat.old.table_id seat.new.table_id (TeachesRun (instance_at self.now O.step O.only_reads) (loads_from r from) into.new seat.old.me seat.new.me) }
         ensures length { length into.new ≡ length into.old }
     {
         let turns = into.len() / TURN;
@@ -99,7 +99,7 @@ impl<O: Object> Shared<O> {
         requires start { StartsAt self.now r start }
         requires within { at + count ≤ length into.old }
         requires loaded { (begun : Me ℕ (List Known)) × AreLoaded (instance_at self.now O.step O.only_reads) r from begun at into.old seat.old.me }
-        ensures taught { IsTaught seat.old.table_id seat.new.table_id ((begun : Me ℕ (List Known)) → AreLoaded (instance_at self.now O.step O.only_reads) r from begun at into.old seat.old.me → AreLoaded (instance_at self.now O.step O.only_reads) r from begun (at + count) into.new seat.new.me) }
+        ensures taught { KeepsTableKnowing seat.old.table_id seat.new.table_id ((begun : Me ℕ (List Known)) → AreLoaded (instance_at self.now O.step O.only_reads) r from begun at into.old seat.old.me → AreLoaded (instance_at self.now O.step O.only_reads) r from begun (at + count) into.new seat.new.me) }
         ensures length { length into.new ≡ length into.old }
     {
         self.table_is_running();
@@ -141,7 +141,7 @@ impl<O: Object> Shared<O> {
     fn read_each(&self, seat: &mut Seat<u8, View>, t: u64, k: u64, into: &mut [u64; ENTRY_WORDS])
         requires one { IsOfOne self.now seat.old.table_id seat.old.me }
         requires guard { (i : ℕ) → i < ENTRY_WORDS → Guard (instance_at self.now O.step O.only_reads) unseen (ReadCell t k i) (known_of seat.old.me.0).local }
-        ensures { IsTaught seat.old.table_id seat.new.table_id (TeachesRun (instance_at self.now O.step O.only_reads) (reads_of t k) into.new seat.old.me seat.new.me) }
+        ensures { KeepsTableKnowing seat.old.table_id seat.new.table_id (TeachesRun (instance_at self.now O.step O.only_reads) (reads_of t k) into.new seat.old.me seat.new.me) }
     {
         let callers = self.callers.number;
         for i in 0..ENTRY_WORDS {
@@ -180,7 +180,7 @@ impl<O: Object> Shared<O> {
         requires one { IsOfOne self.now seat.old.table_id seat.old.me }
         requires within { from + length into.old ≤ SET_WORDS }
         requires guard { (i : ℕ) → i < SET_WORDS → Guard (instance_at self.now O.step O.only_reads) unseen (ReadSet k t i) (known_of seat.old.me.0).local }
-        ensures taught { IsTaught seat.old.table_id seat.new.table_id (TeachesRun (instance_at self.now O.step O.only_reads) (set_reads_from k t from) into.new seat.old.me seat.new.me) }
+        ensures taught { KeepsTableKnowing seat.old.table_id seat.new.table_id (TeachesRun (instance_at self.now O.step O.only_reads) (set_reads_from k t from) into.new seat.old.me seat.new.me) }
         ensures length { length into.new ≡ length into.old }
     {
         let callers = self.callers.number;

@@ -4,15 +4,15 @@ ghost use Rattle.std.specs.Prelude.{◌≡◌, ◌≢◌, ◌+◌, ◌^◌, ◌<
 ghost use Rattle.std.specs.List.{Contains};
 ghost use Rattle.cx_core.specs.Rights.{held_dirty};
 ghost use Rattle.cx_core.specs.QueueEvents.{cell_of};
-ghost use Rattle.cx_rule.specs.Seats.{HasCells, IsWithinLimit, place_noted, unanswered_ticket};
-ghost use Rattle.seat_memory.specs.Summaries.{IsOwnEntry};
+ghost use Rattle.table_invariant.specs.Seats.{HasCells, IsWithinLimit, place_noted, unanswered_ticket};
+ghost use Rattle.caller_cache.specs.Summaries.{IsOwnEntry};
 
 use atomic_table::Seat;
+use caller_cache::{CachedLocal, Copies};
 use cx_base::{OP_WORDS, OpWords};
 use cx_core::{Entry, HeldDowngraded, Protection, SeenNeed, SeenSlot, WonCode};
-use cx_rule::View;
-use seat_memory::{Copies, Summary};
 use std::marker::Model;
+use table_invariant::View;
 
 /// Whether a cell's ticket is this one.
 fn is_ticket(ticket: u64, of: Option<u64>) -> bool
@@ -29,7 +29,7 @@ fn is_ticket(ticket: u64, of: Option<u64>) -> bool
 #[derive(Drop)]
 pub struct CallerSeat {
     pub(crate) seat: Seat<u8, View>,
-    pub(crate) summary: Summary,
+    pub(crate) summary: CachedLocal,
     /// The number of the caller's last entry before this service.
     pub(crate) before: u64,
     /// What is known in plain memory of the replica held exclusively and of the caller's cells.
@@ -39,13 +39,13 @@ pub struct CallerSeat {
 }
 
 impl Model for CallerSeat {
-    ghost use Rattle.cx_rule.specs.Seats.{Seated, known_of};
+    ghost use Rattle.table_invariant.specs.Seats.{Seated, known_of};
 
     ghost Value = { Seated };
 
     ghost use Rattle.std.specs.Prelude.{length};
-    ghost use Rattle.seat_memory.specs.Copies.{IsCopied};
-    ghost use Rattle.seat_memory.specs.Summaries.{HasSummary};
+    ghost use Rattle.caller_cache.specs.Copies.{IsCopied};
+    ghost use Rattle.caller_cache.specs.Summaries.{HasSummary};
 
     ghost view = { λ s. record { table = s.seat.table_id; before = s.before; region = length s.copy.words; known = known_of s.seat.me.0 } };
 

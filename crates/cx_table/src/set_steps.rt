@@ -3,8 +3,8 @@
 //! nothing changes.
 
 ghost use Rattle.cx_core.specs.declared.kinds.Kind.TheVariants.{WriteSet, Offer, LoadOffer, ReadSet};
-ghost use Rattle.cx_rule.specs.Offers.{TellsOffer};
-ghost use Rattle.cx_rule.specs.Steps.{Steps};
+ghost use Rattle.table_invariant.specs.Offers.{TellsOffer};
+ghost use Rattle.table_invariant.specs.Steps.{Steps};
 ghost use Rattle.cx_table.specs.Calls.{MakesFittingStep, MakesStep, MayStep};
 
 use crate::events::Instruction;

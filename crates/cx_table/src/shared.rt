@@ -1,15 +1,15 @@
 //! The running table of an object.
 
 ghost use Rattle.std.specs.Prelude.{◌≡◌, ◌≤◌};
-ghost use Rattle.cx_rule.specs.Running.{IsRunning};
+ghost use Rattle.table_invariant.specs.Running.{IsRunning};
 
 use atomic_table::Table;
 use core_guards::callers::Callers;
 use cx_base::Object;
 use cx_core::Base;
-use cx_rule::{CoreRule, Key, View};
 use std::alloc::Global;
 use std::marker::Model;
+use table_invariant::{CoreRule, Key, View};
 
 /// The words of the core as atomic words that threads share, and the object. Contracts see which table it is, its number
 /// of callers, the lines of the object, the base that it was made with, and the object.
@@ -24,7 +24,7 @@ pub struct Shared<O: Object> {
 
 impl<O: Object> Model for Shared<O> {
     ghost use Rattle.std.specs.Prelude.{◌≡◌};
-    ghost use Rattle.cx_rule.specs.Running.{Running, IsRunning};
+    ghost use Rattle.table_invariant.specs.Running.{Running, IsRunning};
 
     ghost Value = { Running O };
 

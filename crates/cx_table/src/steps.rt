@@ -2,8 +2,8 @@
 //! shows. `Halt` comes exactly where the seat's steps equal its limit, and then nothing changes.
 
 ghost use Rattle.cx_core.specs.declared.kinds.Kind.TheVariants.{WriteCell, Link, Look, ReadCell, LoadFree};
-ghost use Rattle.cx_rule.specs.Running.{IsSeatOf};
-ghost use Rattle.cx_rule.specs.Steps.{Steps};
+ghost use Rattle.table_invariant.specs.Running.{IsSeatOf};
+ghost use Rattle.table_invariant.specs.Steps.{Steps};
 ghost use Rattle.cx_table.specs.Calls.{MakesFittingStep, MakesStep, MayStep};
 
 use crate::events::Instruction;

@@ -8,8 +8,8 @@ use Rattle.cx_core.specs.declared.entry.Image.{Image}
 use Rattle.doc_model.specs.Revisions.{RevisedStore}
 use Rattle.doc_store.specs.ExactStep.{first_format}
 use Rattle.doc_text.specs.declared.recovered.Recovered.{Recovered}
-use Rattle.index_checks.specs.Layout.{StandsFor}
-use Rattle.index_checks.specs.Reading.{revised_in}
+use Rattle.index_validation.specs.Layout.{StandsFor}
+use Rattle.index_validation.specs.Reading.{revised_in}
 use Rattle.recovery.specs.Images.{image_word, region_of, region_start}
 use Rattle.word_index.specs.Upgrading.{first_revisions, upgraded_in}
 use Rattle.word_index.proofs.Upgrades.{is_migrated}

@@ -5,7 +5,7 @@ use Rattle.cx_core.specs.declared.entry.Base.{Base}
 use Rattle.cx_core.specs.declared.entry.Image.{Image}
 use Rattle.doc_store.specs.ExactStep.{IsImageOfStore, first_format}
 use Rattle.doc_text.specs.declared.recovered.Recovered.{Recovered}
-use Rattle.index_checks.specs.Reading.{StandsForRevised}
+use Rattle.index_validation.specs.Reading.{StandsForRevised}
 use Rattle.recovery.specs.Images.{region_of}
 use Rattle.recovery.specs.Recovery.{IsAccepted, IsFaultOf, recovered_from}
 use Rattle.recovery.specs.declared.recovered_base.ImageFault.{ImageFault}

@@ -1,6 +1,6 @@
 -- The record of a script of a pool, and the text that tells of it.
 use Rattle.std.specs.Prelude.{◌≡◌, ◌≤◌, ℕ, Bool, List, [], ◌∷◌}
-use Rattle.cx_rule.specs.Ending.{Ending}
+use Rattle.table_invariant.specs.Ending.{Ending}
 use Rattle.cx_table.specs.declared.remains.Remains.{Remains}
 use Rattle.doc_model.specs.Meaning.{IsOp}
 use Rattle.doc_model.specs.declared.operations.Op.{Op}

@@ -2,7 +2,7 @@
 use Rattle.std.specs.Prelude.{◌≡◌, ℕ, List, [], ◌∷◌, Option, Some, None}
 use Rattle.cx_core.specs.declared.entry.Base.{Base}
 use Rattle.cx_core.specs.declared.entry.Image.{Image}
-use Rattle.cx_rule.specs.Ending.{Ending}
+use Rattle.table_invariant.specs.Ending.{Ending}
 use Rattle.cx_lives.specs.declared.lives.Lived.{Lived}
 use Rattle.cx_lives.specs.Lives.{AreTold, HaveEnded, HaveLived, begun_by, last_image, last_next}
 use Rattle.doc_model.specs.Revisions.{RevisedStore, empty_store}

@@ -7,7 +7,7 @@ ghost use Rattle.doc_model.specs.Revisions.{RevisedStore};
 ghost use Rattle.doc_store.specs.ExactStep.{IsImageOfStore};
 ghost use Rattle.doc_text.specs.Generated.{IsLoad, generated_life};
 ghost use Rattle.doc_text.specs.Summary.{summary_text};
-ghost use Rattle.index_checks.specs.Reading.{StandsForRevised};
+ghost use Rattle.index_validation.specs.Reading.{StandsForRevised};
 ghost use Rattle.life_records.specs.declared.record.LifeRecord as record_life;
 ghost use Rattle.doc_commands.specs.ScriptTexts.{HaveStoresLived, IsSummary, store_left};
 

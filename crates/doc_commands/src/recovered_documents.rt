@@ -4,7 +4,7 @@ ghost use Rattle.std.specs.Prelude.{◌≡◌, ◌≢◌, ◌≤◌, ℕ, Result
 ghost use Rattle.cx_base.specs.Store.{Store};
 ghost use Rattle.cx_core.specs.Region.{object_part};
 ghost use Rattle.doc_store.specs.ExactStep.{IsImageOfStore};
-ghost use Rattle.index_checks.specs.Layout.{StandsFor};
+ghost use Rattle.index_validation.specs.Layout.{StandsFor};
 ghost use Rattle.recovery.specs.Images.{IsReadable, region_of};
 ghost use Rattle.recovery.specs.declared.recovered_base.ImageFault.TheVariants.{Memory};
 ghost use Rattle.doc_commands.specs.Documents.{HaveDocuments, IsAnswerTo, IsRecoveredOf, HasDocuments};

@@ -7,7 +7,7 @@ use Rattle.doc_model.specs.Words.{HasIntegerAmount, HasWordNumber, IsReply, op_w
 use Rattle.doc_model.specs.declared.operations.Op.{Op}
 use Rattle.doc_model.specs.declared.operations.Reply.{Reply}
 use Rattle.doc_model.specs.declared.operations.Reply.TheVariants.{Doc, Sum, Key, Number, Set, Stale, Revision}
-use Rattle.index_checks.specs.Reading.{StandsForRevised}
+use Rattle.index_validation.specs.Reading.{StandsForRevised}
 use Rattle.typed_object.specs.Meaning.{Encoding, Meaning}
 
 -- texts of bytes, and numbers of 64 bits

@@ -4,7 +4,7 @@ use Rattle.std.specs.List.{cons_option, filter, slice_get}
 use Rattle.std.specs.Prelude.{All}
 use Rattle.std.proofs.lemmas.Option.{none-some, same_Some}
 use Rattle.cx_core.specs.declared.entry.Base.{Base}
-use Rattle.cx_rule.specs.Ending.{Ending}
+use Rattle.table_invariant.specs.Ending.{Ending}
 use Rattle.cx_lives.proofs.Lists.{all_at}
 use Rattle.cx_lives.specs.Lives.{AreToldFrom, LifeEnd}
 use Rattle.life_records.specs.Begins.{Begun, begun_after, nothing_begun, results_after, with_result, words_to}

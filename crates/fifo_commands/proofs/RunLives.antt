@@ -3,7 +3,7 @@ use Rattle.std.proofs.Common.{Result, Ok, Err, IfOk, ◌≡◌, ◌+◌, ◌<◌
 use Rattle.std.proofs.lemmas.List.{get_or-map, length-map}
 use Rattle.cx_lives.proofs.Appending.{count_taken, none_lived}
 use Rattle.cx_lives.proofs.Taking.{take_next}
-use Rattle.cx_rule.specs.Ending.{Ending}
+use Rattle.table_invariant.specs.Ending.{Ending}
 use Rattle.cx_lives.specs.Lives.{AreTold, HaveLived}
 use Rattle.cx_lives.specs.declared.lives.Lived.{Lived}
 use Rattle.life_records.specs.Lives.{AreLivesFrom, IsLegalLife, ops_of}

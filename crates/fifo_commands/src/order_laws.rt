@@ -1,7 +1,7 @@
 //! A law of the reports of a queue's lives.
 
 ghost use Rattle.std.specs.Prelude.{◌≡◌, ◌++◌, ℕ, List, []};
-ghost use Rattle.cx_rule.specs.Ending.{Ending};
+ghost use Rattle.table_invariant.specs.Ending.{Ending};
 ghost use Rattle.fifo_commands.specs.FifoLives.{items_left, kept_ops};
 ghost use Rattle.fifo_commands.specs.declared.record.FifoScript.{FifoScript};
 ghost use Rattle.fifo_object.specs.Queue.{all_popped, all_pushed};

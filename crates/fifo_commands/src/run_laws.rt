@@ -1,7 +1,7 @@
 //! A law of the lives of a queue.
 
 ghost use Rattle.std.specs.Prelude.{◌≡◌, ℕ, List, Some, slice_get, take};
-ghost use Rattle.cx_rule.specs.Ending.{Ending};
+ghost use Rattle.table_invariant.specs.Ending.{Ending};
 ghost use Rattle.fifo_commands.specs.declared.record.FifoLife.{FifoLife};
 ghost use Rattle.fifo_commands.specs.Results.{HasResultsOf};
 ghost use Rattle.fifo_commands.specs.Runs.{HaveFifoLived};

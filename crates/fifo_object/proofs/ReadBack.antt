@@ -44,9 +44,9 @@ op_by_kind words (suc (suc (suc (suc (suc k))))) passes =
     let few = (bare_holds 2 n words (sym (ap (λ b. cond b (has_text 1 words) (nat_le 2 n && nat_le n 4 && bytes_eq (words_of_item n no_item) words)) other) ∙ passes)).0 in
     absurd (omega (arith, few))
 
-pub op_is_there : (words : List ℕ) → is_op_in words ≡ true → IsOp (op_in words) × (op_words (op_in words) ≡ words)
+pub fifo_op_is_there : (words : List ℕ) → is_op_in words ≡ true → IsOp (op_in words) × (op_words (op_in words) ≡ words)
 unfolding is_op_in op_in
-op_is_there words passes = op_by_kind words (slice_index words 0) passes
+fifo_op_is_there words passes = op_by_kind words (slice_index words 0) passes
 
 pub no_op : (words : List ℕ) → is_op_in words ≡ false → AreOfNoOp words
 no_op words fails op is has = (let passes : is_op_in words ≡ true = ap is_op_in (sym has) ∙ (op_is_read op is).0 in cc)
@@ -89,7 +89,7 @@ pub none_has_no_kind : (words : List ℕ) → AreOfNoOp words → kind_in words 
 unfolding kind_in
 none_has_no_kind words none =
     (elim (is_op_in words) as (λ b. is_op_in words ≡ b → cond b (slice_index words 0) 0 ≡ 0) [
-      | true ↦ λ passes. (let there = op_is_there words passes in absurd (none (op_in words) there.0 there.1))
+      | true ↦ λ passes. (let there = fifo_op_is_there words passes in absurd (none (op_in words) there.0 there.1))
       | false ↦ λ _. refl
     ]) refl
 

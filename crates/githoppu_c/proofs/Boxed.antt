@@ -6,13 +6,13 @@ use Rattle.std_alloc.proofs.BoxSteps.Form.{Bx}
 use Rattle.std_heap.specs.contracts.Global as Heap
 use Rattle.std_heap.specs.contracts.GlobalAllocator.TheImpl.{ghosts, dict}
 use Rattle.std_heap.proofs.Global.TheLaws as heap
-use Rattle.githoppu_c.specs.contracts.content.AnyContent as Content
-use Rattle.githoppu_c.proofs.content.AnyContent.TheLaws as content
+use Rattle.githoppu_c.specs.contracts.content.AnyHandleState as HandleState
+use Rattle.githoppu_c.proofs.content.AnyHandleState.TheLaws as content
 use Rattle.githoppu_c.specs.contracts.handle.Handle as Handle
 
 -- the box of a content
 abbrev pub Boxed : Bx
-Boxed = record { row = Content.the_row; laws = content.the_row_laws; al = record { row = Heap.the_row; laws = heap.the_row_laws; g = ghosts; d = dict; drops = impl [] tnil dnil } }
+Boxed = record { row = HandleState.the_row; laws = content.the_row_laws; al = record { row = Heap.the_row; laws = heap.the_row_laws; g = ghosts; d = dict; drops = impl [] tnil dnil } }
 
 -- a handle as a parameter
 abbrev pub Passed : Slot 0

@@ -7,14 +7,14 @@ use Rattle.cx_base.specs.declared.object.Object.{Ghosts}
 use Rattle.cx_core.specs.Base.{LawfulBase}
 use Rattle.cx_core.specs.Region.{region_words}
 use Rattle.c_images.specs.Taken.{IsWrittenOf}
-use Rattle.cx_rule.specs.Running.{Running}
+use Rattle.table_invariant.specs.Running.{Running}
 use Rattle.cx_service.specs.declared.close.Handed.{Handed}
 use Rattle.cx_service.specs.declared.close.Handed.TheVariants.{Idle, Linked, Stopped}
 use Rattle.c_sessions.specs.Images.{TakesFrom}
 use Rattle.c_sessions.specs.Sessions.{IsSessionReady, TakesIn}
 use Rattle.c_sessions.specs.declared.session.Session.{Session}
-use Rattle.c_sessions.specs.declared.checkpoint.Taken.{Taken}
-use Rattle.c_sessions.specs.declared.checkpoint.Taken.TheVariants.{At, Again, Stopped as TakenStopped, OutOfTurn}
+use Rattle.c_sessions.specs.declared.checkpoint.SessionCheckpoint.{SessionCheckpoint}
+use Rattle.c_sessions.specs.declared.checkpoint.SessionCheckpoint.TheVariants.{At, Again, Stopped as TakenStopped, OutOfTurn}
 use Rattle.githoppu_c.specs.Again.{IsRegionIn}
 use Rattle.githoppu_c.specs.Checkpoints.{IsWrittenAs, TakesAs, taken_code}
 use Rattle.githoppu_c.proofs.TakenUp.{no_other}
@@ -56,7 +56,7 @@ written_of kind callers lines place rc rl n before part post words c l long size
 -- ---- where an image was taken, its region is in the words
 
 module _ {O : Type 0} (o : Ghosts O) (kind : ℕ) (before after : Session O) (words : List ℕ) (ready : IsSessionReady before) (then : IsSessionReady after) where
-  of_taken : (region : List ℕ) (taken : Taken) → TakesIn o region 16 before taken after → IsWrittenAs kind (arc_value before.service) region taken words → pos 0 ≡ taken_code taken
+  of_taken : (region : List ℕ) (taken : SessionCheckpoint) → TakesIn o region 16 before taken after → IsWrittenAs kind (arc_value before.service) region taken words → pos 0 ≡ taken_code taken
       → IsRegionIn o kind (arc_value before.service) words
   of_taken region (At place) takes written done = record { place = place; region = region; base = taken_base o region 16 place before after ready then takes; written = written }
   of_taken region Again takes written done = absurd cc

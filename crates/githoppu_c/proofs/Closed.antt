@@ -2,7 +2,7 @@
 use Rattle.std.proofs.Common.{List, subst, sym}
 use Rattle.std.specs.Arc.{arc_value}
 use Rattle.cx_base.specs.declared.object.Object.{Ghosts}
-use Rattle.cx_rule.specs.Running.{Running}
+use Rattle.table_invariant.specs.Running.{Running}
 use Rattle.cx_service.specs.Closes.{seats_of}
 use Rattle.cx_service.specs.declared.close.Handed.{Handed}
 use Rattle.cx_table.specs.Remains.{AreSeats}
@@ -11,7 +11,7 @@ use Rattle.c_images.specs.declared.replies.ReplyKind.{ReplyKind}
 use Rattle.c_sessions.specs.Closings.{Closes, ClosesTo}
 use Rattle.c_sessions.specs.declared.close.Closing.{Closing}
 use Rattle.c_sessions.specs.declared.close.Closing.TheVariants.{Others, Again, Closed, Kept, Missing, Shared}
-use Rattle.c_sessions.specs.declared.handover.Handover.{Handover}
+use Rattle.c_sessions.specs.declared.handover.ReturnQueue.{ReturnQueue}
 use Rattle.c_sessions.specs.declared.session.Session.{Session}
 use Rattle.githoppu_c.specs.Closings.{content_left}
 use Rattle.githoppu_c.specs.Contents.{IsContentCallable, KeepsReplies}
@@ -27,7 +27,7 @@ module _ {O : Type 0} (o : Ghosts O) (replies : ReplyKind) where
   session_callable session (Shared rest) keeps is = (arc_value session.service, kept_list session.handed, is.0, keeps)
 
   -- and so is what is left of the rest
-  pub rest_callable : (r : Running O) (handover : Handover O) (given : List Handed) (closing : Closing O) → KeepsReplies replies r
+  pub rest_callable : (r : Running O) (handover : ReturnQueue O) (given : List Handed) (closing : Closing O) → KeepsReplies replies r
       → ClosesTo o.line_count o.lawful o.step o.only_reads r handover given closing → IsContentCallable o replies (content_left closing)
   rest_callable r handover given Others keeps is = tt
   rest_callable r handover given (Again other) keeps is = absurd is

@@ -4,19 +4,19 @@ use Rattle.std.proofs.lemmas.List.{append-nil, append_assoc, length-map, map-app
 use Rattle.std.proofs.lemmas.List.Elements.{All-cons, All-head, All-tail}
 use Rattle.std.specs.Global.{Global}
 use Rattle.std_alloc.specs.declared.boxed.Box.{Box}
-use Rattle.cx_rule.specs.Running.{Running}
+use Rattle.table_invariant.specs.Running.{Running}
 use Rattle.c_sessions.specs.Sessions.{IsReadyOf}
 use Rattle.c_sessions.specs.declared.session.Session.{Session}
 use Rattle.githoppu_c.specs.Contents.{AreBoxes, IsCallable, IsSessionIn}
-use Rattle.githoppu_c.specs.declared.content.AnyContent.{AnyContent}
+use Rattle.githoppu_c.specs.declared.content.AnyHandleState.{AnyHandleState}
 
 abbrev pub Boxed : Type 0
-Boxed = Box AnyContent Global
+Boxed = Box AnyHandleState Global
 
-abbrev pub value_of : Boxed → AnyContent
+abbrev pub value_of : Boxed → AnyHandleState
 value_of b = b.value
 
-pub moved : {S : Type 0} (any : S → AnyContent) (made now : List Boxed) (box : Boxed) (session : S) (rest left : List S) (all : List AnyContent) → now ≡ made ++ box ∷ [] → left ≡ session ∷ rest
+pub moved : {S : Type 0} (any : S → AnyHandleState) (made now : List Boxed) (box : Boxed) (session : S) (rest left : List S) (all : List AnyHandleState) → now ≡ made ++ box ∷ [] → left ≡ session ∷ rest
     → box.value ≡ any session → map value_of made ++ map any left ≡ all → map value_of now ++ map any rest ≡ all
 moved any made now box session rest left all pushed taken is before =
     ap (λ bs. map value_of bs ++ map any rest) pushed
@@ -26,11 +26,11 @@ moved any made now box session rest left all pushed taken is before =
     ∙ ap (λ xs. map value_of made ++ map any xs) (sym taken)
     ∙ before
 
-pub ended : {S : Type 0} (any : S → AnyContent) (made : List Boxed) (rest : List S) (all : List AnyContent) → length rest ≡ 0 → map value_of made ++ map any rest ≡ all → map value_of made ≡ all
+pub ended : {S : Type 0} (any : S → AnyHandleState) (made : List Boxed) (rest : List S) (all : List AnyHandleState) → length rest ≡ 0 → map value_of made ++ map any rest ≡ all → map value_of made ≡ all
 ended any made [] all none before = sym (append-nil (map value_of made)) ∙ before
 ended any made (session ∷ rest) all none before = absurd cc
 
-module _ {S : Type 0} (any : S → AnyContent) (from : S → Type 0) (to : AnyContent → Type 0) (goes : (s : S) → from s → to (any s)) where
+module _ {S : Type 0} (any : S → AnyHandleState) (from : S → Type 0) (to : AnyHandleState → Type 0) (goes : (s : S) → from s → to (any s)) where
   pub each_box : (boxes : List Boxed) (sessions : List S) → map value_of boxes ≡ map any sessions → All from sessions → All (λ (b : Boxed). to b.value) boxes
   each_box [] sessions same all = λ k d below. absurd (omega (arith, below))
   each_box (b ∷ boxes) [] same all = absurd cc
@@ -40,7 +40,7 @@ module _ {S : Type 0} (any : S → AnyContent) (from : S → Type 0) (to : AnyCo
       All-cons (λ (x : Boxed). to x.value) b boxes (subst to (sym first) (goes s (All-head from s sessions all))) (each_box boxes sessions others (All-tail from s sessions all))
 
 -- boxes of sessions of one service, which C may call
-pub as_boxes : {O : Type 0} (any : Session O → AnyContent) (r : Running O) (count : ℕ) (callable : (s : Session O) → IsReadyOf r s → IsCallable (any s)) (boxes : List Boxed) (sessions : List (Session O))
+pub as_boxes : {O : Type 0} (any : Session O → AnyHandleState) (r : Running O) (count : ℕ) (callable : (s : Session O) → IsReadyOf r s → IsCallable (any s)) (boxes : List Boxed) (sessions : List (Session O))
     → map value_of boxes ≡ map any sessions → length sessions ≡ count → All (IsReadyOf r) sessions → AreBoxes (IsSessionIn any r) count boxes
 as_boxes any r count callable boxes sessions same many ready = record {
   all = sym (length-map boxes value_of) ∙ ap length same ∙ length-map sessions any ∙ many;

@@ -3,7 +3,7 @@ use Rattle.std.proofs.Common.{◌≡◌, ◌∙◌, ◌⊎◌, List, Result, Ok,
 use Rattle.std.specs.Prelude.{MatchResult}
 use Rattle.cx_base.specs.declared.object.Object.{Ghosts}
 use Rattle.cx_core.specs.declared.entry.Base.{Base}
-use Rattle.cx_rule.specs.Running.{Running}
+use Rattle.table_invariant.specs.Running.{Running}
 use Rattle.c_images.specs.Replies.{HoldsReplies, IsReplyOfKind}
 use Rattle.c_images.specs.declared.reader.WordsFault.{WordsFault}
 use Rattle.c_images.specs.declared.replies.ReplyKind.{ReplyKind}
@@ -15,12 +15,12 @@ use Rattle.githoppu_c.specs.Codes.{IsOpenCode, open_code}
 use Rattle.githoppu_c.specs.Contents.{AreOpened, AreSessionsOf, IsCallable, IsContentCallable, KeepsReplies, MayOpen, Refuses}
 use Rattle.githoppu_c.specs.Objects.{IsObjectFault}
 use Rattle.githoppu_c.specs.Recoveries.{AreFew, AreRecovered, IsRefusal, RefusesWords}
-use Rattle.githoppu_c.specs.declared.content.AnyContent.{AnyContent}
-use Rattle.githoppu_c.specs.declared.content.Content.TheVariants.{Session as ContentSession}
+use Rattle.githoppu_c.specs.declared.content.AnyHandleState.{AnyHandleState}
+use Rattle.githoppu_c.specs.declared.content.HandleState.TheVariants.{Session as ContentSession}
 use Rattle.githoppu_c.proofs.InBoxes.{Boxed, as_boxes, value_of}
 
 -- sessions of an object that is what C may call by this
-module _ {O : Type 0} (any : Session O → AnyContent) (replies : ReplyKind) (callable : (r : Running O) (s : Session O) → KeepsReplies replies r → IsReadyOf r s → IsCallable (any s))
+module _ {O : Type 0} (any : Session O → AnyHandleState) (replies : ReplyKind) (callable : (r : Running O) (s : Session O) → KeepsReplies replies r → IsReadyOf r s → IsCallable (any s))
     (object : O) (lines count : ℕ) (base : Base → Type 0) (keeps : (b : Base) → base b → HoldsReplies (IsReplyOfKind replies) b.words) (sessions : List (Session O)) (of : AreSessionsOf object lines count base sessions) where
   abbrev pub are_opened : (wanted : ℕ) → lines ≡ wanted → MayOpen wanted count → (boxes : List Boxed) → map value_of boxes ≡ map any sessions → AreOpened any wanted count boxes
   are_opened wanted same may boxes made = record {

@@ -3,9 +3,9 @@ use Rattle.std.proofs.Common.{◌≡◌, List, Option, Result, Err, Ok, true, �
 use Rattle.std.specs.Prelude.{MatchResult}
 use Rattle.cx_core.specs.State.{Instance}
 use Rattle.cx_core.specs.declared.entry.Base.{Base}
-use Rattle.cx_rule.specs.Running.{IsRunning, Running}
-use Rattle.cx_rule.specs.Seats.{Seated}
-use Rattle.cx_table.specs.Remains.{Leaves}
+use Rattle.table_invariant.specs.Running.{IsRunning, Running}
+use Rattle.table_invariant.specs.Seats.{Seated}
+use Rattle.cx_table.specs.Remains.{ClosingWitness}
 use Rattle.cx_table.specs.declared.remains.Remains.{Remains}
 use Rattle.program_object.specs.Meaning.{is_other}
 use Rattle.program_object.specs.contracts.object.ProgramObjectObject.TheImpl.{ghosts as program_ghosts}
@@ -18,7 +18,7 @@ abbrev pub of_object : {O : Type 0} → Running O → O → Running O
 of_object r object = record { table = r.table; callers = r.callers; lines = r.lines; base = r.base; object = object }
 
 -- what it leaves names no object
-pub leaves_of : {O : Type 0} (r : Running O) (object : O) (instance : Instance) (seats : List Seated) (left : Remains) → Leaves r instance seats left → Leaves (of_object r object) instance seats left
+pub leaves_of : {O : Type 0} (r : Running O) (object : O) (instance : Instance) (seats : List Seated) (left : Remains) → ClosingWitness r instance seats left → ClosingWitness (of_object r object) instance seats left
 leaves_of r object instance seats left l = record {
   callers = l.callers;
   lines = l.lines;

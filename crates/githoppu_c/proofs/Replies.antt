@@ -9,7 +9,7 @@ use Rattle.doc_model.specs.Meaning.{reply_to}
 use Rattle.doc_store.specs.ExactStep.{IsImageOfStore, is_op_in, op_in, store_step}
 use Rattle.doc_store.specs.StoreLaws.{image_reply_fits, step_none, step_of}
 use Rattle.fifo_object.specs.Words.{is_op_in as is_queue_op_in, item_in, op_in as queue_op_in}
-use Rattle.fifo_object.proofs.ReadBack.{no_op, none_has_no_kind, op_is_there}
+use Rattle.fifo_object.proofs.ReadBack.{no_op, none_has_no_kind, fifo_op_is_there}
 use Rattle.fifo_object.specs.Queue.{reply_to as queue_reply_to}
 use Rattle.fifo_object.specs.Fifo.{IsFifo, fifo_step, step_by}
 use Rattle.fifo_object.specs.MeaningLaws.{fifo_has_meaning}
@@ -37,7 +37,7 @@ no_step lines image op fails = ap (λ kind. (step_by kind lines (item_in op) ima
 queue_reply : (lines : ℕ) (image op : List ℕ) (b : Bool) → is_queue_op_in op ≡ b → 2 ≤ lines → IsFifo lines image → IsKeptReply IsQueueReply (fifo_step lines image op).1
 queue_reply lines image op true passes some i =
     let means = fifo_has_meaning lines some in
-    let there = op_is_there op passes in
+    let there = fifo_op_is_there op passes in
     let st = means.some image i in
     let o = queue_op_in op in
     let is = means.answer image st.0 o i st.1 there.0 tt in

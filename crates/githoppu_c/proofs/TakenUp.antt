@@ -6,9 +6,9 @@ use Rattle.cx_base.specs.OldFormat.{OldFormat, no_old_format}
 use Rattle.cx_base.specs.declared.object.Object.{Ghosts}
 use Rattle.cx_core.specs.declared.entry.Base.{Base}
 use Rattle.cx_core.specs.Base.{LawfulBase}
-use Rattle.cx_rule.specs.Running.{IsRunning, Running, instance_at}
-use Rattle.cx_rule.specs.Seats.{Seated}
-use Rattle.cx_table.specs.Remains.{Leaves}
+use Rattle.table_invariant.specs.Running.{IsRunning, Running, instance_at}
+use Rattle.table_invariant.specs.Seats.{Seated}
+use Rattle.cx_table.specs.Remains.{ClosingWitness}
 use Rattle.cx_table.specs.declared.remains.Remains.{Remains}
 use Rattle.doc_store.specs.contracts.store.DocStoreObject.TheImpl.{ghosts as store_ghosts}
 use Rattle.doc_store.specs.declared.store.DocStore.{DocStore}
@@ -36,9 +36,9 @@ use Rattle.githoppu_c.specs.Contents.{KeepsReplies}
 use Rattle.githoppu_c.specs.Objects.{IsBaseWith, IsFaultOr, IsProgramFault, IsProgramIn, IsQueueFault, IsQueueIn, IsStoreFault, IsStoreIn, old_in_lines}
 use Rattle.githoppu_c.specs.Outcomes.{IsBaseFault, WritesOutcome}
 use Rattle.githoppu_c.specs.Recoveries.{AreFew, Recovers}
-use Rattle.githoppu_c.specs.declared.content.AnyContent.TheVariants.{Documents, Queue, Program}
-use Rattle.githoppu_c.specs.declared.content.Content.{Content}
-use Rattle.githoppu_c.specs.declared.content.Content.TheVariants.{Closed, Gone, Kept, Rest, Session}
+use Rattle.githoppu_c.specs.declared.content.AnyHandleState.TheVariants.{Documents, Queue, Program}
+use Rattle.githoppu_c.specs.declared.content.HandleState.{HandleState}
+use Rattle.githoppu_c.specs.declared.content.HandleState.TheVariants.{Closed, Gone, Kept, Unclosed, Session}
 use Rattle.githoppu_c.proofs.OtherBefore.{kept_with, leaves_of, opened_with, running_with, with_before}
 use Rattle.githoppu_c.proofs.Replies.{queues_give_replies, stores_give_replies}
 
@@ -200,7 +200,7 @@ module _ (choice : ℕ) (words : List ℕ) where
   abbrev pub WrittenIsTakenUp : Type 0
   WrittenIsTakenUp =
       (table : Running ProgramObject) (seats : List Seated) (r : Remains) (answer : Result Base WordsFault) → IsOpened program_ghosts.line_count program_ghosts.lawful table
-      → Leaves table (instance_at table program_ghosts.step program_ghosts.only_reads) seats r → AreRemainsWritten 3 r choice words
+      → ClosingWitness table (instance_at table program_ghosts.step program_ghosts.only_reads) seats r → AreRemainsWritten 3 r choice words
       → MatchResult answer (IsTakenUp (program_ghosts.version_number table.object) (program_ghosts.lawful table.object) (program_ghosts.old_format table.object) words)
       (IsWordsFault (program_ghosts.version_number table.object) (program_ghosts.lawful table.object) (program_ghosts.old_format table.object) words)
       → MatchResult answer (IsKeptOfClosed program_ghosts table seats r choice) (λ fault. fault ≡ Image Memory)
@@ -220,26 +220,26 @@ module _ (choice : ℕ) (words : List ℕ) where
       }
 
   module _ (code : ℤ) where
-    pub store_comes_back : (content : Content DocStore) → ContentComesBack store_ghosts 1 Document choice words code content → ComesBack (Documents content) choice words code
+    pub store_comes_back : (content : HandleState DocStore) → ContentComesBack store_ghosts 1 Document choice words code content → ComesBack (Documents content) choice words code
     store_comes_back (Closed r) back = λ done. store_left r (back done)
     store_comes_back (Session session) back = tt
     store_comes_back (Kept kept) back = tt
-    store_comes_back (Rest rest) back = tt
+    store_comes_back (Unclosed rest) back = tt
     store_comes_back Gone back = tt
 
-    pub queue_comes_back : (content : Content Fifo) → ContentComesBack queue_ghosts 2 QueueReplies choice words code content → ComesBack (Queue content) choice words code
+    pub queue_comes_back : (content : HandleState Fifo) → ContentComesBack queue_ghosts 2 QueueReplies choice words code content → ComesBack (Queue content) choice words code
     queue_comes_back (Closed r) back = λ done. queue_left r (back done)
     queue_comes_back (Session session) back = tt
     queue_comes_back (Kept kept) back = tt
-    queue_comes_back (Rest rest) back = tt
+    queue_comes_back (Unclosed rest) back = tt
     queue_comes_back Gone back = tt
 
-    pub program_comes_back : WrittenIsTakenUp → (content : Content ProgramObject) → ContentComesBack program_ghosts 3 ProgramReplies choice words code content
+    pub program_comes_back : WrittenIsTakenUp → (content : HandleState ProgramObject) → ContentComesBack program_ghosts 3 ProgramReplies choice words code content
         → ComesBack (Program content) choice words code
     program_comes_back law (Closed r) back = λ done. program_left law r (back done)
     program_comes_back law (Session session) back = tt
     program_comes_back law (Kept kept) back = tt
-    program_comes_back law (Rest rest) back = tt
+    program_comes_back law (Unclosed rest) back = tt
     program_comes_back law Gone back = tt
 
 -- ---- and one that a session took
@@ -283,23 +283,23 @@ module _ (words : List ℕ) where
       }
 
   module _ (code : ℤ) where
-    pub store_taken_back : (content : Content DocStore) → ContentTakenBack store_ghosts 1 words code content → TakenComesBack (Documents content) words code
+    pub store_taken_back : (content : HandleState DocStore) → ContentTakenBack store_ghosts 1 words code content → TakenComesBack (Documents content) words code
     store_taken_back (Session session) back = λ done. store_taken (arc_value session.service) (back done)
     store_taken_back (Closed r) back = tt
     store_taken_back (Kept kept) back = tt
-    store_taken_back (Rest rest) back = tt
+    store_taken_back (Unclosed rest) back = tt
     store_taken_back Gone back = tt
 
-    pub queue_taken_back : (content : Content Fifo) → ContentTakenBack queue_ghosts 2 words code content → TakenComesBack (Queue content) words code
+    pub queue_taken_back : (content : HandleState Fifo) → ContentTakenBack queue_ghosts 2 words code content → TakenComesBack (Queue content) words code
     queue_taken_back (Session session) back = λ done. queue_taken (arc_value session.service) (back done)
     queue_taken_back (Closed r) back = tt
     queue_taken_back (Kept kept) back = tt
-    queue_taken_back (Rest rest) back = tt
+    queue_taken_back (Unclosed rest) back = tt
     queue_taken_back Gone back = tt
 
-    pub program_taken_back : TakenIsTakenUp → (content : Content ProgramObject) → ContentTakenBack program_ghosts 3 words code content → TakenComesBack (Program content) words code
+    pub program_taken_back : TakenIsTakenUp → (content : HandleState ProgramObject) → ContentTakenBack program_ghosts 3 words code content → TakenComesBack (Program content) words code
     program_taken_back law (Session session) back = λ done. program_taken law (arc_value session.service) (back done)
     program_taken_back law (Closed r) back = tt
     program_taken_back law (Kept kept) back = tt
-    program_taken_back law (Rest rest) back = tt
+    program_taken_back law (Unclosed rest) back = tt
     program_taken_back law Gone back = tt

@@ -5,8 +5,8 @@ use Rattle.std.specs.Arc.{arc_value}
 use Rattle.cx_base.specs.declared.object.Object.{Ghosts}
 use Rattle.cx_core.specs.Base.{LawfulBase}
 use Rattle.cx_core.specs.declared.entry.Base.{Base}
-use Rattle.cx_rule.specs.Running.{IsRunning, Running}
-use Rattle.cx_rule.specs.Seats.{Seated}
+use Rattle.table_invariant.specs.Running.{IsRunning, Running}
+use Rattle.table_invariant.specs.Seats.{Seated}
 use Rattle.cx_table.specs.declared.remains.Remains.{Remains}
 use Rattle.recovery.specs.Kept.{IsKeptBy}
 use Rattle.recovery.specs.declared.recovered_base.ImageFault.TheVariants.{Memory}
@@ -29,10 +29,10 @@ use Rattle.githoppu_c.specs.Contents.{KeepsReplies}
 use Rattle.githoppu_c.specs.Objects.{IsProgramFault, IsProgramIn, IsQueueFault, IsQueueIn, IsStoreFault, IsStoreIn, old_in_lines}
 use Rattle.githoppu_c.specs.Outcomes.{WritesOutcome}
 use Rattle.githoppu_c.specs.Recoveries.{AreFew, Recovers}
-use Rattle.githoppu_c.specs.declared.content.AnyContent.{AnyContent}
-use Rattle.githoppu_c.specs.declared.content.AnyContent.TheVariants.{Documents, Queue, Program}
-use Rattle.githoppu_c.specs.declared.content.Content.{Content}
-use Rattle.githoppu_c.specs.declared.content.Content.TheVariants.{Closed, Session}
+use Rattle.githoppu_c.specs.declared.content.AnyHandleState.{AnyHandleState}
+use Rattle.githoppu_c.specs.declared.content.AnyHandleState.TheVariants.{Documents, Queue, Program}
+use Rattle.githoppu_c.specs.declared.content.HandleState.{HandleState}
+use Rattle.githoppu_c.specs.declared.content.HandleState.TheVariants.{Closed, Session}
 
 -- Words are taken up again. As many sessions as there may be are recovered from them, and what became of each is told, unless memory runs out, or the
 -- sessions' new queue did not take its first entry. What is taken up holds what was kept.
@@ -83,7 +83,7 @@ pub record IsProgramAgain (r : Remains) (choice : ℕ) (words : List ℕ) : Type
   pub again : IsAgainWithAny (IsKeptOfClosed program_ghosts table closed.seats r choice) words table
 
 -- so it is where it was written
-abbrev pub ComesBack : AnyContent → ℕ → List ℕ → ℤ → Type 0
+abbrev pub ComesBack : AnyHandleState → ℕ → List ℕ → ℤ → Type 0
 ComesBack (Documents (Closed r)) choice words code = code ≡ pos 0 → IsStoreAgain r choice words
 ComesBack (Queue (Closed r)) choice words code = code ≡ pos 0 → IsQueueAgain r choice words
 ComesBack (Program (Closed r)) choice words code = code ≡ pos 0 → IsProgramAgain r choice words
@@ -115,7 +115,7 @@ pub record IsTakenProgramAgain (r : Running ProgramObject) (words : List ℕ) : 
   pub again : IsAgainWithAny (λ base. base ≡ base_at has.place has.region) words r
 
 -- so it is where an image was taken
-abbrev pub TakenComesBack : AnyContent → List ℕ → ℤ → Type 0
+abbrev pub TakenComesBack : AnyHandleState → List ℕ → ℤ → Type 0
 TakenComesBack (Documents (Session session)) words code = code ≡ pos 0 → IsTakenStoreAgain (arc_value session.service) words
 TakenComesBack (Queue (Session session)) words code = code ≡ pos 0 → IsTakenQueueAgain (arc_value session.service) words
 TakenComesBack (Program (Session session)) words code = code ≡ pos 0 → IsTakenProgramAgain (arc_value session.service) words
@@ -146,7 +146,7 @@ pub record IsLeftImage {O : Type 0} (o : Ghosts O) (kind : ℕ) (replies : Reply
   pub goes_on : (base : Base) → IsTakenUp (o.version_number table.object) (o.lawful table.object) (o.old_format table.object) words base
       → RepliesGoOn (IsReplyOfKind replies) (o.lawful table.object) (o.step table.object) table.base.words base.words
 
-abbrev pub ContentComesBack : {O : Type 0} → Ghosts O → ℕ → ReplyKind → ℕ → List ℕ → ℤ → Content O → Type 0
+abbrev pub ContentComesBack : {O : Type 0} → Ghosts O → ℕ → ReplyKind → ℕ → List ℕ → ℤ → HandleState O → Type 0
 ContentComesBack o kind replies choice words code (Closed r) = code ≡ pos 0 → IsLeftImage o kind replies choice words r
 ContentComesBack o kind replies choice words code content = Unit {0}
 
@@ -157,6 +157,6 @@ pub record IsTakenImage {O : Type 0} (o : Ghosts O) (kind : ℕ) (words : List �
   pub of : IsOfKind kind (o.line_count r.object) words
   pub up : IsAnsweredBy o r.object words (λ base. base ≡ base_at has.place has.region)
 
-abbrev pub ContentTakenBack : {O : Type 0} → Ghosts O → ℕ → List ℕ → ℤ → Content O → Type 0
+abbrev pub ContentTakenBack : {O : Type 0} → Ghosts O → ℕ → List ℕ → ℤ → HandleState O → Type 0
 ContentTakenBack o kind words code (Session session) = code ≡ pos 0 → IsTakenImage o kind words (arc_value session.service)
 ContentTakenBack o kind words code content = Unit {0}

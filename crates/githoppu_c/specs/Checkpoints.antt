@@ -3,22 +3,22 @@ use Rattle.std.specs.Prelude.{◌≡◌, ◌≢◌, ◌⊎◌, ◌+◌, ℕ, ℤ
 use Rattle.std.specs.Arc.{arc_value}
 use Rattle.cx_base.specs.declared.object.Object.{Ghosts}
 use Rattle.cx_core.specs.Region.{region_words}
-use Rattle.cx_rule.specs.Running.{Running}
+use Rattle.table_invariant.specs.Running.{Running}
 use Rattle.c_images.specs.Taken.{IsWrittenOf}
 use Rattle.c_sessions.specs.Sessions.{TakesIn}
 use Rattle.c_sessions.specs.declared.session.Session.{Session}
-use Rattle.c_sessions.specs.declared.checkpoint.Taken.{Taken}
-use Rattle.c_sessions.specs.declared.checkpoint.Taken.TheVariants.{At, Again, Stopped, OutOfTurn}
+use Rattle.c_sessions.specs.declared.checkpoint.SessionCheckpoint.{SessionCheckpoint}
+use Rattle.c_sessions.specs.declared.checkpoint.SessionCheckpoint.TheVariants.{At, Again, Stopped, OutOfTurn}
 use Rattle.doc_store.specs.contracts.store.DocStoreObject.TheImpl.{ghosts as store_ghosts}
 use Rattle.fifo_object.specs.contracts.fifo.FifoObject.TheImpl.{ghosts as queue_ghosts}
 use Rattle.program_object.specs.contracts.object.ProgramObjectObject.TheImpl.{ghosts as program_ghosts}
 use Rattle.githoppu_c.specs.Contents.{IsCallable, OfBoth}
-use Rattle.githoppu_c.specs.declared.content.AnyContent.{AnyContent}
-use Rattle.githoppu_c.specs.declared.content.Content.{Content}
-use Rattle.githoppu_c.specs.declared.content.Content.TheVariants.{Session as ContentSession}
+use Rattle.githoppu_c.specs.declared.content.AnyHandleState.{AnyHandleState}
+use Rattle.githoppu_c.specs.declared.content.HandleState.{HandleState}
+use Rattle.githoppu_c.specs.declared.content.HandleState.TheVariants.{Session as ContentSession}
 
 -- the number of the result of taking an image
-abbrev pub taken_code : Taken → ℤ
+abbrev pub taken_code : SessionCheckpoint → ℤ
 taken_code (At place) = pos 0
 taken_code Again = pos 2
 taken_code Stopped = pos 5
@@ -29,14 +29,14 @@ abbrev pub checkpoint_words : {O : Type 0} → Running O → ℕ
 checkpoint_words r = region_words r.lines + 8
 
 -- where an image was taken the words are one of an object of this kind, of what was taken
-abbrev pub IsWrittenAs : {O : Type 0} → ℕ → Running O → List ℕ → Taken → List ℕ → Type 0
+abbrev pub IsWrittenAs : {O : Type 0} → ℕ → Running O → List ℕ → SessionCheckpoint → List ℕ → Type 0
 IsWrittenAs kind r region (At place) words = IsWrittenOf kind r.callers r.lines place region words
 IsWrittenAs kind r region taken words = Unit {0}
 
 -- a session took an image in 16 tries, or this was met
 pub record TookImage {O : Type 0} (o : Ghosts O) (kind : ℕ) (before after : Session O) (words : List ℕ) (code : ℤ) : Type 0 where
   pub region : List ℕ
-  pub taken : Taken
+  pub taken : SessionCheckpoint
   pub takes : TakesIn o region 16 before taken after
   pub written : IsWrittenAs kind (arc_value before.service) region taken words
   pub is : code ≡ taken_code taken
@@ -48,19 +48,19 @@ pub record TakesAs {O : Type 0} (o : Ghosts O) (kind : ℕ) (before after : Sess
       ⊎ ((length words_before ≢ checkpoint_words (arc_value before.service)) × (code ≡ pos 7) × (words ≡ words_before) × (after ≡ before))
 
 -- what is no session was called out of turn, and nothing is changed
-abbrev pub ContentCheckpoints : {O : Type 0} → Ghosts O → ℕ → List ℕ → List ℕ → ℕ → ℤ → Content O → Content O → Type 0
+abbrev pub ContentCheckpoints : {O : Type 0} → Ghosts O → ℕ → List ℕ → List ℕ → ℕ → ℤ → HandleState O → HandleState O → Type 0
 ContentCheckpoints o kind words_before words needed code (ContentSession before) (ContentSession after) =
     TakesAs o kind before after words_before words needed code
 ContentCheckpoints o kind words_before words needed code (ContentSession before) after = ⊥
 ContentCheckpoints o kind words_before words needed code before after = (after ≡ before) × (words ≡ words_before) × (needed ≡ 0) × (code ≡ pos 6)
 
-abbrev pub CheckpointsSession : AnyContent → AnyContent → List ℕ → List ℕ → ℕ → ℤ → Type 0
+abbrev pub CheckpointsSession : AnyHandleState → AnyHandleState → List ℕ → List ℕ → ℕ → ℤ → Type 0
 CheckpointsSession before after words_before words needed code =
     OfBoth (ContentCheckpoints store_ghosts 1 words_before words needed code) (ContentCheckpoints queue_ghosts 2 words_before words needed code)
     (ContentCheckpoints program_ghosts 3 words_before words needed code) before after
 
 -- what C is answered, which left what may be called
-pub record AnswersCheckpoint (before : AnyContent) (words_before words : List ℕ) (needed : ℕ) (code : ℤ) : Type 0 where
-  pub after : AnyContent
+pub record AnswersCheckpoint (before : AnyHandleState) (words_before words : List ℕ) (needed : ℕ) (code : ℤ) : Type 0 where
+  pub after : AnyHandleState
   pub callable : IsCallable after
   pub comes_to : CheckpointsSession before after words_before words needed code

@@ -7,7 +7,7 @@ use Rattle.cx_service.specs.declared.close.Handed.{Handed}
 use Rattle.cx_table.specs.declared.remains.Remains.{Remains}
 use Rattle.recovery.specs.Images.{image_size}
 use Rattle.c_images.specs.Words.{AreRemainsWritten}
-use Rattle.cx_rule.specs.Running.{Running}
+use Rattle.table_invariant.specs.Running.{Running}
 use Rattle.c_sessions.specs.Closings.{Closes, ClosesTo, IsClosedWith}
 use Rattle.c_sessions.specs.Handing.{IsSessionRestOf}
 use Rattle.c_sessions.specs.declared.close.Closing.{Closing}
@@ -17,34 +17,34 @@ use Rattle.fifo_object.specs.contracts.fifo.FifoObject.TheImpl.{ghosts as queue_
 use Rattle.program_object.specs.contracts.object.ProgramObjectObject.TheImpl.{ghosts as program_ghosts}
 use Rattle.githoppu_c.specs.Codes.{closing_code}
 use Rattle.githoppu_c.specs.Contents.{OfAny, OfBoth}
-use Rattle.githoppu_c.specs.declared.content.AnyContent.{AnyContent}
-use Rattle.githoppu_c.specs.declared.content.Content.{Content}
-use Rattle.githoppu_c.specs.declared.content.Content.TheVariants.{Session, Kept, Rest, Closed, Gone}
+use Rattle.githoppu_c.specs.declared.content.AnyHandleState.{AnyHandleState}
+use Rattle.githoppu_c.specs.declared.content.HandleState.{HandleState}
+use Rattle.githoppu_c.specs.declared.content.HandleState.TheVariants.{Session, Kept, Unclosed, Closed, Gone}
 
 -- what C has afterwards
-abbrev pub content_left : {O : Type 0} → Closing O → Content O
+abbrev pub content_left : {O : Type 0} → Closing O → HandleState O
 content_left (ClosingAgain session) = Session session
 content_left (ClosingClosed remains account) = Closed remains
 content_left (ClosingKept kept account) = Kept kept
-content_left (Missing rest) = Rest rest
-content_left (Shared rest) = Rest rest
+content_left (Missing rest) = Unclosed rest
+content_left (Shared rest) = Unclosed rest
 content_left closing = Gone
 
 -- A session was closed, as its closing has it. A service with all its callers is closed, or memory runs out again and all is as it was; what the last session
 -- has is closed, as the closing of it has it. What is no session, or is closed, is as it was.
-abbrev pub ContentCloses : {O : Type 0} → Ghosts O → ℤ → Content O → Content O → Type 0
+abbrev pub ContentCloses : {O : Type 0} → Ghosts O → ℤ → HandleState O → HandleState O → Type 0
 ContentCloses {O = O} o code (Session session) after =
     (closing : Closing O) × Closes o.line_count o.lawful o.step o.only_reads session closing × (after ≡ content_left closing) × (code ≡ closing_code closing)
 ContentCloses o code (Kept kept) after =
     ((remains : Remains) × IsClosedWith o.line_count o.lawful o.step o.only_reads kept.service (seats_of kept.callers.items) remains
     × (after ≡ Closed remains) × (code ≡ pos 0))
     ⊎ ((after ≡ Kept kept) × (code ≡ pos 8))
-ContentCloses {O = O} o code (Rest rest) after =
+ContentCloses {O = O} o code (Unclosed rest) after =
     (closing : Closing O) × ((r : Running O) (given : List Handed) → IsSessionRestOf r given rest → ClosesTo o.line_count o.lawful o.step o.only_reads r (arc_value rest.exit.handover) given closing)
     × (after ≡ content_left closing) × (code ≡ closing_code closing)
 ContentCloses o code before after = (after ≡ before) × (code ≡ pos 6)
 
-abbrev pub ClosesAs : AnyContent → AnyContent → ℤ → Type 0
+abbrev pub ClosesAs : AnyHandleState → AnyHandleState → ℤ → Type 0
 ClosesAs before after code = OfBoth (ContentCloses store_ghosts code) (ContentCloses queue_ghosts code) (ContentCloses program_ghosts code) before after
 
 -- how many words an image has of what a closed service left
@@ -58,11 +58,11 @@ pub record WritesRemains (kind : ℕ) (r : Remains) (choice : ℕ) (before after
       ⊎ ((length before ≢ remains_words r) × (code ≡ pos 7) × (after ≡ before))
 
 -- the image of what is closed; what is not closed has none
-abbrev pub ContentImages : {O : Type 0} → ℕ → ℕ → List ℕ → List ℕ → ℕ → ℤ → Content O → Type 0
+abbrev pub ContentImages : {O : Type 0} → ℕ → ℕ → List ℕ → List ℕ → ℕ → ℤ → HandleState O → Type 0
 ContentImages kind choice before after needed code (Closed r) = WritesRemains kind r choice before after needed code
 ContentImages kind choice before after needed code content = (after ≡ before) × (needed ≡ 0) × (code ≡ pos 6)
 
-abbrev pub Images : AnyContent → ℕ → List ℕ → List ℕ → ℕ → ℤ → Type 0
+abbrev pub Images : AnyHandleState → ℕ → List ℕ → List ℕ → ℕ → ℤ → Type 0
 Images content choice before after needed code =
     OfAny (ContentImages 1 choice before after needed code) (ContentImages 2 choice before after needed code)
     (ContentImages 3 choice before after needed code) content

@@ -5,7 +5,7 @@ use Rattle.std.specs.Global.{Global}
 use Rattle.std_alloc.specs.declared.boxed.Box.{Box}
 use Rattle.cx_base.specs.declared.object.Object.{Ghosts}
 use Rattle.cx_core.specs.declared.entry.Base.{Base}
-use Rattle.cx_rule.specs.Running.{Running}
+use Rattle.table_invariant.specs.Running.{Running}
 use Rattle.cx_service.specs.Closes.{seats_of}
 use Rattle.cx_service.specs.declared.close.Handed.{Handed}
 use Rattle.cx_table.specs.Remains.{AreSeats}
@@ -25,20 +25,20 @@ use Rattle.c_sessions.specs.declared.session.Session.{Session as SessionOf}
 use Rattle.c_sessions.specs.declared.steps.Called.{Called}
 use Rattle.c_sessions.specs.declared.steps.Called.TheVariants.{OutOfTurn}
 use Rattle.githoppu_c.specs.Codes.{IsOpenCode, code_of}
-use Rattle.githoppu_c.specs.declared.content.AnyContent.{AnyContent}
-use Rattle.githoppu_c.specs.declared.content.AnyContent.TheVariants.{Documents, Queue, Program}
-use Rattle.githoppu_c.specs.declared.content.Content.{Content}
-use Rattle.githoppu_c.specs.declared.content.Content.TheVariants.{Session, Kept, Rest, Closed, Gone}
+use Rattle.githoppu_c.specs.declared.content.AnyHandleState.{AnyHandleState}
+use Rattle.githoppu_c.specs.declared.content.AnyHandleState.TheVariants.{Documents, Queue, Program}
+use Rattle.githoppu_c.specs.declared.content.HandleState.{HandleState}
+use Rattle.githoppu_c.specs.declared.content.HandleState.TheVariants.{Session, Kept, Unclosed, Closed, Gone}
 
 -- a content of any object: of each of the three this holds
-abbrev pub OfAny : (Content DocStore → Type 0) → (Content Fifo → Type 0) → (Content ProgramObject → Type 0) → AnyContent → Type 0
+abbrev pub OfAny : (HandleState DocStore → Type 0) → (HandleState Fifo → Type 0) → (HandleState ProgramObject → Type 0) → AnyHandleState → Type 0
 OfAny documents queue program (Documents content) = documents content
 OfAny documents queue program (Queue content) = queue content
 OfAny documents queue program (Program content) = program content
 
 -- two contents of one object: of each of the three this holds
-abbrev pub OfBoth : (Content DocStore → Content DocStore → Type 0) → (Content Fifo → Content Fifo → Type 0)
-    → (Content ProgramObject → Content ProgramObject → Type 0) → AnyContent → AnyContent → Type 0
+abbrev pub OfBoth : (HandleState DocStore → HandleState DocStore → Type 0) → (HandleState Fifo → HandleState Fifo → Type 0)
+    → (HandleState ProgramObject → HandleState ProgramObject → Type 0) → AnyHandleState → AnyHandleState → Type 0
 OfBoth documents queue program (Documents before) (Documents after) = documents before after
 OfBoth documents queue program (Queue before) (Queue after) = queue before after
 OfBoth documents queue program (Program before) (Program after) = program before after
@@ -50,36 +50,36 @@ KeepsReplies replies r = HoldsReplies (IsReplyOfKind replies) r.base.words
 
 -- What C may call: a session that is ready, a service with all its callers that is still to be closed, or with those that the last session found, and what a
 -- closed one left. The service was opened with results that keep replies.
-abbrev pub IsContentCallable : {O : Type 0} → Ghosts O → ReplyKind → Content O → Type 0
+abbrev pub IsContentCallable : {O : Type 0} → Ghosts O → ReplyKind → HandleState O → Type 0
 IsContentCallable o replies (Session session) = IsSessionReady session × KeepsReplies replies (arc_value session.service)
 IsContentCallable o replies (Kept kept) = AreSeats kept.service (seats_of kept.callers.items) × KeepsReplies replies kept.service
-IsContentCallable {O = O} o replies (Rest rest) = (r : Running O) × (given : List Handed) × IsSessionRestOf r given rest × KeepsReplies replies r
+IsContentCallable {O = O} o replies (Unclosed rest) = (r : Running O) × (given : List Handed) × IsSessionRestOf r given rest × KeepsReplies replies r
 IsContentCallable {O = O} o replies (Closed remains) = (r : Running O) × IsClosedOf o.line_count o.lawful o.step o.only_reads r remains × KeepsReplies replies r
 IsContentCallable o replies Gone = Unit {0}
 
-abbrev pub IsCallable : AnyContent → Type 0
+abbrev pub IsCallable : AnyHandleState → Type 0
 IsCallable = OfAny (IsContentCallable store_ghosts Document) (IsContentCallable queue_ghosts QueueReplies) (IsContentCallable program_ghosts ProgramReplies)
 
 -- a session of a store, of a queue, or of a program's object, as C has it
-abbrev pub store_session : SessionOf DocStore → AnyContent
+abbrev pub store_session : SessionOf DocStore → AnyHandleState
 store_session session = Documents (Session session)
 
-abbrev pub queue_session : SessionOf Fifo → AnyContent
+abbrev pub queue_session : SessionOf Fifo → AnyHandleState
 queue_session session = Queue (Session session)
 
-abbrev pub program_session : SessionOf ProgramObject → AnyContent
+abbrev pub program_session : SessionOf ProgramObject → AnyHandleState
 program_session session = Program (Session session)
 
 -- a session of this service, of which C has this
-pub record IsSessionIn {O : Type 0} (any : SessionOf O → AnyContent) (r : Running O) (content : AnyContent) : Type 0 where
+pub record IsSessionIn {O : Type 0} (any : SessionOf O → AnyHandleState) (r : Running O) (content : AnyHandleState) : Type 0 where
   pub session : SessionOf O
   pub of : IsReadyOf r session
   pub is : content ≡ any session
 
 -- this many boxes, with this in each, which C may call
-pub record AreBoxes (is : AnyContent → Type 0) (count : ℕ) (boxes : List (Box AnyContent Global)) : Type 0 where
+pub record AreBoxes (is : AnyHandleState → Type 0) (count : ℕ) (boxes : List (Box AnyHandleState Global)) : Type 0 where
   pub all : length boxes ≡ count
-  pub each : All (λ (b : Box AnyContent Global). is b.value × IsCallable b.value) boxes
+  pub each : All (λ (b : Box AnyHandleState Global). is b.value × IsCallable b.value) boxes
 
 -- this many sessions of one service of this object, which opens from such a base
 pub record AreSessionsOf {O : Type 0} (object : O) (lines count : ℕ) (base : Base → Type 0) (sessions : List (SessionOf O)) : Type 0 where
@@ -107,7 +107,7 @@ abbrev pub AnswersOpening : ℕ → ℕ → ℤ → Type 0
 AnswersOpening lines count code = (MayOpen lines count × (code ≡ pos 0)) ⊎ Refuses lines count code
 
 -- this many boxes of sessions of one service of an object in this many lines that may be opened
-pub record AreOpened {O : Type 0} (any : SessionOf O → AnyContent) (lines count : ℕ) (boxes : List (Box AnyContent Global)) : Type 0 where
+pub record AreOpened {O : Type 0} (any : SessionOf O → AnyHandleState) (lines count : ℕ) (boxes : List (Box AnyHandleState Global)) : Type 0 where
   pub may : MayOpen lines count
   pub service : Running O
   pub callers_are : service.callers ≡ count
@@ -115,27 +115,27 @@ pub record AreOpened {O : Type 0} (any : SessionOf O → AnyContent) (lines coun
   pub of : AreBoxes (IsSessionIn any service) count boxes
 
 -- what is no session was called out of turn, and is as it was
-abbrev pub IsNoTurn : {O : Type 0} → Content O → Called → Content O → Type 0
+abbrev pub IsNoTurn : {O : Type 0} → HandleState O → Called → HandleState O → Type 0
 IsNoTurn before called after = (called ≡ OutOfTurn) × (after ≡ before)
 
 -- a call of this operation, in this many tries, had this result
-abbrev pub ContentCalls : {O : Type 0} → Ghosts O → List ℕ → ℕ → Called → List ℕ → Content O → Content O → Type 0
+abbrev pub ContentCalls : {O : Type 0} → Ghosts O → List ℕ → ℕ → Called → List ℕ → HandleState O → HandleState O → Type 0
 ContentCalls o op tries called reply (Session before) (Session after) = CallsIn o.only_reads op tries before called after reply
 ContentCalls o op tries called reply (Session before) after = ⊥
 ContentCalls o op tries called reply before after = IsNoTurn before called after
 
-abbrev pub CallHasResult : List ℕ → ℕ → AnyContent → Called → AnyContent → List ℕ → Type 0
+abbrev pub CallHasResult : List ℕ → ℕ → AnyHandleState → Called → AnyHandleState → List ℕ → Type 0
 CallHasResult op tries before called after reply =
     OfBoth (ContentCalls store_ghosts op tries called reply) (ContentCalls queue_ghosts op tries called reply)
     (ContentCalls program_ghosts op tries called reply) before after
 
 -- the same of finishing, in this many turns
-abbrev pub ContentFinishes : {O : Type 0} → ℕ → Called → List ℕ → Content O → Content O → Type 0
+abbrev pub ContentFinishes : {O : Type 0} → ℕ → Called → List ℕ → HandleState O → HandleState O → Type 0
 ContentFinishes tries called reply (Session before) (Session after) = FinishesIn tries before called after reply
 ContentFinishes tries called reply (Session before) after = ⊥
 ContentFinishes tries called reply before after = IsNoTurn before called after
 
-abbrev pub FinishesSession : ℕ → AnyContent → Called → AnyContent → List ℕ → Type 0
+abbrev pub FinishesSession : ℕ → AnyHandleState → Called → AnyHandleState → List ℕ → Type 0
 FinishesSession tries before called after reply =
     OfBoth (ContentFinishes tries called reply) (ContentFinishes tries called reply) (ContentFinishes tries called reply) before after
 
@@ -147,11 +147,11 @@ pub record IsTriesFor (asked tries : ℕ) : Type 0 where
   pub all : (asked ≤ tries) ⊎ (tries ≡ 2 ^ 20)
 
 -- what C is answered: the number of the result of these tries, which left what may be called
-pub record AnswersTries (asked : ℕ) (come_to : ℕ → Called → AnyContent → Type 0) (code : ℤ) : Type 0 where
+pub record AnswersTries (asked : ℕ) (come_to : ℕ → Called → AnyHandleState → Type 0) (code : ℤ) : Type 0 where
   pub tries : ℕ
   pub asked_for : IsTriesFor asked tries
   pub called : Called
-  pub after : AnyContent
+  pub after : AnyHandleState
   pub callable : IsCallable after
   pub comes_to : come_to tries called after
   pub is : code ≡ code_of called

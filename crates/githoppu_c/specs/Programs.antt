@@ -17,7 +17,7 @@ use Rattle.githoppu_c.specs.Codes.{IsOpenCode}
 use Rattle.githoppu_c.specs.Contents.{AreOpened, MayOpen, program_session}
 use Rattle.githoppu_c.specs.Objects.{IsProgramFault, IsProgramIn}
 use Rattle.githoppu_c.specs.Recoveries.{AreFew, AreRecovered, Recovers, RefusesWords}
-use Rattle.githoppu_c.specs.declared.content.AnyContent.{AnyContent}
+use Rattle.githoppu_c.specs.declared.content.AnyHandleState.{AnyHandleState}
 
 -- words are a program: the first ones spell instructions
 abbrev pub IsProgram : List ℕ → ℕ → Type 0
@@ -92,7 +92,7 @@ AnswersProgramOpening words instructions fuel lines count code =
     (MayOpenProgram fuel lines count × IsProgram words instructions × (code ≡ pos 0)) ⊎ RefusesProgramOpening words instructions fuel lines count code
 
 -- boxes of sessions of one service of the object of this program
-pub record AreProgramsOpened (words : List ℕ) (instructions fuel lines count : ℕ) (boxes : List (Box AnyContent Global)) : Type 0 where
+pub record AreProgramsOpened (words : List ℕ) (instructions fuel lines count : ℕ) (boxes : List (Box AnyHandleState Global)) : Type 0 where
   pub opened : AreOpened program_session lines count boxes
   pub fuel_fits : IsFuel fuel
   pub object : IsObjectOf words instructions fuel lines None opened.service.object
@@ -125,7 +125,7 @@ RefusesProgramRecovery words instructions fuel before image count =
     AfterProgram words instructions fuel count (λ decoded. RefusesWords 3 (IsFaultByProgram decoded words instructions fuel before image) image count)
 
 -- boxes of sessions of one service of the object of this program, which opens from a base that the image says
-pub record AreProgramsRecovered (words : List ℕ) (instructions fuel before : ℕ) (image : List ℕ) (count : ℕ) (boxes : List (Box AnyContent Global))
+pub record AreProgramsRecovered (words : List ℕ) (instructions fuel before : ℕ) (image : List ℕ) (count : ℕ) (boxes : List (Box AnyHandleState Global))
     : Type 0 where
   pub is : IsProgram words instructions
   pub recovered : AreRecovered program_session (IsTakenByProgram is.0 words instructions fuel before image) count boxes

@@ -3,12 +3,12 @@ use Rattle.std.specs.Prelude.{◌≡◌, ◌⊎◌, ◌≤◌, ℕ, ℤ, pos, Li
 use Rattle.std.specs.Global.{Global}
 use Rattle.std_alloc.specs.declared.boxed.Box.{Box}
 use Rattle.cx_core.specs.declared.entry.Base.{Base}
-use Rattle.cx_rule.specs.Running.{Running}
+use Rattle.table_invariant.specs.Running.{Running}
 use Rattle.c_images.specs.Words.{IsHeadFault}
 use Rattle.c_images.specs.declared.reader.WordsFault.{WordsFault}
 use Rattle.githoppu_c.specs.Codes.{IsOpenCode, fault_code}
 use Rattle.githoppu_c.specs.Contents.{AreBoxes, IsSessionIn}
-use Rattle.githoppu_c.specs.declared.content.AnyContent.{AnyContent}
+use Rattle.githoppu_c.specs.declared.content.AnyHandleState.{AnyHandleState}
 use Rattle.c_sessions.specs.declared.session.Session.{Session}
 
 -- 1 to 8 sessions
@@ -32,7 +32,7 @@ abbrev pub RefusesWords : ℕ → (WordsFault → Type 0) → List ℕ → ℕ �
 RefusesWords kind faulty words count code = ((¬ AreFew count) × (code ≡ pos 7)) ⊎ (AreFew count × (AreWordsRefusedBy kind faulty words code ⊎ IsOpenCode code))
 
 -- this many boxes of sessions of one service that opens from a base that these words say
-pub record AreRecovered {O : Type 0} (any : Session O → AnyContent) (taken : Base → Type 0) (count : ℕ) (boxes : List (Box AnyContent Global)) : Type 0 where
+pub record AreRecovered {O : Type 0} (any : Session O → AnyHandleState) (taken : Base → Type 0) (count : ℕ) (boxes : List (Box AnyHandleState Global)) : Type 0 where
   pub few : AreFew count
   pub service : Running O
   pub callers_are : service.callers ≡ count

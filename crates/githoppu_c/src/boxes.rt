@@ -4,10 +4,10 @@ ghost use Rattle.std.specs.Prelude.{◌≡◌, IfOk, List, MatchResult, map, pos
 ghost use Rattle.std.specs.Global.{Global as global};
 ghost use Rattle.std_alloc.specs.declared.boxed.Box.{Box as box_type};
 ghost use Rattle.githoppu_c.specs.Contents.{program_session, queue_session, store_session};
-ghost use Rattle.githoppu_c.specs.declared.content.AnyContent.{AnyContent as any_type};
+ghost use Rattle.githoppu_c.specs.declared.content.AnyHandleState.{AnyHandleState as any_type};
 
 use crate::codes::NO_MEMORY;
-use crate::content::{AnyContent, Content};
+use crate::content::{AnyHandleState, HandleState};
 use c_sessions::Session;
 use doc_store::DocStore;
 use fifo_object::Fifo;
@@ -20,36 +20,39 @@ pub trait SessionOfC: Drop {
     ghost as_any: { Self → any_type };
 
     /// The session as C has it.
-    fn any(self) -> AnyContent
+    fn any(self) -> AnyHandleState
         ensures { result ≡ as_any self };
 }
 
 impl SessionOfC for Session<DocStore> {
     ghost as_any = { store_session };
 
-    fn any(self) -> AnyContent {
-        AnyContent::Documents(Content::Session(self))
+    fn any(self) -> AnyHandleState {
+        AnyHandleState::Documents(HandleState::Session(self))
     }
 }
 
 impl SessionOfC for Session<Fifo> {
     ghost as_any = { queue_session };
 
-    fn any(self) -> AnyContent {
-        AnyContent::Queue(Content::Session(self))
+    fn any(self) -> AnyHandleState {
+        AnyHandleState::Queue(HandleState::Session(self))
     }
 }
 
 impl SessionOfC for Session<ProgramObject> {
     ghost as_any = { program_session };
 
-    fn any(self) -> AnyContent {
-        AnyContent::Program(Content::Session(self))
+    fn any(self) -> AnyHandleState {
+        AnyHandleState::Program(HandleState::Session(self))
     }
 }
 
 /// A box for each session. `Err` is NO_MEMORY.
-pub fn boxed<S: SessionOfC>(alloc: Global, sessions: Vec<S>) -> Result<Vec<Box<AnyContent>>, i32>
+pub fn boxed<S: SessionOfC>(
+    alloc: Global,
+    sessions: Vec<S>,
+) -> Result<Vec<Box<AnyHandleState>>, i32>
     ensures { MatchResult result (λ boxes. map (λ (b : box_type any_type global). b.value) boxes.items ≡ map S.as_any sessions.items) (λ code. code ≡ pos 8) }
 {
     match in_boxes(alloc, sessions) {
@@ -62,7 +65,7 @@ pub fn boxed<S: SessionOfC>(alloc: Global, sessions: Vec<S>) -> Result<Vec<Box<A
 fn in_boxes<S: SessionOfC>(
     alloc: Global,
     sessions: Vec<S>,
-) -> Result<Vec<Box<AnyContent>>, AllocError>
+) -> Result<Vec<Box<AnyHandleState>>, AllocError>
     ensures { IfOk result (λ boxes. map (λ (b : box_type any_type global). b.value) boxes.items ≡ map S.as_any sessions.items) }
 {
     let mut boxes = Vec::new(alloc);

@@ -2,13 +2,13 @@
 
 ghost use Rattle.std.specs.Prelude.{◌≡◌};
 ghost use Rattle.std.specs.Arc.{arc_value};
-ghost use Rattle.cx_rule.specs.Running.{IsRunning};
+ghost use Rattle.table_invariant.specs.Running.{IsRunning};
 ghost use Rattle.c_sessions.specs.Sessions.{IsSessionReady};
 ghost use Rattle.githoppu_c.specs.Checkpoints.{TakesAs};
 
 use crate::codes::{AGAIN, BAD_SIZE, DONE, OUT_OF_TURN, STOPPED};
 use c_images::{base_image_words, base_words, write_base};
-use c_sessions::{Session, Taken, Tries};
+use c_sessions::{Session, SessionCheckpoint, Tries};
 use cx_base::Object;
 
 /// Has a session take an image, where the buffer has as many words as one of one region, which is `needed`; else nothing is changed. The region is loaded
@@ -35,12 +35,12 @@ pub fn take_to<O: Object>(
     let region = base_words(lines) as usize;
     let tries = Tries { count: 16 };
     match session.checkpoint(&mut words[8..8 + region], tries) {
-        Taken::At(place) => {
+        SessionCheckpoint::At(place) => {
             write_base(kind, callers, lines, place, words);
             DONE
         }
-        Taken::Again => AGAIN,
-        Taken::Stopped => STOPPED,
-        Taken::OutOfTurn => OUT_OF_TURN,
+        SessionCheckpoint::Again => AGAIN,
+        SessionCheckpoint::Stopped => STOPPED,
+        SessionCheckpoint::OutOfTurn => OUT_OF_TURN,
     }
 }

@@ -5,7 +5,7 @@ ghost use Rattle.githoppu_c.specs.Codes as spec;
 ghost use Rattle.githoppu_c.specs.Places as places;
 
 use c_images::WordsFault;
-use c_sessions::{Called, OpenFault, Sight};
+use c_sessions::{Called, OpenFault, SessionCatchUp};
 use recovery::ImageFault;
 
 /// Done, and the reply is there.
@@ -79,14 +79,14 @@ pub const BEHIND: i32 = 23;
 pub const BAD_PROGRAM: i32 = 25;
 
 /// The number of the result of catching up.
-pub fn sight_code(sight: Sight) -> i32
+pub fn sight_code(sight: SessionCatchUp) -> i32
     ensures { result ≡ places.sight_code sight }
 {
     match sight {
-        Sight::Caught => DONE,
-        Sight::Behind(_) => BEHIND,
-        Sight::Stopped => STOPPED,
-        Sight::OutOfTurn => OUT_OF_TURN,
+        SessionCatchUp::Caught => DONE,
+        SessionCatchUp::Behind(_) => BEHIND,
+        SessionCatchUp::Stopped => STOPPED,
+        SessionCatchUp::OutOfTurn => OUT_OF_TURN,
     }
 }
 

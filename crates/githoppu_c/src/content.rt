@@ -6,7 +6,7 @@ ghost use Rattle.githoppu_c.specs.Checkpoints.{CheckpointsSession, ContentCheckp
 ghost use Rattle.githoppu_c.specs.Closings.{ClosesAs, ContentCloses, ContentImages, Images, content_left};
 ghost use Rattle.githoppu_c.specs.Codes.{closing_code};
 ghost use Rattle.githoppu_c.specs.Contents.{CallHasResult, ContentCalls, ContentFinishes, FinishesSession, IsCallable, IsContentCallable};
-ghost use Rattle.githoppu_c.specs.Places.{ContentMayHavePlace, ContentSees, MayHavePlace, Sees};
+ghost use Rattle.githoppu_c.specs.Places.{ContentMayHavePlace, ContentSees, MayHavePlace, ContentCatchesUp};
 
 use crate::checkpoint::take_to;
 use crate::codes::{AGAIN, DONE, LOST, NO_MEMORY, OTHERS, OUT_OF_TURN};
@@ -15,7 +15,9 @@ use crate::objects::OfC;
 use c_images::{
     taken_images_are_taken_up, written_images_are_taken_up, written_images_keep_replies,
 };
-use c_sessions::{Called, Closing, Rest, Session, Sight, Tries, close_kept, close_rest};
+use c_sessions::{
+    Called, Closing, Session, SessionCatchUp, Tries, Unclosed, close_kept, close_rest,
+};
 use cx_base::{Object, OpWords};
 use cx_service::Kept;
 use cx_table::Remains;
@@ -29,23 +31,23 @@ use std::mem;
 /// A session of an object; a service that is to be closed with all its callers, once there is memory; what the last session found of one, which is to be
 /// closed with the others; what a closed one left; or nothing any more.
 #[derive(Drop)]
-pub enum Content<O: Object> {
+pub enum HandleState<O: Object> {
     Session(Session<O>),
     Kept(Kept<O>),
-    Rest(Rest<O>),
+    Unclosed(Unclosed<O>),
     Closed(Remains),
     Gone,
 }
 
 /// What C has: a content of a document store, of a queue, or of a program's object.
 #[derive(Drop)]
-pub enum AnyContent {
-    Documents(Content<DocStore>),
-    Queue(Content<Fifo>),
-    Program(Content<ProgramObject>),
+pub enum AnyHandleState {
+    Documents(HandleState<DocStore>),
+    Queue(HandleState<Fifo>),
+    Program(HandleState<ProgramObject>),
 }
 
-impl<O: OfC> Content<O> {
+impl<O: OfC> HandleState<O> {
     /// Does an operation, in at most the given number of tries.
     pub fn call(&mut self, op: &OpWords, reply: &mut OpWords, tries: Tries) -> Called
         requires callable { IsContentCallable O.Object O.replies_kept self.old }
@@ -53,7 +55,7 @@ impl<O: OfC> Content<O> {
         ensures calls { ContentCalls O.Object op.now tries.count result reply.new self.old self.new }
     {
         match self {
-            Content::Session(session) => session.call(op, reply, tries),
+            HandleState::Session(session) => session.call(op, reply, tries),
             _ => Called::OutOfTurn,
         }
     }
@@ -65,7 +67,7 @@ impl<O: OfC> Content<O> {
         ensures finishes { ContentFinishes tries.count result reply.new self.old self.new }
     {
         match self {
-            Content::Session(session) => session.finish(reply, tries),
+            HandleState::Session(session) => session.finish(reply, tries),
             _ => Called::OutOfTurn,
         }
     }
@@ -75,20 +77,20 @@ impl<O: OfC> Content<O> {
         ensures { ContentMayHavePlace self.now result }
     {
         match self {
-            Content::Session(session) => Some(session.place()),
+            HandleState::Session(session) => Some(session.place()),
             _ => None,
         }
     }
 
     /// Has a session see a place that another one told.
-    pub fn catch_up(&mut self, place: u64) -> Sight
+    pub fn catch_up(&mut self, place: u64) -> SessionCatchUp
         requires callable { IsContentCallable O.Object O.replies_kept self.old }
         ensures callable { IsContentCallable O.Object O.replies_kept self.new }
         ensures sees { ContentSees place result self.old self.new }
     {
         match self {
-            Content::Session(session) => session.catch_up(place),
-            _ => Sight::OutOfTurn,
+            HandleState::Session(session) => session.catch_up(place),
+            _ => SessionCatchUp::OutOfTurn,
         }
     }
 
@@ -101,7 +103,7 @@ impl<O: OfC> Content<O> {
         ensures back { ContentTakenBack O.Object O.KIND words.new result self.old }
     {
         match self {
-            Content::Session(session) => {
+            HandleState::Session(session) => {
                 taken_images_are_taken_up::<O>();
                 take_to(session, O::KIND, words, needed)
             }
@@ -118,24 +120,24 @@ impl<O: OfC> Content<O> {
         ensures callable { IsContentCallable O.Object O.replies_kept self.new }
         ensures closes { ContentCloses O.Object result self.old self.new }
     {
-        let (after, code) = mem::replace(self, Content::Gone).closed(alloc);
+        let (after, code) = mem::replace(self, HandleState::Gone).closed(alloc);
         *self = after;
         code
     }
 
     /// Closes what a handle holds, if it can be closed: what it holds then, and the status of the call.
-    fn closed(self, alloc: Global) -> (Content<O>, i32)
+    fn closed(self, alloc: Global) -> (HandleState<O>, i32)
         requires callable { IsContentCallable O.Object O.replies_kept self }
         ensures callable { IsContentCallable O.Object O.replies_kept result.0 }
         ensures closes { ContentCloses O.Object result.1 self result.0 }
     {
         match self {
-            Content::Session(session) => left(session.close(alloc)),
-            Content::Kept(kept) => match close_kept(alloc, kept) {
-                Ok(remains) => (Content::Closed(remains), DONE),
-                Err(kept) => (Content::Kept(kept), NO_MEMORY),
+            HandleState::Session(session) => left(session.close(alloc)),
+            HandleState::Kept(kept) => match close_kept(alloc, kept) {
+                Ok(remains) => (HandleState::Closed(remains), DONE),
+                Err(kept) => (HandleState::Kept(kept), NO_MEMORY),
             },
-            Content::Rest(rest) => left(close_rest(alloc, rest)),
+            HandleState::Unclosed(rest) => left(close_rest(alloc, rest)),
             other => (other, OUT_OF_TURN),
         }
     }
@@ -148,7 +150,7 @@ impl<O: OfC> Content<O> {
         ensures back { ContentComesBack O.Object O.KIND O.replies_kept choice words.new result self.now }
     {
         match self {
-            Content::Closed(remains) => {
+            HandleState::Closed(remains) => {
                 closed_tables_are_whole::<O>();
                 written_images_are_taken_up::<O>();
                 written_images_keep_replies::<O>();
@@ -163,20 +165,20 @@ impl<O: OfC> Content<O> {
 }
 
 /// What closing a session left.
-fn left<O: Object>(closing: Closing<O>) -> (Content<O>, i32)
+fn left<O: Object>(closing: Closing<O>) -> (HandleState<O>, i32)
     ensures { (result.0 ≡ content_left closing) × (result.1 ≡ closing_code closing) }
 {
     match closing {
-        Closing::Others => (Content::Gone, OTHERS),
-        Closing::Again(session) => (Content::Session(session), AGAIN),
-        Closing::Closed(remains, _) => (Content::Closed(remains), DONE),
-        Closing::Kept(kept, _) => (Content::Kept(kept), NO_MEMORY),
-        Closing::Missing(rest) => (Content::Rest(rest), LOST),
-        Closing::Shared(rest) => (Content::Rest(rest), AGAIN),
+        Closing::Others => (HandleState::Gone, OTHERS),
+        Closing::Again(session) => (HandleState::Session(session), AGAIN),
+        Closing::Closed(remains, _) => (HandleState::Closed(remains), DONE),
+        Closing::Kept(kept, _) => (HandleState::Kept(kept), NO_MEMORY),
+        Closing::Missing(rest) => (HandleState::Unclosed(rest), LOST),
+        Closing::Shared(rest) => (HandleState::Unclosed(rest), AGAIN),
     }
 }
 
-impl AnyContent {
+impl AnyHandleState {
     /// Does an operation, in at most the given number of tries.
     pub fn call(&mut self, op: &OpWords, reply: &mut OpWords, tries: Tries) -> Called
         requires callable { IsCallable self.old }
@@ -184,9 +186,9 @@ impl AnyContent {
         ensures calls { CallHasResult op.now tries.count self.old result self.new reply.new }
     {
         match self {
-            AnyContent::Documents(content) => content.call(op, reply, tries),
-            AnyContent::Queue(content) => content.call(op, reply, tries),
-            AnyContent::Program(content) => content.call(op, reply, tries),
+            AnyHandleState::Documents(content) => content.call(op, reply, tries),
+            AnyHandleState::Queue(content) => content.call(op, reply, tries),
+            AnyHandleState::Program(content) => content.call(op, reply, tries),
         }
     }
 
@@ -197,9 +199,9 @@ impl AnyContent {
         ensures finishes { FinishesSession tries.count self.old result self.new reply.new }
     {
         match self {
-            AnyContent::Documents(content) => content.finish(reply, tries),
-            AnyContent::Queue(content) => content.finish(reply, tries),
-            AnyContent::Program(content) => content.finish(reply, tries),
+            AnyHandleState::Documents(content) => content.finish(reply, tries),
+            AnyHandleState::Queue(content) => content.finish(reply, tries),
+            AnyHandleState::Program(content) => content.finish(reply, tries),
         }
     }
 
@@ -208,22 +210,22 @@ impl AnyContent {
         ensures { MayHavePlace self.now result }
     {
         match self {
-            AnyContent::Documents(content) => content.place(),
-            AnyContent::Queue(content) => content.place(),
-            AnyContent::Program(content) => content.place(),
+            AnyHandleState::Documents(content) => content.place(),
+            AnyHandleState::Queue(content) => content.place(),
+            AnyHandleState::Program(content) => content.place(),
         }
     }
 
     /// Has a session see a place that another one told.
-    pub fn catch_up(&mut self, place: u64) -> Sight
+    pub fn catch_up(&mut self, place: u64) -> SessionCatchUp
         requires callable { IsCallable self.old }
         ensures callable { IsCallable self.new }
-        ensures sees { Sees place self.old result self.new }
+        ensures sees { ContentCatchesUp place self.old result self.new }
     {
         match self {
-            AnyContent::Documents(content) => content.catch_up(place),
-            AnyContent::Queue(content) => content.catch_up(place),
-            AnyContent::Program(content) => content.catch_up(place),
+            AnyHandleState::Documents(content) => content.catch_up(place),
+            AnyHandleState::Queue(content) => content.catch_up(place),
+            AnyHandleState::Program(content) => content.catch_up(place),
         }
     }
 
@@ -235,9 +237,9 @@ impl AnyContent {
         ensures back { TakenComesBack self.old words.new result }
     {
         match self {
-            AnyContent::Documents(content) => content.checkpoint(words, needed),
-            AnyContent::Queue(content) => content.checkpoint(words, needed),
-            AnyContent::Program(content) => {
+            AnyHandleState::Documents(content) => content.checkpoint(words, needed),
+            AnyHandleState::Queue(content) => content.checkpoint(words, needed),
+            AnyHandleState::Program(content) => {
                 taken_images_are_taken_up::<ProgramObject>();
                 content.checkpoint(words, needed)
             }
@@ -251,9 +253,9 @@ impl AnyContent {
         ensures closes { ClosesAs self.old self.new result }
     {
         match self {
-            AnyContent::Documents(content) => content.close(alloc),
-            AnyContent::Queue(content) => content.close(alloc),
-            AnyContent::Program(content) => content.close(alloc),
+            AnyHandleState::Documents(content) => content.close(alloc),
+            AnyHandleState::Queue(content) => content.close(alloc),
+            AnyHandleState::Program(content) => content.close(alloc),
         }
     }
 
@@ -264,9 +266,9 @@ impl AnyContent {
         ensures back { ComesBack self.now choice words.new result }
     {
         match self {
-            AnyContent::Documents(content) => content.image(choice, words, needed),
-            AnyContent::Queue(content) => content.image(choice, words, needed),
-            AnyContent::Program(content) => {
+            AnyHandleState::Documents(content) => content.image(choice, words, needed),
+            AnyHandleState::Queue(content) => content.image(choice, words, needed),
+            AnyHandleState::Program(content) => {
                 written_images_are_taken_up::<ProgramObject>();
                 content.image(choice, words, needed)
             }
@@ -284,8 +286,8 @@ pub const fn contents_cross_threads() {
     goes_to_a_thread::<Kept<DocStore>>();
     goes_to_a_thread::<Kept<Fifo>>();
     goes_to_a_thread::<Kept<ProgramObject>>();
-    goes_to_a_thread::<Rest<DocStore>>();
-    goes_to_a_thread::<Rest<Fifo>>();
-    goes_to_a_thread::<Rest<ProgramObject>>();
+    goes_to_a_thread::<Unclosed<DocStore>>();
+    goes_to_a_thread::<Unclosed<Fifo>>();
+    goes_to_a_thread::<Unclosed<ProgramObject>>();
     goes_to_a_thread::<Remains>();
 }

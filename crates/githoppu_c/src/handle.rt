@@ -1,10 +1,10 @@
 //! A pointer as C hands it in.
 
 ghost use Rattle.std.specs.Prelude.{◌≡◌};
-ghost use Rattle.githoppu_c.specs.declared.content.AnyContent.{AnyContent};
+ghost use Rattle.githoppu_c.specs.declared.content.AnyHandleState.{AnyHandleState};
 ghost use Rattle.githoppu_c.specs.Sealed.{content_coded, handle_owns};
 
-use crate::content::AnyContent;
+use crate::content::AnyHandleState;
 use crate::raw_box::RawBox;
 use std::alloc::Global;
 use std::marker::Model;
@@ -15,7 +15,7 @@ use std::marker::Model;
 pub struct Handle {
     at: *mut u8,
     alloc: Global,
-    pub ghost content: { AnyContent } by { content_coded },
+    pub ghost content: { AnyHandleState } by { content_coded },
 }
 
 impl Model for Handle {
@@ -24,18 +24,18 @@ impl Model for Handle {
 
 impl Handle {
     /// The box that it was made of.
-    pub fn into_box(self) -> Box<AnyContent>
+    pub fn into_box(self) -> Box<AnyHandleState>
         ensures { result.value ≡ self.content }
     {
         self.into_raw_box().into_box()
     }
 
     /// The handle as a raw box, which its content can be taken from.
-    fn into_raw_box(self) -> RawBox<AnyContent, Global>
+    fn into_raw_box(self) -> RawBox<AnyHandleState, Global>
         ensures { result.value ≡ self.content }
     {
         RawBox {
-            ptr: self.at as *mut AnyContent,
+            ptr: self.at as *mut AnyHandleState,
             alloc: self.alloc,
         }
     }

@@ -6,7 +6,8 @@
 //! nothing. The bodies are thin: `c_sessions` has what a call does, `c_images` has images.
 //!
 //! The document store, the queue and the object of a program for C: `include/githoppu.h` says how each is called. A session is a caller with its share of a
-//! service, and C gives each to one call at a time. What a call does is said once, for any object (`Content`), and matched once by object (`AnyContent`).
+//! service, and C gives each to one call at a time. What a call does is said once, for any object (`HandleState`), and matched once by object
+//! (`AnyHandleState`).
 #![tactic(auto)]
 
 ghost use Rattle.std.specs.Prelude.{◌≡◌, length};
@@ -19,7 +20,7 @@ ghost use Rattle.githoppu_c.specs.Objects.{IsQueueFault, IsQueueIn, IsStoreFault
 ghost use Rattle.githoppu_c.specs.Outcomes.{WritesOutcome};
 ghost use Rattle.githoppu_c.specs.Recoveries.{Recovers};
 ghost use Rattle.githoppu_c.specs.Programs.{AnswersProgramOpening, RecoversProgram, TellsFault, TellsFingerprint};
-ghost use Rattle.githoppu_c.specs.declared.content.AnyContent as content_type;
+ghost use Rattle.githoppu_c.specs.declared.content.AnyHandleState as content_type;
 
 mod boxes;
 mod checkpoint;
@@ -210,7 +211,7 @@ pub extern "C" fn githoppu_finish(
 #[unsafe(no_mangle)]
 pub extern "C" fn githoppu_close(alloc: Global, session: Handle, out: &mut *mut u8) -> i32
     requires { IsCallable session.content }
-    ensures { (after : content_type.AnyContent) × IsCallable after × ClosesAs session.content after result }
+    ensures { (after : content_type.AnyHandleState) × IsCallable after × ClosesAs session.content after result }
 {
     let mut content = session.into_box();
     let code = content.close(alloc);

@@ -7,7 +7,7 @@ ghost use Rattle.githoppu_c.specs.Contents.{AreOpened, AreSessionsOf, MayOpen, R
 
 use crate::boxes::boxed;
 use crate::codes::{BAD_SIZE, open_code};
-use crate::content::AnyContent;
+use crate::content::AnyHandleState;
 use c_sessions::{Session, open};
 use cx_base::Object;
 use doc_store::DocStore;
@@ -16,7 +16,11 @@ use std::alloc::Global;
 
 /// `count` sessions of an empty document store in `lines` lines. `Err` is the code of the refusal: BAD_SIZE where the lines are not 64 to 16,384 or the
 /// sessions not 1 to 8, else NO_MEMORY, or AGAIN where the sessions' new queue did not take its first entry.
-pub fn open_documents(alloc: Global, lines: u64, count: usize) -> Result<Vec<Box<AnyContent>>, i32>
+pub fn open_documents(
+    alloc: Global,
+    lines: u64,
+    count: usize,
+) -> Result<Vec<Box<AnyHandleState>>, i32>
     ensures { MatchResult result (λ boxes. AreOpened store_session lines count boxes.items) (Refuses lines count) }
 {
     if !may_open(lines, count) {
@@ -27,7 +31,7 @@ pub fn open_documents(alloc: Global, lines: u64, count: usize) -> Result<Vec<Box
 }
 
 /// `count` sessions of an empty queue in `lines` lines. `Err` is the code of the refusal, as for a document store.
-pub fn open_queue(alloc: Global, lines: u64, count: usize) -> Result<Vec<Box<AnyContent>>, i32>
+pub fn open_queue(alloc: Global, lines: u64, count: usize) -> Result<Vec<Box<AnyHandleState>>, i32>
     ensures { MatchResult result (λ boxes. AreOpened queue_session lines count boxes.items) (Refuses lines count) }
 {
     if !may_open(lines, count) {
@@ -53,7 +57,7 @@ pub(crate) fn opened<O: Object>(
 }
 
 /// Puts each session into a slot.
-pub fn hand_out(sessions: Vec<Box<AnyContent>>, slots: &mut [*mut u8]) {
+pub fn hand_out(sessions: Vec<Box<AnyHandleState>>, slots: &mut [*mut u8]) {
     let mut at = 0;
     for session in sessions {
         if at < slots.len() {

@@ -8,7 +8,7 @@ ghost use Rattle.githoppu_c.specs.Programs.{AreProgramsOpened, AreProgramsRecove
 
 use crate::boxes::boxed;
 use crate::codes::{BAD_PROGRAM, BAD_SIZE, NO_MEMORY, fault_code};
-use crate::content::AnyContent;
+use crate::content::AnyHandleState;
 use crate::images::PROGRAM;
 use crate::open::{may_open, opened};
 use crate::recovered_sessions::{are_few, recovered};
@@ -33,7 +33,7 @@ pub fn open_program(
     fuel: u64,
     lines: u64,
     count: usize,
-) -> Result<Vec<Box<AnyContent>>, i32>
+) -> Result<Vec<Box<AnyHandleState>>, i32>
     ensures { MatchResult result (λ boxes. AreProgramsOpened words.now instructions fuel lines count boxes.items) (RefusesProgramOpening words.now instructions fuel lines count) }
 {
     if !may_open(lines, count) || fuel > MOST_FUEL {
@@ -54,7 +54,7 @@ pub fn recover_program(
     before: u64,
     image: &[u64],
     count: usize,
-) -> Result<Vec<Box<AnyContent>>, i32>
+) -> Result<Vec<Box<AnyHandleState>>, i32>
     ensures { MatchResult result (λ boxes. AreProgramsRecovered words.now instructions fuel before image.now count boxes.items) (RefusesProgramRecovery words.now instructions fuel before image.now count) }
 {
     if !are_few(count) || fuel > MOST_FUEL {

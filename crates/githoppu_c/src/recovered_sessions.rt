@@ -11,7 +11,7 @@ ghost use Rattle.githoppu_c.specs.Recoveries.{AreFew, AreRecovered, IsRefusal, R
 
 use crate::boxes::boxed;
 use crate::codes::{BAD_SIZE, IMAGE_BODY, NO_MEMORY, fault_code, open_code};
-use crate::content::AnyContent;
+use crate::content::AnyHandleState;
 use crate::images::{DOCUMENTS, QUEUE};
 use crate::objects::OfC;
 use c_images::{Head, ReplyKind, base_of, head_of, holds_replies};
@@ -28,7 +28,7 @@ pub fn recover_documents(
     alloc: Global,
     words: &[u64],
     count: usize,
-) -> Result<Vec<Box<AnyContent>>, i32>
+) -> Result<Vec<Box<AnyHandleState>>, i32>
     ensures { MatchResult result (λ boxes. AreRecovered store_session (IsStoreIn words.now) count boxes.items) (RefusesWords 1 (IsStoreFault words.now) words.now count) }
 {
     if !are_few(count) {
@@ -47,7 +47,7 @@ pub fn recover_queue(
     alloc: Global,
     words: &[u64],
     count: usize,
-) -> Result<Vec<Box<AnyContent>>, i32>
+) -> Result<Vec<Box<AnyHandleState>>, i32>
     ensures { MatchResult result (λ boxes. AreRecovered queue_session (IsQueueIn words.now) count boxes.items) (RefusesWords 2 (IsQueueFault words.now) words.now count) }
 {
     if !are_few(count) {

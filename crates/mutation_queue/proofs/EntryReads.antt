@@ -8,12 +8,12 @@ use Rattle.cx_core.specs.declared.local.Local.{Local}
 use Rattle.cx_core.specs.State.{Instance, one_more}
 use Rattle.cx_core.specs.Layout.{max_word}
 use borrow.Author.Count.{below_more}
-use Rattle.cx_rule.specs.declared.rule.Noted.{Noted}
-use Rattle.cx_rule.specs.Fitting.{Fitting, IsNoted}
+use Rattle.table_invariant.specs.declared.rule.Noted.{Noted}
+use Rattle.table_invariant.specs.Fitting.{Fitting, IsNoted}
 use Rattle.cx_table.specs.Running.{Running, instance_at}
 use Rattle.cx_table.specs.Runs.{Runs, no_step, one_more_step, reads_of}
 use Rattle.cx_table.specs.Seats.{IsAtLimit, Seated, stepped}
-use Rattle.mutation_queue.specs.Entries.{EndsAfter, HaltsAmong, HaltsReading, Looked, NotesEntry, ReadsEntry, ReadsWords, notes_of, steps_after, with_look, with_read}
+use Rattle.mutation_queue.specs.Entries.{EndsAfter, HaltsAmong, HaltsReading, LoadsLink, NotesEntry, ReadsEntry, ReadsWords, notes_of, steps_after, with_look, with_read}
 
 -- ---- steps
 
@@ -127,14 +127,14 @@ read_after_look caller ticket words s looked after look is =
     let seen : after.known.local.seen_slot ≡ looked.known.local.seen_slot = ap (λ (x : Seated). x.known.local.seen_slot) is in
     is ∙ ap (with_read caller ticket words) (look ∙ ap (λ x. with_look x s) (sym seen))
 
-pub reads_entry : {O : Type 0} (o : Ghosts O) (r : Running O) (caller ticket cell : ℕ) (words : List ℕ) (s looked after : Seated) → Looked r ticket cell s looked → ReadsWords o r caller ticket words looked after → length words ≡ 145 → ReadsEntry caller ticket words s after
+pub reads_entry : {O : Type 0} (o : Ghosts O) (r : Running O) (caller ticket cell : ℕ) (words : List ℕ) (s looked after : Seated) → LoadsLink r ticket cell s looked → ReadsWords o r caller ticket words looked after → length words ≡ 145 → ReadsEntry caller ticket words s after
 reads_entry o r caller ticket cell words s looked after l read long = record {
   seat = read_after_look caller ticket words s looked after l.seat read.seat;
   long = long;
   within = within_all s looked l.seat l.allowed read.within;
 }
 
-pub halts_reading : {O : Type 0} (r : Running O) (caller ticket cell : ℕ) (s looked after : Seated) → Looked r ticket cell s looked → HaltsAmong caller ticket looked after → HaltsReading ticket s after
+pub halts_reading : {O : Type 0} (r : Running O) (caller ticket cell : ℕ) (s looked after : Seated) → LoadsLink r ticket cell s looked → HaltsAmong caller ticket looked after → HaltsReading ticket s after
 halts_reading r caller ticket cell s looked after l h =
     let fewer = h.fewer in record {
       made = suc (length h.words);

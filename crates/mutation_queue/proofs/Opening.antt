@@ -9,7 +9,7 @@ use Rattle.cx_core.specs.RingEvents.{bound_in, least_in, need_word}
 use Rattle.cx_core.specs.State.{Instance, one_more}
 use Rattle.cx_table.specs.Seats.{Seated, stepped}
 use Rattle.mutation_queue.specs.declared.reclamation.Collected.{Collected}
-use Rattle.mutation_queue.specs.Collecting.{Collects, FindsLeast, Opens, Scans, ScansTo, but_collected}
+use Rattle.mutation_queue.specs.Collecting.{Collects, FindsLeast, Opens, Scans, ScansTo, except_collected}
 
 -- the least need that a scan found, of some callers
 record Least (target d number own bound : ℕ) (o : Option SeenNeed) : Type 0 where
@@ -40,16 +40,16 @@ module _ (instance : Instance) (target callers found free : ℕ) (s t u v : Seat
   pub seen : callers ≤ 8 → (least : SeenNeed) × (v.known.local.seen_need ≡ Some least) × (least.caller < 2 ^ 32)
   seen few = (all.least, noted, (let below = all.caller in omega arith))
 
-  opened_rest : but_collected u ≡ but_collected s
+  opened_rest : except_collected u ≡ except_collected s
   opened_rest =
-      ap but_collected opens
-      ∙ ap (λ n. but_collected (record t { known = record t.known { noted = n } })) (append-nil t.known.noted)
-      ∙ ap but_collected so.same
+      ap except_collected opens
+      ∙ ap (λ n. except_collected (record t { known = record t.known { noted = n } })) (append-nil t.known.noted)
+      ∙ ap except_collected so.same
 
-  pub rest : but_collected v ≡ but_collected s
+  pub rest : except_collected v ≡ except_collected s
   rest =
-      ap but_collected loads
-      ∙ ap (λ n. but_collected (record u { known = record u.known { noted = n } })) (append-nil u.known.noted)
+      ap except_collected loads
+      ∙ ap (λ n. except_collected (record u { known = record u.known { noted = n } })) (append-nil u.known.noted)
       ∙ opened_rest
 
   pub collects : (collected : Collected) → collected.free ≡ free → v.known.local.seen_need ≡ Some (record { need = collected.need; caller = collected.holder }) → Collects callers target s v collected

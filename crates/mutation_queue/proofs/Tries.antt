@@ -3,7 +3,7 @@ use Rattle.std.proofs.Common.{◌≡◌, ◌≢◌, ◌+◌, ◌-◌, ◌%◌, �
 use Rattle.std.proofs.lemmas.Bool.{cases_eq, cases_lt, eq-eqb, ne_eqb}
 use Rattle.std.proofs.lemmas.List.{append-nil}
 use Rattle.std.proofs.Math.Nat.{add-mod_right}
-use Rattle.atomic_table.proofs.Lists.{one_turn}
+use Rattle.atomic_table.proofs.Lists.{one_attempt}
 use Rattle.cx_base.specs.Codes.{link_ticket_of, root_place_of}
 use Rattle.cx_core.specs.declared.kinds.Kind.TheVariants.{Link, Look}
 use Rattle.cx_core.specs.declared.local.Local.{Local}
@@ -11,14 +11,14 @@ use Rattle.cx_core.specs.Events.{Guard}
 use Rattle.cx_core.specs.QueueEvents.{IsIdle, ShowsOpen, cell_of, entry_in, linked, lost, next_number, raised_front, seen_word}
 use Rattle.cx_core.specs.Layout.{cell_count}
 use Rattle.cx_core.specs.State.{Instance}
-use Rattle.cx_rule.specs.declared.rule.Noted.{Noted}
-use Rattle.cx_rule.specs.declared.rule.Times.{Times}
+use Rattle.table_invariant.specs.declared.rule.Noted.{Noted}
+use Rattle.table_invariant.specs.declared.rule.Times.{Times}
 use Rattle.cx_table.specs.Running.{IsSeatOf, Running, instance_at}
 use Rattle.cx_table.specs.Seats.{IsAtLimit, Seated, shown_next, stepped, unseen}
 use Rattle.cx_table.specs.Steps.{Steps}
 use Rattle.cx_table.specs.Told.{LinkTold, LookTold}
-use Rattle.mutation_queue.specs.Leaves.{LeavesSeatPart, seat_number}
-use Rattle.mutation_queue.specs.Links.{FindsLink, FindsOpen, LinksAt, LinksNone, LinksPast, MayLink, WinsTry, but_front, but_linked, with_front, with_loss, with_win}
+use Rattle.mutation_queue.specs.Leaves.{KeepsSeatPart, seat_number}
+use Rattle.mutation_queue.specs.Links.{FindsLink, FindsOpen, LinksAt, LinksNone, LinksPast, MayLink, WinsTry, except_front, except_linked, with_front, with_loss, with_win}
 
 -- a raised front, by the word found
 raised_zero : (callers front found : ℕ) → found ≡ 0 → raised_front callers front found ≡ front
@@ -36,7 +36,7 @@ raised_least callers front found =
 
 -- two tickets of one slot, the lower one by less than a round
 same_slot : (a b q : ℕ) → a % q ≡ b % q → b < a + q → a < b → ⊥
-same_slot a b q mods near below = let e = one_turn a b q (omega arith) near mods in omega arith
+same_slot a b q mods near below = let e = one_attempt a b q (omega arith) near mods in omega arith
 
 -- the ticket a round before has the same slot
 round_before : (t q : ℕ) → q ≤ t → (t - q) % q ≡ t % q
@@ -255,13 +255,13 @@ won_at instance s found found2 cell stays e =
     })
 
 -- what a seat shows but for its front, slot, steps, linked entries and cells tells whose it is
-pub leaves_linked : {O : Type 0} (r : Running O) (n : ℕ) (s t : Seated) → IsSeatOf r s → t.known.local.steps ≤ s.known.local.steps + n → but_linked t ≡ but_linked s → LeavesSeatPart r seat_number n s t
+pub leaves_linked : {O : Type 0} (r : Running O) (n : ℕ) (s t : Seated) → IsSeatOf r s → t.known.local.steps ≤ s.known.local.steps + n → except_linked t ≡ except_linked s → KeepsSeatPart r seat_number n s t
 leaves_linked r n s t of most same =
-    let now : IsSeatOf r (but_linked t) = subst (IsSeatOf r) (sym same) (record { table = of.table; caller = of.caller; before = of.before; region = of.region }) in
+    let now : IsSeatOf r (except_linked t) = subst (IsSeatOf r) (sym same) (record { table = of.table; caller = of.caller; before = of.before; region = of.region }) in
     record { of = record { table = now.table; caller = now.caller; before = now.before; region = now.region }; rest = ap seat_number same; steps = most }
 
-pub leaves_none : {O : Type 0} (r : Running O) (n : ℕ) (s t : Seated) → IsSeatOf r s → t.known.local.steps ≤ s.known.local.steps + n → LinksNone s t → LeavesSeatPart r seat_number n s t
-leaves_none r n s t of most none = leaves_linked r n s t of most (ap but_linked none.same)
+pub leaves_none : {O : Type 0} (r : Running O) (n : ℕ) (s t : Seated) → IsSeatOf r s → t.known.local.steps ≤ s.known.local.steps + n → LinksNone s t → KeepsSeatPart r seat_number n s t
+leaves_none r n s t of most none = leaves_linked r n s t of most (ap except_linked none.same)
 
 -- an entry that may be linked still may, where a try linked nothing
 pub still_may : {O : Type 0} (r : Running O) (cell : ℕ) (s t : Seated) → LinksNone s t → MayLink r cell s → MayLink r cell t
@@ -270,8 +270,8 @@ still_may r cell s t none may =
     let answered = may.answered in
     let idle = may.announced.idle in
     let number = may.announced.number in
-    let before : MayLink r cell (but_front s) = record { of = record { table = of.table; caller = of.caller; before = of.before; region = of.region }; few = may.few; announced = record { idle = idle; number = number }; answered = answered } in
-    let now : MayLink r cell (but_front t) = subst (MayLink r cell) (sym none.same) before in
+    let before : MayLink r cell (except_front s) = record { of = record { table = of.table; caller = of.caller; before = of.before; region = of.region }; few = may.few; announced = record { idle = idle; number = number }; answered = answered } in
+    let now : MayLink r cell (except_front t) = subst (MayLink r cell) (sym none.same) before in
     let of' = now.of in
     record { of = record { table = of'.table; caller = of'.caller; before = of'.before; region = of'.region }; few = now.few; announced = record { idle = now.announced.idle; number = now.announced.number }; answered = now.answered }
 
@@ -283,7 +283,7 @@ none_then s t u a b = record { same = b.same ∙ a.same; front = omega (arith, a
 
 pub none_at : (cell ticket : ℕ) (s t u : Seated) → LinksNone s t → LinksAt cell ticket t u → LinksAt cell ticket s u
 none_at cell ticket s t u none at = record {
-  same = at.same ∙ ap but_linked none.same;
+  same = at.same ∙ ap except_linked none.same;
   own = at.own ∙ ap (λ (x : Seated). x.known.local.own ++ record { ticket = ticket; entry = entry_in x.known.local cell } ∷ []) none.same;
   cells = at.cells ∙ ap (λ (x : Seated). set x.known.local.cells cell (record (cell_of x.known.local cell) { ticket = Some ticket })) none.same;
   front = at.front;

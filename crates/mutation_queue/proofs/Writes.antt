@@ -10,7 +10,7 @@ use Rattle.cx_core.specs.QueueEvents.{IsIdle, IsIdleAt, cell_of, next_number, wr
 use Rattle.cx_core.specs.State.{Instance, one_more}
 use Rattle.cx_table.specs.Running.{IsSeatOf, Running, instance_at}
 use Rattle.cx_core.specs.Layout.{max_word}
-use Rattle.cx_rule.specs.declared.rule.Noted.{Noted}
+use Rattle.table_invariant.specs.declared.rule.Noted.{Noted}
 use Rattle.cx_table.specs.Seats.{HasCells, IsAtLimit, IsWithinLimit, Seated, stepped}
 use Rattle.cx_table.specs.Steps.{Steps}
 use Rattle.mutation_queue.specs.Cells.{Announces, HaltsIn, IsAnnounced, differing}

@@ -12,8 +12,8 @@ use Rattle.mutation_queue.specs.declared.reclamation.Collected.{Collected}
 
 -- a seat but for the scan under way, the greatest FREE found, what scans found, whether what was seen of CUR is fresh, and the counts of
 -- steps and scans
-abbrev pub but_collected : Seated → Seated
-but_collected s = record s { known = record s.known { local = record s.known.local { seen_free = 0; seen_need = None; scan = None; fresh = false; steps = 0; scans = 0 } } }
+abbrev pub except_collected : Seated → Seated
+except_collected s = record s { known = record s.known { local = record s.known.local { seen_free = 0; seen_need = None; scan = None; fresh = false; steps = 0; scans = 0 } } }
 
 -- LOW may be raised to a target: it is at most the place of the code last loaded from CUR, and no scan is under way
 pub record MayCollect {O : Type 0} (r : Running O) (target : ℕ) (seat : Seated) : Type 0 where
@@ -24,7 +24,7 @@ pub record MayCollect {O : Type 0} (r : Running O) (target : ℕ) (seat : Seated
 -- LOW was raised to a target, each caller's need was scanned, and FREE was raised to the least of them and the target. What the scan
 -- found is noted: the least need, and the least caller that had it. The caller's own is the one that it states.
 pub record Collects (callers target : ℕ) (before after : Seated) (found : Collected) : Type 0 where
-  pub same : but_collected after ≡ but_collected before
+  pub same : except_collected after ≡ except_collected before
   pub fresh : after.known.local.fresh ≡ false
   pub scan : after.known.local.scan ≡ None
   pub scans : after.known.local.scans ≡ one_more before.known.local.scans
@@ -37,8 +37,8 @@ pub record Collects (callers target : ℕ) (before after : Seated) (found : Coll
   pub count : after.known.local.steps ≡ min (before.known.local.steps + callers + 3) max_word
 
 -- a seat but for the scan under way and its steps
-abbrev pub but_scanned : Seated → Seated
-but_scanned s = record s { known = record s.known { local = record s.known.local { scan = None; steps = 0 } } }
+abbrev pub except_scanned : Seated → Seated
+except_scanned s = record s { known = record s.known { local = record s.known.local { scan = None; steps = 0 } } }
 
 -- What a scan of the callers below one found: the bound is the least of the target and their needs, and the least need is noted with
 -- the least caller that had it. Where that is the caller which scans, it is the caller's own need.
@@ -53,7 +53,7 @@ ScansTo target d number own (Some s) = (s.next ≡ d) × FindsLeast target d num
 
 -- LOW was raised to a target, and the needs of the callers below one were scanned
 pub record Scans (target d : ℕ) (before after : Seated) : Type 0 where
-  pub same : but_scanned after ≡ but_scanned before
+  pub same : except_scanned after ≡ except_scanned before
   pub scan : ScansTo target d before.known.local.number (need_word before.known.local.protection) after.known.local.scan
   pub count : after.known.local.steps ≡ min (before.known.local.steps + d + 1) max_word
 
@@ -67,7 +67,7 @@ EndsScanning callers target before after (Err e) = ScansSome callers target befo
 
 -- FREE was raised to what a scan found, and is still to be loaded
 pub record Opens (callers : ℕ) (before after : Seated) : Type 0 where
-  pub same : but_collected after ≡ but_collected before
+  pub same : except_collected after ≡ except_collected before
   pub scan : after.known.local.scan ≡ None
   pub scans : after.known.local.scans ≡ one_more before.known.local.scans
   pub count : after.known.local.steps ≡ min (before.known.local.steps + callers + 2) max_word

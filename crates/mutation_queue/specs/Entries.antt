@@ -9,8 +9,8 @@ use Rattle.cx_core.specs.QueueEvents.{ShowsTicket}
 use Rattle.cx_core.specs.RingEvents.{Protects}
 use Rattle.cx_core.specs.State.{one_more}
 use Rattle.cx_core.specs.Layout.{max_word}
-use Rattle.cx_rule.specs.declared.rule.Noted.{Noted}
-use Rattle.cx_rule.specs.Fitting.{Fitting, IsNoted}
+use Rattle.table_invariant.specs.declared.rule.Noted.{Noted}
+use Rattle.table_invariant.specs.Fitting.{Fitting, IsNoted}
 use Rattle.cx_table.specs.Running.{IsSeatOf, Running}
 use Rattle.cx_table.specs.Seats.{IsAtLimit, Seated}
 
@@ -53,7 +53,7 @@ pub record MayReplay {O : Type 0} (r : Running O) (ticket : ℕ) (seat : Seated)
   pub later : r.base.place ≤ ticket
 
 -- one look at the ticket's slot, which the limit allowed, shows the ticket in a cell
-pub record Looked {O : Type 0} (r : Running O) (ticket cell : ℕ) (before after : Seated) : Type 0 where
+pub record LoadsLink {O : Type 0} (r : Running O) (ticket cell : ℕ) (before after : Seated) : Type 0 where
   pub of : IsSeatOf r after
   pub allowed : ¬ IsAtLimit before.known.local
   pub seat : after ≡ with_look after.known.local.seen_slot before

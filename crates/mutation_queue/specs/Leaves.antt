@@ -4,7 +4,7 @@ use Rattle.cx_table.specs.Running.{IsSeatOf, Running}
 use Rattle.cx_table.specs.Seats.{Seated}
 
 -- a part of the seat is as it was, and at most this number of steps was made
-pub record LeavesSeatPart {O A : Type 0} (r : Running O) (part : Seated → A) (n : ℕ) (before after : Seated) : Type 0 where
+pub record KeepsSeatPart {O A : Type 0} (r : Running O) (part : Seated → A) (n : ℕ) (before after : Seated) : Type 0 where
   pub of : IsSeatOf r after
   pub rest : part after ≡ part before
   pub steps : after.known.local.steps ≤ before.known.local.steps + n

@@ -5,7 +5,7 @@ use Rattle.cx_core.specs.Layout.{cell_count}
 use Rattle.cx_core.specs.QueueEvents.{ShowsOpen, cell_of, entry_in, linked, lost, raised_front}
 use Rattle.cx_core.specs.State.{one_more}
 use Rattle.cx_table.specs.Running.{IsSeatOf, Running}
-use Rattle.cx_rule.specs.Timing.{BeginsIn}
+use Rattle.table_invariant.specs.Timing.{BeginsIn}
 use Rattle.cx_table.specs.Seats.{IsAtLimit, Seated, StepsOn}
 use Rattle.mutation_queue.specs.Cells.{IsAnnounced}
 use Rattle.mutation_queue.specs.declared.links.LinkTried.{LinkTried}
@@ -19,22 +19,22 @@ pub record MayLink {O : Type 0} (r : Running O) (cell : ℕ) (seat : Seated) : T
   pub answered : length seat.known.local.answered ≡ length seat.known.local.own
 
 -- a seat but for its front, the slot last looked at and its steps
-abbrev pub but_front : Seated → Seated
-but_front s = record s { known = record s.known { local = record s.known.local { front = 0; seen_slot = None; steps = 0 } } }
+abbrev pub except_front : Seated → Seated
+except_front s = record s { known = record s.known { local = record s.known.local { front = 0; seen_slot = None; steps = 0 } } }
 
 -- a seat but for these, its linked entries, when they were linked, and its cells
-abbrev pub but_linked : Seated → Seated
-but_linked s = record s { known = record s.known { local = record s.known.local { front = 0; seen_slot = None; steps = 0; own = []; cells = [] }; times = record s.known.times { linked = [] } } }
+abbrev pub except_linked : Seated → Seated
+except_linked s = record s { known = record s.known { local = record s.known.local { front = 0; seen_slot = None; steps = 0; own = []; cells = [] }; times = record s.known.times { linked = [] } } }
 
 -- nothing was linked: only the front rose, and steps were made
 pub record LinksNone (before after : Seated) : Type 0 where
-  pub same : but_front after ≡ but_front before
+  pub same : except_front after ≡ except_front before
   pub front : before.known.local.front ≤ after.known.local.front
   pub since : StepsOn before after
 
 -- the entry in the cell was linked with a ticket, and no other
 pub record LinksAt (cell ticket : ℕ) (before after : Seated) : Type 0 where
-  pub same : but_linked after ≡ but_linked before
+  pub same : except_linked after ≡ except_linked before
   pub own : after.known.local.own ≡ before.known.local.own ++ record { ticket = ticket; entry = entry_in before.known.local cell } ∷ []
   pub cells : after.known.local.cells ≡ slice_set before.known.local.cells cell (record (cell_of before.known.local cell) { ticket = Some ticket })
   pub front : after.known.local.front ≡ ticket + 1

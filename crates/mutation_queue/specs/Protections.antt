@@ -12,8 +12,8 @@ use Rattle.mutation_queue.specs.declared.protection.Protected.{Protected}
 use Rattle.mutation_queue.specs.declared.protection.Protected.TheVariants.{Behind, Kept}
 
 -- a seat but for its protection, the greatest LOW found, whether what was seen of CUR is fresh, and the counts of steps and refusals
-abbrev pub but_protected : Seated → Seated
-but_protected s = record s { known = record s.known { local = record s.known.local { protection = Unprotected; seen_low = 0; fresh = false; steps = 0; met = 0 } } }
+abbrev pub except_protected : Seated → Seated
+except_protected s = record s { known = record s.known { local = record s.known.local { protection = Unprotected; seen_low = 0; fresh = false; steps = 0; met = 0 } } }
 
 -- the tickets from a place on may be protected: no protection stands
 pub record MayProtect {O : Type 0} (r : Running O) (place : ℕ) (seat : Seated) : Type 0 where
@@ -32,7 +32,7 @@ pub record MeetsNone (before after : Seated) : Type 0 where
 
 -- The tickets from a place on are protected: the LOW loaded is at most that place.
 pub record KeepsFrom (place : ℕ) (before after : Seated) : Type 0 where
-  pub same : but_protected after ≡ but_protected before
+  pub same : except_protected after ≡ except_protected before
   pub protection : after.known.local.protection ≡ Confirmed place
   pub none : MeetsNone before after
   pub least : after.known.local.seen_low ≤ place
@@ -40,7 +40,7 @@ pub record KeepsFrom (place : ℕ) (before after : Seated) : Type 0 where
 
 -- LOW is above the place, and no protection stands. Where that shows the code last loaded from CUR to be outdated, a refusal is met.
 pub record FallsBehind (callers place low : ℕ) (before after : Seated) : Type 0 where
-  pub same : but_protected after ≡ but_protected before
+  pub same : except_protected after ≡ except_protected before
   pub protection : after.known.local.protection ≡ Unprotected
   pub above : place < low
   pub seen : after.known.local.seen_low ≡ low

@@ -4,7 +4,7 @@ ghost use Rattle.std.specs.Prelude.{◌/◌, IfOk, OnErr, OnOk};
 ghost use Rattle.cx_core.specs.QueueEvents.{ShowsTicket};
 ghost use Rattle.cx_table.specs.Calls.{MakesStep};
 ghost use Rattle.cx_table.specs.Running.{IsSeatOf};
-ghost use Rattle.mutation_queue.specs.Entries.{HaltsAmong, HaltsReading, Looked, MayRead, MayReplay, ReadsLinked, ReadsWords};
+ghost use Rattle.mutation_queue.specs.Entries.{HaltsAmong, HaltsReading, LoadsLink, MayRead, MayReplay, ReadsLinked, ReadsWords};
 
 use cx_base::{ENTRY_WORDS, Halt, Object, link_cell};
 use cx_core::layout::cell_count;
@@ -33,7 +33,7 @@ pub fn entry<O: Object>(
 /// The cell of a ticket, by one look at its slot.
 fn find_cell<O: Object>(shared: &Shared<O>, seat: &mut CallerSeat, ticket: u64) -> Result<u64, Halt>
     requires may { MayReplay shared.now ticket seat.old }
-    ensures { MakesStep shared.now seat.old seat.new result (λ cell. Looked shared.now ticket cell seat.old seat.new) }
+    ensures { MakesStep shared.now seat.old seat.new result (λ cell. LoadsLink shared.now ticket cell seat.old seat.new) }
 {
     let callers = shared.callers();
     let slot = ticket % cell_count(callers);

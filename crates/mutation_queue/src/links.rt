@@ -3,7 +3,7 @@
 ghost use Rattle.std.specs.Prelude.{◌+◌, ◌*◌, ◌^◌, ◌<◌, ◌≤◌, IfOk, MatchBool, OnErr};
 ghost use Rattle.cx_base.specs.Codes.{link_ticket_of};
 ghost use Rattle.cx_table.specs.Seats.{IsAtLimit};
-ghost use Rattle.mutation_queue.specs.Leaves.{LeavesSeatPart, seat_number};
+ghost use Rattle.mutation_queue.specs.Leaves.{KeepsSeatPart, seat_number};
 ghost use Rattle.mutation_queue.specs.Links.{HaltsTries, HaltsTry, LinksNone, MakesTries, MayLink, Tried, TriedOnce};
 
 use cx_base::{Halt, Object, link_ticket};
@@ -40,7 +40,7 @@ pub fn link<O: Object>(
     ensures tried { IfOk result (λ tried. Tried shared.now.callers cell tries seat.old seat.new tried) }
     ensures made { IfOk result (MakesTries shared.now.callers cell tries seat.old seat.new) }
     ensures halted { OnErr result (HaltsTries shared.now.callers tries seat.old seat.new) }
-    ensures leaves { LeavesSeatPart shared.now seat_number (2 * tries) seat.old seat.new }
+    ensures leaves { KeepsSeatPart shared.now seat_number (2 * tries) seat.old seat.new }
 {
     for _tried in 0..tries {
         if seat.front() >= END {

@@ -4,8 +4,8 @@ ghost use Rattle.std.specs.Prelude.{◌≡◌, ◌≤◌, OnErr, OnOk};
 ghost use Rattle.cx_core.specs.RingEvents.{IsProtected};
 ghost use Rattle.cx_table.specs.Running.{IsSeatOf};
 ghost use Rattle.cx_table.specs.Seats.{IsAtLimit};
-ghost use Rattle.mutation_queue.specs.Leaves.{LeavesSeatPart};
-ghost use Rattle.mutation_queue.specs.Protections.{EndsProtecting, MayProtect, but_protected, unprotected};
+ghost use Rattle.mutation_queue.specs.Leaves.{KeepsSeatPart};
+ghost use Rattle.mutation_queue.specs.Protections.{EndsProtecting, MayProtect, except_protected, unprotected};
 
 use cx_base::{Halt, Object};
 use cx_table::{CallerSeat, Shared};
@@ -31,7 +31,7 @@ pub fn protect<O: Object>(
     ensures allowed { OnOk result (¬ IsAtLimit seat.old.known.local) }
     ensures protected { EndsProtecting shared.now.callers place seat.old seat.new result }
     ensures low { seat.old.known.local.seen_low ≤ seat.new.known.local.seen_low }
-    ensures leaves { LeavesSeatPart shared.now but_protected 3 seat.old seat.new }
+    ensures leaves { KeepsSeatPart shared.now except_protected 3 seat.old seat.new }
 {
     shared.protect(seat, place)?;
     let low = shared.confirm(seat)?;
@@ -49,7 +49,7 @@ pub fn unprotect<O: Object>(shared: &Shared<O>, seat: &mut CallerSeat) -> Result
     ensures allowed { OnOk result (¬ IsAtLimit seat.old.known.local) }
     ensures given_up { OnOk result (seat.new ≡ unprotected seat.old) }
     ensures halted { OnErr result (IsAtLimit seat.new.known.local) }
-    ensures leaves { LeavesSeatPart shared.now but_protected 1 seat.old seat.new }
+    ensures leaves { KeepsSeatPart shared.now except_protected 1 seat.old seat.new }
 {
     shared.unprotect(seat)
 }

@@ -3,8 +3,8 @@
 ghost use Rattle.std.specs.Prelude.{◌≡◌, ◌+◌, ◌^◌, ◌<◌, ◌≤◌, Some, OnErr, OnOk};
 ghost use Rattle.cx_core.specs.declared.local.SeenNeed.{SeenNeed};
 ghost use Rattle.cx_table.specs.Seats.{IsAtLimit};
-ghost use Rattle.mutation_queue.specs.Collecting.{EndsCollecting, EndsScanning, MayCollect, but_collected};
-ghost use Rattle.mutation_queue.specs.Leaves.{LeavesSeatPart};
+ghost use Rattle.mutation_queue.specs.Collecting.{EndsCollecting, EndsScanning, MayCollect, except_collected};
+ghost use Rattle.mutation_queue.specs.Leaves.{KeepsSeatPart};
 
 use cx_base::{Halt, Object};
 use cx_table::{CallerSeat, Shared};
@@ -31,7 +31,7 @@ pub fn collect<O: Object>(
     requires may { MayCollect shared.now target seat.old }
     ensures allowed { OnOk result (¬ IsAtLimit seat.old.known.local) }
     ensures collected { EndsCollecting shared.now.callers target seat.old seat.new result }
-    ensures leaves { LeavesSeatPart shared.now but_collected (shared.now.callers + 3) seat.old seat.new }
+    ensures leaves { KeepsSeatPart shared.now except_collected (shared.now.callers + 3) seat.old seat.new }
 {
     scan_needs(shared, seat, target)?;
     shared.open_free(seat)?;
@@ -46,7 +46,7 @@ fn scan_needs<O: Object>(shared: &Shared<O>, seat: &mut CallerSeat, target: u64)
     ensures scans { EndsScanning shared.now.callers target seat.old seat.new result }
     ensures some { OnOk result ((1 ≤ shared.now.callers) × (shared.now.callers ≤ 8)) }
     ensures halted { OnErr result (IsAtLimit seat.new.known.local) }
-    ensures leaves { LeavesSeatPart shared.now but_collected (shared.now.callers + 1) seat.old seat.new }
+    ensures leaves { KeepsSeatPart shared.now except_collected (shared.now.callers + 1) seat.old seat.new }
 {
     let callers = u64::from(shared.callers());
     shared.close_low(seat, target)?;

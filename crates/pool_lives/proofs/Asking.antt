@@ -4,8 +4,8 @@ use Rattle.std.proofs.lemmas.List.Elements.{All-head}
 use Rattle.atomic_table.specs.Seated.{TableId}
 use Rattle.crossbeam_queue.specs.Passes.{view}
 use Rattle.cx_core.specs.declared.local.FullNote.{FullNote}
-use Rattle.cx_rule.specs.Running.{Running}
-use Rattle.cx_rule.specs.Seats.{Seated}
+use Rattle.table_invariant.specs.Running.{Running}
+use Rattle.table_invariant.specs.Seats.{Seated}
 use Rattle.cx_service.specs.Callers.{StoppedSeat}
 use Rattle.cx_service.specs.declared.close.Handed.TheVariants.{Stopped}
 use Rattle.seat_pool.specs.Gathering.{IsHandedOf}
@@ -14,8 +14,8 @@ use Rattle.client_pool.specs.Lending.{HoldsKept, KeepsFull, KeepsStopped, KeepsW
 use Rattle.client_pool.specs.declared.call.Call.{Call}
 use Rattle.client_pool.specs.declared.client.Client.{Client}
 use Rattle.pool_lives.specs.Asking.{AreUnlimited, ClientRequestEnds, KeepsLast, MayAsk}
-use Rattle.pool_lives.specs.declared.calls.Asked.{Asked}
-use Rattle.pool_lives.specs.declared.calls.Asked.TheVariants.{Done, Read, Worn}
+use Rattle.pool_lives.specs.declared.calls.CallOutcome.{CallOutcome}
+use Rattle.pool_lives.specs.declared.calls.CallOutcome.TheVariants.{Done, Read, Worn}
 
 pub same_on : (a b c : Client) → IsSameClient a b → IsSameClient b c → IsSameClient a c
 same_on a b c s t = record { number = t.number ∙ s.number; limits = t.limits ∙ s.limits; closing = t.closing ∙ s.closing }
@@ -45,7 +45,7 @@ module _ {O : Type 0} (r : Running O) (table : TableId) where
       calls = λ calls has. made.calls calls (less.calls calls has);
     }
 
-    pub asked_since : (op reply : List ℕ) (asked : Asked) → ClientRequestEnds r table op reply b c asked → ClientRequestEnds r table op reply a c asked
+    pub asked_since : (op reply : List ℕ) (asked : CallOutcome) → ClientRequestEnds r table op reply b c asked → ClientRequestEnds r table op reply a c asked
     asked_since op reply (Done ticket) u = record { told = u.told; is = u.is; made = made_since _ u.made }
     asked_since op reply (Read place) u = record { read = u.read; is = u.is; made = made_since _ u.made }
     asked_since op reply Worn u = (again u.0, u.1)

@@ -11,7 +11,7 @@ use Rattle.cx_lives.proofs.Recovering.{keeps_to}
 use Rattle.cx_lives.specs.Crash.{EndsInCrash, HasCrashed}
 use Rattle.cx_lives.specs.Life.{IsServiceOf}
 use Rattle.cx_lives.specs.declared.crash.Crashed.{Crashed}
-use Rattle.cx_rule.specs.Running.{Running}
+use Rattle.table_invariant.specs.Running.{Running}
 use Rattle.cx_table.specs.declared.remains.Remains.{Remains}
 use Rattle.life_records.specs.Begins.{IsBaseOf, nothing_begun}
 use Rattle.life_records.specs.Meanings.{object_instance}

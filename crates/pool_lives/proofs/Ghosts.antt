@@ -5,16 +5,16 @@ use Rattle.cx_core.specs.declared.local.Answer.{Answer}
 use Rattle.cx_core.specs.declared.local.Linked.{Linked}
 use Rattle.cx_core.specs.declared.local.SeenRead.{SeenRead}
 use Rattle.cx_lives.specs.Calls.{LinksEntryAt, one_read}
-use Rattle.cx_turns.specs.Answering.{with_answer}
-use Rattle.cx_turns.specs.declared.lookup.Seen.{Seen}
-use Rattle.seat_pool.specs.declared.hand.Told.{Told}
+use Rattle.cx_attempts.specs.Answering.{with_answer}
+use Rattle.cx_attempts.specs.declared.lookup.Seen.{Seen}
+use Rattle.seat_pool.specs.declared.hand.AnsweredCall.{AnsweredCall}
 use Rattle.client_pool.proofs.Calling.{entries_more, entries_same}
 use Rattle.client_pool.specs.Clients.{entries_called}
 use Rattle.client_pool.specs.declared.call.Call.{Call}
 use Rattle.client_pool.specs.declared.call.Call.TheVariants.{Entry, Look}
 use Rattle.pool_lives.specs.Ghosts.{answer_of, as_own, local_of, locals_from, seen_from}
 
-seen_same : (before : ℕ) (calls : List Call) (told : Told) → seen_from before (calls ++ Entry told ∷ []) ≡ seen_from before calls
+seen_same : (before : ℕ) (calls : List Call) (told : AnsweredCall) → seen_from before (calls ++ Entry told ∷ []) ≡ seen_from before calls
 seen_same before [] told = refl
 seen_same before (Entry t ∷ calls) told = seen_same (before + 1) calls told
 seen_same before (Look x ∷ calls) told = ap (λ (xs : List SeenRead). record { place = x.place; op = x.op; reply = x.reply; before = before } ∷ xs) (seen_same before calls told)
@@ -36,7 +36,7 @@ module _ (client : ℕ) (calls : List Call) where
   pub own_long : length (local_of client calls).own ≡ length (entries_called calls)
   own_long = length-map (entries_called calls) (as_own client)
 
-  pub links : (told : Told) (op : List ℕ) (ticket : ℕ) → told.entry.ticket ≡ ticket → told.entry.entry.op ≡ op → LinksEntryAt op ticket (local_of client calls) (local_of client (calls ++ Entry told ∷ []))
+  pub links : (told : AnsweredCall) (op : List ℕ) (ticket : ℕ) → told.entry.ticket ≡ ticket → told.entry.entry.op ≡ op → LinksEntryAt op ticket (local_of client calls) (local_of client (calls ++ Entry told ∷ []))
   links told op ticket at is = record {
     number = refl;
     limit = refl;
@@ -48,7 +48,7 @@ module _ (client : ℕ) (calls : List Call) where
     reads = seen_same 0 calls told;
   }
 
-  pub answers : (told : Told) (answer : Answer) → told.answer ≡ answer → (local_of client (calls ++ Entry told ∷ [])).answered ≡ with_answer answer.ticket answer.reply (local_of client calls).answered
+  pub answers : (told : AnsweredCall) (answer : Answer) → told.answer ≡ answer → (local_of client (calls ++ Entry told ∷ [])).answered ≡ with_answer answer.ticket answer.reply (local_of client calls).answered
   answers told answer is =
       ap (map answer_of) (entries_more calls told) ∙ map-append answer_of (entries_called calls) (told ∷ [])
       ∙ ap (λ (a : Answer). map answer_of (entries_called calls) ++ a ∷ []) is

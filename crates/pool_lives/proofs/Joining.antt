@@ -13,7 +13,7 @@ use Rattle.cx_core.specs.declared.local.SeenRead.{SeenRead}
 use Rattle.cx_lives.proofs.Gathering.{GoesOn, numbers_more}
 use Rattle.cx_lives.proofs.Serving.{is_whole}
 use Rattle.cx_lives.specs.Serving.{IsAnsweredLine}
-use Rattle.cx_rule.specs.Running.{Running}
+use Rattle.table_invariant.specs.Running.{Running}
 use Rattle.client_pool.specs.Clients.{HasCalls, entries_called}
 use Rattle.client_pool.specs.declared.call.Call.{Call}
 use Rattle.client_pool.specs.declared.client.Client.{Client}
@@ -27,8 +27,8 @@ use Rattle.pool_lives.specs.Asking.{MayAsk}
 use Rattle.pool_lives.specs.Gathering.{AddsServed, AreClientsGathered, ClientHasNever, HaveLines, IsLineAt}
 use Rattle.pool_lives.specs.Ghosts.{IsCallAt, local_of, locals_from}
 use Rattle.pool_lives.specs.Working.{CannotBeLeft, HasClosing, HasMadeCalls, IsAtWork, IsCalling, IsOver, ClientServedOf}
-use Rattle.pool_lives.specs.declared.gather.Gathered.{Gathered}
-use Rattle.pool_lives.specs.declared.work.Served.{Served}
+use Rattle.pool_lives.specs.declared.gather.GatheredClients.{GatheredClients}
+use Rattle.pool_lives.specs.declared.work.ServedClient.{ServedClient}
 
 module _ {Op Reply Store : Type 0} (m : Meaning Op Reply Store) (life : Life Op) (calls : List (List Call)) (own : List Call) where
   line_stays : (client command at next : ℕ) → IsLineAt calls client command at next → IsLineAt (calls ++ own ∷ []) client command at next
@@ -91,12 +91,12 @@ module _ {Op Reply Store : Type 0} (m : Meaning Op Reply Store) (life : Life Op)
 
 -- a client's calls, however its worker ended
 module _ {O Op Reply Store : Type 0} (m : Meaning Op Reply Store) (life : Life Op) (r : Running O) (table : TableId) where
-  record Ended (k : ℕ) (served : Served Reply) : Type 0 where
+  record Ended (k : ℕ) (served : ServedClient Reply) : Type 0 where
     who : IsCalling r table life.clients k served.client
     few : length (entries_called who.calls) ≤ length (own_ops k life.commands)
     end_is : MatchBool served.never (CannotBeLeft m life k served.client who.calls) (HasMadeCalls m life k (length (own_ops k life.commands)) who.calls served.lines.entries.items served.lines.reads.items)
 
-  ended : (k : ℕ) (served : Served Reply) (b : Bool) → served.never ≡ b → MatchBool b (IsOver m life r table life.clients k served.client) (IsAtWork m life r table life.clients k (length (own_ops k life.commands)) served.client served.lines) → Ended k served
+  ended : (k : ℕ) (served : ServedClient Reply) (b : Bool) → served.never ≡ b → MatchBool b (IsOver m life r table life.clients k served.client) (IsAtWork m life r table life.clients k (length (own_ops k life.commands)) served.client served.lines) → Ended k served
   ended k served true is o = record { who = o.who; few = o.few; end_is = rw is o.cannot }
   ended k served false is w = record {
     who = w.who;
@@ -104,7 +104,7 @@ module _ {O Op Reply Store : Type 0} (m : Meaning Op Reply Store) (life : Life O
     end_is = rw is w.made;
   }
 
-  pub gathered_more : (before after : Gathered Reply) (served : Served Reply) → GoesOn m life → AreClientsGathered m life r table before → AddsServed before after served → ClientServedOf m life r table life.clients (length before.clients.items) served → AreClientsGathered m life r table after
+  pub gathered_more : (before after : GatheredClients Reply) (served : ServedClient Reply) → GoesOn m life → AreClientsGathered m life r table before → AddsServed before after served → ClientServedOf m life r table life.clients (length before.clients.items) served → AreClientsGathered m life r table after
   gathered_more before after served go_on g adds s =
       let cs = before.clients.items in
       let n = length cs in
@@ -128,7 +128,7 @@ module _ {O Op Reply Store : Type 0} (m : Meaning Op Reply Store) (life : Life O
       }
 
 -- with no clients there is nothing
-pub gathered_none : {O Op Reply Store : Type 0} (m : Meaning Op Reply Store) (life : Life Op) (r : Running O) (table : TableId) (g : Gathered Reply) → AreWorks m.encoding life [] [] [] [] [] → g.clients.items ≡ [] → g.lines.entries.items ≡ [] → g.lines.reads.items ≡ [] → g.never ≡ false
+pub gathered_none : {O Op Reply Store : Type 0} (m : Meaning Op Reply Store) (life : Life Op) (r : Running O) (table : TableId) (g : GatheredClients Reply) → AreWorks m.encoding life [] [] [] [] [] → g.clients.items ≡ [] → g.lines.entries.items ≡ [] → g.lines.reads.items ≡ [] → g.never ≡ false
     → AreClientsGathered m life r table g
 gathered_none {Reply = Reply} m life r table g works clients entries reads never = record {
   each = rw clients (All-nil (MayAsk r table));

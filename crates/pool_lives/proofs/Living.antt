@@ -7,7 +7,7 @@ use Rattle.atomic_table.specs.Seated.{TableId}
 use Rattle.cx_core.specs.Base.{LawfulBase}
 use Rattle.cx_core.specs.State.{Instance}
 use Rattle.cx_lives.proofs.Lists.{all_at}
-use Rattle.cx_rule.specs.Running.{Running, instance_at}
+use Rattle.table_invariant.specs.Running.{Running, instance_at}
 use Rattle.cx_service.specs.Closes.{seats_of}
 use Rattle.cx_table.specs.declared.remains.Remains.{Remains}
 use Rattle.client_pool.specs.Answers.{AreAnswered, AreWhole, IsCallOf}
@@ -28,9 +28,9 @@ use Rattle.pool_lives.specs.Asking.{MayAsk}
 use Rattle.pool_lives.specs.Gathering.{AreClientsGathered, ClientHasNever, HaveLines}
 use Rattle.pool_lives.specs.Ghosts.{locals_from}
 use Rattle.pool_lives.specs.Running.{HasMet}
-use Rattle.pool_lives.specs.declared.gather.Gathered.{Gathered}
+use Rattle.pool_lives.specs.declared.gather.GatheredClients.{GatheredClients}
 
-module _ {O Op Reply Store : Type 0} (m : Meaning Op Reply Store) (steps : O → List ℕ → List ℕ → List ℕ × List ℕ) (readings : O → List ℕ → Bool) (life : Life Op) (r : Running O) (table : TableId) (g : Gathered Reply) (gathered : AreClientsGathered m life r table g) (remains : Remains)
+module _ {O Op Reply Store : Type 0} (m : Meaning Op Reply Store) (steps : O → List ℕ → List ℕ → List ℕ × List ℕ) (readings : O → List ℕ → Bool) (life : Life Op) (r : Running O) (table : TableId) (g : GatheredClients Reply) (gathered : AreClientsGathered m life r table g) (remains : Remains)
     (closed : IsClosed r (instance_at r steps readings) g.clients.items remains) where
   abbrev inst : Instance
   inst = instance_at r steps readings
@@ -71,7 +71,7 @@ module _ {O Op Reply Store : Type 0} (m : Meaning Op Reply Store) (steps : O →
       }
 
 -- and no client met what cannot be
-module _ {O Op Reply Store : Type 0} (t : TypedSteps Op Reply Store) (steps : O → List ℕ → List ℕ → List ℕ × List ℕ) (readings : O → List ℕ → Bool) (life : Life Op) (r : Running O) (table : TableId) (g : Gathered Reply) (gathered : AreClientsGathered t.meaning life r table g) (remains : Remains)
+module _ {O Op Reply Store : Type 0} (t : TypedSteps Op Reply Store) (steps : O → List ℕ → List ℕ → List ℕ × List ℕ) (readings : O → List ℕ → Bool) (life : Life Op) (r : Running O) (table : TableId) (g : GatheredClients Reply) (gathered : AreClientsGathered t.meaning life r table g) (remains : Remains)
     (closed : IsClosed r (instance_at r steps readings) g.clients.items remains) (step_is : steps r.object ≡ t.step) (base : LawfulBase t.lines t.lawful r.base) (tickets : r.base.place + length life.commands ≤ 2 ^ 40) where
   pub never : ClientHasNever t.meaning life g.clients.items gathered.calls → ⊥
   never h =

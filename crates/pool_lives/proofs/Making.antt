@@ -10,9 +10,9 @@ use Rattle.cx_core.specs.declared.local.SeenRead.{SeenRead}
 use Rattle.cx_lives.specs.Lines.{AddsClientEntry, AddsClientRead, NotesEntryLine, NotesRead}
 use Rattle.cx_lives.specs.declared.lines.Lines.{Lines}
 use Rattle.cx_lives.proofs.Serving.{few_own, named_within, serves_entry, serves_none, serves_read}
-use Rattle.cx_rule.specs.Running.{Running}
-use Rattle.cx_turns.specs.declared.lookup.Seen.{Seen}
-use Rattle.seat_pool.specs.declared.hand.Told.{Told}
+use Rattle.table_invariant.specs.Running.{Running}
+use Rattle.cx_attempts.specs.declared.lookup.Seen.{Seen}
+use Rattle.seat_pool.specs.declared.hand.AnsweredCall.{AnsweredCall}
 use Rattle.client_pool.proofs.Calling.{entries_more, entries_same}
 use Rattle.client_pool.specs.Clients.{HasCalls, HasNoMore, HasRead, HasUpdated, IsSameClient, entries_called}
 use Rattle.client_pool.specs.Lending.{is_live}
@@ -76,7 +76,7 @@ module _ {Op Reply Store : Type 0} (m : Meaning Op Reply Store) (life : Life Op)
     fewer = (let few = few_calls n calls es rs h in omega (arith, few, within, next))
 
     -- with an entry more
-    pub makes_entry : (told : Told) (answer : Answer) (reply : Reply) (es' : List (JournalLine Reply)) (rs' : List (ReadLine Reply)) → told.answer ≡ answer → told.entry.ticket ≡ answer.ticket → told.entry.entry.op ≡ ws → m.encoding.reply_words reply ≡ answer.reply
+    pub makes_entry : (told : AnsweredCall) (answer : Answer) (reply : Reply) (es' : List (JournalLine Reply)) (rs' : List (ReadLine Reply)) → told.answer ≡ answer → told.entry.ticket ≡ answer.ticket → told.entry.entry.op ≡ ws → m.encoding.reply_words reply ≡ answer.reply
         → es' ≡ es ++ record { ticket = answer.ticket; client = client; command = number; reply = Some reply } ∷ [] → rs' ≡ rs → HasMadeCalls m life client number (calls ++ Entry told ∷ []) es' rs'
     makes_entry told answer reply es' rs' is ticket op_is words entries reads =
         let line : JournalLine Reply = record { ticket = answer.ticket; client = client; command = number; reply = Some reply } in

@@ -11,8 +11,8 @@ use Rattle.atomic_table.specs.Seated.{TableId}
 use Rattle.cx_core.proofs.Locals.{slice_get-last}
 use Rattle.cx_core.specs.declared.entry.Base.{Base}
 use Rattle.cx_lives.proofs.Lists.{all_at}
-use Rattle.cx_rule.specs.Running.{Running}
-use Rattle.cx_rule.specs.Seats.{Seated}
+use Rattle.table_invariant.specs.Running.{Running}
+use Rattle.table_invariant.specs.Seats.{Seated}
 use Rattle.cx_service.specs.Callers.{IsCallerOf}
 use Rattle.cx_service.specs.Starts.{Starts}
 use Rattle.cx_table.specs.Remains.{opening_seat}
@@ -26,7 +26,7 @@ use Rattle.pool_lives.specs.Asking.{AreUnlimited, MayAsk}
 use Rattle.pool_lives.specs.Gathering.{AreClientsGathered}
 use Rattle.pool_lives.specs.Running.{IsServiceReady}
 use Rattle.pool_lives.specs.Working.{HasClosing, IsUncalledIn}
-use Rattle.pool_lives.specs.declared.gather.Gathered.{Gathered}
+use Rattle.pool_lives.specs.declared.gather.GatheredClients.{GatheredClients}
 
 some_of : (o : Option Seated) (limit : ℕ) → option_map (λ (s : Seated). s.known.local.limit) o ≡ Some limit → (s : Seated) × (o ≡ Some s) × (s.known.local.limit ≡ limit)
 some_of None limit same = absurd (none-some limit same)
@@ -99,7 +99,7 @@ module _ {O : Type 0} (r : Running O) (table : TableId) where
   all_new limits count clients new unlimited = all_each (IsUncalledIn r table count) clients (each_get (IsUncalledIn r table count) clients (new_at limits count clients new unlimited))
 
   -- all clients with which a pool is closed
-  pub all_clients : {Op Reply Store : Type 0} (m : Meaning Op Reply Store) (life : Life Op) (g : Gathered Reply) → AreClientsGathered m life r table g → length g.clients.items ≡ life.clients → 1 ≤ life.clients → AreClients r table g.clients.items
+  pub all_clients : {Op Reply Store : Type 0} (m : Meaning Op Reply Store) (life : Life Op) (g : GatheredClients Reply) → AreClientsGathered m life r table g → length g.clients.items ≡ life.clients → 1 ≤ life.clients → AreClients r table g.clients.items
   all_clients m life g gathered long some =
       let clients = g.clients.items in
       let s = last_split clients (omega (arith, long, some)) in

@@ -24,7 +24,7 @@ use Rattle.pool_lives.proofs.Never.{all_long, local_back, local_there}
 use Rattle.pool_lives.specs.Gathering.{HaveLines, IsLineAt}
 use Rattle.pool_lives.specs.Ghosts.{answer_of, as_own, local_of, locals_from, seen_from}
 use Rattle.seat_pool.specs.Gathering.{one_at}
-use Rattle.seat_pool.specs.declared.hand.Told.{Told}
+use Rattle.seat_pool.specs.declared.hand.AnsweredCall.{AnsweredCall}
 
 contains_at : {X : Type 0} (xs : List X) (i : ℕ) (x : X) → slice_get xs i ≡ Some x → Contains xs x
 contains_at xs i x at = subst (Contains xs) (get_or_from_slice_get xs i x x at) (Contains-get_or xs i x (slice_get_within xs i x at))
@@ -65,15 +65,15 @@ next_from : (call : Call) → answer_place_of call ≤ next_place_of call
 next_from (Entry told) = omega arith
 next_from (Look read) = omega arith
 
-turn_from : (floor : ℕ) (calls : List Call) (j : ℕ) (b : Call) → InTurn floor calls → slice_get calls j ≡ Some b → floor ≤ answer_place_of b
-turn_from floor [] j b turn at = absurd (none-some b at)
-turn_from floor (c ∷ calls) zero b turn at = subst (λ x. floor ≤ answer_place_of x) (same_Some c b at) turn.0
-turn_from floor (c ∷ calls) (suc j) b turn at = (let rest = turn_from (next_place_of c) calls j b turn.1 at in let next = next_from c in omega (arith, turn.0, next, rest))
+attempt_from : (floor : ℕ) (calls : List Call) (j : ℕ) (b : Call) → InTurn floor calls → slice_get calls j ≡ Some b → floor ≤ answer_place_of b
+attempt_from floor [] j b turn at = absurd (none-some b at)
+attempt_from floor (c ∷ calls) zero b turn at = subst (λ x. floor ≤ answer_place_of x) (same_Some c b at) turn.0
+attempt_from floor (c ∷ calls) (suc j) b turn at = (let rest = attempt_from (next_place_of c) calls j b turn.1 at in let next = next_from c in omega (arith, turn.0, next, rest))
 
 turns : (floor : ℕ) (calls : List Call) (i j : ℕ) (a b : Call) → InTurn floor calls → i < j → slice_get calls i ≡ Some a → slice_get calls j ≡ Some b → next_place_of a ≤ answer_place_of b
 turns floor [] i j a b turn up at there = absurd (none-some a at)
 turns floor (c ∷ calls) i zero a b turn up at there = absurd (omega (arith, up))
-turns floor (c ∷ calls) zero (suc j) a b turn up at there = subst (λ x. next_place_of x ≤ answer_place_of b) (same_Some c a at) (turn_from (next_place_of c) calls j b turn.1 there)
+turns floor (c ∷ calls) zero (suc j) a b turn up at there = subst (λ x. next_place_of x ≤ answer_place_of b) (same_Some c a at) (attempt_from (next_place_of c) calls j b turn.1 there)
 turns floor (c ∷ calls) (suc i) (suc j) a b turn up at there = turns (next_place_of c) calls i j a b turn.1 (omega (arith, up)) at there
 
 module _ {Op Reply Store : Type 0} (m : Meaning Op Reply Store) (life : Life Op) (calls : List (List Call)) (entries : List (JournalLine Reply)) (reads : List (ReadLine Reply)) (lines : HaveLines m life calls entries reads) where
@@ -112,7 +112,7 @@ module _ {Op Reply Store : Type 0} (m : Meaning Op Reply Store) (life : Life Op)
         let ticket = place + i in
         let all = whole.all ticket (omega arith) (omega (arith, below)) in
         let c = found (answers_at ticket) calls (omega (arith, all)) in
-        let t = found (λ (told : Told). one_at ticket told.entry.ticket) (entries_called c.1) c.3 in
+        let t = found (λ (told : AnsweredCall). one_at ticket told.entry.ticket) (entries_called c.1) c.3 in
         let same : ticket ≡ t.1.entry.ticket = one_is ticket t.1.entry.ticket t.3 in
         let k = 0 + c.0 in
         let l = local_of k c.1 in

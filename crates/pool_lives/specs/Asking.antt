@@ -1,16 +1,16 @@
 -- The result of an operation that a client asks for.
 use Rattle.std.specs.Prelude.{◌≡◌, ◌^◌, ◌-◌, ℕ, true, List, Option, None, Some, slice_get}
 use Rattle.atomic_table.specs.Seated.{TableId}
-use Rattle.cx_rule.specs.Running.{Running}
-use Rattle.cx_rule.specs.Seats.{Seated}
+use Rattle.table_invariant.specs.Running.{Running}
+use Rattle.table_invariant.specs.Seats.{Seated}
 use Rattle.cx_service.specs.Drives.{answer_with}
 use Rattle.cx_service.specs.Lookups.{seen_with}
 use Rattle.cx_service.specs.declared.close.Handed.TheVariants.{Idle}
 use Rattle.client_pool.specs.Clients.{HasNoMore, HasRead, HasUpdated, IsClientOf}
 use Rattle.client_pool.specs.Lending.{is_live, limits_of}
 use Rattle.client_pool.specs.declared.client.Client.{Client}
-use Rattle.pool_lives.specs.declared.calls.Asked.{Asked}
-use Rattle.pool_lives.specs.declared.calls.Asked.TheVariants.{Done, Read, Worn}
+use Rattle.pool_lives.specs.declared.calls.CallOutcome.{CallOutcome}
+use Rattle.pool_lives.specs.declared.calls.CallOutcome.TheVariants.{Done, Read, Worn}
 
 -- none of these callers has a limit of steps
 abbrev pub AreUnlimited : List ℕ → Type 0
@@ -29,12 +29,12 @@ pub record KeepsLast (client : Client) : Type 0 where
   pub front : last.known.local.front ≡ 2 ^ 40
 
 -- the result of an operation, which left these words in the buffer
-abbrev pub ClientRequestEnds : {O : Type 0} → Running O → TableId → List ℕ → List ℕ → Client → Client → Asked → Type 0
+abbrev pub ClientRequestEnds : {O : Type 0} → Running O → TableId → List ℕ → List ℕ → Client → Client → CallOutcome → Type 0
 ClientRequestEnds r table op reply before after (Done ticket) = HasUpdated r table op before after (answer_with ticket reply)
 ClientRequestEnds r table op reply before after (Read place) = HasRead r table op before after (seen_with place reply)
 ClientRequestEnds r table op reply before after Worn = HasNoMore r table before after × KeepsLast after
 
 -- the result of asking for it once: nothing where no cell is idle, and the client may ask again
-abbrev pub ClientAsksOnce : {O : Type 0} → Running O → TableId → List ℕ → List ℕ → Client → Client → Option Asked → Type 0
+abbrev pub ClientAsksOnce : {O : Type 0} → Running O → TableId → List ℕ → List ℕ → Client → Client → Option CallOutcome → Type 0
 ClientAsksOnce r table op reply before after (Some asked) = ClientRequestEnds r table op reply before after asked
 ClientAsksOnce r table op reply before after None = HasNoMore r table before after × MayAsk r table after

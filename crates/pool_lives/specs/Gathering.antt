@@ -2,7 +2,7 @@
 use Rattle.std.specs.Prelude.{◌≡◌, ◌+◌, ◌≤◌, ◌||◌, ℕ, List, [], ◌∷◌, ◌++◌, All, MatchBool, Some, length, map, slice_get}
 use Rattle.std.specs.List.{AllZip, range_with_len}
 use Rattle.atomic_table.specs.Seated.{TableId}
-use Rattle.cx_rule.specs.Running.{Running}
+use Rattle.table_invariant.specs.Running.{Running}
 use Rattle.client_pool.specs.Clients.{HasCalls, entries_called}
 use Rattle.client_pool.specs.declared.call.Call.{Call}
 use Rattle.client_pool.specs.declared.client.Client.{Client}
@@ -12,8 +12,8 @@ use Rattle.life_records.specs.Works.{AreWorks}
 use Rattle.pool_lives.specs.Asking.{MayAsk}
 use Rattle.pool_lives.specs.Ghosts.{IsCallAt, locals_from}
 use Rattle.pool_lives.specs.Working.{CannotBeLeft, HasClosing}
-use Rattle.pool_lives.specs.declared.gather.Gathered.{Gathered}
-use Rattle.pool_lives.specs.declared.work.Served.{Served}
+use Rattle.pool_lives.specs.declared.gather.GatheredClients.{GatheredClients}
+use Rattle.pool_lives.specs.declared.work.ServedClient.{ServedClient}
 
 -- the line of an answer of some client: it has the place of its command's call
 pub record IsLineAt (calls : List (List Call)) (client command at next : ℕ) : Type 0 where
@@ -37,7 +37,7 @@ pub record ClientHasNever {Op Reply Store : Type 0} (m : Meaning Op Reply Store)
   pub cannot : CannotBeLeft m life number client own
 
 -- the clients, from client 0 on, with the calls that each made, and the lines of all, where no client has what none can have
-pub record AreClientsGathered {O Op Reply Store : Type 0} (m : Meaning Op Reply Store) (life : Life Op) (r : Running O) (table : TableId) (g : Gathered Reply) : Type 0 where
+pub record AreClientsGathered {O Op Reply Store : Type 0} (m : Meaning Op Reply Store) (life : Life Op) (r : Running O) (table : TableId) (g : GatheredClients Reply) : Type 0 where
   pub each : All (MayAsk r table) g.clients.items
   pub numbers : map (λ (c : Client). c.number) g.clients.items ≡ range_with_len 0 (length g.clients.items)
   pub closing : All (HasClosing r table life.clients) g.clients.items
@@ -47,7 +47,7 @@ pub record AreClientsGathered {O Op Reply Store : Type 0} (m : Meaning Op Reply 
   pub works : MatchBool g.never (ClientHasNever m life g.clients.items calls) (HaveLines m life calls g.lines.entries.items g.lines.reads.items)
 
 -- one client's more
-pub record AddsServed {Reply : Type 0} (before after : Gathered Reply) (served : Served Reply) : Type 0 where
+pub record AddsServed {Reply : Type 0} (before after : GatheredClients Reply) (served : ServedClient Reply) : Type 0 where
   pub client : after.clients.items ≡ before.clients.items ++ served.client ∷ []
   pub entries : after.lines.entries.items ≡ before.lines.entries.items ++ served.lines.entries.items
   pub reads : after.lines.reads.items ≡ before.lines.reads.items ++ served.lines.reads.items

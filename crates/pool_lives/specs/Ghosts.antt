@@ -5,16 +5,16 @@ use Rattle.cx_core.specs.declared.local.Answer.{Answer}
 use Rattle.cx_core.specs.declared.local.Linked.{Linked}
 use Rattle.cx_core.specs.declared.local.Local.{Local}
 use Rattle.cx_core.specs.declared.local.SeenRead.{SeenRead}
-use Rattle.seat_pool.specs.declared.hand.Told.{Told}
+use Rattle.seat_pool.specs.declared.hand.AnsweredCall.{AnsweredCall}
 use Rattle.client_pool.specs.Clients.{entries_called, next_place_of, answer_place_of}
 use Rattle.client_pool.specs.declared.call.Call.{Call}
 use Rattle.client_pool.specs.declared.call.Call.TheVariants.{Entry, Look}
 
 -- an entry as one of the client's own
-abbrev pub as_own : ℕ → Told → Linked
+abbrev pub as_own : ℕ → AnsweredCall → Linked
 as_own client told = record { ticket = told.entry.ticket; entry = record told.entry.entry { caller = client } }
 
-abbrev pub answer_of : Told → Answer
+abbrev pub answer_of : AnsweredCall → Answer
 answer_of told = told.answer
 
 -- the reads, each behind the entries before it

@@ -5,7 +5,7 @@ use Rattle.cx_core.specs.declared.entry.Entry.{Entry}
 use Rattle.cx_core.specs.declared.local.Local.{Local}
 use Rattle.cx_core.specs.declared.local.SeenRead.{SeenRead}
 use Rattle.cx_lives.specs.Lives.{IsLinearized}
-use Rattle.cx_rule.specs.Ending.{Ending}
+use Rattle.table_invariant.specs.Ending.{Ending}
 use Rattle.life_records.specs.Lives.{IsLegalLife}
 use Rattle.life_records.specs.Records.{Encoding, JournalLine, Life, LifeRecord, Meaning, ReadLine}
 use Rattle.life_records.specs.Works.{HasCommandWords, IsReadLine}

@@ -1,10 +1,10 @@
 -- The result of a life before the crash.
 use Rattle.std.specs.Prelude.{◌≡◌, ℕ, Bool, List, [], Some, length, map, slice_get}
 use Rattle.cx_core.specs.declared.local.Local.{Local}
-use Rattle.cx_rule.specs.Running.{Running, instance_at}
-use Rattle.cx_rule.specs.Seats.{Seated}
+use Rattle.table_invariant.specs.Running.{Running, instance_at}
+use Rattle.table_invariant.specs.Seats.{Seated}
 use Rattle.cx_service.specs.ClosedOrder.{IsLinearizedBy}
-use Rattle.cx_table.specs.Remains.{Leaves}
+use Rattle.cx_table.specs.Remains.{ClosingWitness}
 use Rattle.cx_table.specs.declared.remains.Remains.{Remains}
 use Rattle.client_pool.specs.Pools.{AreNewCallers}
 use Rattle.life_records.specs.Journal.{IsByTicket}
@@ -24,7 +24,7 @@ pub record IsServiceReady {O : Type 0} (object : O) (r : Running O) (seats : Lis
 -- service, and all that its history has.
 pub record HasMet {O Op Reply Store : Type 0} (m : Meaning Op Reply Store) (step : O → List ℕ → List ℕ → List ℕ × List ℕ) (reads : O → List ℕ → Bool) (life : Life Op) (r : Running O) (told : LifeRecord Reply) (remains : Remains) : Type 0 where
   pub seats : List Seated
-  pub leaves : Leaves r (instance_at r step reads) seats remains
+  pub leaves : ClosingWitness r (instance_at r step reads) seats remains
   -- by the order of all callers' steps, which are those of the closing, the history is a linearization
   pub order : IsLinearizedBy leaves
   pub clients : List Local

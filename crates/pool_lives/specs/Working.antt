@@ -1,7 +1,7 @@
 -- A client while its commands are made one after another, and the result of its worker.
 use Rattle.std.specs.Prelude.{◌≡◌, ◌+◌, ◌<◌, ◌≤◌, ◌⊎◌, ℕ, Bool, true, false, List, [], All, MatchBool, Some, length, slice_get}
 use Rattle.atomic_table.specs.Seated.{TableId}
-use Rattle.cx_rule.specs.Running.{Running}
+use Rattle.table_invariant.specs.Running.{Running}
 use Rattle.cx_lives.specs.Serving.{HasServed}
 use Rattle.cx_lives.specs.declared.lines.Lines.{Lines}
 use Rattle.client_pool.specs.Clients.{HasCalls, entries_called}
@@ -17,7 +17,7 @@ use Rattle.life_records.specs.Scripts.{own_ops}
 use Rattle.pool_lives.specs.Asking.{KeepsLast, MayAsk}
 use Rattle.pool_lives.specs.Ghosts.{IsCallAt, local_of}
 use Rattle.pool_lives.specs.PoolRuns.{IsLifeOfPool}
-use Rattle.pool_lives.specs.declared.work.Served.{Served}
+use Rattle.pool_lives.specs.declared.work.ServedClient.{ServedClient}
 
 -- the pool serves the clients of this life: its service is of this object
 pub record ServesLife {O Op Reply Store : Type 0} (reads : O → List ℕ → Bool) (m : Meaning Op Reply Store) (object : O) (life : Life Op) (pool : Pool O) : Type 0 where
@@ -93,6 +93,6 @@ MakesCommand m life r table clients client number now lines true = IsAtWork m li
 MakesCommand m life r table clients client number now lines false = IsOver m life r table clients client now
 
 -- the result of a worker
-abbrev pub ClientServedOf : {O Op Reply Store : Type 0} → Meaning Op Reply Store → Life Op → Running O → TableId → ℕ → ℕ → Served Reply → Type 0
+abbrev pub ClientServedOf : {O Op Reply Store : Type 0} → Meaning Op Reply Store → Life Op → Running O → TableId → ℕ → ℕ → ServedClient Reply → Type 0
 ClientServedOf m life r table clients client served = MatchBool served.never (IsOver m life r table clients client served.client)
     (IsAtWork m life r table clients client (length (own_ops client life.commands)) served.client served.lines)

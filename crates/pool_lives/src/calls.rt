@@ -12,7 +12,7 @@ use std::thread;
 
 /// The result of an operation that a client asks for.
 #[derive(Drop)]
-pub(crate) enum Asked {
+pub(crate) enum CallOutcome {
     /// It is answered as an entry of the queue at this ticket.
     Done(u64),
     /// It is answered beside the queue at this place.
@@ -30,7 +30,7 @@ pub(crate) fn ask<O: Object, R: Wait>(
     op: &OpWords,
     reply: &mut OpWords,
     reads: bool,
-) -> Result<Asked, AllocError>
+) -> Result<CallOutcome, AllocError>
     requires pool { IsPool O.only_reads pool.now }
     requires client { MayAsk pool.now.service pool.now.line.table.shared.table_id client.old }
     requires reads { IsTrue reads → IsTrue (O.only_reads pool.now.service.object op.now) }
@@ -53,7 +53,7 @@ fn ask_once<O: Object, R: Wait>(
     op: &OpWords,
     reply: &mut OpWords,
     reads: bool,
-) -> Result<Option<Asked>, AllocError>
+) -> Result<Option<CallOutcome>, AllocError>
     requires pool { IsPool O.only_reads pool.now }
     requires client { MayAsk pool.now.service pool.now.line.table.shared.table_id client.old }
     requires reads { IsTrue reads → IsTrue (O.only_reads pool.now.service.object op.now) }
@@ -61,18 +61,18 @@ fn ask_once<O: Object, R: Wait>(
 {
     if reads {
         match pool.read(rt, client, op, reply) {
-            PooledRead::Read(place) => Ok(Some(Asked::Read(place))),
-            PooledRead::Queued(ticket) => Ok(Some(Asked::Done(ticket))),
+            PooledRead::Read(place) => Ok(Some(CallOutcome::Read(place))),
+            PooledRead::Queued(ticket) => Ok(Some(CallOutcome::Done(ticket))),
             PooledRead::Full(_) => Ok(None),
-            PooledRead::Worn => Ok(Some(Asked::Worn)),
+            PooledRead::Worn => Ok(Some(CallOutcome::Worn)),
             PooledRead::Stopped { .. } => unreachable!(),
             PooledRead::Memory => Err(AllocError),
         }
     } else {
         match pool.update(rt, client, op, reply) {
-            Pooled::Done(ticket) => Ok(Some(Asked::Done(ticket))),
+            Pooled::Done(ticket) => Ok(Some(CallOutcome::Done(ticket))),
             Pooled::Full(_) => Ok(None),
-            Pooled::Worn => Ok(Some(Asked::Worn)),
+            Pooled::Worn => Ok(Some(CallOutcome::Worn)),
             Pooled::Stopped { .. } => unreachable!(),
             Pooled::Memory => Err(AllocError),
         }

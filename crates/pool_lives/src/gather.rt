@@ -5,7 +5,7 @@ ghost use Rattle.cx_lives.specs.Works.{AreResultsFrom};
 ghost use Rattle.pool_lives.specs.Gathering.{AddsServed, AreClientsGathered};
 ghost use Rattle.pool_lives.specs.Working.{ClientServedOf};
 
-use crate::work::Served;
+use crate::work::ServedClient;
 use client_pool::{Client, Pool};
 use cx_lives::{Lines, first_of};
 use life_records::BorrowedLife;
@@ -15,24 +15,24 @@ use typed_object::TypedObject;
 
 /// The clients, the lines of all, and whether some client met what cannot be.
 #[derive(Drop)]
-pub(crate) struct Gathered<Reply> {
+pub(crate) struct GatheredClients<Reply> {
     pub(crate) clients: Vec<Client>,
     pub(crate) lines: Lines<Reply>,
     pub(crate) never: bool,
 }
 
-impl<Reply: Drop> Gathered<Reply> {
+impl<Reply: Drop> GatheredClients<Reply> {
     /// With one client more.
-    fn with(self, served: Served<Reply>) -> Result<Gathered<Reply>, AllocError>
+    fn with(self, served: ServedClient<Reply>) -> Result<GatheredClients<Reply>, AllocError>
         ensures { IfOk result (λ after. AddsServed self after served) }
     {
-        let Gathered {
+        let GatheredClients {
             mut clients,
             lines,
             never,
         } = self;
         clients.push(served.client)?;
-        Ok(Gathered {
+        Ok(GatheredClients {
             clients,
             lines: lines.joined(served.lines)?,
             never: never || served.never,
@@ -46,8 +46,8 @@ pub(crate) fn gather<O: TypedObject>(
     object: &O,
     pool: &Pool<O>,
     life: &BorrowedLife<'_, O::Op>,
-    works: Vec<Result<Served<O::Reply>, AllocError>>,
-) -> Result<Gathered<O::Reply>, AllocError>
+    works: Vec<Result<ServedClient<O::Reply>, AllocError>>,
+) -> Result<GatheredClients<O::Reply>, AllocError>
     requires { AreResultsFrom (ClientServedOf (O.meaning object.now) life.now pool.now.service pool.now.line.table.shared.table_id life.now.clients) 0 works.items }
     ensures gathered { IfOk result (AreClientsGathered (O.meaning object.now) life.now pool.now.service pool.now.line.table.shared.table_id) }
     ensures all { IfOk result (λ g. length g.clients.items ≡ vec_len works) }
@@ -59,7 +59,7 @@ pub(crate) fn gather<O: TypedObject>(
     works_go_on::<O::Op, O::Reply>();
     let clients = Vec::new(alloc);
     let lines = Lines::new(alloc);
-    let mut all = Gathered {
+    let mut all = GatheredClients {
         clients,
         lines,
         never: false,

@@ -4,7 +4,7 @@ ghost use Rattle.std.specs.Prelude.{◌+◌, ◌^◌, ◌≤◌, IfOk, IsTrue, l
 ghost use Rattle.pool_lives.specs.PoolRuns.{IsLifeOfPool, IsProbe};
 ghost use Rattle.pool_lives.specs.Running.{HasMet, IsServiceReady};
 
-use crate::gather::{Gathered, gather};
+use crate::gather::{GatheredClients, gather};
 use crate::workers::run_workers;
 use client_pool::Pool;
 use cx_base::{Gate, Items, OpWords};
@@ -42,7 +42,7 @@ pub(crate) fn live<O: TypedObject + Sync, R: Threads + Wait + Sync, G: Gate + Sy
         return Err(AllocError);
     };
     let works = run_workers(rt, alloc, object, &pool, clients, life, gate)?;
-    let Gathered {
+    let GatheredClients {
         clients,
         lines,
         never,

@@ -5,7 +5,7 @@ ghost use Rattle.client_pool.specs.Lending.{IsPool};
 ghost use Rattle.life_records.specs.Scripts.{named_op};
 ghost use Rattle.pool_lives.specs.Working.{IsAtWork, MakesCommand};
 
-use crate::calls::{Asked, ask};
+use crate::calls::{CallOutcome, ask};
 use client_pool::{Client, Pool};
 use cx_base::OP_WORDS;
 use cx_lives::{Lines, note_entry, note_read, words_of};
@@ -41,14 +41,14 @@ pub(crate) fn make<O: TypedObject, R: Wait>(
     let asked = ask(rt, pool, client, &op, &mut reply, reads)?;
     let by = command.client;
     match asked {
-        Asked::Done(ticket) => {
+        CallOutcome::Done(ticket) => {
             let is_reply = note_entry(alloc, object, lines, by, number, ticket, &reply)?;
             Ok(is_reply)
         }
-        Asked::Read(place) => {
+        CallOutcome::Read(place) => {
             let is_reply = note_read(alloc, object, lines, by, number, place, &reply)?;
             Ok(is_reply)
         }
-        Asked::Worn => Ok(false),
+        CallOutcome::Worn => Ok(false),
     }
 }

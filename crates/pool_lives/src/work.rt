@@ -14,7 +14,7 @@ use typed_object::TypedObject;
 
 /// The result of a worker: its client, the client's lines, and whether it met what cannot be.
 #[derive(Drop)]
-pub(crate) struct Served<Reply> {
+pub(crate) struct ServedClient<Reply> {
     pub(crate) client: Client,
     pub(crate) lines: Lines<Reply>,
     pub(crate) never: bool,
@@ -29,7 +29,7 @@ pub(crate) fn serve<O: TypedObject, R: Wait, G: Gate>(
     life: &BorrowedLife<'_, O::Op>,
     gate: &G,
     client: Client,
-) -> Result<Served<O::Reply>, AllocError>
+) -> Result<ServedClient<O::Reply>, AllocError>
     requires pool { ServesLife O.only_reads (O.meaning object.now) object.now life.now pool.now }
     requires client { IsUncalledIn pool.now.service pool.now.line.table.shared.table_id life.now.clients client }
     ensures { IfOk result (ClientServedOf (O.meaning object.now) life.now pool.now.service pool.now.line.table.shared.table_id life.now.clients client.number) }
@@ -59,7 +59,7 @@ pub(crate) fn serve<O: TypedObject, R: Wait, G: Gate>(
             )?;
             gate.pass(me, number, true);
             if !goes_on {
-                return Ok(Served {
+                return Ok(ServedClient {
                     client,
                     lines,
                     never: true,
@@ -67,7 +67,7 @@ pub(crate) fn serve<O: TypedObject, R: Wait, G: Gate>(
             }
         }
     }
-    Ok(Served {
+    Ok(ServedClient {
         client,
         lines,
         never: false,

@@ -4,7 +4,7 @@ ghost use Rattle.std.specs.Prelude.{◌≡◌, All, IfOk, vec_len};
 ghost use Rattle.cx_lives.specs.Works.{AreResultsOf};
 ghost use Rattle.pool_lives.specs.Working.{ClientServedOf, IsUncalledIn, ServesLife};
 
-use crate::work::{Served, serve};
+use crate::work::{ServedClient, serve};
 use client_pool::{Client, Pool};
 use cx_base::Gate;
 use life_records::BorrowedLife;
@@ -22,7 +22,7 @@ pub(crate) fn run_workers<O: TypedObject + Sync, R: Threads + Wait + Sync, G: Ga
     clients: Vec<Client>,
     life: &BorrowedLife<'_, O::Op>,
     gate: &G,
-) -> Result<Vec<Result<Served<O::Reply>, AllocError>>, AllocError>
+) -> Result<Vec<Result<ServedClient<O::Reply>, AllocError>>, AllocError>
     requires pool { ServesLife O.only_reads (O.meaning object.now) object.now life.now pool.now }
     requires clients { All (IsUncalledIn pool.now.service pool.now.line.table.shared.table_id life.now.clients) clients.items }
     ensures len { IfOk result (λ works. vec_len works ≡ vec_len clients) }
@@ -33,7 +33,7 @@ pub(crate) fn run_workers<O: TypedObject + Sync, R: Threads + Wait + Sync, G: Ga
     map_vec(
         rt,
         clients,
-        &|client: Client| -> Result<Served<O::Reply>, AllocError>
+        &|client: Client| -> Result<ServedClient<O::Reply>, AllocError>
             requires { ServesLife O.only_reads (O.meaning object.now) object.now life.now pool.now × IsUncalledIn pool.now.service pool.now.line.table.shared.table_id life.now.clients client }
             ensures { IfOk result (ClientServedOf (O.meaning object.entry.now) life.entry.now pool.entry.now.service pool.entry.now.line.table.shared.table_id life.entry.now.clients client.number) }
         { serve(rt, alloc, object, pool, life, gate, client) },

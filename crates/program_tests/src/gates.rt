@@ -90,7 +90,7 @@ const TURNED: &str =
 #[derive(Drop)]
 struct HoldingGate {
     answered: AtomicBool,
-    turns_left: AtomicU64,
+    attempts_left: AtomicU64,
 }
 
 impl Gate for HoldingGate {
@@ -103,7 +103,7 @@ impl Gate for HoldingGate {
         }
         for turn in 0..1_000_000_000u64 {
             if self.answered.load(Ordering::SeqCst) {
-                self.turns_left
+                self.attempts_left
                     .store(1_000_000_000 - turn, Ordering::SeqCst);
                 return;
             }
@@ -119,10 +119,10 @@ fn comes_second<R: Threads + Wait + Sync + AllocGlobal>(
 ) -> Result<bool, AllocError> {
     let gate = HoldingGate {
         answered: AtomicBool::new(false),
-        turns_left: AtomicU64::new(0),
+        attempts_left: AtomicU64::new(0),
     };
     let is_right = writes(rt, words, TWO_CLIENTS, &gate, TURNED)?;
-    Ok(is_right && gate.turns_left.load(Ordering::SeqCst) > 0)
+    Ok(is_right && gate.attempts_left.load(Ordering::SeqCst) > 0)
 }
 
 #[test]

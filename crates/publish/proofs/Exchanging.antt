@@ -8,15 +8,15 @@ use Rattle.cx_core.specs.declared.local.HeldDowngraded.{HeldDowngraded}
 use Rattle.cx_core.specs.Layout.{max_word}
 use Rattle.cx_core.specs.RootEvents.{IsAbove, code_in, outrun, published}
 use Rattle.cx_core.specs.State.{one_more}
-use Rattle.cx_rule.specs.Running.{Running}
-use Rattle.cx_rule.specs.Seats.{Seated}
-use Rattle.cx_rule.specs.Steps.{Steps}
+use Rattle.table_invariant.specs.Running.{Running}
+use Rattle.table_invariant.specs.Seats.{Seated}
+use Rattle.table_invariant.specs.Steps.{Steps}
 use Rattle.cx_table.specs.Right.{Right, WonRight}
 use Rattle.cx_table.specs.Tokens.{TriedPublish}
-use Rattle.strong_trylock.specs.Ends.{but_downgraded}
+use Rattle.strong_trylock.specs.Ends.{except_downgraded}
 use Rattle.strong_trylock.specs.Held.{AllRights, all_rights}
 use Rattle.publish.proofs.Options.{none_of}
-use Rattle.publish.specs.Publishing.{Exchanges, KeepsMet, LeavesRest, MeetsOne, PassedBy, beside_publish, place_in}
+use Rattle.publish.specs.Publishing.{Exchanges, KeepsMet, KeepsRest, MeetsOne, PassedBy, unchanged_by_publish, place_in}
 
 -- what is downgraded at a place above a code may be published
 pub may_publish : (callers code : ℕ) (o : Option HeldDowngraded) → root_place_of callers code < place_in o → IsAbove callers code o
@@ -52,12 +52,12 @@ module _ {O : Type 0} (r : Running O) (step : O → List ℕ → List ℕ → Li
   is_by : (won : Bool) → (found == before.known.local.seen_cur) ≡ won → after ≡ by won
   is_by won e = s.made ∙ ap by e
 
-  rest_by : (won : Bool) → beside_publish (by won) ≡ beside_publish before
-  rest_by true = ap (λ ns. (let b : Seated = record (beside_publish before) { known = record (beside_publish before).known { noted = ns } } in b)) (append-nil before.known.noted)
-  rest_by false = ap (λ ns. (let b : Seated = record (beside_publish before) { known = record (beside_publish before).known { noted = ns } } in b)) (append-nil before.known.noted)
+  rest_by : (won : Bool) → unchanged_by_publish (by won) ≡ unchanged_by_publish before
+  rest_by true = ap (λ ns. (let b : Seated = record (unchanged_by_publish before) { known = record (unchanged_by_publish before).known { noted = ns } } in b)) (append-nil before.known.noted)
+  rest_by false = ap (λ ns. (let b : Seated = record (unchanged_by_publish before) { known = record (unchanged_by_publish before).known { noted = ns } } in b)) (append-nil before.known.noted)
 
-  exchange_rest : beside_publish after ≡ beside_publish before
-  exchange_rest = ap beside_publish s.made ∙ rest_by (found == before.known.local.seen_cur)
+  exchange_rest : unchanged_by_publish after ≡ unchanged_by_publish before
+  exchange_rest = ap unchanged_by_publish s.made ∙ rest_by (found == before.known.local.seen_cur)
 
   front_by : (won : Bool) → before.known.local.front ≤ (by won).known.local.front
   front_by true = le-max_left before.known.local.front _
@@ -112,7 +112,7 @@ module _ {O : Type 0} (r : Running O) (step : O → List ℕ → List ℕ → Li
       omega (arith, seen, above, one_step)
   exchange_steps (Err given) some below exchanged = (let later = exchanged.later in omega (arith, later, one_step))
 
-  pub exchange_leaves : (x : Result WonRight Right) → 1 ≤ r.callers → before.known.local.met < 2 ^ 64 → root_place_of r.callers before.known.local.seen_cur < place_in before.known.local.downgraded → Exchanges r.callers before after x → LeavesRest r 0 before after
+  pub exchange_leaves : (x : Result WonRight Right) → 1 ≤ r.callers → before.known.local.met < 2 ^ 64 → root_place_of r.callers before.known.local.seen_cur < place_in before.known.local.downgraded → Exchanges r.callers before after x → KeepsRest r 0 before after
   exchange_leaves x some small below exchanged = record {
     of = s.seat;
     front = exchange_front;
@@ -152,7 +152,7 @@ module _ {O : Type 0} (r : Running O) (step : O → List ℕ → List ℕ → Li
       rises x y least apart = elim (cases_Bool (y == x)) [ inl e ↦ absurd (apart (sym (eqb-true y x e))) | inr e ↦ omega (arith, least, e) ]
 
 -- the right was released
-pub passed : (callers found : ℕ) (before after : Seated) → but_downgraded after ≡ but_downgraded before → all_rights after ≡ record (all_rights before) { downgraded = None } → before.known.local.won ≡ None →
+pub passed : (callers found : ℕ) (before after : Seated) → except_downgraded after ≡ except_downgraded before → all_rights after ≡ record (all_rights before) { downgraded = None } → before.known.local.won ≡ None →
     before.known.local.seen_cur ≡ found → place_in before.known.local.downgraded ≤ root_place_of callers before.known.local.seen_cur → PassedBy callers found before after
 passed callers found before after rest rights none seen above = record {
   seen = ap (λ (s : Seated). s.known.local.seen_cur) rest ∙ seen;

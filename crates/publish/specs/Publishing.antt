@@ -3,8 +3,8 @@ use Rattle.std.specs.Prelude.{◌≡◌, ◌+◌, ◌<◌, ◌≤◌, ◌⊎◌,
 use Rattle.cx_base.specs.Codes.{root_place_of}
 use Rattle.cx_core.specs.declared.local.HeldDowngraded.{HeldDowngraded}
 use Rattle.cx_core.specs.RootEvents.{code_in}
-use Rattle.cx_rule.specs.Running.{IsSeatOf, Running}
-use Rattle.cx_rule.specs.Seats.{IsAtLimit, Seated}
+use Rattle.table_invariant.specs.Running.{IsSeatOf, Running}
+use Rattle.table_invariant.specs.Seats.{IsAtLimit, Seated}
 use Rattle.cx_table.specs.Seats.{StepsOn}
 use Rattle.cx_table.specs.Right.{Right, WonRight}
 use Rattle.cx_table.specs.Tokens.{IsDowngradedOf, IsWonOf}
@@ -12,8 +12,8 @@ use Rattle.publish.specs.declared.publication.Published.{Published}
 use Rattle.publish.specs.declared.publication.Published.TheVariants.{Won, Passed}
 
 -- the seat but for the front, what was seen of CUR, the right that is published, the win, and the counts
-abbrev pub beside_publish : Seated → Seated
-beside_publish s = record s {
+abbrev pub unchanged_by_publish : Seated → Seated
+unchanged_by_publish s = record s {
   known = record s.known {
     local = record s.known.local { front = 0; seen_cur = 0; fresh = false; downgraded = None; won = None; steps = 0; met = 0 };
   };
@@ -71,7 +71,7 @@ pub record MayPublish {O : Type 0} (r : Running O) (seat : Seated) (held : Right
 
 -- What exchanges of CUR, and the release of a right, leave of the seat: the front does not fall, at most one refusal is met, no refusal and no
 -- step is taken back, and the rest is the same. Beside this number, no more steps were made than what was seen of CUR rose.
-pub record LeavesRest {O : Type 0} (r : Running O) (n : ℕ) (before after : Seated) : Type 0 where
+pub record KeepsRest {O : Type 0} (r : Running O) (n : ℕ) (before after : Seated) : Type 0 where
   pub of : IsSeatOf r after
   pub front : before.known.local.front ≤ after.known.local.front
   pub met : KeepsMet before after
@@ -79,13 +79,13 @@ pub record LeavesRest {O : Type 0} (r : Running O) (n : ℕ) (before after : Sea
   pub since : StepsOn before after
   pub most : after.known.local.met ≤ before.known.local.met + 1
   pub steps : after.known.local.steps + before.known.local.seen_cur ≤ before.known.local.steps + after.known.local.seen_cur + n
-  pub rest : beside_publish after ≡ beside_publish before
+  pub rest : unchanged_by_publish after ≡ unchanged_by_publish before
 
 -- each exchange so far was lost
 pub record LosesAll {O : Type 0} (r : Running O) (first seat : Seated) (right : Right) : Type 0 where
   pub may : MayPublish r seat right
   pub held : seat.known.local.downgraded ≡ first.known.local.downgraded
-  pub leaves : LeavesRest r 0 first seat
+  pub leaves : KeepsRest r 0 first seat
   pub stale : first.known.local.fresh ≡ false → seat.known.local.fresh ≡ false
   pub one : MeetsOne first seat
   pub stands : IsAtLimit first.known.local → IsAtLimit seat.known.local

@@ -2,8 +2,8 @@
 
 ghost use Rattle.std.specs.Prelude.{◌≡◌, ◌<◌, ◌≤◌, OnOk};
 ghost use Rattle.cx_base.specs.Codes.{root_place_of};
-ghost use Rattle.cx_rule.specs.Seats.{IsAtLimit};
-ghost use Rattle.publish.specs.Publishing.{EndsExchange, EndsPublishing, LeavesRest, MayPublish, place_in};
+ghost use Rattle.table_invariant.specs.Seats.{IsAtLimit};
+ghost use Rattle.publish.specs.Publishing.{EndsExchange, EndsPublishing, KeepsRest, MayPublish, place_in};
 
 use cx_base::{Halt, Object, root_place};
 use cx_table::{CallerSeat, Downgraded, Shared, Won};
@@ -30,7 +30,7 @@ pub fn publish<O: Object>(
     requires ready { MayPublish shared.now seat.old held }
     ensures published { EndsPublishing shared.now.callers seat.old seat.new result }
     ensures allowed { OnOk result (¬ IsAtLimit seat.old.known.local) }
-    ensures leaves { LeavesRest shared.now 1 seat.old seat.new }
+    ensures leaves { KeepsRest shared.now 1 seat.old seat.new }
 {
     let callers = shared.callers();
     let place = held_place(seat);
@@ -54,7 +54,7 @@ fn pass<O: Object>(
     requires above { place_in seat.old.known.local.downgraded ≤ root_place_of shared.now.callers seat.old.known.local.seen_cur }
     ensures published { EndsPublishing shared.now.callers seat.old seat.new result }
     ensures allowed { OnOk result (¬ IsAtLimit seat.old.known.local) }
-    ensures leaves { LeavesRest shared.now 1 seat.old seat.new }
+    ensures leaves { KeepsRest shared.now 1 seat.old seat.new }
     ensures met { seat.new.known.local.met ≡ seat.old.known.local.met }
 {
     let found = seat.seen_cur();
@@ -72,7 +72,7 @@ fn exchange<O: Object>(
     requires below { root_place_of shared.now.callers seat.old.known.local.seen_cur < place_in seat.old.known.local.downgraded }
     ensures exchanged { EndsExchange shared.now.callers seat.old seat.new result }
     ensures allowed { OnOk result (¬ IsAtLimit seat.old.known.local) }
-    ensures leaves { LeavesRest shared.now 0 seat.old seat.new }
+    ensures leaves { KeepsRest shared.now 0 seat.old seat.new }
 {
     // counts are words
     let _met = seat.met();

@@ -19,10 +19,10 @@ use Rattle.cx_core.specs.Region.{region_words}
 use Rattle.cx_core.specs.State.{Instance, State}
 use Rattle.cx_core.proofs.HistoryLemmas.{ObjectLaws}
 use Rattle.cx_core.proofs.LayoutLemmas.{replica_within}
-use Rattle.cx_rule.specs.Running.{Running, instance_at}
-use Rattle.cx_rule.specs.Seats.{Seated}
+use Rattle.table_invariant.specs.Running.{Running, instance_at}
+use Rattle.table_invariant.specs.Seats.{Seated}
 use Rattle.cx_table.specs.declared.remains.Remains.{Remains}
-use Rattle.cx_table.specs.Remains.{Leaves}
+use Rattle.cx_table.specs.Remains.{ClosingWitness}
 use Rattle.core_replica.proofs.BaseLaws.{kept_lawful}
 use Rattle.core_runs.proofs.WholeLaws.{crash_kept, entries_of}
 use Rattle.recovery.specs.declared.recovered_base.ImageFault.{ImageFault}
@@ -108,7 +108,7 @@ module _ {O : Type 0} (line_count : O → ℕ) (lawful : O → List ℕ → Type
     (shape : (o : O) (words : List ℕ) → lawful o words → Words (8 * line_count o) words × (slice_index words 0 ≡ version o))
     (takes : (o : O) → TakesOver (line_count o) (version o) (lawful o) (old o))
     (table : Running O) (seats : List Seated) (r : Remains) (choice : ℕ) (image : Image)
-    (opened : IsOpened line_count lawful table) (leaves : Leaves table (instance_at table step reads) seats r) (left : IsLeftOf r choice image) where
+    (opened : IsOpened line_count lawful table) (leaves : ClosingWitness table (instance_at table step reads) seats r) (left : IsLeftOf r choice image) where
   abbrev closed : State
   closed = record { words = leaves.words; locals = leaves.whole }
 

@@ -14,7 +14,7 @@ use Rattle.cx_core.specs.State.{Instance}
 use Rattle.cx_core.proofs.HistoryLemmas.{ObjectLaws, begins, full_lawful, full_next}
 use Rattle.cx_core.proofs.KeepLemmas as keep
 use Rattle.cx_core.proofs.Locals.{linked_below, linked_within}
-use Rattle.cx_rule.proofs.Replies.{reply_of_full}
+use Rattle.table_invariant.proofs.Replies.{reply_of_full}
 use Rattle.recovery.specs.declared.applied.Outcome.TheVariants.{Applied, Never}
 use Rattle.recovery.specs.Outcomes.{TellsOutcome, outcome_in, outcome_of}
 use Rattle.recovery.specs.Results.{HasResultsFrom, IsEarlierResult, IsStepsReply}

@@ -15,10 +15,10 @@ use Rattle.cx_core.specs.LawfulRegions.{per_word}
 use Rattle.cx_core.specs.Layout.{per_at}
 use Rattle.cx_core.specs.State.{Instance}
 use Rattle.cx_core.proofs.LayoutLemmas.{replica_within}
-use Rattle.cx_rule.specs.Running.{Running, instance_at}
-use Rattle.cx_rule.specs.Seats.{Seated}
+use Rattle.table_invariant.specs.Running.{Running, instance_at}
+use Rattle.table_invariant.specs.Seats.{Seated}
 use Rattle.cx_table.specs.declared.remains.Remains.{Remains}
-use Rattle.cx_table.specs.Remains.{IsDirty, Leaves}
+use Rattle.cx_table.specs.Remains.{IsDirty, ClosingWitness}
 use Rattle.pmem_model.specs.Medium.{any_value}
 use Rattle.pmem_model.specs.declared.medium.Mark.TheVariants.{Dirty}
 use Rattle.recovery.specs.Crashes.{IsLeftOf, left_word}
@@ -41,7 +41,7 @@ unmarked r choice at clean = ap (λ b. if b then any_value choice at (record { v
 
 module _ {O : Type 0} (line_count : O → ℕ) (lawful : O → List ℕ → Type 0) (step : O → List ℕ → List ℕ → List ℕ × List ℕ) (reads : O → List ℕ → Bool)
     (table : Running O) (seats : List Seated) (r : Remains) (choice : ℕ) (image : Image)
-    (opened : IsOpened line_count lawful table) (leaves : Leaves table (instance_at table step reads) seats r) (left : IsLeftOf r choice image) where
+    (opened : IsOpened line_count lawful table) (leaves : ClosingWitness table (instance_at table step reads) seats r) (left : IsLeftOf r choice image) where
   abbrev instance : Instance
   instance = instance_at table step reads
 

@@ -6,14 +6,14 @@ use Rattle.cx_core.specs.History.{full_image, image_from}
 use Rattle.cx_core.specs.Region.{place_of}
 use Rattle.cx_core.specs.State.{Instance, State}
 use Rattle.cx_core.proofs.HistoryLemmas.{ObjectLaws, full_after}
-use Rattle.cx_rule.specs.Fitting.{base_of}
-use Rattle.cx_rule.specs.Rule.{IsOrigin}
-use Rattle.cx_rule.specs.Running.{Running, instance_at}
-use Rattle.cx_rule.specs.Seats.{Seated}
-use Rattle.cx_rule.proofs.Entries.{entries_from}
-use Rattle.cx_rule.proofs.Fitting.{entries_lawful, image_base, origin_full}
+use Rattle.table_invariant.specs.Fitting.{base_of}
+use Rattle.table_invariant.specs.Rule.{IsOrigin}
+use Rattle.table_invariant.specs.Running.{Running, instance_at}
+use Rattle.table_invariant.specs.Seats.{Seated}
+use Rattle.table_invariant.proofs.Entries.{entries_from}
+use Rattle.table_invariant.proofs.Fitting.{entries_lawful, image_base, origin_full}
 use Rattle.cx_table.specs.declared.remains.Remains.{Remains}
-use Rattle.cx_table.specs.Remains.{Leaves}
+use Rattle.cx_table.specs.Remains.{ClosingWitness}
 use Rattle.recovery.specs.Taken.{IsCheckpoint}
 use Rattle.recovery.specs.Kept.{IsOpened}
 use Rattle.recovery.specs.Outcomes.{TellsOutcome}
@@ -31,7 +31,7 @@ behind_full instance history words place from is later =
     ap (λ ws. image_from instance.step ws entries) is ∙ full_after instance history (place_of words) n from ∙ ap (full_image instance.step instance.base history) there
 
 pub taken_of : {O : Type 0} (line_count : O → ℕ) (lawful : O → List ℕ → Type 0) (step : O → List ℕ → List ℕ → List ℕ × List ℕ) (reads : O → List ℕ → Bool) (table : Running O) (seats : List Seated) (r : Remains) →
-    ObjectLaws (line_count table.object) (lawful table.object) (step table.object) → IsOpened line_count lawful table → Leaves table (instance_at table step reads) seats r →
+    ObjectLaws (line_count table.object) (lawful table.object) (step table.object) → IsOpened line_count lawful table → ClosingWitness table (instance_at table step reads) seats r →
     (words : List ℕ) → IsOrigin (instance_at table step reads) r.trail.history words → IsCheckpoint line_count lawful step table r.trail.history words
 taken_of line_count lawful step reads table seats r laws opened leaves words origin =
     let instance = instance_at table step reads in

@@ -10,8 +10,8 @@ use Rattle.cx_core.specs.Base.{LawfulBase}
 use Rattle.cx_core.specs.Crash.{CrashImage, IsCrashImage, IsKept}
 use Rattle.cx_core.specs.History.{full_image}
 use Rattle.cx_core.specs.State.{EachLocal, Instance, State}
-use Rattle.cx_rule.specs.Running.{Running}
-use Rattle.cx_rule.specs.Seats.{Seated}
+use Rattle.table_invariant.specs.Running.{Running}
+use Rattle.table_invariant.specs.Seats.{Seated}
 use Rattle.cx_table.specs.declared.remains.Remains.{Remains}
 use Rattle.cx_table.specs.Remains.{locals_of}
 use Rattle.recovery.specs.Crashes.{left_root}

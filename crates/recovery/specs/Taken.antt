@@ -4,8 +4,8 @@ use Rattle.cx_core.specs.declared.entry.Entry.{Entry}
 use Rattle.cx_core.specs.Base.{LawfulBase}
 use Rattle.cx_core.specs.History.{full_image}
 use Rattle.cx_core.specs.Region.{place_of}
-use Rattle.cx_rule.specs.Fitting.{base_of}
-use Rattle.cx_rule.specs.Running.{Running}
+use Rattle.table_invariant.specs.Fitting.{base_of}
+use Rattle.table_invariant.specs.Running.{Running}
 use Rattle.recovery.specs.Outcomes.{TellsOutcome}
 use Rattle.recovery.specs.Results.{HasResultsFrom}
 

@@ -7,9 +7,9 @@ ghost use Rattle.cx_core.specs.Base.{LawfulBase};
 ghost use Rattle.cx_core.specs.Crash.{IsCrashImage};
 ghost use Rattle.cx_core.specs.Lawful.{Lawful};
 ghost use Rattle.cx_core.specs.State.{Instance, State};
-ghost use Rattle.cx_rule.specs.Running.{Running, instance_at};
-ghost use Rattle.cx_rule.specs.Seats.{Seated};
-ghost use Rattle.cx_table.specs.Remains.{Leaves};
+ghost use Rattle.table_invariant.specs.Running.{Running, instance_at};
+ghost use Rattle.table_invariant.specs.Seats.{Seated};
+ghost use Rattle.cx_table.specs.Remains.{ClosingWitness};
 ghost use Rattle.recovery.specs.Crashes.{IsLeftOf, AreRemainsWhole};
 ghost use Rattle.recovery.specs.Images.{IsReadable};
 ghost use Rattle.recovery.specs.Kept.{IsKeptAt, IsKeptBy, IsOpened, MayBeLeftOf, crash_of};
@@ -44,23 +44,23 @@ pub fn lawful_bases_are_accepted<O: Object>()
 /// A closed table leaves all that a crash image is made of, and what is left of it may be read for its object.
 pub fn closed_tables_are_whole<O: Object>()
     ensures whole { (table : Running O) (seats : List Seated) (r : _) → IsOpened O.line_count O.lawful table →
-        Leaves table (instance_at table O.step O.only_reads) seats r → AreRemainsWhole r }
+        ClosingWitness table (instance_at table O.step O.only_reads) seats r → AreRemainsWhole r }
     ensures readable { (table : Running O) (seats : List Seated) (r : _) (choice : ℕ) (image : _) →
-        IsOpened O.line_count O.lawful table → Leaves table (instance_at table O.step O.only_reads) seats r → IsLeftOf r choice image →
+        IsOpened O.line_count O.lawful table → ClosingWitness table (instance_at table O.step O.only_reads) seats r → IsLeftOf r choice image →
         IsReadable (O.line_count table.object) image }
 {}
 
 /// What is left of it by each choice is a crash image of the state that was closed.
 pub fn crash_images_are_left<O: Object>()
     ensures { (table : Running O) (seats : List Seated) (r : _) (choice : ℕ) (image : _) → IsOpened O.line_count O.lawful table →
-        (leaves : Leaves table (instance_at table O.step O.only_reads) seats r) → IsLeftOf r choice image →
+        (leaves : ClosingWitness table (instance_at table O.step O.only_reads) seats r) → IsLeftOf r choice image →
         IsCrashImage (instance_at table O.step O.only_reads) (record { words = leaves.words; locals = leaves.whole }) (crash_of image) }
 {}
 
 /// So recovery answers no refusal, and what it gives holds each answer: it is the full image of the history after the root's place.
 pub fn closed_tables_recover<O: Object>()
     ensures { (table : Running O) (seats : List Seated) (r : _) (choice : ℕ) (image : _) (answer : _) →
-        IsOpened O.line_count O.lawful table → Leaves table (instance_at table O.step O.only_reads) seats r → IsLeftOf r choice image →
+        IsOpened O.line_count O.lawful table → ClosingWitness table (instance_at table O.step O.only_reads) seats r → IsLeftOf r choice image →
         MatchResult answer
         (IsRecovered (O.version_number table.object) (O.lawful table.object) (O.old_format table.object) image)
         (IsFaultOf (O.version_number table.object) (O.lawful table.object) (O.old_format table.object) image) →
@@ -70,7 +70,7 @@ pub fn closed_tables_recover<O: Object>()
 /// What is left is of the object's own version: it is recovered as it is, as by an object that had no other.
 pub fn closed_tables_stay<O: Object>()
     ensures { (table : Running O) (seats : List Seated) (r : _) (choice : ℕ) (image : _) (base : _) →
-        IsOpened O.line_count O.lawful table → Leaves table (instance_at table O.step O.only_reads) seats r → IsLeftOf r choice image →
+        IsOpened O.line_count O.lawful table → ClosingWitness table (instance_at table O.step O.only_reads) seats r → IsLeftOf r choice image →
         IsRecovered (O.version_number table.object) (O.lawful table.object) (O.old_format table.object) image base ↔
         IsRecovered (O.version_number table.object) (O.lawful table.object) no_old_format image base }
 {}

@@ -4,9 +4,9 @@ ghost use Rattle.std.specs.Prelude.{◌≡◌, ◌+◌, ◌^◌, ◌<◌, ◌≤
 ghost use Rattle.cx_core.specs.Base.{LawfulBase};
 ghost use Rattle.cx_core.specs.History.{AreLawful, full_image};
 ghost use Rattle.cx_core.specs.Region.{slot_reply};
-ghost use Rattle.cx_rule.specs.Running.{Running, instance_at};
-ghost use Rattle.cx_rule.specs.Seats.{Seated};
-ghost use Rattle.cx_table.specs.Remains.{Leaves};
+ghost use Rattle.table_invariant.specs.Running.{Running, instance_at};
+ghost use Rattle.table_invariant.specs.Seats.{Seated};
+ghost use Rattle.cx_table.specs.Remains.{ClosingWitness};
 ghost use Rattle.recovery.specs.Kept.{IsKeptBy, IsOpened};
 ghost use Rattle.recovery.specs.Outcomes.{TellsOutcome, outcome_of};
 ghost use Rattle.recovery.specs.Results.{HasResultsFrom};
@@ -54,13 +54,13 @@ pub fn full_images_tell_outcomes<O: Object>(object: &O, base: &Base)
 /// So does what is recovered by choice after a crash of a closed table.
 pub fn kept_bases_tell_outcomes<O: Object>()
     ensures { (table : Running O) (seats : List Seated) (r : _) (choice caller : ℕ) (base : _) → IsOpened O.line_count O.lawful table →
-        Leaves table (instance_at table O.step O.only_reads) seats r → IsKeptBy O.line_count O.lawful O.step table seats r choice base →
+        ClosingWitness table (instance_at table O.step O.only_reads) seats r → IsKeptBy O.line_count O.lawful O.step table seats r choice base →
         caller < 8 → TellsOutcome (O.step table.object) table.base r.trail.history base caller }
 {}
 
 /// Each result in it is the one that the table was opened with, or keeps a reply of the object's step.
 pub fn kept_bases_have_results<O: Object>()
     ensures { (table : Running O) (seats : List Seated) (r : _) (choice : ℕ) (base : _) → IsOpened O.line_count O.lawful table →
-        Leaves table (instance_at table O.step O.only_reads) seats r → IsKeptBy O.line_count O.lawful O.step table seats r choice base →
+        ClosingWitness table (instance_at table O.step O.only_reads) seats r → IsKeptBy O.line_count O.lawful O.step table seats r choice base →
         HasResultsFrom (O.lawful table.object) (O.step table.object) table.base.words base.words }
 {}

@@ -1,7 +1,7 @@
 -- How many gaps a set leaves, counted as their ends are found one behind another.
 use Rattle.std.proofs.Common.{◌≡◌, ◌≢◌, ◌+◌, ◌-◌, ◌*◌, ◌/◌, ◌<◌, ◌≤◌, inl, inr, ℕ, zero, suc, true, false, List, slice_index, refl, ap, sym, ◌∙◌, arith, ne_eqb, eq-eqb, if◌then◌else◌, Result, Ok, Err}
 use Rattle.std.proofs.lemmas.Bool.{cases_eq, or_from, or_left, or_right}
-use Rattle.cx_rule.specs.Seats.{Seated, StepsBy}
+use Rattle.table_invariant.specs.Seats.{Seated, StepsBy}
 use Rattle.redo_set.specs.Gaps.{HasAddress, IsNextLine, LeavesGap, NotesGaps, gaps_of, is_among, lines_to, steps_on}
 
 among_some : (set : List ℕ) (n m count : ℕ) → m < count → slice_index set (2 * m + 1) / 8 ≡ n → is_among set n count ≡ true

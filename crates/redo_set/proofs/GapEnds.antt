@@ -6,14 +6,14 @@ use Rattle.cx_base.specs.declared.object.Object.{Ghosts}
 use Rattle.cx_core.specs.declared.kinds.Kind.TheVariants.{NoteGap}
 use Rattle.cx_core.specs.Gaps.{Gap, gap_of}
 use Rattle.cx_core.specs.State.{one_more}
-use Rattle.cx_rule.specs.declared.rule.Noted.{Noted}
-use Rattle.cx_rule.specs.Fitting.{Fitting}
-use Rattle.cx_rule.specs.Listed.{TellsGap}
-use Rattle.cx_rule.specs.Offers.{TellsSet}
-use Rattle.cx_rule.specs.Running.{IsSeatOf, Running, instance_at}
-use Rattle.cx_rule.specs.Seats.{Seated, stepped}
-use Rattle.cx_rule.proofs.Stepping.{on_same, on_then_one}
-use Rattle.redo_set.specs.Gaps.{AreEnds, LeavesGap, LeavesNoting, MayNote, begin_of, with_steps}
+use Rattle.table_invariant.specs.declared.rule.Noted.{Noted}
+use Rattle.table_invariant.specs.Fitting.{Fitting}
+use Rattle.table_invariant.specs.Listed.{TellsGap}
+use Rattle.table_invariant.specs.Offers.{TellsSet}
+use Rattle.table_invariant.specs.Running.{IsSeatOf, Running, instance_at}
+use Rattle.table_invariant.specs.Seats.{Seated, stepped}
+use Rattle.table_invariant.proofs.Stepping.{on_same, on_then_one}
+use Rattle.redo_set.specs.Gaps.{AreEnds, LeavesGap, KeepsNoting, MayNote, begin_of, with_steps}
 
 set_here : (xs : List ℕ) (k v : ℕ) → k < length xs → slice_index (slice_set xs k v) k ≡ v
 set_here [] k v below = absurd (omega arith)
@@ -80,7 +80,7 @@ abbrev seat_with : Seated → ℕ → List Noted → Seated
 seat_with s steps noted = record s { known = record s.known { local = record s.known.local { steps = steps }; noted = noted } }
 
 module _ {O : Type 0} (o : Ghosts O) (r : Running O) where
-  pub noting_none : (before after : Seated) → IsSeatOf r before → after ≡ before → LeavesNoting o r before after
+  pub noting_none : (before after : Seated) → IsSeatOf r before → after ≡ before → KeepsNoting o r before after
   noting_none before after of same = record {
     seat = shown_so before.known.local.steps before after same;
     of = subst (IsSeatOf r) (sym same) of;
@@ -89,7 +89,7 @@ module _ {O : Type 0} (o : Ghosts O) (r : Running O) where
   }
 
   -- one gap more was noted
-  pub noting_more : (slot i v : ℕ) (before mid after : Seated) → LeavesNoting o r before mid → after ≡ stepped (instance_at r o.step o.only_reads) (NoteGap slot i v) mid 0 → IsSeatOf r after → Fitting r.lines (o.lawful r.object) r.base (o.step r.object) after.known → LeavesNoting o r before after
+  pub noting_more : (slot i v : ℕ) (before mid after : Seated) → KeepsNoting o r before mid → after ≡ stepped (instance_at r o.step o.only_reads) (NoteGap slot i v) mid 0 → IsSeatOf r after → Fitting r.lines (o.lawful r.object) r.base (o.step r.object) after.known → KeepsNoting o r before after
   noting_more slot i v before mid after was step of fits = record {
     seat = shown_so (one_more mid.known.local.steps) before after (
         step ∙ ap (λ x. stepped (instance_at r o.step o.only_reads) (NoteGap slot i v) x 0) was.seat ∙ (λ k. seat_with before (one_more mid.known.local.steps) (append-nil before.known.noted k)));
@@ -99,7 +99,7 @@ module _ {O : Type 0} (o : Ghosts O) (r : Running O) where
   }
 
   -- a gap of a set that is told is told, in the word that names it
-  pub told_gap : (pairs : List ℕ) (ticket from to s v : ℕ) (before after : Seated) → LeavesNoting o r before after → MayNote o r ticket pairs before → LeavesGap pairs from to → gap_of r.callers s v ≡ record { ticket = ticket; from = from; to = to } →
+  pub told_gap : (pairs : List ℕ) (ticket from to s v : ℕ) (before after : Seated) → KeepsNoting o r before after → MayNote o r ticket pairs before → LeavesGap pairs from to → gap_of r.callers s v ≡ record { ticket = ticket; from = from; to = to } →
       (set_ : List ℕ) × TellsGap r.lines (o.lawful r.object) r.base (o.step r.object) after.known (gap_of r.callers s v) set_
   told_gap pairs ticket from to s v before after leaves may gap names =
       let g : Gap = record { ticket = ticket; from = from; to = to } in
@@ -108,7 +108,7 @@ module _ {O : Type 0} (o : Ghosts O) (r : Running O) where
       (pairs, subst (λ (x : Gap). TellsGap r.lines (o.lawful r.object) r.base (o.step r.object) after.known x pairs) (sym names) told)
 
   -- the set is told still once gaps were noted
-  pub told_still : (pairs : List ℕ) (ticket : ℕ) (before after : Seated) → LeavesNoting o r before after → TellsSet r.lines (o.lawful r.object) r.base (o.step r.object) before.known ticket pairs →
+  pub told_still : (pairs : List ℕ) (ticket : ℕ) (before after : Seated) → KeepsNoting o r before after → TellsSet r.lines (o.lawful r.object) r.base (o.step r.object) before.known ticket pairs →
       TellsSet r.lines (o.lawful r.object) r.base (o.step r.object) after.known ticket pairs
   told_still pairs ticket before after leaves tells =
       subst (λ (x : Seated). TellsSet r.lines (o.lawful r.object) r.base (o.step r.object) x.known ticket pairs) (sym leaves.seat) (tells_still o r ticket after.known.local.steps pairs before tells)

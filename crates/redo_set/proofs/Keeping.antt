@@ -1,14 +1,14 @@
 -- What a set that its caller keeps leaves: what the seat had it has.
 use Rattle.std.proofs.Common.{◌≡◌, inl, inr, ℕ, List, ap, subst, sym}
 use Rattle.cx_core.proofs.ListLemmas.{slice_get-append_left}
-use Rattle.cx_rule.specs.Fitting.{HasEntry, entries_of, has_of}
-use Rattle.cx_rule.specs.Running.{Running}
-use Rattle.cx_rule.specs.Seats.{Seated}
-use Rattle.cx_rule.specs.Steps.{KeepsSet}
-use Rattle.cx_rule.proofs.Stepping.{on_still}
-use Rattle.redo_set.specs.Offering.{LeavesOffering}
+use Rattle.table_invariant.specs.Fitting.{HasEntry, entries_of, has_of}
+use Rattle.table_invariant.specs.Running.{Running}
+use Rattle.table_invariant.specs.Seats.{Seated}
+use Rattle.table_invariant.specs.Steps.{KeepsSet}
+use Rattle.table_invariant.proofs.Stepping.{on_still}
+use Rattle.redo_set.specs.Offering.{KeepsOffering}
 
-pub leaves_keeping : {O : Type 0} (r : Running O) (ticket : ℕ) (pairs : List ℕ) (before after : Seated) → KeepsSet r ticket pairs before after → LeavesOffering r before after
+pub leaves_keeping : {O : Type 0} (r : Running O) (ticket : ℕ) (pairs : List ℕ) (before after : Seated) → KeepsSet r ticket pairs before after → KeepsOffering r before after
 leaves_keeping r ticket pairs before after keeps = record {
   has = record {
     entry = λ t e had. subst (λ (x : Seated). HasEntry (entries_of x.known) t e) (sym keeps.made) had;

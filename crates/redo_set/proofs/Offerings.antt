@@ -16,11 +16,11 @@ use Rattle.cx_core.specs.State.{Instance, one_more}
 use Rattle.cx_core.specs.WriteSet.{stored}
 use Rattle.cx_core.proofs.ListLemmas.{slice_get-set_other}
 use Rattle.core_queue.proofs.SetKinds.{unoffered_parts}
-use Rattle.cx_rule.specs.declared.rule.Known.{Known}
-use Rattle.cx_rule.specs.declared.rule.Noted.{Noted}
-use Rattle.cx_rule.specs.Fitting.{Chain, FitsOn, HasEntry, entries_of, has_of, start, with_entry, with_set as by_set}
-use Rattle.cx_rule.specs.Offers.{TellsOffer, TellsSet}
-use Rattle.cx_rule.specs.Seats.{HasCells, Seated, stepped}
+use Rattle.table_invariant.specs.declared.rule.Known.{Known}
+use Rattle.table_invariant.specs.declared.rule.Noted.{Noted}
+use Rattle.table_invariant.specs.Fitting.{Chain, FitsOn, HasEntry, entries_of, has_of, start, with_entry, with_set as by_set}
+use Rattle.table_invariant.specs.Offers.{TellsOffer, TellsSet}
+use Rattle.table_invariant.specs.Seats.{HasCells, Seated, stepped}
 use Rattle.redo_set.specs.Offering.{HasStill, OffersSet, WritesSet, seat_with_set}
 use Rattle.redo_set.proofs.SetLaws.{stored_same}
 

@@ -9,15 +9,15 @@ use Rattle.cx_core.specs.SetEvents.{ShowsOffer}
 use Rattle.cx_core.specs.State.{Instance, one_more}
 use Rattle.core_queue.specs.declared.notes.SetNoted.{SetNoted}
 use Rattle.core_queue.specs.NotedSets.{IsNotedSet}
-use Rattle.cx_rule.specs.declared.rule.Noted.{Noted}
-use Rattle.cx_rule.specs.Fitting.{Fitting}
-use Rattle.cx_rule.specs.Running.{IsSeatOf, Running, instance_at}
-use Rattle.cx_rule.specs.Seats.{IsAtLimit, Seated, stepped}
-use Rattle.cx_rule.specs.Steps.{Halts, Steps}
-use Rattle.cx_rule.proofs.Stepping.{on_same, on_step, on_then, on_then_one}
+use Rattle.table_invariant.specs.declared.rule.Noted.{Noted}
+use Rattle.table_invariant.specs.Fitting.{Fitting}
+use Rattle.table_invariant.specs.Running.{IsSeatOf, Running, instance_at}
+use Rattle.table_invariant.specs.Seats.{IsAtLimit, Seated, stepped}
+use Rattle.table_invariant.specs.Steps.{Halts, Steps}
+use Rattle.table_invariant.proofs.Stepping.{on_same, on_step, on_then, on_then_one}
 use Rattle.cx_table.specs.Runs.{Runs, no_step, one_more_step, set_reads_from}
 use Rattle.cx_table.specs.Seats.{StepsOn}
-use Rattle.redo_set.specs.Taking.{FindsUnoffered, HaltsReadingSet, HaltsTakingSet, IsReadingSet, LeavesTaking, ReadsFewer, ReadsSetWords, set_notes, sets_read, with_notes}
+use Rattle.redo_set.specs.Taking.{FindsUnoffered, HaltsReadingSet, HaltsTakingSet, IsReadingSet, KeepsTaking, ReadsFewer, ReadsSetWords, set_notes, sets_read, with_notes}
 
 abbrev note : ℕ → ℕ → ℕ → SetNoted
 note ticket i w = record { ticket = ticket; index = i; word = w }
@@ -38,7 +38,7 @@ shown_so seen steps notes s after is =
     is ∙ (λ k. with_notes (sym (ap (λ (x : Seated). x.known.local.seen_offer) is) k) (sym (ap (λ (x : Seated). x.known.local.steps) is) k) notes s)
 
 -- what a seat is after some notes it leaves
-pub leaves_of : {O : Type 0} (r : Running O) (seen : Option SeenOffer) (steps : ℕ) (notes : List SetNoted) (s after : Seated) → after ≡ with_notes seen steps notes s → IsSeatOf r after → StepsOn s after → LeavesTaking r s after
+pub leaves_of : {O : Type 0} (r : Running O) (seen : Option SeenOffer) (steps : ℕ) (notes : List SetNoted) (s after : Seated) → after ≡ with_notes seen steps notes s → IsSeatOf r after → StepsOn s after → KeepsTaking r s after
 leaves_of r seen steps notes s after is of since = record { notes = notes; seat = shown_so seen steps notes s after is; of = of; since = since }
 
 -- some words of a set were read, and a further one is to be
@@ -62,7 +62,7 @@ none_is : (s : Seated) → s ≡ with_notes s.known.local.seen_offer s.known.loc
 none_is s = ap (seat_with s s.known.local.seen_offer s.known.local.steps s.known.noted) (sym (append-nil s.known.sets))
 
 -- the limit came first: nothing was made
-pub leaves_none : {O : Type 0} (r : Running O) (s after : Seated) → Halts r s after → LeavesTaking r s after
+pub leaves_none : {O : Type 0} (r : Running O) (s after : Seated) → Halts r s after → KeepsTaking r s after
 leaves_none r s after h = leaves_of r s.known.local.seen_offer s.known.local.steps [] s after (h.same ∙ none_is s) h.seat (on_same s after h.same)
 
 pub halts_first : {O : Type 0} (r : Running O) (cell ticket : ℕ) (s after : Seated) → Halts r s after → HaltsTakingSet cell ticket s after
@@ -105,7 +105,7 @@ set_is instance cell ticket found count steps words s looked t u look one more =
 
 module _ {O : Type 0} (r : Running O) where
   -- what is left by one part and by the next
-  leaves_then : (s t u : Seated) → LeavesTaking r s t → LeavesTaking r t u → LeavesTaking r s u
+  leaves_then : (s t u : Seated) → KeepsTaking r s t → KeepsTaking r t u → KeepsTaking r s u
   leaves_then s t u one two = record {
     notes = one.notes ++ two.notes;
     seat = two.seat
@@ -117,18 +117,18 @@ module _ {O : Type 0} (r : Running O) where
 
   module _ (step : O → List ℕ → List ℕ → List ℕ × List ℕ) (reads : O → List ℕ → Bool) where
     -- by the look at an offer
-    pub leaves_looked : (cell ticket found : ℕ) (s t : Seated) → Steps r step reads (LoadOffer cell ticket) found s t → LeavesTaking r s t
+    pub leaves_looked : (cell ticket found : ℕ) (s t : Seated) → Steps r step reads (LoadOffer cell ticket) found s t → KeepsTaking r s t
     leaves_looked cell ticket found s t made =
         leaves_of r (Some (record { cell = cell; ticket = ticket; word = found })) (one_more s.known.local.steps) [] s t (looked_is (instance_at r step reads) cell ticket found s t made.made) made.seat
         (on_step r step reads (LoadOffer cell ticket) found s t made)
 
     -- and by a word that was read
-    leaves_word : (cell ticket i v : ℕ) (s t : Seated) → Steps r step reads (ReadSet cell ticket i) v s t → LeavesTaking r s t
+    leaves_word : (cell ticket i v : ℕ) (s t : Seated) → Steps r step reads (ReadSet cell ticket i) v s t → KeepsTaking r s t
     leaves_word cell ticket i v s t made =
         leaves_of r s.known.local.seen_offer (one_more s.known.local.steps) (note ticket i v ∷ []) s t (read_one (instance_at r step reads) cell ticket i v s.known.local.seen_offer s.known.local.steps [] s s t (none_is s) made.made) made.seat
         (on_step r step reads (ReadSet cell ticket i) v s t made)
 
-    pub leaves_set : (cell ticket found count : ℕ) (s looked t u : Seated) → Steps r step reads (LoadOffer cell ticket) found s looked → Steps r step reads (ReadSet cell ticket 0) count looked t → LeavesTaking r t u → LeavesTaking r s u
+    pub leaves_set : (cell ticket found count : ℕ) (s looked t u : Seated) → Steps r step reads (LoadOffer cell ticket) found s looked → Steps r step reads (ReadSet cell ticket 0) count looked t → KeepsTaking r t u → KeepsTaking r s u
     leaves_set cell ticket found count s looked t u look first rest =
         leaves_then s t u (leaves_then s looked t (leaves_looked cell ticket found s looked look) (leaves_word cell ticket 0 count looked t first)) rest
 
@@ -151,7 +151,7 @@ module _ {O : Type 0} (o : Ghosts O) (r : Running O) where
       }
 
   -- what was read leaves
-  pub leaves_read : (ticket from : ℕ) (words : List ℕ) (s after : Seated) → ReadsSetWords o r ticket from words s after → IsSeatOf r after → StepsOn s after → LeavesTaking r s after
+  pub leaves_read : (ticket from : ℕ) (words : List ℕ) (s after : Seated) → ReadsSetWords o r ticket from words s after → IsSeatOf r after → StepsOn s after → KeepsTaking r s after
   leaves_read ticket from words s after read of since = leaves_of r s.known.local.seen_offer after.known.local.steps (set_notes ticket from words) s after read.seat of since
 
   -- what a run of reads leads to

@@ -2,10 +2,10 @@
 use Rattle.std.specs.Prelude.{◌≡◌, ◌+◌, ◌-◌, ◌*◌, ◌/◌, ◌^◌, ◌<◌, ◌≤◌, ◌⊎◌, ◌==◌, ◌||◌, ℕ, zero, suc, Bool, false, if◌then◌else◌, List, slice_index, Result, Ok, Err}
 use Rattle.cx_base.specs.declared.object.Object.{Ghosts}
 use Rattle.cx_core.specs.State.{one_more}
-use Rattle.cx_rule.specs.Fitting.{Fitting}
-use Rattle.cx_rule.specs.Offers.{TellsSet}
-use Rattle.cx_rule.specs.Running.{IsSeatOf, Running}
-use Rattle.cx_rule.specs.Seats.{Seated, StepsOn}
+use Rattle.table_invariant.specs.Fitting.{Fitting}
+use Rattle.table_invariant.specs.Offers.{TellsSet}
+use Rattle.table_invariant.specs.Running.{IsSeatOf, Running}
+use Rattle.table_invariant.specs.Seats.{Seated, StepsOn}
 use Rattle.cx_table.specs.GapMarks.{AreKept}
 
 -- the seat with this count of steps
@@ -79,7 +79,7 @@ pub record MayNote {O : Type 0} (o : Ghosts O) (r : Running O) (ticket : ℕ) (s
   pub tells : TellsSet r.lines (o.lawful r.object) r.base (o.step r.object) seat.known ticket set
 
 -- nothing changed but the steps, of which none is taken back, and of what really is there some fits what is known
-pub record LeavesNoting {O : Type 0} (o : Ghosts O) (r : Running O) (before after : Seated) : Type 0 where
+pub record KeepsNoting {O : Type 0} (o : Ghosts O) (r : Running O) (before after : Seated) : Type 0 where
   pub seat : after ≡ with_steps after.known.local.steps before
   pub of : IsSeatOf r after
   pub since : StepsOn before after

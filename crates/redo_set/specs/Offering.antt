@@ -5,12 +5,12 @@ use Rattle.cx_core.specs.declared.entry.Entry.{Entry}
 use Rattle.cx_core.specs.declared.kinds.Kind.TheVariants.{WriteSet}
 use Rattle.cx_core.specs.QueueEvents.{cell_of}
 use Rattle.cx_core.specs.SetEvents.{CanWriteSet}
-use Rattle.cx_rule.specs.declared.rule.Known.{Known}
-use Rattle.cx_rule.specs.Fitting.{has_of}
-use Rattle.cx_rule.specs.Running.{IsSeatOf, Running}
-use Rattle.cx_rule.specs.Seats.{Seated, StepsOn}
-use Rattle.cx_rule.specs.Steps.{KeepsSet, Steps}
-use Rattle.cx_rule.specs.Stores.{FittingIn}
+use Rattle.table_invariant.specs.declared.rule.Known.{Known}
+use Rattle.table_invariant.specs.Fitting.{has_of}
+use Rattle.table_invariant.specs.Running.{IsSeatOf, Running}
+use Rattle.table_invariant.specs.Seats.{Seated, StepsOn}
+use Rattle.table_invariant.specs.Steps.{KeepsSet, Steps}
+use Rattle.table_invariant.specs.Stores.{FittingIn}
 
 -- the set of the own entry with a ticket may be written in a cell and offered
 pub record MayOffer {O : Type 0} (r : Running O) (cell ticket : ℕ) (seat : Seated) : Type 0 where
@@ -54,7 +54,7 @@ pub record HasStill (before after : Known) : Type 0 where
   pub set : (ticket : ℕ) (set : List ℕ) → (has_of before).set ticket set → (has_of after).set ticket set
 
 -- what an offer leaves, and so does a set that is kept: what the seat had it has, it is one of the table, and no step is taken back
-pub record LeavesOffering {O : Type 0} (r : Running O) (before after : Seated) : Type 0 where
+pub record KeepsOffering {O : Type 0} (r : Running O) (before after : Seated) : Type 0 where
   pub has : HasStill before.known after.known
   pub of : IsSeatOf r after
   pub since : StepsOn before after

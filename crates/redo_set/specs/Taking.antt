@@ -10,9 +10,9 @@ use Rattle.cx_core.specs.SetEvents.{ShowsOffer}
 use Rattle.cx_core.specs.State.{one_more}
 use Rattle.core_queue.specs.declared.notes.SetNoted.{SetNoted}
 use Rattle.core_queue.specs.NotedSets.{IsNotedSet}
-use Rattle.cx_rule.specs.Fitting.{Fitting}
-use Rattle.cx_rule.specs.Running.{IsSeatOf, Running, instance_at}
-use Rattle.cx_rule.specs.Seats.{IsAtLimit, Seated, StepsOn, unseen}
+use Rattle.table_invariant.specs.Fitting.{Fitting}
+use Rattle.table_invariant.specs.Running.{IsSeatOf, Running, instance_at}
+use Rattle.table_invariant.specs.Seats.{IsAtLimit, Seated, StepsOn, unseen}
 
 -- the offer of the entry with a ticket may be looked at in a cell: the slot last looked at shows it there, and a protection keeps it
 pub record MayTakeSet {O : Type 0} (r : Running O) (cell ticket : ℕ) (seat : Seated) : Type 0 where
@@ -51,7 +51,7 @@ CountsTaken before after true = sets_read after.known.sets ≡ sets_read before.
 CountsTaken before after false = after.known.sets ≡ before.known.sets
 
 -- nothing changed but the steps, of which none is taken back, and the offer last seen, and there may be more notes of sets
-pub record LeavesTaking {O : Type 0} (r : Running O) (before after : Seated) : Type 0 where
+pub record KeepsTaking {O : Type 0} (r : Running O) (before after : Seated) : Type 0 where
   pub notes : List SetNoted
   pub seat : after ≡ with_notes after.known.local.seen_offer after.known.local.steps notes before
   pub of : IsSeatOf r after

@@ -1,8 +1,8 @@
 //! The gaps that a write set leaves are noted in the ring of gaps.
 
 ghost use Rattle.std.specs.Prelude.{◌+◌, ◌<◌, ◌≤◌, IfSome, IfNone, OnErr, length};
-ghost use Rattle.cx_rule.specs.Seats.{IsAtLimit, StepsBy};
-ghost use Rattle.redo_set.specs.Gaps.{AreAllEnds, AreEnds, AreGapsNoted, IsNextLine, LeavesNoting, MayNote, NotesGaps, gaps_of};
+ghost use Rattle.table_invariant.specs.Seats.{IsAtLimit, StepsBy};
+ghost use Rattle.redo_set.specs.Gaps.{AreAllEnds, AreEnds, AreGapsNoted, IsNextLine, KeepsNoting, MayNote, NotesGaps, gaps_of};
 
 use crate::set::WriteSet;
 use cx_base::{Halt, Object};
@@ -25,7 +25,7 @@ pub fn note_gaps<O: Object>(
     ensures noted { AreGapsNoted shared.now.callers shared.now.lines set.now → NotesGaps (gaps_of set.now (146 + shared.now.lines)) seat.old seat.new result }
     ensures none { ¬ AreGapsNoted shared.now.callers shared.now.lines set.now → NotesGaps 0 seat.old seat.new result }
     ensures few { StepsBy 16 seat.old seat.new }
-    ensures leaves { LeavesNoting O.Object shared.now seat.old seat.new }
+    ensures leaves { KeepsNoting O.Object shared.now seat.old seat.new }
     ensures halts { OnErr result (IsAtLimit seat.new.known.local) }
 {
     if !keeps_gaps(shared) {
@@ -81,7 +81,7 @@ fn note_each<O: Object>(
     requires callers { 2 ≤ shared.now.callers }
     requires ends { AreEnds set.now (146 + shared.now.lines) ends.now (length ends.now) }
     ensures noted { NotesGaps (length ends.now) seat.old seat.new result }
-    ensures leaves { LeavesNoting O.Object shared.now seat.old seat.new }
+    ensures leaves { KeepsNoting O.Object shared.now seat.old seat.new }
     ensures halts { OnErr result (IsAtLimit seat.new.known.local) }
 {
     // a running table is within its limits

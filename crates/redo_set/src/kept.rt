@@ -1,10 +1,10 @@
 //! Where no other caller reads it, the write set of an own entry is kept in its caller's own memory, and is not offered.
 
 ghost use Rattle.std.specs.Prelude.{◌≡◌, IsTrue};
-ghost use Rattle.cx_rule.specs.Fitting.{IsKeptSet, IsSetWithin};
-ghost use Rattle.cx_rule.specs.Offers.{TellsSet};
-ghost use Rattle.cx_rule.specs.Running.{IsSeatOf};
-ghost use Rattle.redo_set.specs.Offering.{KeepsFitting, LeavesOffering};
+ghost use Rattle.table_invariant.specs.Fitting.{IsKeptSet, IsSetWithin};
+ghost use Rattle.table_invariant.specs.Offers.{TellsSet};
+ghost use Rattle.table_invariant.specs.Running.{IsSeatOf};
+ghost use Rattle.redo_set.specs.Offering.{KeepsFitting, KeepsOffering};
 
 use crate::set::WriteSet;
 use cx_base::Object;
@@ -16,7 +16,7 @@ pub fn keep<O: Object>(shared: &Shared<O>, seat: &mut CallerSeat, ticket: u64, s
     requires of { IsSeatOf shared.now seat.old }
     requires told { TellsSet shared.now.lines (O.lawful shared.now.object) shared.now.base (O.step shared.now.object) seat.old.known ticket set.old }
     ensures kept { KeepsFitting O.Object shared.now ticket set.old seat.old seat.new }
-    ensures leaves { LeavesOffering shared.now seat.old seat.new }
+    ensures leaves { KeepsOffering shared.now seat.old seat.new }
 {
     shared.keep_set(seat, ticket, &mut set.words);
 }

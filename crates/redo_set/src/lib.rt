@@ -18,12 +18,12 @@
 //!   `HaltsTakingSet`).
 //! - A set that whatever fits tells to be one of an own entry's ticket is written beside the entry's cell, each word that differs from the one
 //!   there, and offered. What the seat had it has still, and what really is there fits; with `Halt` nothing is offered: `offer` (`offered`:
-//!   `OffersFitting`; `leaves`: `LeavesOffering`; `halts`: `WritesSet`).
+//!   `OffersFitting`; `leaves`: `KeepsOffering`; `halts`: `WritesSet`).
 //! - Where no other caller reads it, such a set is kept in the seat's memory instead, by no step, and handed out again by its ticket: `keep` (`kept`:
 //!   `KeepsFitting`; `leaves`), `take_kept` (`taken`).
 //! - The gaps that a set leaves between the lines of its addresses are noted for its ticket in the ring of gaps, where the table keeps gaps and they are
 //!   16 at most: as many steps are made as there are gaps, and fewer only where the limit ends it; else none (`note_gaps`: `noted`, `none`). Nothing of the
-//!   seat changes but the steps (`leaves`: `LeavesNoting`), so no clause says which gaps the words name; each names one that the set leaves untouched.
+//!   seat changes but the steps (`leaves`: `KeepsNoting`), so no clause says which gaps the words name; each names one that the set leaves untouched.
 //!
 //! Tested (`table_tests`): one address noted twice, each limit of its two stores, one set that is emptied and used again, and 256 pairs with a
 //! 257th that is refused; a set that is written at each limit of steps, and found not to be offered at each limit.

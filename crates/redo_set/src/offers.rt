@@ -2,10 +2,10 @@
 
 ghost use Rattle.std.specs.Prelude.{◌+◌, ◌*◌, ◌<◌, OnErr, OnOk};
 ghost use Rattle.cx_core.specs.declared.kinds.Kind.TheVariants.{WriteSet as WritesWord};
-ghost use Rattle.cx_rule.specs.Offers.{TellsSet};
+ghost use Rattle.table_invariant.specs.Offers.{TellsSet};
 ghost use Rattle.cx_table.specs.Calls.{MakesStep, MayStep};
 ghost use Rattle.cx_table.specs.Seats.{IsAtLimit};
-ghost use Rattle.redo_set.specs.Offering.{LeavesOffering, MayOffer, OffersFitting, WritesDiffering, WritesSet};
+ghost use Rattle.redo_set.specs.Offering.{KeepsOffering, MayOffer, OffersFitting, WritesDiffering, WritesSet};
 
 use crate::set::WriteSet;
 use cx_base::{Halt, Object};
@@ -24,7 +24,7 @@ pub fn offer<O: Object>(
     requires may { MayOffer shared.now cell ticket seat.old }
     requires told { TellsSet shared.now.lines (O.lawful shared.now.object) shared.now.base (O.step shared.now.object) seat.old.known ticket set.now }
     ensures offered { OnOk result (OffersFitting O.Object shared.now cell ticket set.now seat.old seat.new) }
-    ensures leaves { LeavesOffering shared.now seat.old seat.new }
+    ensures leaves { KeepsOffering shared.now seat.old seat.new }
     ensures halts { OnErr result (WritesSet cell seat.old seat.new × IsAtLimit seat.new.known.local) }
 {
     let _ = ticket;

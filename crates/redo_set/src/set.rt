@@ -19,7 +19,7 @@ pub struct WriteSet {
 
 impl Model for WriteSet {
     ghost use Rattle.std.specs.Prelude.{List, ℕ};
-    ghost use Rattle.seat_memory.specs.Copies.{IsSetList};
+    ghost use Rattle.caller_cache.specs.Copies.{IsSetList};
 
     ghost Value = { List ℕ };
 

@@ -1,7 +1,7 @@
 //! The write set of another's entry is taken from the entry's cell.
 
 ghost use Rattle.std.specs.Prelude.{◌≡◌, ◌+◌, ◌≤◌, ◌↔◌, IfOk, IsTrue, OnErr, OnOk, length};
-ghost use Rattle.redo_set.specs.Taking.{HaltsReadingSet, HaltsTakingSet, LeavesTaking, MayReadSet, MayTakeSet, ReadsSetWords, TakesOffered};
+ghost use Rattle.redo_set.specs.Taking.{HaltsReadingSet, HaltsTakingSet, KeepsTaking, MayReadSet, MayTakeSet, ReadsSetWords, TakesOffered};
 
 use crate::set::WriteSet;
 use cx_base::{Halt, Object, SET_WORDS};
@@ -22,7 +22,7 @@ pub fn take<O: Object>(
     requires may { MayTakeSet shared.now cell ticket seat.old }
     ensures taken { IfOk result (TakesOffered O.Object shared.now cell ticket into.new seat.old seat.new) }
     ensures halted { OnErr result (HaltsTakingSet cell ticket seat.old seat.new) }
-    ensures leaves { LeavesTaking shared.now seat.old seat.new }
+    ensures leaves { KeepsTaking shared.now seat.old seat.new }
 {
     let found = shared.load_offer(seat, cell, ticket)?;
     if !names(ticket, found) {
@@ -54,7 +54,7 @@ fn read_words<O: Object>(
     requires few { 1 + length into.old ≤ SET_WORDS }
     ensures read { OnOk result (ReadsSetWords O.Object shared.now ticket 1 into.new seat.old seat.new) }
     ensures halted { OnErr result (HaltsReadingSet ticket 1 (length into.old) seat.old seat.new) }
-    ensures leaves { LeavesTaking shared.now seat.old seat.new }
+    ensures leaves { KeepsTaking shared.now seat.old seat.new }
     ensures long { length into.new ≡ length into.old }
 {
     if shared.read_set_words(seat, cell, ticket, 1, into) {
@@ -75,7 +75,7 @@ fn read_each<O: Object>(
     requires few { 1 + length into.old ≤ SET_WORDS }
     ensures read { OnOk result (ReadsSetWords O.Object shared.now ticket 1 into.new seat.old seat.new) }
     ensures halted { OnErr result (HaltsReadingSet ticket 1 (length into.old) seat.old seat.new) }
-    ensures leaves { LeavesTaking shared.now seat.old seat.new }
+    ensures leaves { KeepsTaking shared.now seat.old seat.new }
     ensures long { length into.new ≡ length into.old }
 {
     for i in 0..into.len() {

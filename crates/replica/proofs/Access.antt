@@ -11,16 +11,16 @@ use Rattle.cx_core.specs.LockEvents.{is_in}
 use Rattle.cx_core.specs.Region.{region_words}
 use Rattle.cx_core.specs.RegionEvents.{loaded_into, stored_into}
 use Rattle.cx_core.specs.Rights.{exclusive_on, held_dirty, is_at, shared_on}
-use Rattle.cx_rule.specs.declared.rule.Noted.{Noted}
-use Rattle.cx_rule.specs.Fitting.{Fitting, SomeFits, SomeReadFits, loaded_of}
-use Rattle.cx_rule.specs.Running.{Running}
-use Rattle.cx_rule.specs.Seats.{Seated}
-use Rattle.cx_rule.specs.Steps.{Steps}
+use Rattle.table_invariant.specs.declared.rule.Noted.{Noted}
+use Rattle.table_invariant.specs.Fitting.{Fitting, SomeFits, SomeReadFits, loaded_of}
+use Rattle.table_invariant.specs.Running.{Running}
+use Rattle.table_invariant.specs.Seats.{Seated}
+use Rattle.table_invariant.specs.Steps.{Steps}
 use Rattle.cx_table.specs.Right.{Right}
 use Rattle.cx_table.specs.Runs.{Runs, loads_from, no_step, one_more_step}
 use Rattle.cx_table.specs.Tokens.{IsExclusiveOf, IsSharedOf}
 use Rattle.replica.specs.Laws.{fitting_shared}
-use Rattle.replica.specs.Held.{Accesses, IsHeld, IsHeldShared, LoadsHeld, LoadsRun, LoadsShared, no_load, one_more_load, beside_held, beside_shared, but_loaded, but_words}
+use Rattle.replica.specs.Held.{Accesses, IsHeld, IsHeldShared, LoadsHeld, LoadsRun, LoadsShared, no_load, one_more_load, unchanged_by_access, unchanged_by_shared_access, except_loaded, except_words}
 
 pub at_itself : (r : ℕ) → is_at r (Some r) ≡ true
 at_itself r = eq-eqb r r refl
@@ -31,7 +31,7 @@ at_itself r = eq-eqb r r refl
 abbrev pub beside : Seated → List Noted → Option HeldExclusive → Option HeldShared → Seated
 beside s noted exclusive shared = record s { known = record { local = record s.known.local { exclusive = exclusive; shared = shared; steps = 0 }; noted = noted; accesses = []; sets = s.known.sets; times = s.known.times; images = s.known.images; kept = s.known.kept } }
 
-unloaded : (r i found : ℕ) (o : Option HeldShared) → option_map (but_loaded r) (option_map (loaded_into r i found) o) ≡ option_map (but_loaded r) o
+unloaded : (r i found : ℕ) (o : Option HeldShared) → option_map (except_loaded r) (option_map (loaded_into r i found) o) ≡ option_map (except_loaded r) o
 unloaded r i found None = refl
 unloaded r i found (Some h) = by (h.replica == r)
   where
@@ -39,7 +39,7 @@ unloaded r i found (Some h) = by (h.replica == r)
     by true = refl
     by false = refl
 
-pub unstored : (i v : ℕ) (o : Option HeldExclusive) → option_map but_words (option_map (stored_into i v) o) ≡ option_map but_words o
+pub unstored : (i v : ℕ) (o : Option HeldExclusive) → option_map except_words (option_map (stored_into i v) o) ≡ option_map except_words o
 unstored i v None = refl
 unstored i v (Some h) = refl
 
@@ -51,18 +51,18 @@ still_on f replica same (Some x) None q e on = absurd (none-some q on)
 still_on f replica same (Some x) (Some y) q e on = ap Some (sym (same x) ∙ ap replica (same_Some (f x) (f y) e) ∙ same y) ∙ on
 
 -- a seat that is the same beside the words held holds the same
-pub still_exclusive : (callers q : ℕ) (before after : Seated) (held : Right) → beside_held q after ≡ beside_held q before → IsExclusiveOf callers before held → IsExclusiveOf callers after held
+pub still_exclusive : (callers q : ℕ) (before after : Seated) (held : Right) → unchanged_by_access q after ≡ unchanged_by_access q before → IsExclusiveOf callers before held → IsExclusiveOf callers after held
 still_exclusive callers q before after held same of = record {
   few = of.few;
   caller = of.caller ∙ sym (ap (λ (s : Seated). s.known.local.number) same);
-  holds = still_on but_words (λ (h : HeldExclusive). h.replica) (λ h. refl) after.known.local.exclusive before.known.local.exclusive held.replica (ap (λ (s : Seated). s.known.local.exclusive) same) of.holds;
+  holds = still_on except_words (λ (h : HeldExclusive). h.replica) (λ h. refl) after.known.local.exclusive before.known.local.exclusive held.replica (ap (λ (s : Seated). s.known.local.exclusive) same) of.holds;
 }
 
-pub still_shared : (callers q : ℕ) (before after : Seated) (held : Right) → beside_shared q after ≡ beside_shared q before → IsSharedOf callers before held → IsSharedOf callers after held
+pub still_shared : (callers q : ℕ) (before after : Seated) (held : Right) → unchanged_by_shared_access q after ≡ unchanged_by_shared_access q before → IsSharedOf callers before held → IsSharedOf callers after held
 still_shared callers q before after held same of = record {
   few = of.few;
   caller = of.caller ∙ sym (ap (λ (s : Seated). s.known.local.number) same);
-  holds = still_on (but_loaded q) (λ (h : HeldShared). h.replica) (λ h. refl) after.known.local.shared before.known.local.shared held.replica (ap (λ (s : Seated). s.known.local.shared) same) of.holds;
+  holds = still_on (except_loaded q) (λ (h : HeldShared). h.replica) (λ h. refl) after.known.local.shared before.known.local.shared held.replica (ap (λ (s : Seated). s.known.local.shared) same) of.holds;
 }
 
 -- ---- dirty words
@@ -80,10 +80,10 @@ dirty_stored P i v (Some h) p all = by (is_in h.dirty i)
 module _ {O : Type 0} (lines : ℕ) (r : Running O) (step : O → List ℕ → List ℕ → List ℕ × List ℕ) (reads : O → List ℕ → Bool) (lawful : List ℕ → Type 0) (held : Right) where
   pub load_accesses : (at found : ℕ) (before after : Seated) → IsHeld lines r lawful (step r.object) before held → Steps r step reads (LoadWord held.replica at false) found before after → Fitting r.lines lawful r.base (step r.object) after.known → Accesses lines r lawful (step r.object) held (false, at, found) before after
   load_accesses at found before after of s fits =
-      let rest : beside_held held.replica after ≡ beside_held held.replica before =
-      ap (beside_held held.replica) s.made
-      ∙ ap (λ n. beside before n (option_map but_words before.known.local.exclusive) (option_map (but_loaded held.replica) (option_map (loaded_into held.replica at found) before.known.local.shared))) (append-nil before.known.noted)
-      ∙ ap (λ o. beside before before.known.noted (option_map but_words before.known.local.exclusive) o) (unloaded held.replica at found before.known.local.shared) in
+      let rest : unchanged_by_access held.replica after ≡ unchanged_by_access held.replica before =
+      ap (unchanged_by_access held.replica) s.made
+      ∙ ap (λ n. beside before n (option_map except_words before.known.local.exclusive) (option_map (except_loaded held.replica) (option_map (loaded_into held.replica at found) before.known.local.shared))) (append-nil before.known.noted)
+      ∙ ap (λ o. beside before before.known.noted (option_map except_words before.known.local.exclusive) o) (unloaded held.replica at found before.known.local.shared) in
       record {
         allowed = s.allowed;
         accesses = ap (λ (t : Seated). t.known.accesses) s.made
@@ -114,10 +114,10 @@ module _ {O : Type 0} (lines : ℕ) (r : Running O) (step : O → List ℕ → L
 
   pub store_accesses : (at v : ℕ) (before after : Seated) → at < region_words lines → IsHeld lines r lawful (step r.object) before held → Steps r step reads (StoreWord held.replica at v) 0 before after → Fitting r.lines lawful r.base (step r.object) after.known → Accesses lines r lawful (step r.object) held (true, at, v) before after
   store_accesses at v before after below of s fits =
-      let rest : beside_held held.replica after ≡ beside_held held.replica before =
-      ap (beside_held held.replica) s.made
-      ∙ ap (λ n. beside before n (option_map but_words (option_map (stored_into at v) before.known.local.exclusive)) (option_map (but_loaded held.replica) before.known.local.shared)) (append-nil before.known.noted)
-      ∙ ap (λ o. beside before before.known.noted o (option_map (but_loaded held.replica) before.known.local.shared)) (unstored at v before.known.local.exclusive) in
+      let rest : unchanged_by_access held.replica after ≡ unchanged_by_access held.replica before =
+      ap (unchanged_by_access held.replica) s.made
+      ∙ ap (λ n. beside before n (option_map except_words (option_map (stored_into at v) before.known.local.exclusive)) (option_map (except_loaded held.replica) before.known.local.shared)) (append-nil before.known.noted)
+      ∙ ap (λ o. beside before before.known.noted o (option_map (except_loaded held.replica) before.known.local.shared)) (unstored at v before.known.local.exclusive) in
       record {
         allowed = s.allowed;
         accesses = ap (λ (t : Seated). t.known.accesses) s.made;
@@ -138,9 +138,9 @@ module _ {O : Type 0} (lines : ℕ) (r : Running O) (step : O → List ℕ → L
   loaded_one_more at found (Some h) there =
       ap (λ b. cond b (h.loaded ++ (at, found) ∷ []) h.loaded) (eq-eqb h.replica held.replica (same_Some h.replica held.replica there))
 
-  beside_load : (b : Bool) (accesses more : List Note) → cond b [] (cond b more accesses) ≡ cond b [] accesses
-  beside_load true accesses more = refl
-  beside_load false accesses more = refl
+  unchanged_by_load : (b : Bool) (accesses more : List Note) → cond b [] (cond b more accesses) ≡ cond b [] accesses
+  unchanged_by_load true accesses more = refl
+  unchanged_by_load false accesses more = refl
 
   pub load_shared_loads : (at found : ℕ) (before after : Seated) → IsHeldShared lines r lawful before held → Steps r step reads (LoadWord held.replica at false) found before after → Fitting r.lines lawful r.base (step r.object) after.known → LoadsShared lines r lawful held at found before after
   load_shared_loads at found before after of s fits =
@@ -150,12 +150,12 @@ module _ {O : Type 0} (lines : ℕ) (r : Running O) (step : O → List ℕ → L
       let l = before.known.local in
       let here = is_at q (exclusive_on l) in
       let more = before.known.accesses ++ (false, at, found) ∷ [] in
-      let shared = option_map (but_loaded q) (option_map (loaded_into q at found) l.shared) in
-      let rest : beside_shared q after ≡ beside_shared q before =
-      ap (beside_shared q) s.made
+      let shared = option_map (except_loaded q) (option_map (loaded_into q at found) l.shared) in
+      let rest : unchanged_by_shared_access q after ≡ unchanged_by_shared_access q before =
+      ap (unchanged_by_shared_access q) s.made
       ∙ ap (λ n. with n shared (cond here [] (cond here more before.known.accesses))) (append-nil before.known.noted)
       ∙ ap (λ o. with before.known.noted o (cond here [] (cond here more before.known.accesses))) (unloaded q at found l.shared)
-      ∙ ap (λ xs. with before.known.noted (option_map (but_loaded q) l.shared) xs) (beside_load here before.known.accesses more) in
+      ∙ ap (λ xs. with before.known.noted (option_map (except_loaded q) l.shared) xs) (unchanged_by_load here before.known.accesses more) in
       let right = still_shared r.callers q before after held rest of.right in
       record {
         allowed = s.allowed;

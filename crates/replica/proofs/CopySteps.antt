@@ -12,59 +12,59 @@ use Rattle.cx_core.specs.Region.{region_words}
 use Rattle.cx_core.specs.RegionEvents.{loaded_into, stored_into}
 use Rattle.cx_core.specs.Rights.{held_dirty}
 use Rattle.cx_core.specs.State.{Instance}
-use Rattle.cx_rule.specs.declared.rule.Known.{Known}
-use Rattle.cx_rule.specs.Fitting.{Fitting, SomeFits}
-use Rattle.cx_rule.specs.Running.{IsSeatOf, Running, instance_at}
-use Rattle.cx_rule.specs.Seats.{Seated, known_after}
-use Rattle.cx_rule.specs.Steps.{Halts, Steps}
+use Rattle.table_invariant.specs.declared.rule.Known.{Known}
+use Rattle.table_invariant.specs.Fitting.{Fitting, SomeFits}
+use Rattle.table_invariant.specs.Running.{IsSeatOf, Running, instance_at}
+use Rattle.table_invariant.specs.Seats.{Seated, known_after}
+use Rattle.table_invariant.specs.Steps.{Halts, Steps}
 use Rattle.cx_table.specs.Right.{Right}
 use Rattle.cx_table.specs.Runs.{Runs, loads_from, no_step, one_more_step}
 use Rattle.cx_table.specs.Tokens.{IsExclusiveOf, IsSharedOf, TriedShared}
-use Rattle.cx_rule.proofs.Stepping.{on_one, on_same, on_then, on_then_one}
-use Rattle.replica.specs.Copies.{HoldsBoth, HoldsBothIn, LeavesCopied, LoadsAtMost, LoadsFewer, SomeDiffers, StoresAsMany, beside_copy, but_loads}
-use Rattle.replica.specs.Held.{IsHeld, but_words}
+use Rattle.table_invariant.proofs.Stepping.{on_one, on_same, on_then, on_then_one}
+use Rattle.replica.specs.Copies.{HoldsBoth, HoldsBothIn, KeepsCopied, LoadsAtMost, LoadsFewer, SomeDiffers, StoresAsMany, unchanged_by_copy, except_loads}
+use Rattle.replica.specs.Held.{IsHeld, except_words}
 use Rattle.replica.specs.Laws.{shared_held}
 use Rattle.replica.proofs.Access.{beside, dirty_stored, still_on, unstored}
 use Rattle.replica.proofs.LineLoads.{Counts, IsRunOf, counts_on, longer_run, no_run, one_store}
 
-unloaded_all : (r i found : ℕ) (o : Option HeldShared) → option_map but_loads (option_map (loaded_into r i found) o) ≡ option_map but_loads o
+unloaded_all : (r i found : ℕ) (o : Option HeldShared) → option_map except_loads (option_map (loaded_into r i found) o) ≡ option_map except_loads o
 unloaded_all r i found None = refl
 unloaded_all r i found (Some h) = refl
 
 -- a seat that is the same beside a copy has the same rights
-exclusive_still : (callers : ℕ) (before after : Seated) (held : Right) → beside_copy after ≡ beside_copy before → IsExclusiveOf callers before held → IsExclusiveOf callers after held
+exclusive_still : (callers : ℕ) (before after : Seated) (held : Right) → unchanged_by_copy after ≡ unchanged_by_copy before → IsExclusiveOf callers before held → IsExclusiveOf callers after held
 exclusive_still callers before after held same of = record {
   few = of.few;
   caller = of.caller ∙ sym (ap (λ (s : Seated). s.known.local.number) same);
-  holds = still_on but_words (λ (h : HeldExclusive). h.replica) (λ h. refl) after.known.local.exclusive before.known.local.exclusive held.replica (ap (λ (s : Seated). s.known.local.exclusive) same) of.holds;
+  holds = still_on except_words (λ (h : HeldExclusive). h.replica) (λ h. refl) after.known.local.exclusive before.known.local.exclusive held.replica (ap (λ (s : Seated). s.known.local.exclusive) same) of.holds;
 }
 
-shared_still : (callers : ℕ) (before after : Seated) (source : Right) → beside_copy after ≡ beside_copy before → IsSharedOf callers before source → IsSharedOf callers after source
+shared_still : (callers : ℕ) (before after : Seated) (source : Right) → unchanged_by_copy after ≡ unchanged_by_copy before → IsSharedOf callers before source → IsSharedOf callers after source
 shared_still callers before after source same of = record {
   few = of.few;
   caller = of.caller ∙ sym (ap (λ (s : Seated). s.known.local.number) same);
-  holds = still_on but_loads (λ (h : HeldShared). h.replica) (λ h. refl) after.known.local.shared before.known.local.shared source.replica (ap (λ (s : Seated). s.known.local.shared) same) of.holds;
+  holds = still_on except_loads (λ (h : HeldShared). h.replica) (λ h. refl) after.known.local.shared before.known.local.shared source.replica (ap (λ (s : Seated). s.known.local.shared) same) of.holds;
 }
 
 -- a load changes nothing beside a copy
-load_rest : {O : Type 0} (r : Running O) (step : O → List ℕ → List ℕ → List ℕ × List ℕ) (reads : O → List ℕ → Bool) (q at found : ℕ) (before after : Seated) → Steps r step reads (LoadWord q at false) found before after → beside_copy after ≡ beside_copy before
+load_rest : {O : Type 0} (r : Running O) (step : O → List ℕ → List ℕ → List ℕ × List ℕ) (reads : O → List ℕ → Bool) (q at found : ℕ) (before after : Seated) → Steps r step reads (LoadWord q at false) found before after → unchanged_by_copy after ≡ unchanged_by_copy before
 load_rest r step reads q at found before after s =
-    let exclusive = option_map but_words before.known.local.exclusive in
-    ap beside_copy s.made
-    ∙ ap (λ n. beside before n exclusive (option_map but_loads (option_map (loaded_into q at found) before.known.local.shared))) (append-nil before.known.noted)
+    let exclusive = option_map except_words before.known.local.exclusive in
+    ap unchanged_by_copy s.made
+    ∙ ap (λ n. beside before n exclusive (option_map except_loads (option_map (loaded_into q at found) before.known.local.shared))) (append-nil before.known.noted)
     ∙ ap (λ o. beside before before.known.noted exclusive o) (unloaded_all q at found before.known.local.shared)
 
 -- and neither does a store
-store_rest : {O : Type 0} (r : Running O) (step : O → List ℕ → List ℕ → List ℕ × List ℕ) (reads : O → List ℕ → Bool) (q at v : ℕ) (before after : Seated) → Steps r step reads (StoreWord q at v) 0 before after → beside_copy after ≡ beside_copy before
+store_rest : {O : Type 0} (r : Running O) (step : O → List ℕ → List ℕ → List ℕ × List ℕ) (reads : O → List ℕ → Bool) (q at v : ℕ) (before after : Seated) → Steps r step reads (StoreWord q at v) 0 before after → unchanged_by_copy after ≡ unchanged_by_copy before
 store_rest r step reads q at v before after s =
-    let shared = option_map but_loads before.known.local.shared in
-    ap beside_copy s.made
-    ∙ ap (λ n. beside before n (option_map but_words (option_map (stored_into at v) before.known.local.exclusive)) shared) (append-nil before.known.noted)
+    let shared = option_map except_loads before.known.local.shared in
+    ap unchanged_by_copy s.made
+    ∙ ap (λ n. beside before n (option_map except_words (option_map (stored_into at v) before.known.local.exclusive)) shared) (append-nil before.known.noted)
     ∙ ap (λ o. beside before before.known.noted o shared) (unstored at v before.known.local.exclusive)
 
 module _ {O : Type 0} (lines : ℕ) (r : Running O) (step : O → List ℕ → List ℕ → List ℕ × List ℕ) (reads : O → List ℕ → Bool) (lawful : List ℕ → Type 0) (held source : Right) (before after : Seated) where
   -- both rights stay through a step that is the same beside a copy, after which some pair fits
-  both_still : HoldsBoth lines r lawful (step r.object) before held source → IsSeatOf r after → beside_copy after ≡ beside_copy before → Fitting r.lines lawful r.base (step r.object) after.known → All (λ i. i < region_words lines) (held_dirty after.known.local.exclusive) →
+  both_still : HoldsBoth lines r lawful (step r.object) before held source → IsSeatOf r after → unchanged_by_copy after ≡ unchanged_by_copy before → Fitting r.lines lawful r.base (step r.object) after.known → All (λ i. i < region_words lines) (held_dirty after.known.local.exclusive) →
       HoldsBoth lines r lawful (step r.object) after held source
   both_still both seat same fits dirty =
       record {
@@ -90,19 +90,19 @@ module _ {O : Type 0} (lines : ℕ) (r : Running O) (step : O → List ℕ → L
 
 -- runs of loads of two replicas were made, one behind the other
 pub record RunsBoth {O : Type 0} (o : Ghosts O) (r : Running O) (held source : Right) (from q p : ℕ) (us vs : List ℕ) (first mid last : Seated) : Type 0 where
-  pub leaves : LeavesCopied o r held source first last
+  pub leaves : KeepsCopied o r held source first last
   pub one : IsRunOf q from us first.known mid.known
   pub two : IsRunOf p from vs mid.known last.known
   pub count : Counts (length us + length vs) first.known last.known
 
 module _ {O : Type 0} (o : Ghosts O) (r : Running O) (held source : Right) (from : ℕ) where
-  none_ran : (q : ℕ) (before after : Seated) → after ≡ before → HoldsBothIn o r before held source → LeavesCopied o r held source before after × IsRunOf q from [] before.known after.known
+  none_ran : (q : ℕ) (before after : Seated) → after ≡ before → HoldsBothIn o r before held source → KeepsCopied o r held source before after × IsRunOf q from [] before.known after.known
   none_ran q before after same both =
-      subst (λ (s : Seated). LeavesCopied o r held source before s × IsRunOf q from [] before.known s.known) (sym same) (record { both = both; since = omega arith; rest = refl }, no_run q from before.known)
+      subst (λ (s : Seated). KeepsCopied o r held source before s × IsRunOf q from [] before.known s.known) (sym same) (record { both = both; since = omega arith; rest = refl }, no_run q from before.known)
 
   -- a run of loads leaves both rights, and tells of each of its words
-  pub one_run : (q : ℕ) (words : List ℕ) (before after : Seated) → HoldsBothIn o r before held source → Runs r o.step o.only_reads (o.lawful r.object) (loads_from q from) words before after → LeavesCopied o r held source before after × IsRunOf q from words before.known after.known
-  one_run q words before after both (no_step _ _ _ nothing same) = subst (λ ws. LeavesCopied o r held source before after × IsRunOf q from ws before.known after.known) (sym nothing) (none_ran q before after same both)
+  pub one_run : (q : ℕ) (words : List ℕ) (before after : Seated) → HoldsBothIn o r before held source → Runs r o.step o.only_reads (o.lawful r.object) (loads_from q from) words before after → KeepsCopied o r held source before after × IsRunOf q from words before.known after.known
+  one_run q words before after both (no_step _ _ _ nothing same) = subst (λ ws. KeepsCopied o r held source before after × IsRunOf q from ws before.known after.known) (sym nothing) (none_ran q before after same both)
   one_run q words before after both (one_more_step _ _ _ first found mid longer run made fits) =
       let was = one_run q first before mid both run in
       let at = from + length first in (
@@ -128,13 +128,13 @@ module _ {O : Type 0} (o : Ghosts O) (r : Running O) (held source : Right) (from
         count = counts_on (length us) (length vs) (length us + length vs) first.known mid.known last.known refl one.1.count two.1.count;
       }
 
-unmoved : {O : Type 0} (o : Ghosts O) (r : Running O) (held source : Right) (before after : Seated) → HoldsBothIn o r before held source → Halts r before after → LeavesCopied o r held source before after
-unmoved o r held source before after both halted = record { both = subst (λ (s : Seated). HoldsBothIn o r s held source) (sym halted.same) both; since = on_same before after halted.same; rest = ap beside_copy halted.same }
+unmoved : {O : Type 0} (o : Ghosts O) (r : Running O) (held source : Right) (before after : Seated) → HoldsBothIn o r before held source → Halts r before after → KeepsCopied o r held source before after
+unmoved o r held source before after both halted = record { both = subst (λ (s : Seated). HoldsBothIn o r s held source) (sym halted.same) both; since = on_same before after halted.same; rest = ap unchanged_by_copy halted.same }
 
 module _ {O E : Type 0} (o : Ghosts O) (r : Running O) (held source : Right) (q at : ℕ) (before after : Seated) (both : HoldsBothIn o r before held source) where
   -- what a store leaves, whether the step was made or refused
   pub store_leaves : {A : Type 0} (v : ℕ) (result : Result A E) → at < region_words (o.line_count r.object) → IfOk result (λ _. Steps r o.step o.only_reads (StoreWord q at v) 0 before after) → OnOk result (Fitting r.lines (o.lawful r.object) r.base (o.step r.object) after.known) → OnErr result (Halts r before after) →
-      LeavesCopied o r held source before after
+      KeepsCopied o r held source before after
   store_leaves v (Ok x) below made fits halted = record {
     both = both_store (o.line_count r.object) r o.step o.only_reads (o.lawful r.object) held source before after q at v below both made fits;
     since = on_one before after (ap (λ (s : Seated). s.known.local.steps) made.made);

@@ -12,11 +12,11 @@ use Rattle.cx_core.specs.LockEvents.{is_in}
 use Rattle.cx_core.specs.RegionEvents.{stored_into}
 use Rattle.cx_core.specs.Rights.{held_dirty}
 use Rattle.cx_core.specs.State.{Instance}
-use Rattle.cx_rule.specs.declared.rule.Known.{Known}
-use Rattle.cx_rule.specs.Fitting.{word_noted}
-use Rattle.cx_rule.specs.Seats.{known_after}
-use Rattle.cx_rule.proofs.Copying.{noted_tells}
-use Rattle.seat_memory.specs.Copies.{IsCopiedWord}
+use Rattle.table_invariant.specs.declared.rule.Known.{Known}
+use Rattle.table_invariant.specs.Fitting.{word_noted}
+use Rattle.table_invariant.specs.Seats.{known_after}
+use Rattle.table_invariant.proofs.Copying.{noted_tells}
+use Rattle.caller_cache.specs.Copies.{IsCopiedWord}
 use Rattle.line_lanes.specs.Lines.{DiffersInLine}
 use Rattle.replica.specs.Copies.{AreOfPiece, AreSeen, CopiesOn, IsCopiedTo, IsSeen, read_notes}
 use Rattle.replica.proofs.LineLoads.{AreLoaded, IsIn, IsRunOf, noted_here, noted_other}
@@ -58,7 +58,7 @@ copied_loaded P skips n region before k k' above load copied = record {
   agree = λ i below kept.
       let a = copied.agree i below kept in
       let apart : ¬ P i = λ p. absurd (omega (arith, above i p, below)) in
-      (a.0, load.beside i apart ∙ a.1, load.beside_read i apart ∙ a.2);
+      (a.0, load.beside i apart ∙ a.1, load.unchanged_by_read i apart ∙ a.2);
   rest = λ first was is l l'. copied.rest first was is l (load.held first is l');
   began = λ first is l. copied.began first is (load.held first is l);
   dirty = λ i d. elim (copied.dirty i (subst (λ (xs : List ℕ). Contains xs i) load.dirty d)) [

@@ -12,15 +12,15 @@ use Rattle.cx_core.specs.declared.local.HeldShared.{HeldShared}
 use Rattle.cx_core.specs.RegionEvents.{loaded_into}
 use Rattle.cx_core.specs.Rights.{exclusive_on, held_dirty, is_at, shared_on}
 use Rattle.cx_core.specs.State.{Instance}
-use Rattle.cx_rule.specs.declared.rule.Known.{Known}
-use Rattle.cx_rule.specs.Fitting.{loaded_of, loads_of, word_noted}
-use Rattle.cx_rule.specs.Seats.{known_after}
-use Rattle.cx_rule.proofs.Copying.{here_or, or_there}
+use Rattle.table_invariant.specs.declared.rule.Known.{Known}
+use Rattle.table_invariant.specs.Fitting.{loaded_of, loads_of, word_noted}
+use Rattle.table_invariant.specs.Seats.{known_after}
+use Rattle.table_invariant.proofs.Copying.{here_or, or_there}
 use Rattle.replica.specs.Copies.{AreSeen, IsSeen, StoresAsMany, read_notes, stores_in}
 
 -- notes say the same of every word but these
-abbrev pub SameBut : (ℕ → Type 0) → List Note → List Note → Type 0
-SameBut P notes notes' = (i : ℕ) → ¬ P i → word_noted None i notes' ≡ word_noted None i notes
+abbrev pub SameExcept : (ℕ → Type 0) → List Note → List Note → Type 0
+SameExcept P notes notes' = (i : ℕ) → ¬ P i → word_noted None i notes' ≡ word_noted None i notes
 
 pub noted_more : (accesses : List Note) (word : Option ℕ) (i : ℕ) (stores : Bool) (at v : ℕ) → word_noted word i (accesses ++ (stores, at, v) ∷ []) ≡ cond (at == i) (Some v) (word_noted word i accesses)
 noted_more [] word i stores at v = refl
@@ -29,7 +29,7 @@ noted_more ((s, a, w) ∷ accesses) word i stores at v = noted_more accesses (co
 pub noted_here : (accesses : List Note) (stores : Bool) (at v : ℕ) → word_noted None at (accesses ++ (stores, at, v) ∷ []) ≡ Some v
 noted_here accesses stores at v = noted_more accesses None at stores at v ∙ here_or at at (Some v) (word_noted None at accesses) refl
 
-pub noted_other : (accesses : List Note) (stores : Bool) (at v : ℕ) → SameBut (λ i. i ≡ at) accesses (accesses ++ (stores, at, v) ∷ [])
+pub noted_other : (accesses : List Note) (stores : Bool) (at v : ℕ) → SameExcept (λ i. i ≡ at) accesses (accesses ++ (stores, at, v) ∷ [])
 noted_other accesses stores at v i apart = noted_more accesses None i stores at v ∙ or_there at i (Some v) (word_noted None i accesses) (λ e. apart (sym e))
 
 -- what is noted of the replica held shared after a load
@@ -84,8 +84,8 @@ counts_on m n l k k' k'' all one two = (let a = one.0 in let b = two.0 in (omega
 pub record AreLoaded (P : ℕ → Type 0) (k k' : Known) : Type 0 where
   pub held : (first now : List ℕ) → NotesLead k'.accesses first now → NotesLead k.accesses first now
   pub read : (first now : List ℕ) → NotesLead (read_notes k') first now → NotesLead (read_notes k) first now
-  pub beside : SameBut P k.accesses k'.accesses
-  pub beside_read : SameBut P (read_notes k) (read_notes k')
+  pub beside : SameExcept P k.accesses k'.accesses
+  pub unchanged_by_read : SameExcept P (read_notes k) (read_notes k')
   pub dirty : held_dirty k'.local.exclusive ≡ held_dirty k.local.exclusive
   pub kept : (x : ℕ × ℕ) → Contains (loaded_of k.local.shared) x → Contains (loaded_of k'.local.shared) x
   pub exclusive : exclusive_on k'.local ≡ exclusive_on k.local
@@ -96,7 +96,7 @@ one_load instance r at v k = record {
   held = λ first now. held (is_at r (exclusive_on k.local)) first now;
   read = λ first now. read k.local.shared first now;
   beside = beside (is_at r (exclusive_on k.local));
-  beside_read = beside_read k.local.shared;
+  unchanged_by_read = unchanged_by_read k.local.shared;
   dirty = refl;
   kept = kept k.local.shared;
   exclusive = refl;
@@ -107,7 +107,7 @@ one_load instance r at v k = record {
     held true first now l = (led_by_load k.accesses at v first now l).0
     held false first now l = l
 
-    beside : (b : Bool) → SameBut (λ i. i ≡ at) k.accesses (with_load b k.accesses at v)
+    beside : (b : Bool) → SameExcept (λ i. i ≡ at) k.accesses (with_load b k.accesses at v)
     beside true = noted_other k.accesses false at v
     beside false = λ i apart. refl
 
@@ -119,13 +119,13 @@ one_load instance r at v k = record {
     read None first now l = l
     read (Some h) first now l = read_one h (h.replica == r) first now l
 
-    beside_one : (h : HeldShared) (b : Bool) → SameBut (λ i. i ≡ at) (loads_of h.loaded) (loads_of (cond b (h.loaded ++ (at, v) ∷ []) h.loaded))
-    beside_one h true i apart = ap (word_noted None i) (loads_more h.loaded at v) ∙ noted_other (loads_of h.loaded) false at v i apart
-    beside_one h false i apart = refl
+    unchanged_by_one : (h : HeldShared) (b : Bool) → SameExcept (λ i. i ≡ at) (loads_of h.loaded) (loads_of (cond b (h.loaded ++ (at, v) ∷ []) h.loaded))
+    unchanged_by_one h true i apart = ap (word_noted None i) (loads_more h.loaded at v) ∙ noted_other (loads_of h.loaded) false at v i apart
+    unchanged_by_one h false i apart = refl
 
-    beside_read : (o : Option HeldShared) → SameBut (λ i. i ≡ at) (loads_of (loaded_of o)) (after_load r at v o)
-    beside_read None i apart = refl
-    beside_read (Some h) i apart = beside_one h (h.replica == r) i apart
+    unchanged_by_read : (o : Option HeldShared) → SameExcept (λ i. i ≡ at) (loads_of (loaded_of o)) (after_load r at v o)
+    unchanged_by_read None i apart = refl
+    unchanged_by_read (Some h) i apart = unchanged_by_one h (h.replica == r) i apart
 
     kept_one : (h : HeldShared) (b : Bool) (x : ℕ × ℕ) → Contains h.loaded x → Contains (cond b (h.loaded ++ (at, v) ∷ []) h.loaded) x
     kept_one h true x has = Contains-append_left h.loaded ((at, v) ∷ []) x has
@@ -140,7 +140,7 @@ no_load P k = record {
   held = λ first now l. l;
   read = λ first now l. l;
   beside = λ i apart. refl;
-  beside_read = λ i apart. refl;
+  unchanged_by_read = λ i apart. refl;
   dirty = refl;
   kept = λ x has. has;
   exclusive = refl;
@@ -153,7 +153,7 @@ loaded_on P Q R k k' k'' p q one two = record {
   held = λ first now l. one.held first now (two.held first now l);
   read = λ first now l. one.read first now (two.read first now l);
   beside = λ i apart. two.beside i (λ x. apart (q i x)) ∙ one.beside i (λ x. apart (p i x));
-  beside_read = λ i apart. two.beside_read i (λ x. apart (q i x)) ∙ one.beside_read i (λ x. apart (p i x));
+  unchanged_by_read = λ i apart. two.unchanged_by_read i (λ x. apart (q i x)) ∙ one.unchanged_by_read i (λ x. apart (p i x));
   dirty = two.dirty ∙ one.dirty;
   kept = λ x has. two.kept x (one.kept x has);
   exclusive = two.exclusive ∙ one.exclusive;
@@ -189,7 +189,7 @@ load_then P r at v k k' k'' apart one two = record {
   noted = λ held. two.beside at apart ∙ one.noted held;
   was = λ held first now l. one.was held first now (two.held first now l);
   again = λ is. two.beside at apart ∙ one.again is;
-  read = λ shared. two.beside_read at apart ∙ one.read shared;
+  read = λ shared. two.unchanged_by_read at apart ∙ one.read shared;
 }
 
 then_load : (P : ℕ → Type 0) (r at v : ℕ) (k k' k'' : Known) → ¬ P at → AreLoaded P k k' → IsLoadOf r at v k' k'' → IsLoadOf r at v k k''

@@ -11,18 +11,18 @@ use Rattle.cx_core.specs.declared.local.HeldExclusive.{HeldExclusive}
 use Rattle.cx_core.specs.declared.local.Local.{Local}
 use Rattle.cx_core.specs.Rights.{exclusive_on, held_dirty, shared_on}
 use Rattle.cx_core.specs.State.{Instance}
-use Rattle.cx_rule.specs.declared.rule.Known.{Known}
-use Rattle.cx_rule.specs.declared.rule.Noted.{Noted}
-use Rattle.cx_rule.specs.Fitting.{SomeFits, loaded_of, loads_of}
-use Rattle.cx_rule.specs.Listed.{HasGap}
-use Rattle.cx_rule.specs.Running.{Running, StepsWithin, instance_at}
-use Rattle.cx_rule.specs.Seats.{Seated, StepsBy, place_noted}
-use Rattle.cx_rule.proofs.Stepping.{on_then}
+use Rattle.table_invariant.specs.declared.rule.Known.{Known}
+use Rattle.table_invariant.specs.declared.rule.Noted.{Noted}
+use Rattle.table_invariant.specs.Fitting.{SomeFits, loaded_of, loads_of}
+use Rattle.table_invariant.specs.Listed.{HasGap}
+use Rattle.table_invariant.specs.Running.{Running, StepsWithin, instance_at}
+use Rattle.table_invariant.specs.Seats.{Seated, StepsBy, place_noted}
+use Rattle.table_invariant.proofs.Stepping.{on_then}
 use Rattle.cx_table.specs.Gaps.{IsListedFrom}
 use Rattle.cx_table.specs.Right.{Right}
-use Rattle.cx_table.specs.GapMarks.{IsMarked, LeavesLoads, MarksChanged, with_gaps}
+use Rattle.cx_table.specs.GapMarks.{IsMarked, KeepsLoads, MarksChanged, with_gaps}
 use Rattle.cx_table.proofs.GapWalks.{walk_by}
-use Rattle.replica.specs.Copies.{HaltsUnchanged, HoldsBoth, HoldsBothIn, IsCopiedTo, IsListed, MayList, Renews, RenewsListed, beside_copy, beside_listed, piece_at, skips_by, skips_piece, without_shared}
+use Rattle.replica.specs.Copies.{HaltsUnchanged, HoldsBoth, HoldsBothIn, IsCopiedTo, IsListed, MayList, Renews, RenewsListed, unchanged_by_copy, unchanged_by_listed_copy, piece_at, skips_by, skips_piece, without_shared}
 use Rattle.replica.specs.Laws.{shared_held}
 use Rattle.replica.specs.Regions.{HasPlace}
 use Rattle.replica.specs.Replays.{StoresNone, noted_place}
@@ -54,7 +54,7 @@ in_piece : (n k : ℕ) → k < 8 → piece_at (8 * n + k) ≡ (n + 7) / 8
 in_piece n k small = omega arith
 
 module _ {O : Type 0} (o : Ghosts O) (r : Running O) (to : ℕ) (marks : List Bool) (held source : Right) (before after : Seated) (may : MayList to before) (listed : IsListed o r to marks before)
-    (copied : IsCopiedTo (skips_by false marks) (region_words (o.line_count r.object)) (region_words (o.line_count r.object)) before.known after.known) (rest : beside_copy after ≡ beside_copy before)
+    (copied : IsCopiedTo (skips_by false marks) (region_words (o.line_count r.object)) (region_words (o.line_count r.object)) before.known after.known) (rest : unchanged_by_copy after ≡ unchanged_by_copy before)
     (both : HoldsBothIn o r after held source) where
   abbrev region : ℕ
   region = region_words (o.line_count r.object)
@@ -116,7 +116,7 @@ module _ {O : Type 0} (o : Ghosts O) (r : Running O) (to : ℕ) (marks : List Bo
       }
 
 -- what loads of gaps leave of two replicas that are held
-module _ {O : Type 0} (o : Ghosts O) (r : Running O) (held source : Right) (before after : Seated) (leaves : LeavesLoads o r before after) where
+module _ {O : Type 0} (o : Ghosts O) (r : Running O) (held source : Right) (before after : Seated) (leaves : KeepsLoads o r before after) where
   local_is : after.known.local ≡ record before.known.local { steps = after.known.local.steps }
   local_is = ap (λ (s : Seated). s.known.local) leaves.seat
 
@@ -154,17 +154,17 @@ module _ {O : Type 0} (o : Ghosts O) (r : Running O) (held source : Right) (befo
   renewed_listed at last renews = record {
     ready = renews.ready;
     placed = λ p has. renews.placed p (subst (λ (l : Local). Contains (loaded_of l.shared) (0, p)) (sym local_is) has);
-    rest = ap unnoted renews.rest ∙ ap (λ s. without_shared (beside_listed s)) leaves.seat;
+    rest = ap unnoted renews.rest ∙ ap (λ s. without_shared (unchanged_by_listed_copy s)) leaves.seat;
   }
 
-  pub listed_halts : (last : Seated) → HaltsUnchanged beside_copy after last → HaltsUnchanged beside_listed before last
-  listed_halts last halts = record { rest = ap unnoted halts.rest ∙ ap beside_listed leaves.seat; limit = halts.limit }
+  pub listed_halts : (last : Seated) → HaltsUnchanged unchanged_by_copy after last → HaltsUnchanged unchanged_by_listed_copy before last
+  listed_halts last halts = record { rest = ap unnoted halts.rest ∙ ap unchanged_by_listed_copy leaves.seat; limit = halts.limit }
 
   pub listed_within : (m n l : ℕ) (last : Seated) → m + n ≡ l → StepsBy m before after → StepsWithin r n after last → StepsWithin r l before last
   listed_within m n l last all some within = record { seat = within.seat; since = on_then before after last leaves.since within.since; most = (let more = within.most in omega (arith, all, some, more)) }
 
 -- the lines that changed are marked where nothing is dirty
-pub listed_marks : {O : Type 0} (o : Ghosts O) (r : Running O) (to lines from : ℕ) (marks : List Bool) (before mid after : Seated) → mid ≡ before → LeavesLoads o r mid after →
+pub listed_marks : {O : Type 0} (o : Ghosts O) (r : Running O) (to lines from : ℕ) (marks : List Bool) (before mid after : Seated) → mid ≡ before → KeepsLoads o r mid after →
     ((at : ℕ) → at < before.region → ¬ Contains (held_dirty before.known.local.exclusive) at) → lines ≡ 146 + r.lines → from ≡ place_noted 0 mid.known.accesses → from ≤ to →
     MarksChanged (instance_at r o.step o.only_reads) lines from to marks after.known → IsListed o r to marks after
 listed_marks o r to lines from marks before mid after same leaves clean count place order changed =

@@ -11,13 +11,13 @@ use Rattle.cx_core.specs.Region.{region_words}
 use Rattle.cx_core.specs.RegionEvents.{persisted}
 use Rattle.cx_core.specs.Rights.{held_dirty}
 use Rattle.cx_core.specs.State.{one_more}
-use Rattle.cx_rule.specs.Running.{Running}
-use Rattle.cx_rule.specs.Seats.{Seated}
-use Rattle.cx_rule.specs.Steps.{Steps}
-use Rattle.cx_rule.proofs.HasMore.{some_same}
+use Rattle.table_invariant.specs.Running.{Running}
+use Rattle.table_invariant.specs.Seats.{Seated}
+use Rattle.table_invariant.specs.Steps.{Steps}
+use Rattle.table_invariant.proofs.HasMore.{some_same}
 use Rattle.cx_table.specs.Right.{Right}
 use Rattle.replica.specs.Flushes.{Persists}
-use Rattle.replica.specs.Held.{IsHeldIn, beside_held, but_loaded, but_words}
+use Rattle.replica.specs.Held.{IsHeldIn, unchanged_by_access, except_loaded, except_words}
 use Rattle.replica.specs.Laws.{image_same}
 use Rattle.replica.specs.Replays.{IsHeldImage}
 use Rattle.replica.proofs.Access.{beside, still_exclusive}
@@ -54,7 +54,7 @@ dirty_persisted : (P Q : List ℕ → Type 0) (at : ℕ) (o : Option HeldExclusi
 dirty_persisted P Q at None none step q = none
 dirty_persisted P Q at (Some h) none step q = step h.dirty q
 
-unpersisted : (at : ℕ) (o : Option HeldExclusive) → option_map but_words (option_map (persisted at) o) ≡ option_map but_words o
+unpersisted : (at : ℕ) (o : Option HeldExclusive) → option_map except_words (option_map (persisted at) o) ≡ option_map except_words o
 unpersisted at None = refl
 unpersisted at (Some h) = refl
 
@@ -65,10 +65,10 @@ module _ {O : Type 0} (o : Ghosts O) (r : Running O) (held : Right) (at : ℕ) (
   pub persists : Steps r o.step o.only_reads (Persist held.replica at) 0 before after → IsHeldIn o r before held → Persists o r held before after
   persists s of =
       let accesses : after.known.accesses ≡ before.known.accesses = ap (λ (t : Seated). t.known.accesses) s.made in
-      let rest : beside_held held.replica after ≡ beside_held held.replica before =
-      ap (beside_held held.replica) s.made
-      ∙ ap (λ n. beside before n (option_map but_words (option_map (persisted at) before.known.local.exclusive)) (option_map (but_loaded held.replica) before.known.local.shared)) (append-nil before.known.noted)
-      ∙ ap (λ e. beside before before.known.noted e (option_map (but_loaded held.replica) before.known.local.shared)) (unpersisted at before.known.local.exclusive) in
+      let rest : unchanged_by_access held.replica after ≡ unchanged_by_access held.replica before =
+      ap (unchanged_by_access held.replica) s.made
+      ∙ ap (λ n. beside before n (option_map except_words (option_map (persisted at) before.known.local.exclusive)) (option_map (except_loaded held.replica) before.known.local.shared)) (append-nil before.known.noted)
+      ∙ ap (λ e. beside before before.known.noted e (option_map (except_loaded held.replica) before.known.local.shared)) (unpersisted at before.known.local.exclusive) in
       let below : ℕ → Type 0 = λ i. i < region_words (o.line_count r.object) in
       record {
         still = record {

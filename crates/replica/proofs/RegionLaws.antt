@@ -10,12 +10,12 @@ use Rattle.cx_core.specs.declared.local.Local.{Local}
 use Rattle.cx_core.specs.Layout.{max_word}
 use Rattle.cx_core.specs.Region.{region_words}
 use Rattle.cx_table.specs.Seats.{HasMadeSteps}
-use Rattle.cx_rule.specs.Fitting.{IsConsistentWith, FitsKnown, FitsOn, Has, ReadFits, has_of, loads_of, loaded_of}
-use Rattle.cx_rule.specs.Running.{Running}
-use Rattle.cx_rule.specs.Seats.{IsWithinLimit, Seated, place_noted}
-use Rattle.cx_rule.specs.Steps.{Halts}
+use Rattle.table_invariant.specs.Fitting.{IsConsistentWith, FitsKnown, FitsOn, Has, ReadFits, has_of, loads_of, loaded_of}
+use Rattle.table_invariant.specs.Running.{Running}
+use Rattle.table_invariant.specs.Seats.{IsWithinLimit, Seated, place_noted}
+use Rattle.table_invariant.specs.Steps.{Halts}
 use Rattle.cx_table.specs.Right.{Right}
-use Rattle.replica.specs.Held.{Accesses, HaltsLoading, IsHeld, IsHeldShared, LoadsHeld, LoadsRun, LoadsShared, beside_held, beside_shared, left_of}
+use Rattle.replica.specs.Held.{Accesses, HaltsLoading, IsHeld, IsHeldShared, LoadsHeld, LoadsRun, LoadsShared, unchanged_by_access, unchanged_by_shared_access, left_of}
 use Rattle.replica.specs.Regions.{HasPlace, fits_shows, has_loaded, is_same}
 use Rattle.replica.proofs.Runs.{run_keeps, run_reads}
 
@@ -64,7 +64,7 @@ module _ (lines : ℕ) (lawful : List ℕ → Type 0) (base : Base) (step : List
       }
 
 -- no access changes what the seat has
-pub same_has : (q : ℕ) (old new : Seated) → beside_held q new ≡ beside_held q old → has_of new.known ≡ has_of old.known
+pub same_has : (q : ℕ) (old new : Seated) → unchanged_by_access q new ≡ unchanged_by_access q old → has_of new.known ≡ has_of old.known
 same_has q old new rest = ap (λ (s : Seated). has_of s.known) rest
 
 -- the place after accesses, and more of them
@@ -157,8 +157,8 @@ module _ {O : Type 0} (lines : ℕ) (r : Running O) (lawful : List ℕ → Type 
   pub since_run : (began : ℕ) → LoadsRun (LoadsHeld lines r lawful step held) from words old new → HasMadeSteps began old → HasMadeSteps began new
   since_run began run was = run_keeps (LoadsHeld lines r lawful step held) from (λ s. HasMadeSteps began s) (λ at v before after made was. (let one = made.steps in omega (arith, one, was))) words old new run was
 
-  pub rest_run : LoadsRun (LoadsHeld lines r lawful step held) from words old new → beside_held held.replica new ≡ beside_held held.replica old
-  rest_run run = run_keeps (LoadsHeld lines r lawful step held) from (λ s. beside_held held.replica s ≡ beside_held held.replica old) (λ at v before after made was. made.rest ∙ was) words old new run refl
+  pub rest_run : LoadsRun (LoadsHeld lines r lawful step held) from words old new → unchanged_by_access held.replica new ≡ unchanged_by_access held.replica old
+  rest_run run = run_keeps (LoadsHeld lines r lawful step held) from (λ s. unchanged_by_access held.replica s ≡ unchanged_by_access held.replica old) (λ at v before after made was. made.rest ∙ was) words old new run refl
 
 module _ {O : Type 0} (lines : ℕ) (r : Running O) (lawful : List ℕ → Type 0) (held : Right) (from : ℕ) (words : List ℕ) (old new : Seated) where
   pub stands_shared_run : LoadsRun (LoadsShared lines r lawful held) from words old new → Reads (ReadFits lines lawful r.base (loaded_of old.known.local.shared)) (ReadFits lines lawful r.base (loaded_of new.known.local.shared)) (AreAt from words)
@@ -175,8 +175,8 @@ module _ {O : Type 0} (lines : ℕ) (r : Running O) (lawful : List ℕ → Type 
   pub since_shared_run : (began : ℕ) → LoadsRun (LoadsShared lines r lawful held) from words old new → HasMadeSteps began old → HasMadeSteps began new
   since_shared_run began run was = run_keeps (LoadsShared lines r lawful held) from (λ s. HasMadeSteps began s) (λ at v before after made was. (let one = made.steps in omega (arith, one, was))) words old new run was
 
-  pub rest_shared_run : LoadsRun (LoadsShared lines r lawful held) from words old new → beside_shared held.replica new ≡ beside_shared held.replica old
-  rest_shared_run run = run_keeps (LoadsShared lines r lawful held) from (λ s. beside_shared held.replica s ≡ beside_shared held.replica old) (λ at v before after made was. made.rest ∙ was) words old new run refl
+  pub rest_shared_run : LoadsRun (LoadsShared lines r lawful held) from words old new → unchanged_by_shared_access held.replica new ≡ unchanged_by_shared_access held.replica old
+  rest_shared_run run = run_keeps (LoadsShared lines r lawful held) from (λ s. unchanged_by_shared_access held.replica s ≡ unchanged_by_shared_access held.replica old) (λ at v before after made was. made.rest ∙ was) words old new run refl
 
 -- a limit stays one while the limit is the same
 pub still_limited : (old new : Local) → new.limit ≡ old.limit → is_some (left_of new) ≡ is_some (left_of old)

@@ -13,17 +13,17 @@ use Rattle.cx_core.specs.LockEvents.{backed_off}
 use Rattle.cx_core.specs.Region.{region_words}
 use Rattle.cx_core.specs.Rights.{held_dirty, is_at, shared_on}
 use Rattle.cx_core.specs.State.{one_more}
-use Rattle.cx_rule.specs.Fitting.{Fitting, SomeFits, SomeReadFits, loaded_of, loads_of, word_noted}
-use Rattle.cx_rule.specs.Running.{Running, StepsWithin}
-use Rattle.cx_rule.specs.Seats.{IsAtLimit, Seated, StepsBy, place_noted}
-use Rattle.cx_rule.specs.Steps.{Halts, StepsCopied}
-use Rattle.cx_rule.proofs.Copying.{noted_place, noted_tells}
-use Rattle.cx_rule.proofs.Stepping.{on_still, on_then, on_then_one}
-use Rattle.seat_memory.specs.Copies.{IsCopiedWord}
+use Rattle.table_invariant.specs.Fitting.{Fitting, SomeFits, SomeReadFits, loaded_of, loads_of, word_noted}
+use Rattle.table_invariant.specs.Running.{Running, StepsWithin}
+use Rattle.table_invariant.specs.Seats.{IsAtLimit, Seated, StepsBy, place_noted}
+use Rattle.table_invariant.specs.Steps.{Halts, StepsCopied}
+use Rattle.table_invariant.proofs.Copying.{noted_place, noted_tells}
+use Rattle.table_invariant.proofs.Stepping.{on_still, on_then, on_then_one}
+use Rattle.caller_cache.specs.Copies.{IsCopiedWord}
 use Rattle.cx_table.specs.Calls.{MakesFittingStep}
 use Rattle.cx_table.specs.Right.{Right}
 use Rattle.cx_table.specs.Tokens.{IsExclusiveOf}
-use Rattle.replica.specs.Copies.{HaltsUnchanged, HoldsBoth, KeepsLoaded, LeavesCopied, Renews, beside_copy, without_shared}
+use Rattle.replica.specs.Copies.{HaltsUnchanged, HoldsBoth, KeepsLoaded, KeepsCopied, Renews, unchanged_by_copy, without_shared}
 use Rattle.replica.specs.Held.{IsHeld}
 use Rattle.replica.specs.Replays.{IsHeldImage, StoresNone}
 use Rattle.replica.proofs.Access.{at_itself}
@@ -95,7 +95,7 @@ module _ {O : Type 0} (lines : ℕ) (r : Running O) (step : O → List ℕ → L
       ap (λ (s : Seated). place_noted 0 s.known.accesses) copied.made ∙ place_is (loads_of (loaded_of old.shared)) 0 first.0 first.2 ∙ loaded_once lines lawful r.base (loaded_of old.shared) first.0 p both.shared.some first.2 has
 
 -- a copy of which the words are those that the exclusive right then begins with, since the shared right was given back, renews
-module _ {O : Type 0} (o : Ghosts O) (r : Running O) (held source : Right) (first mid last : Seated) (leaves : LeavesCopied o r held source first mid) where
+module _ {O : Type 0} (o : Ghosts O) (r : Running O) (held source : Right) (first mid last : Seated) (leaves : KeepsCopied o r held source first mid) where
   pub renewed : (found at : ℕ) → StepsCopied r o.step o.only_reads source.replica found mid last → IsExclusiveOf r.callers last held → Fitting r.lines (o.lawful r.object) r.base (o.step r.object) last.known → IsCopiedWord mid.known 0 → KeepsLoaded first mid → place_noted 0 mid.known.accesses ≡ at → Renews o r held at first last
   renewed found at released right fits word loaded place =
       let lines = o.line_count r.object in
@@ -109,9 +109,9 @@ module _ {O : Type 0} (o : Ghosts O) (r : Running O) (held source : Right) (firs
           place = image.1 ∙ place;
         };
         placed = λ p has. renewed_place lines r o.step o.only_reads lawful held source found mid last both released p word (loaded (0, p) has);
-        rest = ap beside_copy released.made
-            ∙ ap (λ (l : Local). beside_copy (record mid { known = record mid.known { local = l; noted = mid.known.noted ++ [] } })) (left lines r o.step o.only_reads lawful held source found mid last both released)
-            ∙ ap (λ ns. without_shared (beside_copy (record mid { known = record mid.known { noted = ns } }))) (append-nil mid.known.noted)
+        rest = ap unchanged_by_copy released.made
+            ∙ ap (λ (l : Local). unchanged_by_copy (record mid { known = record mid.known { local = l; noted = mid.known.noted ++ [] } })) (left lines r o.step o.only_reads lawful held source found mid last both released)
+            ∙ ap (λ ns. without_shared (unchanged_by_copy (record mid { known = record mid.known { noted = ns } }))) (append-nil mid.known.noted)
             ∙ ap without_shared leaves.rest;
       }
 
@@ -129,5 +129,5 @@ module _ {O : Type 0} (o : Ghosts O) (r : Running O) (held source : Right) (firs
         record { seat = step.halted.seat; since = on_then first mid last leaves.since (on_still mid last same); most = omega (arith, bound, same) }
 
   -- and where the limit ends it before the right was given back, nothing else is changed
-  pub release_halts : Halts r mid last → HaltsUnchanged beside_copy first last
-  release_halts halted = record { rest = ap beside_copy halted.same ∙ leaves.rest; limit = subst (λ (s : Seated). IsAtLimit s.known.local) (sym halted.same) halted.limit }
+  pub release_halts : Halts r mid last → HaltsUnchanged unchanged_by_copy first last
+  release_halts halted = record { rest = ap unchanged_by_copy halted.same ∙ leaves.rest; limit = subst (λ (s : Seated). IsAtLimit s.known.local) (sym halted.same) halted.limit }

@@ -18,10 +18,10 @@ use Rattle.cx_core.specs.Step.{IsStepped}
 use Rattle.cx_core.specs.WriteSet.{stored}
 use Rattle.cx_core.proofs.HistoryLemmas.{ObjectLaws}
 use Rattle.cx_core.proofs.KeepLemmas as keep
-use Rattle.cx_rule.specs.declared.rule.Known.{Known}
-use Rattle.cx_rule.specs.Fitting.{IsConsistentWith, FitsKnown, Has, ReplayedTo, SomeFits, base_of, has_of, start, with_entry, with_set}
-use Rattle.cx_rule.specs.Running.{Running}
-use Rattle.cx_rule.specs.Seats.{Seated, place_noted}
+use Rattle.table_invariant.specs.declared.rule.Known.{Known}
+use Rattle.table_invariant.specs.Fitting.{IsConsistentWith, FitsKnown, Has, ReplayedTo, SomeFits, base_of, has_of, start, with_entry, with_set}
+use Rattle.table_invariant.specs.Running.{Running}
+use Rattle.table_invariant.specs.Seats.{Seated, place_noted}
 use Rattle.cx_table.specs.Right.{Right}
 use Rattle.replica.specs.Held.{Accesses}
 use Rattle.replica.specs.Regions.{HasPlace}

@@ -6,10 +6,10 @@ use Rattle.cx_base.specs.declared.object.Object.{Ghosts}
 use Rattle.cx_base.specs.Memory.{AreAt, Loaded, Reads}
 use Rattle.cx_base.proofs.ReadLemmas.{Reads-load, Reads-none}
 use Rattle.cx_core.specs.declared.kinds.Kind.{Kind}
-use Rattle.cx_rule.specs.Fitting.{Fitting}
-use Rattle.cx_rule.specs.Running.{Running}
-use Rattle.cx_rule.specs.Seats.{Seated}
-use Rattle.cx_rule.specs.Steps.{Steps}
+use Rattle.table_invariant.specs.Fitting.{Fitting}
+use Rattle.table_invariant.specs.Running.{Running}
+use Rattle.table_invariant.specs.Seats.{Seated}
+use Rattle.table_invariant.specs.Steps.{Steps}
 use Rattle.cx_table.specs.Runs.{Runs, no_step, one_more_step}
 use Rattle.replica.specs.Held.{EndsRun, HaltsLoading, LoadsRun, no_load, one_more_load}
 

@@ -9,9 +9,9 @@ use Rattle.cx_core.specs.Region.{object_part, place_of, region_words}
 use Rattle.cx_core.specs.Step.{full_step_of}
 use Rattle.cx_core.proofs.HistoryLemmas.{ObjectLaws}
 use Rattle.cx_core.proofs.KeepLemmas.{region_kept}
-use Rattle.cx_rule.specs.declared.rule.Known.{Known}
-use Rattle.cx_rule.specs.Fitting.{FitsKnown, base_of}
-use Rattle.cx_rule.specs.Seats.{place_noted}
+use Rattle.table_invariant.specs.declared.rule.Known.{Known}
+use Rattle.table_invariant.specs.Fitting.{FitsKnown, base_of}
+use Rattle.table_invariant.specs.Seats.{place_noted}
 use Rattle.replica.specs.Replays.{IsHeldImage}
 use Rattle.replica.proofs.Replaying.{image_at, image_object}
 use Rattle.replica.specs.Stepping.{IsSteppable}

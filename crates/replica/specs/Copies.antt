@@ -6,16 +6,16 @@ use Rattle.cx_base.specs.declared.object.Object.{Ghosts}
 use Rattle.cx_base.specs.Noted.{Note, NotesLead}
 use Rattle.cx_core.specs.Region.{region_words}
 use Rattle.cx_core.specs.Rights.{held_dirty}
-use Rattle.cx_rule.specs.declared.rule.Known.{Known}
+use Rattle.table_invariant.specs.declared.rule.Known.{Known}
 use Rattle.cx_core.specs.declared.local.HeldShared.{HeldShared}
-use Rattle.cx_rule.specs.Fitting.{AgreeTo, AreEqual, loaded_of, loads_of, word_noted}
-use Rattle.cx_rule.specs.Running.{Running, instance_at}
-use Rattle.cx_rule.specs.Seats.{IsAtLimit, Seated, StepsBy}
-use Rattle.seat_memory.specs.Copies.{IsCopiedWord}
+use Rattle.table_invariant.specs.Fitting.{AgreeTo, AreEqual, loaded_of, loads_of, word_noted}
+use Rattle.table_invariant.specs.Running.{Running, instance_at}
+use Rattle.table_invariant.specs.Seats.{IsAtLimit, Seated, StepsBy}
+use Rattle.caller_cache.specs.Copies.{IsCopiedWord}
 use Rattle.cx_table.specs.Right.{Right}
 use Rattle.cx_table.specs.GapMarks.{MarksChanged}
 use Rattle.cx_table.specs.Seats.{StepsOn}
-use Rattle.replica.specs.Held.{IsHeld, IsHeldShared, but_words}
+use Rattle.replica.specs.Held.{IsHeld, IsHeldShared, except_words}
 use Rattle.replica.specs.Regions.{HasPlace}
 use Rattle.replica.specs.Replays.{IsReady, StoresNone, noted_place}
 
@@ -29,24 +29,24 @@ abbrev pub HoldsBothIn : {O : Type 0} → Ghosts O → Running O → Seated → 
 HoldsBothIn o r = HoldsBoth (o.line_count r.object) r (o.lawful r.object) (o.step r.object)
 
 -- a replica held shared but for the words loaded
-abbrev pub but_loads : HeldShared → HeldShared
-but_loads h = record { replica = h.replica; loaded = [] }
+abbrev pub except_loads : HeldShared → HeldShared
+except_loads h = record { replica = h.replica; loaded = [] }
 
 -- what a copy does not change: the seat but for the steps, the accesses, which words are dirty, and what is loaded of the
 -- replica held shared
-abbrev pub beside_copy : Seated → Seated
-beside_copy s = record s {
+abbrev pub unchanged_by_copy : Seated → Seated
+unchanged_by_copy s = record s {
   known = record s.known {
-    local = record s.known.local { exclusive = option_map but_words s.known.local.exclusive; shared = option_map but_loads s.known.local.shared; steps = 0 };
+    local = record s.known.local { exclusive = option_map except_words s.known.local.exclusive; shared = option_map except_loads s.known.local.shared; steps = 0 };
     accesses = [];
   };
 }
 
 -- whatever was copied, both are held still, no step is taken back, and what a copy does not change is as it was
-pub record LeavesCopied {O : Type 0} (o : Ghosts O) (r : Running O) (held source : Right) (before after : Seated) : Type 0 where
+pub record KeepsCopied {O : Type 0} (o : Ghosts O) (r : Running O) (held source : Right) (before after : Seated) : Type 0 where
   pub both : HoldsBothIn o r after held source
   pub since : StepsOn before after
-  pub rest : beside_copy after ≡ beside_copy before
+  pub rest : unchanged_by_copy after ≡ unchanged_by_copy before
 
 -- the limit ended a call, and what `beside` shows of the seat is unchanged
 pub record HaltsUnchanged (beside : Seated → Seated) (before after : Seated) : Type 0 where
@@ -157,17 +157,17 @@ pub record CopiesMarked {O : Type 0} (o : Ghosts O) (r : Running O) (skips : ℕ
 pub record Renews {O : Type 0} (o : Ghosts O) (r : Running O) (held : Right) (at : ℕ) (before after : Seated) : Type 0 where
   pub ready : IsReady o r held at after
   pub placed : (p : ℕ) → Contains (loaded_of before.known.local.shared) (0, p) → noted_place after ≡ p
-  pub rest : beside_copy after ≡ without_shared (beside_copy before)
+  pub rest : unchanged_by_copy after ≡ without_shared (unchanged_by_copy before)
 
 -- what a copy by listed lines does not change: what no copy does, but for the gaps that are noted
-abbrev pub beside_listed : Seated → Seated
-beside_listed s = record (beside_copy s) { known = record (beside_copy s).known { noted = [] } }
+abbrev pub unchanged_by_listed_copy : Seated → Seated
+unchanged_by_listed_copy s = record (unchanged_by_copy s) { known = record (unchanged_by_copy s).known { noted = [] } }
 
 -- the same as of a copy of all words, after one by listed lines
 pub record RenewsListed {O : Type 0} (o : Ghosts O) (r : Running O) (held : Right) (at : ℕ) (before after : Seated) : Type 0 where
   pub ready : IsReady o r held at after
   pub placed : (p : ℕ) → Contains (loaded_of before.known.local.shared) (0, p) → noted_place after ≡ p
-  pub rest : beside_listed after ≡ without_shared (beside_listed before)
+  pub rest : unchanged_by_listed_copy after ≡ without_shared (unchanged_by_listed_copy before)
 
 -- A replica was begun into which nothing was stored, and the place was loaded of another, which is held shared.
 pub record MayList (to : ℕ) (seat : Seated) : Type 0 where

@@ -2,11 +2,11 @@
 use Rattle.std.specs.Prelude.{◌≡◌, ◌<◌, [], length, Result, Ok, Err}
 use Rattle.cx_base.specs.declared.object.Object.{Ghosts}
 use Rattle.cx_core.specs.Rights.{held_dirty}
-use Rattle.cx_rule.specs.Running.{Running}
-use Rattle.cx_rule.specs.Seats.{IsAtLimit, Seated}
+use Rattle.table_invariant.specs.Running.{Running}
+use Rattle.table_invariant.specs.Seats.{IsAtLimit, Seated}
 use Rattle.cx_table.specs.Right.{Right}
 use Rattle.cx_table.specs.Seats.{StepsOn}
-use Rattle.replica.specs.Held.{IsHeldIn, beside_held}
+use Rattle.replica.specs.Held.{IsHeldIn, unchanged_by_access}
 
 -- no word is dirty
 abbrev pub IsFlushed : Seated → Type 0
@@ -26,4 +26,4 @@ pub record Persists {O : Type 0} (o : Ghosts O) (r : Running O) (held : Right) (
   pub still : IsHeldIn o r after held
   pub accesses : after.known.accesses ≡ before.known.accesses
   pub since : StepsOn before after
-  pub rest : beside_held held.replica after ≡ beside_held held.replica before
+  pub rest : unchanged_by_access held.replica after ≡ unchanged_by_access held.replica before

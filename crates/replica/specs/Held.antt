@@ -11,9 +11,9 @@ use Rattle.cx_core.specs.Layout.{max_word}
 use Rattle.cx_core.specs.Region.{region_words}
 use Rattle.cx_core.specs.Rights.{exclusive_on, held_dirty, is_at}
 use Rattle.cx_core.specs.State.{one_more}
-use Rattle.cx_rule.specs.Fitting.{SomeFits, SomeReadFits, loaded_of}
-use Rattle.cx_rule.specs.Running.{IsSeatOf, Running}
-use Rattle.cx_rule.specs.Seats.{IsAtLimit, IsWithinLimit, Seated}
+use Rattle.table_invariant.specs.Fitting.{SomeFits, SomeReadFits, loaded_of}
+use Rattle.table_invariant.specs.Running.{IsSeatOf, Running}
+use Rattle.table_invariant.specs.Seats.{IsAtLimit, IsWithinLimit, Seated}
 use Rattle.cx_table.specs.Right.{Right}
 use Rattle.cx_table.specs.Runs.{Runs}
 use Rattle.cx_table.specs.Tokens.{IsExclusiveOf, IsSharedOf}
@@ -54,45 +54,45 @@ abbrev pub IsHeldSharedIn : {O : Type 0} → Ghosts O → Running O → Seated �
 IsHeldSharedIn o r = IsHeldShared (o.line_count r.object) r (o.lawful r.object)
 
 -- a replica held exclusively but for its words, and which of them are dirty
-abbrev pub but_words : HeldExclusive → HeldExclusive
-but_words h = record { replica = h.replica; words = []; dirty = [] }
+abbrev pub except_words : HeldExclusive → HeldExclusive
+except_words h = record { replica = h.replica; words = []; dirty = [] }
 
 -- one held shared, but for the words loaded of this replica
-abbrev pub but_loaded : ℕ → HeldShared → HeldShared
-but_loaded r h = record { replica = h.replica; loaded = if h.replica == r then [] else h.loaded }
+abbrev pub except_loaded : ℕ → HeldShared → HeldShared
+except_loaded r h = record { replica = h.replica; loaded = if h.replica == r then [] else h.loaded }
 
 -- what no access of a replica held exclusively changes: the seat but for the steps, the accesses, which words are dirty, and
 -- what is loaded of the same replica held shared
-abbrev pub beside_held : ℕ → Seated → Seated
-beside_held r s = record s {
+abbrev pub unchanged_by_access : ℕ → Seated → Seated
+unchanged_by_access r s = record s {
   known = record s.known {
-    local = record s.known.local { exclusive = option_map but_words s.known.local.exclusive; shared = option_map (but_loaded r) s.known.local.shared; steps = 0 };
+    local = record s.known.local { exclusive = option_map except_words s.known.local.exclusive; shared = option_map (except_loaded r) s.known.local.shared; steps = 0 };
     accesses = [];
   };
 }
 
 -- the same of a replica held shared: the seat but for the steps, what is loaded of it, and the accesses of the same replica
 -- held exclusively
-abbrev pub beside_shared : ℕ → Seated → Seated
-beside_shared r s = record s {
+abbrev pub unchanged_by_shared_access : ℕ → Seated → Seated
+unchanged_by_shared_access r s = record s {
   known = record s.known {
-    local = record s.known.local { shared = option_map (but_loaded r) s.known.local.shared; steps = 0 };
+    local = record s.known.local { shared = option_map (except_loaded r) s.known.local.shared; steps = 0 };
     accesses = if is_at r (exclusive_on s.known.local) then [] else s.known.accesses;
   };
 }
 
 -- whatever accesses of a replica held exclusively were made, it is held still, no step is taken back, and what no access changes is as it was
-pub record LeavesHeld {O : Type 0} (o : Ghosts O) (r : Running O) (held : Right) (before after : Seated) : Type 0 where
+pub record KeepsHeld {O : Type 0} (o : Ghosts O) (r : Running O) (held : Right) (before after : Seated) : Type 0 where
   pub still : IsHeldIn o r after held
   pub since : StepsOn before after
-  pub rest : beside_held held.replica after ≡ beside_held held.replica before
+  pub rest : unchanged_by_access held.replica after ≡ unchanged_by_access held.replica before
 
 -- an access of a replica held exclusively was made: it is noted, and nothing else is changed
 pub record Accesses {O : Type 0} (lines : ℕ) (r : Running O) (lawful : List ℕ → Type 0) (step : List ℕ → List ℕ → List ℕ × List ℕ) (held : Right) (note : Note) (before after : Seated) : Type 0 where
   pub allowed : ¬ IsAtLimit before.known.local
   pub accesses : after.known.accesses ≡ before.known.accesses ++ note ∷ []
   pub steps : after.known.local.steps ≡ one_more before.known.local.steps
-  pub rest : beside_held held.replica after ≡ beside_held held.replica before
+  pub rest : unchanged_by_access held.replica after ≡ unchanged_by_access held.replica before
   pub within : IsWithinLimit after.known.local
   pub still : IsHeld lines r lawful step after held
 
@@ -101,7 +101,7 @@ pub record LoadsShared {O : Type 0} (lines : ℕ) (r : Running O) (lawful : List
   pub allowed : ¬ IsAtLimit before.known.local
   pub loaded : loaded_of after.known.local.shared ≡ loaded_of before.known.local.shared ++ (at, word) ∷ []
   pub steps : after.known.local.steps ≡ one_more before.known.local.steps
-  pub rest : beside_shared held.replica after ≡ beside_shared held.replica before
+  pub rest : unchanged_by_shared_access held.replica after ≡ unchanged_by_shared_access held.replica before
   pub within : IsWithinLimit after.known.local
   pub still : IsHeldShared lines r lawful after held
 

@@ -12,12 +12,12 @@ use Rattle.cx_core.specs.declared.local.Local.{Local}
 use Rattle.cx_core.specs.LockEvents.{refused_by, taken}
 use Rattle.cx_core.specs.Region.{region_words}
 use Rattle.cx_core.specs.Rights.{held_dirty, shared_on}
-use Rattle.cx_rule.specs.declared.rule.Known.{Known}
-use Rattle.cx_rule.specs.Fitting.{Fitting, FitsOn, ReplayedTo, SomeFits, SomeReadFits, has_of, loaded_of}
-use Rattle.cx_rule.specs.Running.{IsSeatOf, Running, instance_at}
-use Rattle.cx_rule.specs.Seats.{Seated, place_noted, unseen}
-use Rattle.cx_rule.specs.Steps.{Steps}
-use Rattle.cx_rule.proofs.HasMore.{HasMore, fits_more, replayed_more}
+use Rattle.table_invariant.specs.declared.rule.Known.{Known}
+use Rattle.table_invariant.specs.Fitting.{Fitting, FitsOn, ReplayedTo, SomeFits, SomeReadFits, has_of, loaded_of}
+use Rattle.table_invariant.specs.Running.{IsSeatOf, Running, instance_at}
+use Rattle.table_invariant.specs.Seats.{Seated, place_noted, unseen}
+use Rattle.table_invariant.specs.Steps.{Steps}
+use Rattle.table_invariant.proofs.HasMore.{HasMore, fits_more, replayed_more}
 use Rattle.cx_table.specs.Right.{Right}
 use Rattle.cx_table.specs.Tokens.{IsSharedOf, TriedExclusive}
 use Rattle.replica.specs.Held.{IsHeld, IsHeldShared, IsSized}

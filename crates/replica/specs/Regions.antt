@@ -5,11 +5,11 @@ use Rattle.cx_base.specs.Memory.{Words}
 use Rattle.cx_base.specs.Noted.{Note, NotesShow, shown_words}
 use Rattle.cx_core.specs.declared.entry.Base.{Base}
 use Rattle.cx_core.specs.Region.{region_words}
-use Rattle.cx_rule.specs.declared.rule.Known.{Known}
-use Rattle.cx_rule.specs.Fitting.{IsConsistentWith, FitsKnown, ReadFits, loads_of}
-use Rattle.cx_rule.specs.Seats.{Seated, place_noted}
+use Rattle.table_invariant.specs.declared.rule.Known.{Known}
+use Rattle.table_invariant.specs.Fitting.{IsConsistentWith, FitsKnown, ReadFits, loads_of}
+use Rattle.table_invariant.specs.Seats.{Seated, place_noted}
 use Rattle.cx_table.specs.Right.{Right}
-use Rattle.replica.specs.Held.{beside_held}
+use Rattle.replica.specs.Held.{unchanged_by_access}
 
 -- what no access of a region changes: the reference to the seat, the table, the token, whether the place was accessed before, the steps made
 -- before, and the seat but for what an access changes
@@ -22,7 +22,7 @@ pub record RegionFixed (Name Table : Type 0) : Type 0 where
   pub rest : Seated
 
 abbrev pub region_fixed : {Name Table : Type 0} → Name → Table → Right → Bool → ℕ → Seated → RegionFixed Name Table
-region_fixed name table held placed began seat = record { name = name; table = table; held = held; placed = placed; began = began; rest = beside_held held.replica seat }
+region_fixed name table held placed began seat = record { name = name; table = table; held = held; placed = placed; began = began; rest = unchanged_by_access held.replica seat }
 
 -- it is the same region
 pub record SameRegion {Name Table : Type 0} (before after : RegionFixed Name Table) : Type 0 where

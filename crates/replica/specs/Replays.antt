@@ -7,14 +7,14 @@ use Rattle.cx_core.specs.declared.entry.Base.{Base}
 use Rattle.cx_core.specs.declared.entry.Entry.{Entry}
 use Rattle.cx_core.specs.History.{IsLawfulEntry}
 use Rattle.cx_core.specs.Region.{object_part, place_of, slot_reply}
-use Rattle.cx_rule.specs.declared.rule.Known.{Known}
-use Rattle.cx_rule.specs.Fitting.{FitsKnown, HasEntry, IsReplayedToPlace, entries_of}
-use Rattle.cx_rule.specs.Running.{Running}
-use Rattle.cx_rule.specs.Seats.{IsWithinLimit, Seated, place_noted}
-use Rattle.cx_rule.specs.Stores.{FitsIn}
+use Rattle.table_invariant.specs.declared.rule.Known.{Known}
+use Rattle.table_invariant.specs.Fitting.{FitsKnown, HasEntry, IsReplayedToPlace, entries_of}
+use Rattle.table_invariant.specs.Running.{Running}
+use Rattle.table_invariant.specs.Seats.{IsWithinLimit, Seated, place_noted}
+use Rattle.table_invariant.specs.Stores.{FitsIn}
 use Rattle.cx_table.specs.Right.{Right}
 use Rattle.cx_table.specs.Seats.{StepsOn}
-use Rattle.replica.specs.Held.{IsHeldIn, beside_held}
+use Rattle.replica.specs.Held.{IsHeldIn, unchanged_by_access}
 use Rattle.replica.specs.Regions.{HasPlace}
 
 -- no access is a store
@@ -67,4 +67,4 @@ pub record IsAfterFullStep {O : Type 0} (o : Ghosts O) (r : Running O) (held : R
   pub begun : HasPlace after.known.accesses
   pub within : IsWithinLimit after.known.local
   pub since : StepsOn before after
-  pub rest : beside_held held.replica after ≡ beside_held held.replica before
+  pub rest : unchanged_by_access held.replica after ≡ unchanged_by_access held.replica before

@@ -3,10 +3,10 @@
 ghost use Rattle.std.specs.Prelude.{◌+◌, ◌-◌, ◌*◌, min, IfOk, IsTrue, OnErr};
 ghost use Rattle.cx_core.specs.Layout.{gap_slots};
 ghost use Rattle.cx_core.specs.Region.{region_words};
-ghost use Rattle.cx_rule.specs.Running.{StepsWithin};
-ghost use Rattle.cx_rule.specs.Seats.{StepsBy};
-ghost use Rattle.cx_table.specs.GapMarks.{LeavesLoads};
-ghost use Rattle.replica.specs.Copies.{HaltsUnchanged, HoldsBothIn, IsListed, MayList, Renews, RenewsListed, beside_copy, beside_listed};
+ghost use Rattle.table_invariant.specs.Running.{StepsWithin};
+ghost use Rattle.table_invariant.specs.Seats.{StepsBy};
+ghost use Rattle.cx_table.specs.GapMarks.{KeepsLoads};
+ghost use Rattle.replica.specs.Copies.{HaltsUnchanged, HoldsBothIn, IsListed, MayList, Renews, RenewsListed, unchanged_by_copy, unchanged_by_listed_copy};
 ghost use Rattle.replica.specs.Replays.{noted_place};
 
 use crate::copy::{copy_marked, renew_from};
@@ -34,7 +34,7 @@ pub fn renew_listed<O: Object>(
     requires both { HoldsBothIn O.Object shared.now seat.old held.now source }
     requires may { MayList to seat.old }
     ensures renewed { IfOk result (λ place. RenewsListed O.Object shared.now held.now place seat.old seat.new) }
-    ensures halted { OnErr result (HaltsUnchanged beside_listed seat.old seat.new) }
+    ensures halted { OnErr result (HaltsUnchanged unchanged_by_listed_copy seat.old seat.new) }
     ensures within { StepsWithin shared.now (16 * min (to - noted_place seat.old) (gap_slots shared.now.callers) + 3 * region_words (O.line_count shared.now.object) + 1) seat.old seat.new }
 {
     let mut marks = [false; MOST_PIECES];
@@ -57,7 +57,7 @@ fn mark_listed<O: Object>(
 ) -> bool
     requires { HoldsBothIn O.Object shared.now seat.old held.now source.now }
     ensures listed { IsTrue result → IsListed O.Object shared.now to marks.new seat.new }
-    ensures leaves { LeavesLoads O.Object shared.now seat.old seat.new }
+    ensures leaves { KeepsLoads O.Object shared.now seat.old seat.new }
     ensures steps { StepsBy (16 * min (to - noted_place seat.old) (gap_slots shared.now.callers)) seat.old seat.new }
     ensures both { HoldsBothIn O.Object shared.now seat.new held.now source.now }
 {
@@ -89,7 +89,7 @@ fn renew_marked<O: Object>(
     requires may { MayList to seat.old }
     requires listed { IsListed O.Object shared.now to marks.now seat.old }
     ensures renewed { IfOk result (λ place. Renews O.Object shared.now held.now place seat.old seat.new) }
-    ensures halted { OnErr result (HaltsUnchanged beside_copy seat.old seat.new) }
+    ensures halted { OnErr result (HaltsUnchanged unchanged_by_copy seat.old seat.new) }
     ensures within { StepsWithin shared.now (3 * region_words (O.line_count shared.now.object) + 1) seat.old seat.new }
 {
     let _ = to;

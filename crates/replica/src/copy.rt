@@ -3,10 +3,10 @@
 ghost use Rattle.std.specs.Prelude.{◌≡◌, ◌+◌, ◌*◌, ◌/◌, ◌<◌, ◌≤◌, ◌⊎◌, IfOk, OnErr, OnOk, length};
 ghost use Rattle.cx_core.specs.declared.kinds.Kind.TheVariants.{StoreWord};
 ghost use Rattle.cx_core.specs.Region.{region_words};
-ghost use Rattle.cx_rule.specs.Running.{StepsWithin, instance_at};
-ghost use Rattle.cx_rule.specs.Seats.{IsAtLimit, StepsBy, known_after};
-ghost use Rattle.cx_rule.specs.Steps.{Halts};
-ghost use Rattle.replica.specs.Copies.{AreLines, AreOfPiece, ArePiece, CopiesReplica, CopiesMarked, CopiesOn, CopiesOver, CopiesPiece, EndsCopy, EndsLoads, EndsPart, HaltsUnchanged, HoldsBothIn, LeavesCopied, Renews, SeesLine, beside_copy, skips_by, skips_piece};
+ghost use Rattle.table_invariant.specs.Running.{StepsWithin, instance_at};
+ghost use Rattle.table_invariant.specs.Seats.{IsAtLimit, StepsBy, known_after};
+ghost use Rattle.table_invariant.specs.Steps.{Halts};
+ghost use Rattle.replica.specs.Copies.{AreLines, AreOfPiece, ArePiece, CopiesReplica, CopiesMarked, CopiesOn, CopiesOver, CopiesPiece, EndsCopy, EndsLoads, EndsPart, HaltsUnchanged, HoldsBothIn, KeepsCopied, Renews, SeesLine, unchanged_by_copy, skips_by, skips_piece};
 
 use crate::words::{HeldWords, load_run};
 use cx_base::{Halt, Object};
@@ -38,7 +38,7 @@ pub fn copy_from<O: Object>(
     requires { HoldsBothIn O.Object shared.now seat.old held.now source.now }
     ensures copied { IfOk result (λ place. CopiesReplica O.Object shared.now place seat.old seat.new) }
     ensures steps { EndsCopy (2 * region_words (O.line_count shared.now.object)) (region_words (O.line_count shared.now.object)) seat.old.known seat.new.known result }
-    ensures leaves { LeavesCopied O.Object shared.now held.now source.now seat.old seat.new }
+    ensures leaves { KeepsCopied O.Object shared.now held.now source.now seat.old seat.new }
     ensures bound { StepsBy (3 * region_words (O.line_count shared.now.object)) seat.old seat.new }
     ensures halts { OnErr result (IsAtLimit seat.new.known.local) }
 {
@@ -59,7 +59,7 @@ pub fn renew_from<O: Object>(
 ) -> Result<u64, Halt>
     requires { HoldsBothIn O.Object shared.now seat.old held.now source }
     ensures renewed { IfOk result (λ place. Renews O.Object shared.now held.now place seat.old seat.new) }
-    ensures halted { OnErr result (HaltsUnchanged beside_copy seat.old seat.new) }
+    ensures halted { OnErr result (HaltsUnchanged unchanged_by_copy seat.old seat.new) }
     ensures within { StepsWithin shared.now (3 * region_words (O.line_count shared.now.object) + 1) seat.old seat.new }
 {
     let place = copy_from(shared, seat, held, &source)?;
@@ -80,7 +80,7 @@ pub(crate) fn copy_marked<O: Object>(
     requires { HoldsBothIn O.Object shared.now seat.old held.now source.now }
     ensures copied { IfOk result (λ place. CopiesMarked O.Object shared.now (skips_by all marks.now) place seat.old seat.new) }
     ensures steps { EndsCopy (2 * region_words (O.line_count shared.now.object)) (region_words (O.line_count shared.now.object)) seat.old.known seat.new.known result }
-    ensures leaves { LeavesCopied O.Object shared.now held.now source.now seat.old seat.new }
+    ensures leaves { KeepsCopied O.Object shared.now held.now source.now seat.old seat.new }
     ensures bound { StepsBy (3 * region_words (O.line_count shared.now.object)) seat.old seat.new }
     ensures halts { OnErr result (IsAtLimit seat.new.known.local) }
 {
@@ -124,7 +124,7 @@ fn copy_unskipped<O: Object>(
     requires piece { AreOfPiece ((line + 7) / 8) (8 * line) (length held_words.old) }
     ensures copied { OnOk result (CopiesOver (skips_by all marks.now) (8 * line) (8 * line + length held_words.old) seat.old.known seat.new.known) }
     ensures ends { EndsPart (2 * length held_words.old) (3 * length held_words.old) (region_words (O.line_count shared.now.object)) seat.old seat.new result }
-    ensures leaves { LeavesCopied O.Object shared.now held.now source.now seat.old seat.new }
+    ensures leaves { KeepsCopied O.Object shared.now held.now source.now seat.old seat.new }
 {
     if is_skipped(marks, all, piece_of(line)) {
         return Ok(());
@@ -181,7 +181,7 @@ fn copy_piece<O: Object>(
     requires lines { AreLines (O.line_count shared.now.object) from held_words.old source_words.old }
     ensures copied { OnOk result (CopiesOn from (from + length held_words.old) seat.old.known seat.new.known) }
     ensures ends { EndsPart (2 * length held_words.old) (3 * length held_words.old) (region_words (O.line_count shared.now.object)) seat.old seat.new result }
-    ensures leaves { LeavesCopied O.Object shared.now held.now source.now seat.old seat.new }
+    ensures leaves { KeepsCopied O.Object shared.now held.now source.now seat.old seat.new }
 {
     load_piece(shared, seat, held, source, from, held_words, source_words)?;
     let lines = held_words.len() / LINE;
@@ -218,7 +218,7 @@ fn load_piece<O: Object>(
     requires piece { ArePiece (O.line_count shared.now.object) from held_words.old source_words.old }
     ensures loaded { OnOk result (CopiesPiece from from from 0 held_words.new source_words.new seat.old.known seat.new.known) }
     ensures steps { EndsLoads (2 * length held_words.old) seat.old.known seat.new.known result }
-    ensures leaves { LeavesCopied O.Object shared.now held.now source.now seat.old seat.new }
+    ensures leaves { KeepsCopied O.Object shared.now held.now source.now seat.old seat.new }
     ensures halts { OnErr result (IsAtLimit seat.new.known.local) }
 {
     let start = shared.start_held(seat, held);
@@ -250,7 +250,7 @@ fn store_line<O: Object>(
     requires line { SeesLine (O.line_count shared.now.object) from first held_words.now source_words.now seat.old.known }
     ensures stored { OnOk result (CopiesPiece from (from + first) (from + first + 8) (first + 8) held_words.now source_words.now seat.old.known seat.new.known) }
     ensures ends { EndsPart 0 8 (region_words (O.line_count shared.now.object)) seat.old seat.new result }
-    ensures leaves { LeavesCopied O.Object shared.now held.now source.now seat.old seat.new }
+    ensures leaves { KeepsCopied O.Object shared.now held.now source.now seat.old seat.new }
 {
     for i in first..first + LINE {
         if held_words[i] != source_words[i] {
@@ -273,7 +273,7 @@ pub(crate) fn store_copied<O: Object>(
     requires at { at < region_words (O.line_count shared.now.object) }
     ensures known { OnOk result (seat.new.known ≡ known_after (instance_at shared.now O.step O.only_reads) (StoreWord held.now.replica at word) seat.old.known 0) }
     ensures halted { OnErr result (Halts shared.now seat.old seat.new) }
-    ensures leaves { LeavesCopied O.Object shared.now held.now source.now seat.old seat.new }
+    ensures leaves { KeepsCopied O.Object shared.now held.now source.now seat.old seat.new }
 {
     let _ = source;
     shared.store_word(seat, held.replica() as u64, at, word)?;

@@ -4,7 +4,7 @@ ghost use Rattle.std.specs.Prelude.{◌<◌, length, OnErr, OnOk};
 ghost use Rattle.std.specs.List.{Contains};
 ghost use Rattle.cx_core.specs.Region.{region_words};
 ghost use Rattle.cx_core.specs.Rights.{held_dirty};
-ghost use Rattle.cx_rule.specs.Steps.{Halts};
+ghost use Rattle.table_invariant.specs.Steps.{Halts};
 ghost use Rattle.replica.specs.Flushes.{EndsFlushing, Persists};
 ghost use Rattle.replica.specs.Held.{IsHeldIn};
 ghost use Rattle.replica.specs.Replays.{IsHeldImageIn};

@@ -2,8 +2,8 @@
 
 ghost use Rattle.std.specs.Prelude.{List, ℕ, IsTrue, None, Some};
 ghost use Rattle.cx_core.specs.Region.{region_words};
-ghost use Rattle.cx_rule.specs.Fitting.{loaded_of};
-ghost use Rattle.cx_rule.specs.Seats.{IsWithinLimit};
+ghost use Rattle.table_invariant.specs.Fitting.{loaded_of};
+ghost use Rattle.table_invariant.specs.Seats.{IsWithinLimit};
 ghost use Rattle.cx_table.specs.Runs.{StartsAt};
 ghost use Rattle.cx_table.specs.Seats.{HasMadeSteps};
 ghost use Rattle.replica.specs.Held.{IsHeldShared};
@@ -78,15 +78,15 @@ impl<'a, T: HeldWords> ReadRegion<'a, T> {
 impl<T: HeldWords> Memory for ReadRegion<'_, T> {
     ghost use Rattle.std.specs.Prelude.{◌==◌};
     ghost use Rattle.std.specs.Borrow.{GName};
-    ghost use Rattle.cx_rule.specs.Fitting.{ReadFits};
-    ghost use Rattle.replica.specs.Held.{beside_shared, left_of};
+    ghost use Rattle.table_invariant.specs.Fitting.{ReadFits};
+    ghost use Rattle.replica.specs.Held.{unchanged_by_shared_access, left_of};
     ghost use Rattle.replica.specs.Regions.{ReadFixed, read_words};
 
     ghost size = { λ r. region_words (T.line_count r.table.now) };
 
     ghost Fixed = { ReadFixed GName T };
 
-    ghost fixed = { λ r. record { name = r.seat.ghost_name; table = r.table.now; held = r.held.now; placed = r.placed; began = r.began; rest = beside_shared r.held.now.replica r.seat.now } };
+    ghost fixed = { λ r. record { name = r.seat.ghost_name; table = r.table.now; held = r.held.now; placed = r.placed; began = r.began; rest = unchanged_by_shared_access r.held.now.replica r.seat.now } };
 
     // No step stores into a replica held shared. A seat whose limit is 0 makes no step at all, so that a store by it halts.
     ghost writable = { λ r. r.seat.now.known.local.limit == 0 };

@@ -2,7 +2,7 @@
 
 ghost use Rattle.std.specs.Prelude.{false, true, List, ℕ, IsTrue};
 ghost use Rattle.cx_core.specs.Region.{region_words};
-ghost use Rattle.cx_rule.specs.Seats.{IsWithinLimit};
+ghost use Rattle.table_invariant.specs.Seats.{IsWithinLimit};
 ghost use Rattle.cx_table.specs.Runs.{StartsAt};
 ghost use Rattle.cx_table.specs.Seats.{HasMadeSteps};
 ghost use Rattle.replica.specs.Held.{IsHeld};
@@ -72,7 +72,7 @@ impl<'a, T: HeldWords> Region<'a, T> {
 
 impl<T: HeldWords> Memory for Region<'_, T> {
     ghost use Rattle.std.specs.Borrow.{GName};
-    ghost use Rattle.cx_rule.specs.Fitting.{FitsKnown};
+    ghost use Rattle.table_invariant.specs.Fitting.{FitsKnown};
     ghost use Rattle.replica.specs.Held.{left_of};
     ghost use Rattle.replica.specs.Regions.{RegionFixed, known_words, region_fixed};
 

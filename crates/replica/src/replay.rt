@@ -4,9 +4,9 @@
 ghost use Rattle.std.specs.Prelude.{◌≡◌, ◌+◌, ◌<◌, OnErr, OnOk, IfOk, Some};
 ghost use Rattle.cx_base.specs.Memory.{Becomes};
 ghost use Rattle.cx_core.specs.Step.{IsStepped};
-ghost use Rattle.cx_rule.specs.Steps.{Halts};
-ghost use Rattle.cx_rule.specs.Stores.{FitsIn};
-ghost use Rattle.replica.specs.Held.{IsHeldIn, LeavesHeld, left_of};
+ghost use Rattle.table_invariant.specs.Steps.{Halts};
+ghost use Rattle.table_invariant.specs.Stores.{FitsIn};
+ghost use Rattle.replica.specs.Held.{IsHeldIn, KeepsHeld, left_of};
 ghost use Rattle.replica.specs.Regions.{SameRegion, region_fixed};
 ghost use Rattle.replica.specs.Replays.{IsAfterFullStep, CanStep, ComesNext, IsReady, ShowsReplyIn, StoresNone, noted_place};
 
@@ -30,7 +30,7 @@ pub fn begin<O: Object>(
     requires unchanged { StoresNone seat.old.known.accesses }
     ensures ready { IfOk result (λ place. IsReady O.Object shared.now held.now place seat.new) }
     ensures unstored { OnOk result (StoresNone seat.new.known.accesses) }
-    ensures leaves { LeavesHeld O.Object shared.now held.now seat.old seat.new }
+    ensures leaves { KeepsHeld O.Object shared.now held.now seat.old seat.new }
     ensures halted { OnErr result (Halts shared.now seat.old seat.new) }
 {
     let start = shared.start_held(seat, held);

@@ -3,9 +3,9 @@
 ghost use Rattle.std.specs.Prelude.{◌≡◌, ◌+◌, ◌^◌, ◌<◌, ◌≤◌, ℕ, List, true, false, IfNone, IfSome, OnErr, OnOk, OnSome, IfOk, MatchResult, length};
 ghost use Rattle.cx_core.specs.Region.{region_words};
 ghost use Rattle.cx_core.specs.RegionEvents.{CanLoad};
-ghost use Rattle.cx_rule.specs.Fitting.{Fitting};
-ghost use Rattle.cx_rule.specs.Running.{IsSeatOf, Running};
-ghost use Rattle.cx_rule.specs.Steps.{Halts, Steps};
+ghost use Rattle.table_invariant.specs.Fitting.{Fitting};
+ghost use Rattle.table_invariant.specs.Running.{IsSeatOf, Running};
+ghost use Rattle.table_invariant.specs.Steps.{Halts, Steps};
 ghost use Rattle.cx_core.specs.declared.kinds.Kind.TheVariants.{LoadWord};
 ghost use Rattle.cx_table.specs.Calls.{MakesFittingStep, MayStep};
 ghost use Rattle.cx_table.specs.Runs.{Runs, StartsAt, loads_from};

@@ -3,8 +3,8 @@ use Rattle.std.proofs.Common.{◌≡◌, ◌<◌, ◌≤◌, ◌+◌, ℕ, List,
 use Rattle.std.specs.Prelude.{All, Option, Some, None}
 use Rattle.std.proofs.lemmas.List.{append-nil, length-append}
 use Rattle.std.proofs.lemmas.List.Elements.{All-append, All-nil, All-pop, All-push}
-use Rattle.cx_rule.specs.Running.{Running}
-use Rattle.cx_rule.specs.Seats.{Seated}
+use Rattle.table_invariant.specs.Running.{Running}
+use Rattle.table_invariant.specs.Seats.{Seated}
 use Rattle.cx_service.specs.Callers.{IsCallerOf}
 use Rattle.cx_service.specs.declared.close.Handed.{Handed}
 use Rattle.cx_service.specs.declared.close.Handed.TheVariants.{Idle}
@@ -16,8 +16,8 @@ use Rattle.std.specs.Option.{option_to_list}
 use Rattle.seat_pool.specs.declared.lent.Lent.{Lent}
 use Rattle.seat_pool.specs.Gathering.{AreSame, AreCallsTold, Gathers, IsGathering, IsHandedOf, IsLentOf, IsRestOf, IsTakingIn, handed_calls, handed_reads, if_stopped, kept_list, lent_kept, lent_shown, lent_told, handed_number}
 use Rattle.seat_pool.specs.Pooling.{IsPassWhole, TellsRoom, all_parts, both, calls_of, total_weight, with_taken}
-use Rattle.seat_pool.specs.declared.hand.Hand.{Hand}
-use Rattle.seat_pool.specs.declared.hand.Told.{Told}
+use Rattle.seat_pool.specs.declared.hand.LenderPass.{LenderPass}
+use Rattle.seat_pool.specs.declared.hand.AnsweredCall.{AnsweredCall}
 use Rattle.seat_pool.proofs.Poolings.{total_both, units}
 
 module _ {O : Type 0} (r : Running O) where
@@ -31,12 +31,12 @@ module _ {O : Type 0} (r : Running O) where
     numbers = λ h. omega (arith, g.numbers h, k.numbers h, total_both (λ (x : Handed). h (handed_number x)) xs ys, total_both (λ (x : Seated). h x.known.local.number) a b);
     untold = g.untold ++ k.untold;
     calls = λ h. omega (arith, g.calls h, k.calls h, total_both (handed_calls h) xs ys, total_both (λ (x : Seated). total_weight h (calls_of x)) a b, total_both h g.untold k.untold);
-    few = λ h. omega (arith, g.few h, k.few h, total_both (if_stopped h) xs ys, total_both (λ (t : Told). h t.caller) g.untold k.untold);
+    few = λ h. omega (arith, g.few h, k.few h, total_both (if_stopped h) xs ys, total_both (λ (t : AnsweredCall). h t.caller) g.untold k.untold);
     reads = λ h. omega (arith, g.reads h, k.reads h, total_both (handed_reads h) xs ys, total_both (λ (x : Seated). total_weight h x.known.local.seen_reads) a b);
   }
 
   -- a caller comes out of the queue
-  pub gathers_taken : (v : Hand) (xs : List Handed) (x : Seated) → Gathers r v.held xs → IsCallerOf r x → Gathers r (with_taken v x).held (xs ++ Idle x ∷ [])
+  pub gathers_taken : (v : LenderPass) (xs : List Handed) (x : Seated) → Gathers r v.held xs → IsCallerOf r x → Gathers r (with_taken v x).held (xs ++ Idle x ∷ [])
   gathers_taken v xs x g is = record {
     of = All-push (IsHandedOf r) xs (Idle x) g.of is;
     numbers = λ h. omega (arith, g.numbers h, total_both (λ (y : Handed). h (handed_number y)) xs (Idle x ∷ []));
@@ -47,7 +47,7 @@ module _ {O : Type 0} (r : Running O) where
   }
 
   -- a client's part, which keeps nobody
-  pub gathers_no_more : (v w : Hand) (xs : List Handed) (kept : Option Handed) → kept ≡ None → Gathers r v.held xs → Gathers r w.held (kept_list kept) → Gathers r (both v w).held xs
+  pub gathers_no_more : (v w : LenderPass) (xs : List Handed) (kept : Option Handed) → kept ≡ None → Gathers r v.held xs → Gathers r w.held (kept_list kept) → Gathers r (both v w).held xs
   gathers_no_more v w xs kept none g k =
       let l = subst (λ (o : Option Handed). Gathers r w.held (kept_list o)) none k in
       subst (λ ys. Gathers r (v.held ++ w.held) ys) (append_none xs) (gathers_both v.held w.held xs [] g l)
@@ -57,17 +57,17 @@ module _ {O : Type 0} (r : Running O) where
       append_none (y ∷ ys) = ap (λ zs. y ∷ zs) (append_none ys)
 
   -- or a caller
-  pub gathers_kept : (v w : Hand) (xs : List Handed) (kept : Option Handed) (x : Handed) → kept ≡ Some x → Gathers r v.held xs → Gathers r w.held (kept_list kept) → Gathers r (both v w).held (xs ++ x ∷ [])
+  pub gathers_kept : (v w : LenderPass) (xs : List Handed) (kept : Option Handed) (x : Handed) → kept ≡ Some x → Gathers r v.held xs → Gathers r w.held (kept_list kept) → Gathers r (both v w).held (xs ++ x ∷ [])
   gathers_kept v w xs kept x some g k = gathers_both v.held w.held xs (x ∷ []) g (subst (λ (o : Option Handed). Gathers r w.held (kept_list o)) some k)
 
   -- there is room for it
-  pub kept_fits : (v w : Hand) (xs : List Handed) (kept : Option Handed) (x : Handed) → kept ≡ Some x → Gathers r v.held xs → Gathers r w.held (kept_list kept) → length (both v w).held ≤ r.callers → length xs < r.callers
+  pub kept_fits : (v w : LenderPass) (xs : List Handed) (kept : Option Handed) (x : Handed) → kept ≡ Some x → Gathers r v.held xs → Gathers r w.held (kept_list kept) → length (both v w).held ≤ r.callers → length xs < r.callers
   kept_fits v w xs kept x some g k most =
       let l = subst (λ (o : Option Handed). Gathers r w.held (kept_list o)) some k in
       omega (arith, as_many v.held xs g, as_many w.held (x ∷ []) l, length-append v.held w.held, most)
 
-  pub still_gathering : (before v w : Hand) (xs : List Handed) (x : Seated) → IsGathering r before v xs → IsCallerOf r x → w ≡ with_taken v x → IsGathering r before w (xs ++ Idle x ∷ [])
-  still_gathering before v w xs x g is taken = subst (λ (u : Hand). IsGathering r before u (xs ++ Idle x ∷ [])) (sym taken) (record {
+  pub still_gathering : (before v w : LenderPass) (xs : List Handed) (x : Seated) → IsGathering r before v xs → IsCallerOf r x → w ≡ with_taken v x → IsGathering r before w (xs ++ Idle x ∷ [])
+  still_gathering before v w xs x g is taken = subst (λ (u : LenderPass). IsGathering r before u (xs ++ Idle x ∷ [])) (sym taken) (record {
     home = g.home;
     parts = g.parts;
     placed = g.placed;
@@ -77,13 +77,13 @@ module _ {O : Type 0} (r : Running O) where
   })
 
 -- where the queue is empty, the pass with every part knows that it holds all
-pub drained : (v w : Hand) → v.parts ≡ all_parts → w ≡ v → Held 0 (TellsRoom v) → IsPassWhole w []
-drained v w parts same ([], long, tells) = subst (λ (u : Hand). IsPassWhole u []) (sym same) (tells.whole parts)
+pub drained : (v w : LenderPass) → v.parts ≡ all_parts → w ≡ v → Held 0 (TellsRoom v) → IsPassWhole w []
+drained v w parts same ([], long, tells) = subst (λ (u : LenderPass). IsPassWhole u []) (sym same) (tells.whole parts)
 drained v w parts same (x ∷ items, long, tells) = absurd (omega (arith, long))
 
 -- the same, said of what a pass knows
-pub as_held : {O : Type 0} (r : Running O) (v w : Hand) (xs ys : List Handed) → w ≡ v → ys ≡ xs → Gathers r v.held xs → Gathers r w.held ys
-as_held r v w xs ys same list g = subst (λ (u : Hand). Gathers r u.held ys) (sym same) (subst (λ zs. Gathers r v.held zs) (sym list) g)
+pub as_held : {O : Type 0} (r : Running O) (v w : LenderPass) (xs ys : List Handed) → w ≡ v → ys ≡ xs → Gathers r v.held xs → Gathers r w.held ys
+as_held r v w xs ys same list g = subst (λ (u : LenderPass). Gathers r u.held ys) (sym same) (subst (λ zs. Gathers r v.held zs) (sym list) g)
 
 pub none_of : {A : Type 0} (xs : List A) → length xs ≡ 0 → xs ≡ []
 none_of [] none = refl
@@ -104,17 +104,17 @@ module _ {O : Type 0} (r : Running O) (table : TableId) where
   }))
 
   -- the last one that is left
-  pub last_of : (all : List Lent) (v : Hand) (rest after : List Lent) (found : Option Lent) (x : Lent) (xs : List Handed) → IsTakingIn r table all v rest xs → rest ≡ after ++ option_to_list found → found ≡ Some x → IsLentOf r table x
+  pub last_of : (all : List Lent) (v : LenderPass) (rest after : List Lent) (found : Option Lent) (x : Lent) (xs : List Handed) → IsTakingIn r table all v rest xs → rest ≡ after ++ option_to_list found → found ≡ Some x → IsLentOf r table x
   last_of all v rest after found x xs k popped some = (All-pop (IsLentOf r table) rest after (Some x) (popped ∙ ap (λ (o : Option Lent). after ++ option_to_list o) some) k.lents).1
 
-  pub takes_more : (all : List Lent) (v w : Hand) (rest after : List Lent) (found : Option Lent) (x : Lent) (xs ys : List Handed) → IsTakingIn r table all v rest xs → rest ≡ after ++ option_to_list found → found ≡ Some x
+  pub takes_more : (all : List Lent) (v w : LenderPass) (rest after : List Lent) (found : Option Lent) (x : Lent) (xs ys : List Handed) → IsTakingIn r table all v rest xs → rest ≡ after ++ option_to_list found → found ≡ Some x
       → w ≡ both v (view x.pass) → Gathers r w.held ys → ys ≡ xs ++ kept_list x.kept → IsTakingIn r table all w after ys
   takes_more all v w rest after found x xs ys k popped some same gathers more =
       let is = last_of all v rest after found x xs k popped some in
       let u = both v (view x.pass) in
       let left : rest ≡ after ++ x ∷ [] = popped ∙ ap (λ (o : Option Lent). after ++ option_to_list o) some in
       let long : length rest ≡ length after + 1 = ap length left ∙ length-append after (x ∷ []) in
-      subst (λ (t : Hand). IsTakingIn r table all t after ys) (sym same) (record {
+      subst (λ (t : LenderPass). IsTakingIn r table all t after ys) (sym same) (record {
         home = k.home;
         some = (let some_ = k.some in omega (arith, some_));
         parts = omega (arith, k.parts, is.parts, long);
@@ -130,11 +130,11 @@ module _ {O : Type 0} (r : Running O) (table : TableId) where
             let grown : total_weight f ys ≡ total_weight f (xs ++ kept_list x.kept) = ap (total_weight f) more in
             omega (arith, was, grown, k.kept f, total_both (lent_kept f) after (x ∷ []), total_both f xs (kept_list x.kept)));
         lents = (All-pop (IsLentOf r table) rest after (Some x) left k.lents).0;
-        gathers = subst (λ (t : Hand). Gathers r t.held ys) same gathers;
+        gathers = subst (λ (t : LenderPass). Gathers r t.held ys) same gathers;
       })
 
   -- and their calls are those that were told
-  pub all_told : (all : List Lent) (v w : Hand) (xs ys zs : List Handed) → IsTakingIn r table all v [] xs → w.told ≡ v.told → w.shown ≡ v.shown → IsPassWhole w [] → Gathers r w.held ys → ((f : Handed → ℕ) → total_weight f xs ≤ total_weight f ys) → ((f : Handed → ℕ) → ((s : Seated) → f (Idle s) ≡ 0) → total_weight f ys ≡ total_weight f xs) → AreSame zs ys → All (IsHandedOf r) zs
+  pub all_told : (all : List Lent) (v w : LenderPass) (xs ys zs : List Handed) → IsTakingIn r table all v [] xs → w.told ≡ v.told → w.shown ≡ v.shown → IsPassWhole w [] → Gathers r w.held ys → ((f : Handed → ℕ) → total_weight f xs ≤ total_weight f ys) → ((f : Handed → ℕ) → ((s : Seated) → f (Idle s) ≡ 0) → total_weight f ys ≡ total_weight f xs) → AreSame zs ys → All (IsHandedOf r) zs
       → AreCallsTold r all zs
   all_told all v w xs ys zs k same seen whole gathers more idle order of = record {
     of = of;

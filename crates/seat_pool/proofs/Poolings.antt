@@ -10,13 +10,13 @@ use Rattle.crossbeam_queue.proofs.Lists.{at_set, at_snoc}
 use Rattle.cx_core.specs.declared.entry.Base.{Base}
 use Rattle.cx_core.specs.declared.local.SeenRead.{SeenRead}
 use Rattle.cx_core.specs.Region.{slot_number}
-use Rattle.cx_rule.specs.Running.{Running}
-use Rattle.cx_rule.specs.Seats.{Seated}
+use Rattle.table_invariant.specs.Running.{Running}
+use Rattle.table_invariant.specs.Seats.{Seated}
 use Rattle.cx_service.specs.Callers.{IsCallerOf}
 use Rattle.seat_pool.specs.Pooling.{FitsHand, FitsHome, HasLimit, IsCallerAt, IsFirstOf, IsHomeOf, IsLentBy, IsSameTable, IsCallerTaken, KeepsCallers, Pools, Shown, TellsRoom, all_parts, both, callers_at, calls_of, calls_weigh, cut_left, cut_right, fresh, given_from, limits_at, nothing, numbers_weigh, opened_pass, reads_weigh, shown_by, total_weight, with_given, with_placed, with_taken}
-use Rattle.seat_pool.specs.declared.hand.Hand.{Hand}
-use Rattle.seat_pool.specs.declared.hand.Home.{Home}
-use Rattle.seat_pool.specs.declared.hand.Told.{Told}
+use Rattle.seat_pool.specs.declared.hand.LenderPass.{LenderPass}
+use Rattle.seat_pool.specs.declared.hand.ServiceView.{ServiceView}
+use Rattle.seat_pool.specs.declared.hand.AnsweredCall.{AnsweredCall}
 
 -- sums
 
@@ -68,7 +68,7 @@ pub units : (A : Type 0) (xs : List A) → total_weight {A = A} (λ _. 1) xs ≡
 units A [] = refl
 units A (x ∷ xs) = omega (arith, units A xs)
 
-each_same : (f g : Hand → ℕ) → ((u : Hand) → f u ≡ g u) → (us : List Hand) → total_weight f us ≡ total_weight g us
+each_same : (f g : LenderPass → ℕ) → ((u : LenderPass) → f u ≡ g u) → (us : List LenderPass) → total_weight f us ≡ total_weight g us
 each_same f g same [] = refl
 each_same f g same (u ∷ us) = omega (arith, same u, each_same f g same us)
 
@@ -93,90 +93,90 @@ back : {O P : Type 0} (q : Running O) (r : Running P) → IsSameTable q r → Is
 back q r same = record { table = sym same.table; callers = sym same.callers; base = sym same.base }
 
 -- a caller of the service is one at the home that the pass knows
-at_home : {O : Type 0} (r : Running O) (home : Option Home) (x : Seated) → IsHomeOf r home → IsCallerOf r x → HasLimit (limits_at home) x → IsCallerAt home x
+at_home : {O : Type 0} (r : Running O) (home : Option ServiceView) (x : Seated) → IsHomeOf r home → IsCallerOf r x → HasLimit (limits_at home) x → IsCallerAt home x
 at_home r None x of is limit = absurd of
 at_home r (Some home) x of is limit = (moved r (shown_by home) x (back (shown_by home) r of) is, limit)
 
-pub from_home : {O : Type 0} (r : Running O) (home : Option Home) (x : Seated) → IsHomeOf r home → IsCallerAt home x → IsCallerOf r x × HasLimit (limits_at home) x
+pub from_home : {O : Type 0} (r : Running O) (home : Option ServiceView) (x : Seated) → IsHomeOf r home → IsCallerAt home x → IsCallerOf r x × HasLimit (limits_at home) x
 from_home r None x of is = absurd of
 from_home r (Some home) x of is = (moved (shown_by home) r x of is.0, is.1)
 
 -- the home of a pass is the rule's service
-to_service : {O : Type 0} (r : Running O) (s : Shown) (parts : ℕ) (home : Option Home) (x : Seated) → IsHomeOf r home → FitsHome s parts home → IsCallerAt home x → IsLentBy s x
+to_service : {O : Type 0} (r : Running O) (s : Shown) (parts : ℕ) (home : Option ServiceView) (x : Seated) → IsHomeOf r home → FitsHome s parts home → IsCallerAt home x → IsLentBy s x
 to_service r s parts None x of fits is = absurd of
 to_service r s parts (Some home) x of fits is = subst (λ (q : Shown). IsLentBy q x) fits is
 
-from_service : {O : Type 0} (r : Running O) (s : Shown) (parts : ℕ) (home : Option Home) (x : Seated) → IsHomeOf r home → FitsHome s parts home → IsLentBy s x → IsCallerAt home x
+from_service : {O : Type 0} (r : Running O) (s : Shown) (parts : ℕ) (home : Option ServiceView) (x : Seated) → IsHomeOf r home → FitsHome s parts home → IsLentBy s x → IsCallerAt home x
 from_service r s parts None x of fits is = absurd of
 from_service r s parts (Some home) x of fits is = subst (λ (q : Shown). IsLentBy q x) (sym fits) is
 
-count_fits : {O : Type 0} (r : Running O) (s : Shown) (parts : ℕ) (home : Option Home) → IsHomeOf r home → FitsHome s parts home → callers_at home ≡ s.callers
+count_fits : {O : Type 0} (r : Running O) (s : Shown) (parts : ℕ) (home : Option ServiceView) → IsHomeOf r home → FitsHome s parts home → callers_at home ≡ s.callers
 count_fits r s parts None of fits = absurd of
 count_fits r s parts (Some home) of fits = ap (λ (q : Shown). q.callers) fits
 
-home_callers : {O : Type 0} (r : Running O) (home : Option Home) → IsHomeOf r home → callers_at home ≡ r.callers
+home_callers : {O : Type 0} (r : Running O) (home : Option ServiceView) → IsHomeOf r home → callers_at home ≡ r.callers
 home_callers r None of = absurd of
 home_callers r (Some home) of = of.callers
 
-refits : {O : Type 0} (r : Running O) (s : Shown) (parts more : ℕ) (home : Option Home) → IsHomeOf r home → FitsHome s parts home → FitsHome s more home
+refits : {O : Type 0} (r : Running O) (s : Shown) (parts more : ℕ) (home : Option ServiceView) → IsHomeOf r home → FitsHome s parts home → FitsHome s more home
 refits r s parts more None of fits = absurd of
 refits r s parts more (Some home) of fits = fits
 
 -- a queue that some pass knows the service of is not new
-is_not_new : {O : Type 0} (r : Running O) (v : Hand) (views : List Hand) (pass : ℕ) → IsHomeOf r v.home → views ≡ fresh ∷ [] → get_elem? views pass ≡ some v → ⊥
+is_not_new : {O : Type 0} (r : Running O) (v : LenderPass) (views : List LenderPass) (pass : ℕ) → IsHomeOf r v.home → views ≡ fresh ∷ [] → get_elem? views pass ≡ some v → ⊥
 is_not_new r v views zero of new at =
     let same : fresh ≡ v = some-injective fresh v (sym (ap (λ l. get_elem? l 0) new) ∙ at) in
-    subst (λ (u : Hand). IsHomeOf r u.home) (sym same) of
+    subst (λ (u : LenderPass). IsHomeOf r u.home) (sym same) of
 is_not_new r v views (suc pass) of new at = some-ne-none v (sym at ∙ ap (λ l. get_elem? l (suc pass)) new)
 
 -- one view changes
 
-abbrev AllFit : Shown → List Hand → Type 0
-AllFit r views = (pass : ℕ) (v : Hand) → get_elem? views pass ≡ some v → FitsHand r v
+abbrev AllFit : Shown → List LenderPass → Type 0
+AllFit r views = (pass : ℕ) (v : LenderPass) → get_elem? views pass ≡ some v → FitsHand r v
 
-fit_set : (r : Shown) (views : List Hand) (pass : ℕ) (w : Hand) → FitsHand r w → AllFit r views → AllFit r (set views pass w)
+fit_set : (r : Shown) (views : List LenderPass) (pass : ℕ) (w : LenderPass) → FitsHand r w → AllFit r views → AllFit r (set views pass w)
 fit_set r views pass w mine all j u e = ⊎_elim (λ x. subst (FitsHand r) x.1 mine) (λ x. all j u x.1) (at_set views pass j w u e)
 
-fit_snoc : (r : Shown) (views : List Hand) (w : Hand) → FitsHand r w → AllFit r views → AllFit r (views ++ w ∷ [])
+fit_snoc : (r : Shown) (views : List LenderPass) (w : LenderPass) → FitsHand r w → AllFit r views → AllFit r (views ++ w ∷ [])
 fit_snoc r views w mine all j u e = ⊎_elim (λ x. all j u x) (λ x. subst (FitsHand r) x mine) (at_snoc views w u j e)
 
 -- with parts, nothing is owed of a pass without
-keeps_parts : (r : Shown) (v : Hand) → FitsHome r v.parts v.home → 0 < v.parts → FitsHand r v
+keeps_parts : (r : Shown) (v : LenderPass) → FitsHome r v.parts v.home → 0 < v.parts → FitsHand r v
 keeps_parts r v fits some_part = record { home = fits; idle = λ none. absurd (omega (arith, some_part, none)) }
 
 -- what a move of one pass has to balance
-record Balances (service : Shown) (items after : List Seated) (v w : Hand) : Type 0 where
+record Balances (service : Shown) (items after : List Seated) (v w : LenderPass) : Type 0 where
   pub parts : w.parts ≡ v.parts
   pub callers : (h : ℕ → ℕ) → total_weight h w.placed + numbers_weigh h v.held + numbers_weigh h items ≡ total_weight h v.placed + numbers_weigh h w.held + numbers_weigh h after
-  pub calls : (h : Told → ℕ) → total_weight h w.told + calls_weigh h v.held + calls_weigh h items ≡ total_weight h v.told + calls_weigh h w.held + calls_weigh h after
+  pub calls : (h : AnsweredCall → ℕ) → total_weight h w.told + calls_weigh h v.held + calls_weigh h items ≡ total_weight h v.told + calls_weigh h w.held + calls_weigh h after
   pub reads : (h : SeenRead → ℕ) → total_weight h w.shown + reads_weigh h v.held + reads_weigh h items ≤ total_weight h v.shown + reads_weigh h w.held + reads_weigh h after
 
-moves : (items after : List Seated) (views : List Hand) (pass : ℕ) (v w : Hand) (k : KeepsCallers items views) → get_elem? views pass ≡ some v
-    → FitsHand k.service w → All (IsLentBy k.service) after → total_weight (λ (u : Hand). length u.placed) (set views pass w) ≤ k.service.callers → Balances k.service items after v w → KeepsCallers after (set views pass w)
+moves : (items after : List Seated) (views : List LenderPass) (pass : ℕ) (v w : LenderPass) (k : KeepsCallers items views) → get_elem? views pass ≡ some v
+    → FitsHand k.service w → All (IsLentBy k.service) after → total_weight (λ (u : LenderPass). length u.placed) (set views pass w) ≤ k.service.callers → Balances k.service items after v w → KeepsCallers after (set views pass w)
 moves items after views pass v w k at fits are room b = record {
   service = k.service;
   items_are = are;
   views_are = fit_set k.service views pass w fits k.views_are;
-  parts = (let s = total_set (λ (u : Hand). u.parts) views pass v w at in omega (arith, s, k.parts, b.parts));
+  parts = (let s = total_set (λ (u : LenderPass). u.parts) views pass v w at in omega (arith, s, k.parts, b.parts));
   room = room;
   callers = λ h. (
-      let placed = total_set (λ (u : Hand). total_weight h u.placed) views pass v w at in
-      let held = total_set (λ (u : Hand). numbers_weigh h u.held) views pass v w at in
+      let placed = total_set (λ (u : LenderPass). total_weight h u.placed) views pass v w at in
+      let held = total_set (λ (u : LenderPass). numbers_weigh h u.held) views pass v w at in
       omega (arith, placed, held, k.callers h, b.callers h));
   calls = λ h. (
-      let told = total_set (λ (u : Hand). total_weight h u.told) views pass v w at in
-      let held = total_set (λ (u : Hand). calls_weigh h u.held) views pass v w at in
+      let told = total_set (λ (u : LenderPass). total_weight h u.told) views pass v w at in
+      let held = total_set (λ (u : LenderPass). calls_weigh h u.held) views pass v w at in
       omega (arith, told, held, k.calls h, b.calls h));
   reads = λ h. (
-      let shown = total_set (λ (u : Hand). total_weight h u.shown) views pass v w at in
-      let held = total_set (λ (u : Hand). reads_weigh h u.held) views pass v w at in
+      let shown = total_set (λ (u : LenderPass). total_weight h u.shown) views pass v w at in
+      let held = total_set (λ (u : LenderPass). reads_weigh h u.held) views pass v w at in
       omega (arith, shown, held, k.reads h, b.reads h));
 }
 
 -- nobody is placed
-same_room : (views : List Hand) (pass : ℕ) (v w : Hand) (n : ℕ) → get_elem? views pass ≡ some v → w.placed ≡ v.placed → total_weight (λ (u : Hand). length u.placed) views ≤ n → total_weight (λ (u : Hand). length u.placed) (set views pass w) ≤ n
+same_room : (views : List LenderPass) (pass : ℕ) (v w : LenderPass) (n : ℕ) → get_elem? views pass ≡ some v → w.placed ≡ v.placed → total_weight (λ (u : LenderPass). length u.placed) views ≤ n → total_weight (λ (u : LenderPass). length u.placed) (set views pass w) ≤ n
 same_room views pass v w n at placed room =
-    let s = total_set (λ (u : Hand). length u.placed) views pass v w at in
+    let s = total_set (λ (u : LenderPass). length u.placed) views pass v w at in
     let same : length w.placed ≡ length v.placed = ap length placed in
     omega (arith, s, same, room)
 
@@ -187,15 +187,15 @@ pub begins : Pools [] (fresh ∷ [])
 begins = inl (refl, refl)
 
 -- there are no more callers in the queue than the pass leaves
-has_room : {O : Type 0} (r : Running O) (v : Hand) (items : List Seated) (views : List Hand) (pass : ℕ) → KeepsCallers items views → IsHomeOf r v.home → get_elem? views pass ≡ some v → length v.held + length items ≤ callers_at v.home
+has_room : {O : Type 0} (r : Running O) (v : LenderPass) (items : List Seated) (views : List LenderPass) (pass : ℕ) → KeepsCallers items views → IsHomeOf r v.home → get_elem? views pass ≡ some v → length v.held + length items ≤ callers_at v.home
 has_room r v items views pass k of at =
     let count = count_fits r k.service v.parts v.home of (k.views_are pass v at).home in
-    let placed : total_weight (λ (u : Hand). total_weight (λ _. 1) u.placed) views ≡ total_weight (λ (u : Hand). length u.placed) views = each_same (λ (u : Hand). total_weight (λ _. 1) u.placed) (λ (u : Hand). length u.placed) (λ u. units ℕ u.placed) views in
-    let mine = total_has (λ (u : Hand). numbers_weigh (λ _. 1) u.held) views pass v at in
+    let placed : total_weight (λ (u : LenderPass). total_weight (λ _. 1) u.placed) views ≡ total_weight (λ (u : LenderPass). length u.placed) views = each_same (λ (u : LenderPass). total_weight (λ _. 1) u.placed) (λ (u : LenderPass). length u.placed) (λ u. units ℕ u.placed) views in
+    let mine = total_has (λ (u : LenderPass). numbers_weigh (λ _. 1) u.held) views pass v at in
     omega (arith, placed, mine, units Seated v.held, units Seated items, k.callers (λ _. 1), k.room, count)
 
 module _ {O : Type 0} where
-  pub pops : (pass : ℕ) (r : Running O) (v : Hand) → IsHomeOf r v.home → 0 < v.parts → Pops Pools pass v (IsCallerTaken v)
+  pub pops : (pass : ℕ) (r : Running O) (v : LenderPass) → IsHomeOf r v.home → 0 < v.parts → Pops Pools pass v (IsCallerTaken v)
   pops pass r v of some_part x items views (inl new) at = absurd (is_not_new r v views pass of new.1 at)
   pops pass r v of some_part x items views (inr k) at =
       let w = with_taken v x in
@@ -211,7 +211,7 @@ module _ {O : Type 0} where
       )
 
   -- a caller without answered calls is placed, by a pass with every part
-  pub places : (n pass : ℕ) (r : Running O) (v : Hand) (x : Seated) → IsHomeOf r v.home → v.parts ≡ all_parts → length v.placed < r.callers → IsCallerOf r x → HasLimit (limits_at v.home) x → calls_of x ≡ [] → Pushes Pools n pass v x (λ w. w ≡ with_placed v x)
+  pub places : (n pass : ℕ) (r : Running O) (v : LenderPass) (x : Seated) → IsHomeOf r v.home → v.parts ≡ all_parts → length v.placed < r.callers → IsCallerOf r x → HasLimit (limits_at v.home) x → calls_of x ≡ [] → Pushes Pools n pass v x (λ w. w ≡ with_placed v x)
   places n pass r v x of parts room is limit none items views short (inl new) at = absurd (is_not_new r v views pass of new.1 at)
   places n pass r v x of parts room is limit none items views short (inr k) at =
       let w = with_placed v x in
@@ -219,8 +219,8 @@ module _ {O : Type 0} where
       let mine : IsLentBy k.service x = to_service r k.service v.parts v.home x of fits (at_home r v.home x of is limit) in
       let count = count_fits r k.service v.parts v.home of fits in
       let here = home_callers r v.home of in
-      let alone : total_weight (λ (u : Hand). length u.placed) views ≡ length v.placed = total_whole (λ (u : Hand). length u.placed) (λ (u : Hand). u.parts) views pass v (λ j u e z. ap length ((k.views_are j u e).idle z).placed) at (k.parts ∙ sym parts) in
-      let s = total_set (λ (u : Hand). length u.placed) views pass v w at in
+      let alone : total_weight (λ (u : LenderPass). length u.placed) views ≡ length v.placed = total_whole (λ (u : LenderPass). length u.placed) (λ (u : LenderPass). u.parts) views pass v (λ j u e z. ap length ((k.views_are j u e).idle z).placed) at (k.parts ∙ sym parts) in
+      let s = total_set (λ (u : LenderPass). length u.placed) views pass v w at in
       let long = length-append v.placed (x.known.local.number ∷ []) in (
         w,
         inr (moves items (items ++ x ∷ []) views pass v w k at (keeps_parts k.service w fits (omega (arith, parts))) (All-push (IsLentBy k.service) items x k.items_are mine) (omega (arith, s, alone, long, room, count, here)) (record {
@@ -233,14 +233,14 @@ module _ {O : Type 0} where
       )
 
   -- the first caller held is given back with further calls, which are told
-  pub gives : (n pass : ℕ) (r : Running O) (v : Hand) (x : Seated) → IsHomeOf r v.home → 0 < v.parts → IsFirstOf v.held x → IsCallerOf r x → HasLimit (limits_at v.home) x → Pushes Pools n pass v x (λ w. w ≡ with_given v x)
+  pub gives : (n pass : ℕ) (r : Running O) (v : LenderPass) (x : Seated) → IsHomeOf r v.home → 0 < v.parts → IsFirstOf v.held x → IsCallerOf r x → HasLimit (limits_at v.home) x → Pushes Pools n pass v x (λ w. w ≡ with_given v x)
   gives n pass r v x of some_part first is limit items views short (inl new) at = absurd (is_not_new r v views pass of new.1 at)
   gives n pass r v x of some_part first is limit items views short (inr k) at =
       let fits = (k.views_are pass v at).home in
       let mine : IsLentBy k.service x = to_service r k.service v.parts v.home x of fits (at_home r v.home x of is limit) in
       given v.held refl first fits mine
     where
-      given : (held : List Seated) → v.held ≡ held → IsFirstOf held x → FitsHome k.service v.parts v.home → IsLentBy k.service x → (w : Hand) × Pools (items ++ x ∷ []) (set views pass w) × (w ≡ with_given v x)
+      given : (held : List Seated) → v.held ≡ held → IsFirstOf held x → FitsHome k.service v.parts v.home → IsLentBy k.service x → (w : LenderPass) × Pools (items ++ x ∷ []) (set views pass w) × (w ≡ with_given v x)
       given [] holds first fits mine = absurd first
       given (y ∷ rest) holds first fits mine =
           let w = given_from v (y ∷ rest) x in
@@ -266,7 +266,7 @@ module _ {O : Type 0} where
           )
 
   -- a pass with one part is made of one that has more
-  pub forks : (pass : ℕ) (r : Running O) (v : Hand) → IsHomeOf r v.home → 1 < v.parts → Forks Pools pass v (cut_left v) (cut_right v)
+  pub forks : (pass : ℕ) (r : Running O) (v : LenderPass) → IsHomeOf r v.home → 1 < v.parts → Forks Pools pass v (cut_left v) (cut_right v)
   forks pass r v of more items views (inl new) at = absurd (is_not_new r v views pass of new.1 at)
   forks pass r v of more items views (inr k) at =
       let l = cut_left v in
@@ -274,27 +274,27 @@ module _ {O : Type 0} where
       let fits = (k.views_are pass v at).home in
       let left : FitsHand k.service l = keeps_parts k.service l (refits r k.service v.parts l.parts v.home of fits) (omega (arith, more)) in
       let right : FitsHand k.service w = keeps_parts k.service w (refits r k.service v.parts 1 v.home of fits) (omega arith) in
-      let cut : (f : Hand → ℕ) → total_weight f (set views pass l ++ w ∷ []) + f v ≡ total_weight f views + f l + f w = λ f. (let s = total_set f views pass v l at in omega (arith, s, total_both f (set views pass l) (w ∷ []))) in
+      let cut : (f : LenderPass → ℕ) → total_weight f (set views pass l ++ w ∷ []) + f v ≡ total_weight f views + f l + f w = λ f. (let s = total_set f views pass v l at in omega (arith, s, total_both f (set views pass l) (w ∷ []))) in
       inr (record {
         service = k.service;
         items_are = k.items_are;
         views_are = fit_snoc k.service (set views pass l) w right (fit_set k.service views pass l left k.views_are);
-        parts = omega (arith, cut (λ (u : Hand). u.parts), k.parts, more);
-        room = omega (arith, cut (λ (u : Hand). length u.placed), k.room);
-        callers = λ h. omega (arith, cut (λ (u : Hand). total_weight h u.placed), cut (λ (u : Hand). numbers_weigh h u.held), k.callers h);
-        calls = λ h. omega (arith, cut (λ (u : Hand). total_weight h u.told), cut (λ (u : Hand). calls_weigh h u.held), k.calls h);
-        reads = λ h. omega (arith, cut (λ (u : Hand). total_weight h u.shown), cut (λ (u : Hand). reads_weigh h u.held), k.reads h);
+        parts = omega (arith, cut (λ (u : LenderPass). u.parts), k.parts, more);
+        room = omega (arith, cut (λ (u : LenderPass). length u.placed), k.room);
+        callers = λ h. omega (arith, cut (λ (u : LenderPass). total_weight h u.placed), cut (λ (u : LenderPass). numbers_weigh h u.held), k.callers h);
+        calls = λ h. omega (arith, cut (λ (u : LenderPass). total_weight h u.told), cut (λ (u : LenderPass). calls_weigh h u.held), k.calls h);
+        reads = λ h. omega (arith, cut (λ (u : LenderPass). total_weight h u.shown), cut (λ (u : LenderPass). reads_weigh h u.held), k.reads h);
       })
 
   -- two passes are put together
-  pub merges : (pass other : ℕ) (r : Running O) (v w : Hand) → IsHomeOf r v.home → 0 < v.parts → Merges Pools pass v other w (both v w) nothing
+  pub merges : (pass other : ℕ) (r : Running O) (v w : LenderPass) → IsHomeOf r v.home → 0 < v.parts → Merges Pools pass v other w (both v w) nothing
   merges pass other r v w of some_part items views (inl new) at apart at' = absurd (is_not_new r v views pass of new.1 at)
   merges pass other r v w of some_part items views (inr k) at apart at' =
       let b = both v w in
       let fits = (k.views_are pass v at).home in
       let mine : FitsHand k.service b = keeps_parts k.service b (refits r k.service v.parts b.parts v.home of fits) (omega (arith, some_part)) in
       let spent : FitsHand k.service nothing = record { home = refl; idle = λ z. record { placed = refl; held = refl; told = refl; shown = refl } } in
-      let merged : (f : Hand → ℕ) → f b ≡ f v + f w → f nothing ≡ 0 → total_weight f (set (set views pass b) other nothing) ≡ total_weight f views = λ f adds none. (
+      let merged : (f : LenderPass → ℕ) → f b ≡ f v + f w → f nothing ≡ 0 → total_weight f (set (set views pass b) other nothing) ≡ total_weight f views = λ f adds none. (
       let first = total_set f views pass v b at in
       let second = total_set f (set views pass b) other w nothing at' in
       omega (arith, first, second, adds, none)) in
@@ -302,48 +302,48 @@ module _ {O : Type 0} where
         service = k.service;
         items_are = k.items_are;
         views_are = fit_set k.service (set views pass b) other nothing spent (fit_set k.service views pass b mine k.views_are);
-        parts = merged (λ (u : Hand). u.parts) refl refl ∙ k.parts;
-        room = (let m = merged (λ (u : Hand). length u.placed) (length-append v.placed w.placed) refl in omega (arith, m, k.room));
+        parts = merged (λ (u : LenderPass). u.parts) refl refl ∙ k.parts;
+        room = (let m = merged (λ (u : LenderPass). length u.placed) (length-append v.placed w.placed) refl in omega (arith, m, k.room));
         callers = λ h. (
-            let placed = merged (λ (u : Hand). total_weight h u.placed) (total_both h v.placed w.placed) refl in
-            let held = merged (λ (u : Hand). numbers_weigh h u.held) (total_both (λ (y : Seated). h y.known.local.number) v.held w.held) refl in
+            let placed = merged (λ (u : LenderPass). total_weight h u.placed) (total_both h v.placed w.placed) refl in
+            let held = merged (λ (u : LenderPass). numbers_weigh h u.held) (total_both (λ (y : Seated). h y.known.local.number) v.held w.held) refl in
             omega (arith, placed, held, k.callers h));
         calls = λ h. (
-            let told = merged (λ (u : Hand). total_weight h u.told) (total_both h v.told w.told) refl in
-            let held = merged (λ (u : Hand). calls_weigh h u.held) (total_both (λ (y : Seated). total_weight h (calls_of y)) v.held w.held) refl in
+            let told = merged (λ (u : LenderPass). total_weight h u.told) (total_both h v.told w.told) refl in
+            let held = merged (λ (u : LenderPass). calls_weigh h u.held) (total_both (λ (y : Seated). total_weight h (calls_of y)) v.held w.held) refl in
             omega (arith, told, held, k.calls h));
         reads = λ h. (
-            let shown = merged (λ (u : Hand). total_weight h u.shown) (total_both h v.shown w.shown) refl in
-            let held = merged (λ (u : Hand). reads_weigh h u.held) (total_both (λ (y : Seated). total_weight h y.known.local.seen_reads) v.held w.held) refl in
+            let shown = merged (λ (u : LenderPass). total_weight h u.shown) (total_both h v.shown w.shown) refl in
+            let held = merged (λ (u : LenderPass). reads_weigh h u.held) (total_both (λ (y : Seated). total_weight h y.known.local.seen_reads) v.held w.held) refl in
             omega (arith, shown, held, k.reads h));
       })
 
-  pub learns : (pass : ℕ) (r : Running O) (v : Hand) → IsHomeOf r v.home → Learns Pools pass v (TellsRoom v)
+  pub learns : (pass : ℕ) (r : Running O) (v : LenderPass) → IsHomeOf r v.home → Learns Pools pass v (TellsRoom v)
   learns pass r v of items views (inl new) at = absurd (is_not_new r v views pass of new.1 at)
   learns pass r v of items views (inr k) at =
       record {
         room = has_room r v items views pass k of at;
         whole = λ parts. record {
           callers = λ h. (
-              let placed' = total_whole (λ (u : Hand). total_weight h u.placed) (λ (u : Hand). u.parts) views pass v (λ j u e z. ap (total_weight h) ((k.views_are j u e).idle z).placed) at (k.parts ∙ sym parts) in
-              let held' = total_whole (λ (u : Hand). numbers_weigh h u.held) (λ (u : Hand). u.parts) views pass v (λ j u e z. ap (numbers_weigh h) ((k.views_are j u e).idle z).held) at (k.parts ∙ sym parts) in
+              let placed' = total_whole (λ (u : LenderPass). total_weight h u.placed) (λ (u : LenderPass). u.parts) views pass v (λ j u e z. ap (total_weight h) ((k.views_are j u e).idle z).placed) at (k.parts ∙ sym parts) in
+              let held' = total_whole (λ (u : LenderPass). numbers_weigh h u.held) (λ (u : LenderPass). u.parts) views pass v (λ j u e z. ap (numbers_weigh h) ((k.views_are j u e).idle z).held) at (k.parts ∙ sym parts) in
               omega (arith, placed', held', k.callers h));
           calls = λ h. (
-              let told' = total_whole (λ (u : Hand). total_weight h u.told) (λ (u : Hand). u.parts) views pass v (λ j u e z. ap (total_weight h) ((k.views_are j u e).idle z).told) at (k.parts ∙ sym parts) in
-              let held' = total_whole (λ (u : Hand). calls_weigh h u.held) (λ (u : Hand). u.parts) views pass v (λ j u e z. ap (calls_weigh h) ((k.views_are j u e).idle z).held) at (k.parts ∙ sym parts) in
+              let told' = total_whole (λ (u : LenderPass). total_weight h u.told) (λ (u : LenderPass). u.parts) views pass v (λ j u e z. ap (total_weight h) ((k.views_are j u e).idle z).told) at (k.parts ∙ sym parts) in
+              let held' = total_whole (λ (u : LenderPass). calls_weigh h u.held) (λ (u : LenderPass). u.parts) views pass v (λ j u e z. ap (calls_weigh h) ((k.views_are j u e).idle z).held) at (k.parts ∙ sym parts) in
               omega (arith, told', held', k.calls h));
           reads = λ h. (
-              let shown' = total_whole (λ (u : Hand). total_weight h u.shown) (λ (u : Hand). u.parts) views pass v (λ j u e z. ap (total_weight h) ((k.views_are j u e).idle z).shown) at (k.parts ∙ sym parts) in
-              let held' = total_whole (λ (u : Hand). reads_weigh h u.held) (λ (u : Hand). u.parts) views pass v (λ j u e z. ap (reads_weigh h) ((k.views_are j u e).idle z).held) at (k.parts ∙ sym parts) in
+              let shown' = total_whole (λ (u : LenderPass). total_weight h u.shown) (λ (u : LenderPass). u.parts) views pass v (λ j u e z. ap (total_weight h) ((k.views_are j u e).idle z).shown) at (k.parts ∙ sym parts) in
+              let held' = total_whole (λ (u : LenderPass). reads_weigh h u.held) (λ (u : LenderPass). u.parts) views pass v (λ j u e z. ap (reads_weigh h) ((k.views_are j u e).idle z).held) at (k.parts ∙ sym parts) in
               omega (arith, shown', held', k.reads h));
         };
       }
 
 -- the first pass learns the service, before any caller is placed
-pub opens : (pass : ℕ) (home : Home) → Forks Pools pass fresh (opened_pass home) nothing
+pub opens : (pass : ℕ) (home : ServiceView) → Forks Pools pass fresh (opened_pass home) nothing
 opens zero home items views (inl new) at =
     subst (λ (l : List Seated). Pools l (set views 0 (opened_pass home) ++ nothing ∷ [])) (sym new.0)
-    (subst (λ (l : List Hand). Pools [] (set l 0 (opened_pass home) ++ nothing ∷ [])) (sym new.1) (inr (record {
+    (subst (λ (l : List LenderPass). Pools [] (set l 0 (opened_pass home) ++ nothing ∷ [])) (sym new.1) (inr (record {
       service = shown_by home;
       items_are = All-nil (IsLentBy (shown_by home));
       views_are = fit_snoc (shown_by home) (opened_pass home ∷ []) nothing spent (one (record { home = refl; idle = λ z. absurd (omega (arith, z)) }));
@@ -364,19 +364,19 @@ opens (suc pass) home items views (inl new) at = absurd (some-ne-none fresh (sym
 opens pass home items views (inr k) at = (let none : all_parts ≡ 0 = (k.views_are pass fresh at).home in absurd (omega (arith, none)))
 
 -- a pass with every part knows that no more callers are in the queue than it placed
-pub not_full : (v : Hand) (items : List Seated) → TellsRoom v items → v.parts ≡ all_parts → length items ≤ length v.placed
+pub not_full : (v : LenderPass) (items : List Seated) → TellsRoom v items → v.parts ≡ all_parts → length items ≤ length v.placed
 not_full v items tells parts = omega (arith, (tells.whole parts).callers (λ _. 1), units ℕ v.placed, units Seated v.held, units Seated items)
 
 -- so a queue with room for all callers is not full while one is still to be placed
-pub is_short : (v : Hand) (cap n : ℕ) → v.parts ≡ all_parts → length v.placed < n → cap ≡ n → Held cap (TellsRoom v) → ⊥
+pub is_short : (v : LenderPass) (cap n : ℕ) → v.parts ≡ all_parts → length v.placed < n → cap ≡ n → Held cap (TellsRoom v) → ⊥
 is_short v cap n parts room fits (items, long, tells) = (let most = not_full v items tells parts in absurd (omega (arith, most, long, fits, room)))
 
 -- what was taken out is a caller of the service
-pub taken : {O : Type 0} (r : Running O) (v w : Hand) (found : Option Seated) (none : Type 0) → IsHomeOf r v.home → MatchOption found none (λ x. IsCallerTaken v x w)
+pub taken : {O : Type 0} (r : Running O) (v w : LenderPass) (found : Option Seated) (none : Type 0) → IsHomeOf r v.home → MatchOption found none (λ x. IsCallerTaken v x w)
     → MatchOption found none (λ x. IsCallerOf r x × HasLimit (limits_at v.home) x × (w ≡ with_taken v x) × (length v.held < r.callers))
 taken r v w None none of told = told
 taken r v w (Some x) none of told = ((from_home r v.home x of told.0).0, (from_home r v.home x of told.0).1, told.1, (let count = home_callers r v.home of in let most = told.2 in omega (arith, count, most)))
 
 -- a pass holds no more callers than there are
-pub within : {O : Type 0} (r : Running O) (v : Hand) (items : List Seated) → IsHomeOf r v.home → TellsRoom v items → length v.held ≤ r.callers
+pub within : {O : Type 0} (r : Running O) (v : LenderPass) (items : List Seated) → IsHomeOf r v.home → TellsRoom v items → length v.held ≤ r.callers
 within r v items of tells = (let count = home_callers r v.home of in let room = tells.room in omega (arith, count, room))

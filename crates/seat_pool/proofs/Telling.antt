@@ -6,8 +6,8 @@ use Rattle.std.proofs.lemmas.List.Elements.{All-nil, All-push}
 use Rattle.cx_core.specs.declared.local.Answer.{Answer}
 use Rattle.cx_core.specs.declared.local.Linked.{Linked}
 use Rattle.cx_core.specs.declared.local.SeenRead.{SeenRead}
-use Rattle.cx_rule.specs.Running.{Running}
-use Rattle.cx_rule.specs.Seats.{Seated}
+use Rattle.table_invariant.specs.Running.{Running}
+use Rattle.table_invariant.specs.Seats.{Seated}
 use Rattle.cx_service.specs.Callers.{IsCallerOf, IsStoppedOf, StoppedSeat}
 use Rattle.cx_service.specs.Lookups.{ReadHalted}
 use Rattle.cx_service.specs.Submits.{next_entry}
@@ -15,22 +15,22 @@ use Rattle.cx_service.specs.Updates.{HaltsLinked, HaltsUnlinked, UpdateDone, Upd
 use Rattle.cx_service.specs.declared.close.Handed.TheVariants.{Idle, Stopped}
 use Rattle.seat_pool.specs.Gathering.{Gathers, IsHandedOf, StaysIdle}
 use Rattle.seat_pool.specs.Pooling.{IsFirstOf, calls_from, calls_of, given_from, hand_told, told_with, total_weight, with_given}
-use Rattle.seat_pool.specs.declared.hand.Hand.{Hand}
-use Rattle.seat_pool.specs.declared.hand.Told.{Told}
+use Rattle.seat_pool.specs.declared.hand.LenderPass.{LenderPass}
+use Rattle.seat_pool.specs.declared.hand.AnsweredCall.{AnsweredCall}
 use Rattle.seat_pool.proofs.Poolings.{total_both}
 
 one_more_call : (n : ℕ) (own : List Linked) (answers : List Answer) (x : Linked) (a : Answer) → length own ≡ length answers → calls_from n (own ++ x ∷ []) (answers ++ a ∷ []) ≡ calls_from n own answers ++ told_with n x a ∷ []
 one_more_call n [] [] x a same = refl
 one_more_call n [] (b ∷ answers) x a same = absurd (omega (arith, same))
 one_more_call n (y ∷ own) [] x a same = absurd (omega (arith, same))
-one_more_call n (y ∷ own) (b ∷ answers) x a same = ap (λ (l : List Told). told_with n y b ∷ l) (one_more_call n own answers x a (omega (arith, same)))
+one_more_call n (y ∷ own) (b ∷ answers) x a same = ap (λ (l : List AnsweredCall). told_with n y b ∷ l) (one_more_call n own answers x a (omega (arith, same)))
 
 -- an entry without an answer is no answered call
 no_more_calls : (n : ℕ) (own : List Linked) (answers : List Answer) (x : Linked) → length own ≡ length answers → calls_from n (own ++ x ∷ []) answers ≡ calls_from n own answers
 no_more_calls n [] [] x same = refl
 no_more_calls n [] (b ∷ answers) x same = absurd (omega (arith, same))
 no_more_calls n (y ∷ own) [] x same = absurd (omega (arith, same))
-no_more_calls n (y ∷ own) (b ∷ answers) x same = ap (λ (l : List Told). told_with n y b ∷ l) (no_more_calls n own answers x (omega (arith, same)))
+no_more_calls n (y ∷ own) (b ∷ answers) x same = ap (λ (l : List AnsweredCall). told_with n y b ∷ l) (no_more_calls n own answers x (omega (arith, same)))
 
 -- a list is the first ones and what is behind them
 behind : {A : Type 0} (xs ys more : List A) → ys ≡ xs ++ more → ys ≡ xs ++ drop (length xs) ys
@@ -51,11 +51,11 @@ module _ {O : Type 0} (r : Running O) where
       same_calls after n (before.known.local.own ++ e ∷ []) (before.known.local.answered ++ answer ∷ []) done.links.number done.links.own done.answered
       ∙ one_more_call n before.known.local.own before.known.local.answered e answer same
 
-  pub are_told : (op : List ℕ) (taken before after : Seated) (rest : List Seated) (answer : Answer) (v : Hand) → v.held ≡ taken ∷ rest → StaysIdle r taken before → UpdateDone r op before after answer
+  pub are_told : (op : List ℕ) (taken before after : Seated) (rest : List Seated) (answer : Answer) (v : LenderPass) → v.held ≡ taken ∷ rest → StaysIdle r taken before → UpdateDone r op before after answer
       → IsFirstOf v.held after × (hand_told v after ≡ v.told ++ told_with before.known.local.number (next_entry r before.known.local op answer.ticket) answer ∷ [])
   are_told op taken before after rest answer v holds idle done =
       let t = told_with before.known.local.number (next_entry r before.known.local op answer.ticket) answer in
-      let more : calls_of after ≡ calls_of taken ++ t ∷ [] = grown op before after answer idle.caller done ∙ ap (λ (l : List Told). l ++ t ∷ []) idle.calls in
+      let more : calls_of after ≡ calls_of taken ++ t ∷ [] = grown op before after answer idle.caller done ∙ ap (λ (l : List AnsweredCall). l ++ t ∷ []) idle.calls in
       let new : drop (length (calls_of taken)) (calls_of after) ≡ t ∷ [] = ap (drop (length (calls_of taken))) more ∙ drop-append_seam (calls_of taken) (t ∷ []) in (
         subst (λ l. IsFirstOf l after) (sym holds) (record {
           number = done.links.number ∙ idle.number;
@@ -67,7 +67,7 @@ module _ {O : Type 0} (r : Running O) where
       )
 
   -- a caller without answered calls since it was taken is given back
-  pub are_shown : (taken now : Seated) (rest : List Seated) (v : Hand) → v.held ≡ taken ∷ rest → (idle : StaysIdle r taken now) → IsFirstOf v.held now × (hand_told v now ≡ v.told) × ((with_given v now).shown ≡ v.shown ++ idle.more)
+  pub are_shown : (taken now : Seated) (rest : List Seated) (v : LenderPass) → v.held ≡ taken ∷ rest → (idle : StaysIdle r taken now) → IsFirstOf v.held now × (hand_told v now ≡ v.told) × ((with_given v now).shown ≡ v.shown ++ idle.more)
   are_shown taken now rest v holds idle =
       let none : drop (length (calls_of taken)) (calls_of now) ≡ [] = ap (drop (length (calls_of taken))) (idle.calls ∙ sym (append-nil (calls_of taken))) ∙ drop-append_seam (calls_of taken) [] in
       let new : drop (length taken.known.local.seen_reads) now.known.local.seen_reads ≡ idle.more = ap (drop (length taken.known.local.seen_reads)) idle.reads ∙ drop-append_seam taken.known.local.seen_reads idle.more in (
@@ -93,8 +93,8 @@ module _ {O : Type 0} (r : Running O) where
   }
 
   -- a stopped caller, with what no call told, and reads that nobody was shown
-  stopped : (taken : Seated) (s : StoppedSeat) (untold : List Told) (reads : List SeenRead) → IsStoppedOf r s.seat → s.seat.known.local.number ≡ taken.known.local.number → calls_of s.seat ≡ calls_of taken ++ untold
-      → s.seat.known.local.seen_reads ≡ taken.known.local.seen_reads ++ reads → ((h : ℕ → ℕ) → total_weight (λ (t : Told). h t.caller) untold ≤ h s.seat.known.local.number) → Gathers r (taken ∷ []) (Stopped s ∷ [])
+  stopped : (taken : Seated) (s : StoppedSeat) (untold : List AnsweredCall) (reads : List SeenRead) → IsStoppedOf r s.seat → s.seat.known.local.number ≡ taken.known.local.number → calls_of s.seat ≡ calls_of taken ++ untold
+      → s.seat.known.local.seen_reads ≡ taken.known.local.seen_reads ++ reads → ((h : ℕ → ℕ) → total_weight (λ (t : AnsweredCall). h t.caller) untold ≤ h s.seat.known.local.number) → Gathers r (taken ∷ []) (Stopped s ∷ [])
   stopped taken s untold reads is number calls seen few = record {
     of = All-push (IsHandedOf r) [] (Stopped s) (All-nil (IsHandedOf r)) is;
     numbers = λ h. (let same : h s.seat.known.local.number ≡ h taken.known.local.number = ap h number in omega (arith, same));
@@ -132,7 +132,7 @@ module _ {O : Type 0} (r : Running O) where
         let t = told_with n e answer in
         stopped taken s (t ∷ []) idle.more halted.caller (halted.number ∙ idle.number)
         (same_calls s.seat n (before.known.local.own ++ e ∷ []) (before.known.local.answered ++ answer ∷ []) halted.number l.links.own a.1 ∙ one_more_call n before.known.local.own before.known.local.answered e answer same
-        ∙ ap (λ (m : List Told). m ++ t ∷ []) idle.calls)
+        ∙ ap (λ (m : List AnsweredCall). m ++ t ∷ []) idle.calls)
         (l.links.reads ∙ idle.reads)
         (λ h. (let number_ : h s.seat.known.local.number ≡ h n = ap h halted.number in omega (arith, number_))))
         l.answered

@@ -5,15 +5,15 @@ use Rattle.std.specs.List.{range_with_len}
 use Rattle.atomic_table.specs.Seated.{TableId}
 use Rattle.crossbeam_queue.specs.Passes.{view}
 use Rattle.cx_core.specs.declared.local.SeenRead.{SeenRead}
-use Rattle.cx_rule.specs.Running.{Running}
-use Rattle.cx_rule.specs.Seats.{Seated}
+use Rattle.table_invariant.specs.Running.{Running}
+use Rattle.table_invariant.specs.Seats.{Seated}
 use Rattle.cx_service.specs.Callers.{IsCallerOf, IsLinkedOf, IsStoppedOf}
 use Rattle.cx_service.specs.Closes.{seat_of}
 use Rattle.cx_service.specs.declared.close.Handed.{Handed}
 use Rattle.cx_service.specs.declared.close.Handed.TheVariants.{Idle, Linked, Stopped}
 use Rattle.seat_pool.specs.Pooling.{IsHomeOf, all_parts, calls_of, calls_weigh, numbers_weigh, reads_weigh, total_weight}
-use Rattle.seat_pool.specs.declared.hand.Hand.{Hand}
-use Rattle.seat_pool.specs.declared.hand.Told.{Told}
+use Rattle.seat_pool.specs.declared.hand.LenderPass.{LenderPass}
+use Rattle.seat_pool.specs.declared.hand.AnsweredCall.{AnsweredCall}
 use Rattle.seat_pool.specs.declared.lent.Lent.{Lent}
 
 -- a caller of the service, in whatever state it is
@@ -26,7 +26,7 @@ abbrev pub handed_number : Handed → ℕ
 handed_number g = (seat_of g).known.local.number
 
 -- the weight of the answered calls of a caller
-abbrev pub handed_calls : (Told → ℕ) → Handed → ℕ
+abbrev pub handed_calls : (AnsweredCall → ℕ) → Handed → ℕ
 handed_calls h g = total_weight h (calls_of (seat_of g))
 
 -- the weight of its reads
@@ -44,9 +44,9 @@ if_stopped h (Stopped stopped) = h stopped.seat.known.local.number
 pub record Gathers {O : Type 0} (r : Running O) (held : List Seated) (gathered : List Handed) : Type 0 where
   pub of : All (IsHandedOf r) gathered
   pub numbers : (h : ℕ → ℕ) → total_weight (λ (g : Handed). h (handed_number g)) gathered ≡ numbers_weigh h held
-  pub untold : List Told
-  pub calls : (h : Told → ℕ) → total_weight (handed_calls h) gathered ≡ calls_weigh h held + total_weight h untold
-  pub few : (h : ℕ → ℕ) → total_weight (λ (t : Told). h t.caller) untold ≤ total_weight (if_stopped h) gathered
+  pub untold : List AnsweredCall
+  pub calls : (h : AnsweredCall → ℕ) → total_weight (handed_calls h) gathered ≡ calls_weigh h held + total_weight h untold
+  pub few : (h : ℕ → ℕ) → total_weight (λ (t : AnsweredCall). h t.caller) untold ≤ total_weight (if_stopped h) gathered
   pub reads : (h : SeenRead → ℕ) → reads_weigh h held ≤ total_weight (handed_reads h) gathered
 
 -- A caller that was taken out of the queue, now: one of the service in no call, of this number and limit, with no call answered since and the
@@ -72,7 +72,7 @@ pub record IsLentOf {O : Type 0} (r : Running O) (table : TableId) (lent : Lent)
   pub kept : Gathers r (view lent.pass).held (kept_list lent.kept)
 
 -- the weight of the calls that were told to a client, of the reads that it was shown, and of the caller that it keeps
-abbrev pub lent_told : (Told → ℕ) → Lent → ℕ
+abbrev pub lent_told : (AnsweredCall → ℕ) → Lent → ℕ
 lent_told h lent = total_weight h (view lent.pass).told
 
 abbrev pub lent_shown : (SeenRead → ℕ) → Lent → ℕ
@@ -86,7 +86,7 @@ abbrev pub AreSame : List Handed → List Handed → Type 0
 AreSame xs ys = (f : Handed → ℕ) → total_weight f xs ≡ total_weight f ys
 
 -- What a pass with every part knows while it takes callers out of the queue: beside those that it holds, nothing changes.
-pub record IsGathering {O : Type 0} (r : Running O) (before v : Hand) (gathered : List Handed) : Type 0 where
+pub record IsGathering {O : Type 0} (r : Running O) (before v : LenderPass) (gathered : List Handed) : Type 0 where
   pub home : IsHomeOf r v.home
   pub parts : v.parts ≡ all_parts
   pub placed : v.placed ≡ before.placed
@@ -118,7 +118,7 @@ abbrev pub IsRoomFor : {X : Type 0} → ℕ → Vec X → Type 0
 IsRoomFor count room = (room.items ≡ []) × (count ≤ vec_capacity room)
 
 -- the pool's own pass, beside this many that were lent of it: it placed all callers, and holds none
-pub record IsRestOf {O : Type 0} (r : Running O) (v : Hand) (lent : ℕ) : Type 0 where
+pub record IsRestOf {O : Type 0} (r : Running O) (v : LenderPass) (lent : ℕ) : Type 0 where
   pub home : IsHomeOf r v.home
   pub some : 0 < v.parts
   pub parts : v.parts + lent ≡ all_parts
@@ -131,20 +131,20 @@ pub record IsRestOf {O : Type 0} (r : Running O) (v : Hand) (lent : ℕ) : Type 
 -- clients were shown are among theirs. The callers that clients keep are among them, and the others are in no call.
 pub record AreCallsTold {O : Type 0} (r : Running O) (lents : List Lent) (handed : List Handed) : Type 0 where
   pub of : All (IsHandedOf r) handed
-  pub untold : List Told
-  pub calls : (h : Told → ℕ) → total_weight (handed_calls h) handed ≡ total_weight (lent_told h) lents + total_weight h untold
-  pub few : (h : ℕ → ℕ) → total_weight (λ (t : Told). h t.caller) untold ≤ total_weight (if_stopped h) handed
+  pub untold : List AnsweredCall
+  pub calls : (h : AnsweredCall → ℕ) → total_weight (handed_calls h) handed ≡ total_weight (lent_told h) lents + total_weight h untold
+  pub few : (h : ℕ → ℕ) → total_weight (λ (t : AnsweredCall). h t.caller) untold ≤ total_weight (if_stopped h) handed
   pub reads : (h : SeenRead → ℕ) → total_weight (lent_shown h) lents ≤ total_weight (handed_reads h) handed
   pub kept : (f : Handed → ℕ) → total_weight (lent_kept f) lents ≤ total_weight f handed
   pub others : (f : Handed → ℕ) → ((s : Seated) → f (Idle s) ≡ 0) → total_weight f handed ≡ total_weight (lent_kept f) lents
 
 -- the loop over what was lent, some of which was taken in
-pub record IsTakingIn {O : Type 0} (r : Running O) (table : TableId) (all : List Lent) (v : Hand) (rest : List Lent) (gathered : List Handed) : Type 0 where
+pub record IsTakingIn {O : Type 0} (r : Running O) (table : TableId) (all : List Lent) (v : LenderPass) (rest : List Lent) (gathered : List Handed) : Type 0 where
   pub home : IsHomeOf r v.home
   pub some : 0 < v.parts
   pub parts : v.parts + length rest ≡ all_parts
   pub placed : v.placed ≡ range_with_len 0 r.callers
-  pub told : (h : Told → ℕ) → total_weight h v.told + total_weight (lent_told h) rest ≡ total_weight (lent_told h) all
+  pub told : (h : AnsweredCall → ℕ) → total_weight h v.told + total_weight (lent_told h) rest ≡ total_weight (lent_told h) all
   pub shown : (h : SeenRead → ℕ) → total_weight h v.shown + total_weight (lent_shown h) rest ≡ total_weight (lent_shown h) all
   pub kept : (f : Handed → ℕ) → total_weight f gathered + total_weight (lent_kept f) rest ≡ total_weight (lent_kept f) all
   pub lents : All (IsLentOf r table) rest

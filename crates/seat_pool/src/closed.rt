@@ -2,16 +2,16 @@
 
 ghost use Rattle.std.specs.Prelude.{◌≡◌, All, IfErr, IfOk, List, length};
 ghost use Rattle.crossbeam_queue.specs.Passes.{view, IsPassOf};
-ghost use Rattle.cx_rule.specs.Running.{instance_at};
+ghost use Rattle.table_invariant.specs.Running.{instance_at};
 ghost use Rattle.cx_service.specs.Closes.{seats_of};
 ghost use Rattle.cx_service.specs.declared.close.Handed as close_handed;
-ghost use Rattle.cx_table.specs.Remains.{AreSeats, Leaves};
+ghost use Rattle.cx_table.specs.Remains.{AreSeats, ClosingWitness};
 ghost use Rattle.seat_pool.specs.Gathering.{AreCallsTold, IsLentOf, IsRestOf, IsRoomFor};
 
 use crate::gather::gather;
-use crate::hand::Hand;
+use crate::hand::LenderPass;
 use crate::lent::Lent;
-use crate::rule::Line;
+use crate::rule::LenderQueue;
 use crossbeam_queue::Pass;
 use cx_base::Object;
 use cx_service::{Caller, Handed, Kept, Service};
@@ -26,8 +26,8 @@ pub fn close<O: Object, R: Wait>(
     rt: &R,
     alloc: Global,
     service: Service<O>,
-    line: Line,
-    pass: Pass<Caller, Hand>,
+    line: LenderQueue,
+    pass: Pass<Caller, LenderPass>,
     lents: Vec<Lent>,
     gathered: Vec<Handed>,
     out: Vec<Handed>,
@@ -35,7 +35,7 @@ pub fn close<O: Object, R: Wait>(
     requires pass { IsPassOf line pass × IsRestOf service (view pass) (length lents.items) }
     requires lents { All (IsLentOf service line.table.shared.table_id) lents.items }
     requires rooms { IsRoomFor service.callers gathered × IsRoomFor service.callers out }
-    ensures remains { IfOk result (λ r. (handed : List close_handed.Handed) × Leaves service (instance_at service O.step O.only_reads) (seats_of handed) r × AreCallsTold service lents.items handed) }
+    ensures remains { IfOk result (λ r. (handed : List close_handed.Handed) × ClosingWitness service (instance_at service O.step O.only_reads) (seats_of handed) r × AreCallsTold service lents.items handed) }
     ensures kept { IfErr result (λ k. (k.service ≡ service) × AreSeats service (seats_of k.callers.items) × AreCallsTold service lents.items k.callers.items) }
 {
     let handed = gather(rt, &service, &line, pass, lents, gathered, out);

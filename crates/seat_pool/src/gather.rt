@@ -3,7 +3,7 @@
 ghost use Rattle.std.specs.Prelude.{◌≡◌, ◌+◌, ◌<◌, ◌≤◌, ◌++◌, ℕ, [], All, map, length, vec_capacity, vec_len};
 ghost use Rattle.std.specs.List.{range_with_len};
 ghost use Rattle.crossbeam_queue.specs.Passes.{view, IsPassOf};
-ghost use Rattle.cx_rule.specs.Seats.{Seated};
+ghost use Rattle.table_invariant.specs.Seats.{Seated};
 ghost use Rattle.cx_service.specs.Closes.{seats_of};
 ghost use Rattle.cx_service.specs.declared.close.Handed as handed_type;
 ghost use Rattle.cx_service.specs.declared.close.Handed.TheVariants as handed_cases;
@@ -11,10 +11,10 @@ ghost use Rattle.cx_table.specs.Remains.{AreSeats};
 ghost use Rattle.seat_pool.specs.Gathering.{AreSame, AreCallsTold, Gathers, IsNumberAt, IsHandedOf, IsLentOf, IsRestOf, IsRoomFor, kept_list, handed_number, one_at};
 ghost use Rattle.seat_pool.specs.Pooling.{IsHomeOf, IsPassWhole, all_parts, both, total_weight};
 
-use crate::hand::Hand;
+use crate::hand::LenderPass;
 use crate::lent::Lent;
 use crate::queue::{learn, merge, take};
-use crate::rule::Line;
+use crate::rule::LenderQueue;
 use crossbeam_queue::Pass;
 use cx_base::Object;
 use cx_service::{Caller, Handed, Service};
@@ -23,8 +23,8 @@ use std::sync::Wait;
 /// Takes in what was lent to a client.
 pub(crate) fn take_in<O: Object>(
     service: &Service<O>,
-    line: &Line,
-    pass: &mut Pass<Caller, Hand>,
+    line: &LenderQueue,
+    pass: &mut Pass<Caller, LenderPass>,
     mut gathered: Vec<Handed>,
     lent: Lent,
 ) -> Vec<Handed>
@@ -47,8 +47,8 @@ pub(crate) fn take_in<O: Object>(
 pub(crate) fn drain<O: Object, R: Wait>(
     rt: &R,
     service: &Service<O>,
-    line: &Line,
-    pass: &mut Pass<Caller, Hand>,
+    line: &LenderQueue,
+    pass: &mut Pass<Caller, LenderPass>,
     gathered: Vec<Handed>,
 ) -> Vec<Handed>
     requires { (IsPassOf line.now pass.old × IsHomeOf service.now (view pass.old).home × ((view pass.old).parts ≡ all_parts)) × (Gathers service.now (view pass.old).held gathered.items × (service.now.callers ≤ vec_capacity gathered)) }
@@ -121,8 +121,8 @@ pub fn in_order<O: Object>(
 pub(crate) fn gather<O: Object, R: Wait>(
     rt: &R,
     service: &Service<O>,
-    line: &Line,
-    pass: Pass<Caller, Hand>,
+    line: &LenderQueue,
+    pass: Pass<Caller, LenderPass>,
     lents: Vec<Lent>,
     gathered: Vec<Handed>,
     out: Vec<Handed>,

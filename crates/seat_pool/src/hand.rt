@@ -5,7 +5,7 @@ use cx_service::Caller;
 use std::collections::LinkedList;
 
 /// Of which service the callers are: its base, its number of callers, the limit of each, and a caller whose table is the service's.
-pub struct Home {
+pub struct ServiceView {
     pub base: Base,
     pub callers: u32,
     pub limits: LinkedList<u64>,
@@ -13,7 +13,7 @@ pub struct Home {
 }
 
 /// A call that is answered: of which caller it is, its entry, and its answer.
-pub struct Told {
+pub struct AnsweredCall {
     pub caller: u32,
     pub entry: Linked,
     pub answer: Answer,
@@ -27,12 +27,12 @@ pub struct Returned {
 
 /// The service, once it is known; the parts of the right to know the whole; the callers that were placed in the queue, by number; those that
 /// are held, as they were when they were taken out; the calls that were told; the reads that were shown; and the callers that were given back.
-pub struct Hand {
-    pub home: Option<Home>,
+pub struct LenderPass {
+    pub home: Option<ServiceView>,
     pub parts: u32,
     pub placed: LinkedList<u32>,
     pub held: LinkedList<Caller>,
-    pub told: LinkedList<Told>,
+    pub told: LinkedList<AnsweredCall>,
     pub shown: LinkedList<SeenRead>,
     pub returned: LinkedList<Returned>,
 }

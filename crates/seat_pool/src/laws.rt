@@ -2,7 +2,7 @@
 
 ghost use Rattle.std.specs.Prelude.{◌≡◌, ◌⊎◌, ℕ, List, [], ◌∷◌, ◌++◌};
 ghost use Rattle.cx_core.specs.declared.local.Answer as local_answer;
-ghost use Rattle.cx_rule.specs.Seats.{Seated};
+ghost use Rattle.table_invariant.specs.Seats.{Seated};
 ghost use Rattle.cx_service.specs.Callers.{StoppedSeat};
 ghost use Rattle.cx_service.specs.Lookups.{ReadHalted};
 ghost use Rattle.cx_service.specs.Submits.{next_entry};
@@ -10,7 +10,7 @@ ghost use Rattle.cx_service.specs.Updates.{UpdateDone, UpdateHalted};
 ghost use Rattle.cx_service.specs.declared.close.Handed.TheVariants as handed_cases;
 ghost use Rattle.seat_pool.specs.Gathering.{Gathers, StaysIdle};
 ghost use Rattle.seat_pool.specs.Pooling.{IsFirstOf, hand_told, told_with, with_given};
-ghost use Rattle.seat_pool.specs.declared.hand.Hand as hand_hand;
+ghost use Rattle.seat_pool.specs.declared.hand.LenderPass as hand_hand;
 
 use cx_base::Object;
 use cx_service::Service;
@@ -18,7 +18,7 @@ use cx_service::Service;
 /// A caller that an update answered may be given back by the pass that took it last, also where it made calls without an answer before: what the pass is told
 /// in that push is the update's entry with its answer, and nothing else.
 pub fn answers_are_told<O: Object>(service: &Service<O>)
-    ensures { (op : List ℕ) (taken before after : Seated) (rest : List Seated) (answer : local_answer.Answer) (v : hand_hand.Hand) → v.held ≡ taken ∷ rest → StaysIdle service.now taken before → UpdateDone service.now op before after answer →
+    ensures { (op : List ℕ) (taken before after : Seated) (rest : List Seated) (answer : local_answer.Answer) (v : hand_hand.LenderPass) → v.held ≡ taken ∷ rest → StaysIdle service.now taken before → UpdateDone service.now op before after answer →
         IsFirstOf v.held after × (hand_told v after ≡ v.told ++ told_with before.known.local.number (next_entry service.now before.known.local op answer.ticket) answer ∷ []) }
 {
     let _ = service;
@@ -27,7 +27,7 @@ pub fn answers_are_told<O: Object>(service: &Service<O>)
 /// A caller without an answered call since it was taken may be given back too: the pass is told nothing in that push, and shown the reads that the caller has
 /// more.
 pub fn reads_are_shown<O: Object>(service: &Service<O>)
-    ensures { (taken now : Seated) (rest : List Seated) (v : hand_hand.Hand) → v.held ≡ taken ∷ rest → (idle : StaysIdle service.now taken now) →
+    ensures { (taken now : Seated) (rest : List Seated) (v : hand_hand.LenderPass) → v.held ≡ taken ∷ rest → (idle : StaysIdle service.now taken now) →
         IsFirstOf v.held now × (hand_told v now ≡ v.told) × ((with_given v now).shown ≡ v.shown ++ idle.more) }
 {
     let _ = service;

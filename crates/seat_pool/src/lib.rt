@@ -8,10 +8,10 @@
 //! A queue that lends the callers of one service to up to 1,023 passes, and the account of their calls. Clients that take callers by it are no
 //! part of this crate.
 //!
-//! What holds at every moment is the rule `Lends` (`Pools` and `KeepsCallers` in `specs/Pooling.antt`): the queue holds callers of one service, in no call;
-//! each caller that was placed is in the queue or held by one pass; the calls that passes were told are the answered calls of the callers (an entry with its
-//! answer), each once, where a held caller counts with those that it had when it was taken out; and the reads that passes were shown are among the callers'.
-//! Its kinds of step are a push and a pop.
+//! What holds at every moment is the rule `LenderRule` (`Pools` and `KeepsCallers` in `specs/Pooling.antt`): the queue holds callers of one service, in no
+//! call; each caller that was placed is in the queue or held by one pass; the calls that passes were told are the answered calls of the callers (an entry
+//! with its answer), each once, where a held caller counts with those that it had when it was taken out; and the reads that passes were shown are among the
+//! callers'. Its kinds of step are a push and a pop.
 //!
 //! - `open`, `place`: a queue for a service, and its callers in it.
 //! - `take` gives a caller of the service, with the limit that it was placed with. `give` gives the pass's last caller back, and what it was answered since is
@@ -36,8 +36,8 @@ mod rule;
 
 pub use closed::close;
 pub use gather::in_order;
-pub use hand::{Hand, Home, Returned, Told};
+pub use hand::{AnsweredCall, LenderPass, Returned, ServiceView};
 pub use laws::{answers_are_told, idle_are_kept, reads_are_shown, stopped_are_kept};
 pub use lent::Lent;
 pub use queue::{give, learn, merge, open, place, share, take};
-pub use rule::{Lends, Line};
+pub use rule::{LenderQueue, LenderRule};

@@ -6,8 +6,8 @@ ghost use Rattle.crossbeam_queue.specs.Passes.{view, IsPassOf, ruled_capacity};
 ghost use Rattle.cx_service.specs.Callers.{IsCallerOf};
 ghost use Rattle.seat_pool.specs.Pooling.{HasLimit, IsFirstOf, IsHomeOf, IsPassOpened, IsSameTable, TellsRoom, all_parts, both, calls_of, cut_left, cut_right, limits_at, opened_pass, shown_by, with_given, with_placed, with_taken};
 
-use crate::hand::Hand;
-use crate::rule::{Gives, Known, Line, Opens, Parted, Places, Takes};
+use crate::hand::LenderPass;
+use crate::rule::{Gives, Known, LenderQueue, Opens, Parted, Places, Takes};
 use crossbeam_queue::Pass;
 use cx_base::Object;
 use cx_service::{Caller, Service};
@@ -21,7 +21,7 @@ pub fn open<O: Object>(
     alloc: Global,
     service: &Service<O>,
     callers: &[Caller],
-) -> Result<(Line, Pass<Caller, Hand>), AllocError>
+) -> Result<(LenderQueue, Pass<Caller, LenderPass>), AllocError>
     requires { 0 < length callers.now }
     ensures { IfOk result (λ q. IsPassOf q.0 q.1 × (ruled_capacity q.0 ≡ length callers.now) × IsPassOpened service.now (map (λ c. c.known.local.limit) callers.now) (view q.1)) }
 {
@@ -33,13 +33,13 @@ fn open_for<O: Object, K: Known>(
     alloc: Global,
     service: &Service<O>,
     callers: &[Caller],
-) -> Result<(Line, Pass<Caller, Hand>), AllocError>
+) -> Result<(LenderQueue, Pass<Caller, LenderPass>), AllocError>
     requires room { 0 < length callers.now }
     requires home { IsSameTable (shown_by K.home) service.now }
     ensures { IfOk result (λ q. IsPassOf q.0 q.1 × (ruled_capacity q.0 ≡ length callers.now) × (view q.1 ≡ opened_pass K.home)) }
 {
     let _ = service;
-    let (line, mut pass) = Line::ruled(alloc, callers.len())?;
+    let (line, mut pass) = LenderQueue::ruled(alloc, callers.len())?;
     let _spent = line.another::<Opens<K>>(&mut pass);
     Ok((line, pass))
 }
@@ -48,8 +48,8 @@ fn open_for<O: Object, K: Known>(
 pub fn place<O: Object, R: Wait>(
     rt: &R,
     service: &Service<O>,
-    line: &Line,
-    pass: &mut Pass<Caller, Hand>,
+    line: &LenderQueue,
+    pass: &mut Pass<Caller, LenderPass>,
     caller: Caller,
 )
     requires pass { IsPassOf line.now pass.old × IsHomeOf service.now (view pass.old).home × ((view pass.old).parts ≡ all_parts) }
@@ -68,8 +68,8 @@ pub fn place<O: Object, R: Wait>(
 pub fn take<O: Object, R: Wait>(
     rt: &R,
     service: &Service<O>,
-    line: &Line,
-    pass: &mut Pass<Caller, Hand>,
+    line: &LenderQueue,
+    pass: &mut Pass<Caller, LenderPass>,
 ) -> Option<Caller>
     requires { IsPassOf line.now pass.old × IsHomeOf service.now (view pass.old).home × (0 < (view pass.old).parts) }
     ensures pass { IsPassOf line.now pass.new }
@@ -84,8 +84,8 @@ pub fn take<O: Object, R: Wait>(
 pub fn give<O: Object, R: Wait>(
     rt: &R,
     service: &Service<O>,
-    line: &Line,
-    pass: &mut Pass<Caller, Hand>,
+    line: &LenderQueue,
+    pass: &mut Pass<Caller, LenderPass>,
     caller: Caller,
 )
     requires pass { IsPassOf line.now pass.old × IsHomeOf service.now (view pass.old).home × (0 < (view pass.old).parts) }
@@ -103,9 +103,9 @@ pub fn give<O: Object, R: Wait>(
 /// A further pass, with one part.
 pub fn share<O: Object>(
     service: &Service<O>,
-    line: &Line,
-    pass: &mut Pass<Caller, Hand>,
-) -> Pass<Caller, Hand>
+    line: &LenderQueue,
+    pass: &mut Pass<Caller, LenderPass>,
+) -> Pass<Caller, LenderPass>
     requires { IsPassOf line.now pass.old × IsHomeOf service.now (view pass.old).home × (1 < (view pass.old).parts) }
     ensures old { IsPassOf line.now pass.new × (view pass.new ≡ cut_left (view pass.old)) }
     ensures new { IsPassOf line.now result × (view result ≡ cut_right (view pass.old)) }
@@ -117,9 +117,9 @@ pub fn share<O: Object>(
 /// Puts what another pass knows and holds to this one.
 pub fn merge<O: Object>(
     service: &Service<O>,
-    line: &Line,
-    pass: &mut Pass<Caller, Hand>,
-    other: Pass<Caller, Hand>,
+    line: &LenderQueue,
+    pass: &mut Pass<Caller, LenderPass>,
+    other: Pass<Caller, LenderPass>,
 )
     requires pass { IsPassOf line.now pass.old × IsHomeOf service.now (view pass.old).home × (0 < (view pass.old).parts) }
     requires other { IsPassOf line.now other }
@@ -130,7 +130,11 @@ pub fn merge<O: Object>(
 }
 
 /// What the pass knows of the queue at one moment of the call.
-pub fn learn<O: Object>(service: &Service<O>, line: &Line, pass: &mut Pass<Caller, Hand>)
+pub fn learn<O: Object>(
+    service: &Service<O>,
+    line: &LenderQueue,
+    pass: &mut Pass<Caller, LenderPass>,
+)
     requires { IsPassOf line.now pass.old × IsHomeOf service.now (view pass.old).home }
     ensures same { IsPassOf line.now pass.new × (view pass.new ≡ view pass.old) }
     ensures room { length (view pass.old).held ≤ service.now.callers }

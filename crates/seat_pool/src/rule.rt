@@ -1,6 +1,6 @@
 //! The rule of the queue, and what its steps tell.
 
-use crate::hand::Hand;
+use crate::hand::LenderPass;
 use crossbeam_queue::RuledArrayQueue;
 use crossbeam_queue::protocol::{Join, Lesson, Outcome, Protocol, Split};
 use cx_service::Caller;
@@ -8,9 +8,9 @@ use std::marker::{Brand, PhantomData};
 
 /// The rule: the queue holds callers of one service, each caller that was placed is in the queue or held by one pass, the calls that passes
 /// were told are the answered calls of the callers, each once, and the reads that they were shown are reads of the callers.
-pub struct Lends;
+pub struct LenderRule;
 
-impl Protocol<Caller, Hand> for Lends {
+impl Protocol<Caller, LenderPass> for LenderRule {
     ghost use Rattle.seat_pool.specs.Pooling.{Pools, fresh};
 
     ghost holds = { Pools };
@@ -19,18 +19,18 @@ impl Protocol<Caller, Hand> for Lends {
 }
 
 /// A queue that lends callers.
-pub type Line = RuledArrayQueue<Caller, Hand, Lends>;
+pub type LenderQueue = RuledArrayQueue<Caller, LenderPass, LenderRule>;
 
 /// Which service the callers of a queue are of. A call picks it.
 pub trait Known {
-    ghost use Rattle.seat_pool.specs.declared.hand.Home as hand_home;
+    ghost use Rattle.seat_pool.specs.declared.hand.ServiceView as hand_home;
 
-    ghost home: { hand_home.Home };
+    ghost home: { hand_home.ServiceView };
 }
 
 impl Known for Brand {
     ghost use Rattle.std.specs.Prelude.{[]};
-    ghost use Rattle.cx_rule.specs.Seats.{nobody};
+    ghost use Rattle.table_invariant.specs.Seats.{nobody};
 
     ghost home = { record {
       base = record { place = 0; words = [] };
@@ -50,7 +50,7 @@ pub(crate) struct Opens<K> {
     by: PhantomData<K>,
 }
 
-impl<K: Known> Split<Hand> for Opens<K> {
+impl<K: Known> Split<LenderPass> for Opens<K> {
     ghost use Rattle.seat_pool.specs.Pooling.{nothing, opened_pass};
 
     ghost left = { λ v. opened_pass K.home };
@@ -61,7 +61,7 @@ impl<K: Known> Split<Hand> for Opens<K> {
 /// A pass with one part is made of another, and what two passes know and hold is put together.
 pub(crate) struct Parted;
 
-impl Split<Hand> for Parted {
+impl Split<LenderPass> for Parted {
     ghost use Rattle.seat_pool.specs.Pooling.{cut_left, cut_right};
 
     ghost left = { λ v. cut_left v };
@@ -69,7 +69,7 @@ impl Split<Hand> for Parted {
     ghost right = { λ v. cut_right v };
 }
 
-impl Join<Hand> for Parted {
+impl Join<LenderPass> for Parted {
     ghost use Rattle.seat_pool.specs.Pooling.{both, nothing};
 
     ghost both = { λ v w. both v w };
@@ -80,14 +80,14 @@ impl Join<Hand> for Parted {
 /// A caller is placed in the queue.
 pub(crate) struct Places;
 
-impl Outcome<Caller, Hand> for Places {
+impl Outcome<Caller, LenderPass> for Places {
     ghost use Rattle.std.specs.Prelude.{◌≡◌};
     ghost use Rattle.seat_pool.specs.Pooling.{with_placed};
 
     ghost then = { λ v x w. w ≡ with_placed v x };
 }
 
-impl Lesson<Caller, Hand> for Places {
+impl Lesson<Caller, LenderPass> for Places {
     ghost use Rattle.seat_pool.specs.Pooling.{TellsRoom};
 
     ghost fact = { λ v items. TellsRoom v items };
@@ -96,13 +96,13 @@ impl Lesson<Caller, Hand> for Places {
 /// A caller is taken out.
 pub(crate) struct Takes;
 
-impl Outcome<Caller, Hand> for Takes {
+impl Outcome<Caller, LenderPass> for Takes {
     ghost use Rattle.seat_pool.specs.Pooling.{IsCallerTaken};
 
     ghost then = { λ v x w. IsCallerTaken v x w };
 }
 
-impl Lesson<Caller, Hand> for Takes {
+impl Lesson<Caller, LenderPass> for Takes {
     ghost use Rattle.seat_pool.specs.Pooling.{TellsRoom};
 
     ghost fact = { λ v items. TellsRoom v items };
@@ -111,14 +111,14 @@ impl Lesson<Caller, Hand> for Takes {
 /// A caller is given back, and its new calls are told in the same step.
 pub(crate) struct Gives;
 
-impl Outcome<Caller, Hand> for Gives {
+impl Outcome<Caller, LenderPass> for Gives {
     ghost use Rattle.std.specs.Prelude.{◌≡◌};
     ghost use Rattle.seat_pool.specs.Pooling.{with_given};
 
     ghost then = { λ v x w. w ≡ with_given v x };
 }
 
-impl Lesson<Caller, Hand> for Gives {
+impl Lesson<Caller, LenderPass> for Gives {
     ghost use Rattle.seat_pool.specs.Pooling.{TellsRoom};
 
     ghost fact = { λ v items. TellsRoom v items };

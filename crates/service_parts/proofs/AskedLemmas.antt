@@ -3,8 +3,8 @@ use Rattle.std.proofs.Common.{◌≡◌, ◌∙◌, ◌+◌, ◌≤◌, inr, ℕ
 use Rattle.cx_core.specs.declared.local.Answer.{Answer}
 use Rattle.cx_core.specs.declared.local.Linked.{Linked as OwnEntry}
 use Rattle.cx_core.specs.Region.{slot_number}
-use Rattle.cx_rule.specs.Running.{Running}
-use Rattle.cx_rule.specs.Seats.{Seated}
+use Rattle.table_invariant.specs.Running.{Running}
+use Rattle.table_invariant.specs.Seats.{Seated}
 use Rattle.cx_service.specs.Callers.{IsCallerOf}
 use Rattle.cx_service.specs.CatchUps.{HasSeen}
 use Rattle.cx_service.specs.Drives.{answer_with}
@@ -14,10 +14,10 @@ use Rattle.cx_core.specs.declared.local.FullNote.{FullNote}
 use Rattle.cx_service.specs.Updates.{KeepsLists, ReadQueues, UpdateDone, UpdateFull, UpdateWorn}
 use Rattle.cx_service.specs.declared.update.Updated.TheVariants.{Done, Full, Worn}
 use Rattle.cx_service.proofs.Seeing.{lists_seen, queued_sees, read_behind, update_behind}
-use Rattle.cx_turns.specs.declared.lookup.Seen.{Seen}
-use Rattle.cx_turns.specs.Answering.{reads_with, with_answer}
+use Rattle.cx_attempts.specs.declared.lookup.Seen.{Seen}
+use Rattle.cx_attempts.specs.Answering.{reads_with, with_answer}
 use Rattle.service_parts.specs.Asking.{IsAsked, IsIdleSince, IsOperationAnswered, IsReadBeside}
-use Rattle.service_parts.specs.declared.call.Asked.TheVariants.{Told}
+use Rattle.service_parts.specs.declared.call.AskOutcome.TheVariants.{Told}
 
 -- an update behind tries that changed nothing of the caller's lists
 module _ {O : Type 0} (r : Running O) (op : List ℕ) (before u : Seated) (keeps : KeepsLists before u) (idle : IsIdleSince before u) where

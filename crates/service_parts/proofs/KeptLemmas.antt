@@ -4,10 +4,10 @@ use Rattle.cx_base.specs.declared.object.Object.{Ghosts}
 use Rattle.cx_core.specs.declared.entry.Base.{Base}
 use Rattle.cx_core.specs.declared.entry.Image.{Image}
 use Rattle.cx_core.specs.Base.{LawfulBase}
-use Rattle.cx_rule.specs.Running.{Running, instance_at}
-use Rattle.cx_rule.specs.Seats.{Seated}
+use Rattle.table_invariant.specs.Running.{Running, instance_at}
+use Rattle.table_invariant.specs.Seats.{Seated}
 use Rattle.cx_table.specs.declared.remains.Remains.{Remains}
-use Rattle.cx_table.specs.Remains.{Leaves}
+use Rattle.cx_table.specs.Remains.{ClosingWitness}
 use Rattle.recovery.specs.declared.recovered_base.ImageFault.{ImageFault}
 use Rattle.recovery.specs.declared.recovered_base.ImageFault.TheVariants.{Memory}
 use Rattle.recovery.specs.Crashes.{IsLeftOf}
@@ -26,7 +26,7 @@ module _ {O : Type 0} (o : Ghosts O) where
   abbrev pub Recovers : Type 0
   Recovers =
       (table : Running O) (seats : List Seated) (r : Remains) (choice : ℕ) (image : Image) (answer : Result Base ImageFault) → IsOpened o.line_count o.lawful table →
-      Leaves table (instance_at table o.step o.only_reads) seats r → IsLeftOf r choice image → Answers table.object image answer →
+      ClosingWitness table (instance_at table o.step o.only_reads) seats r → IsLeftOf r choice image → Answers table.object image answer →
       MatchResult answer (IsKeptBy o.line_count o.lawful o.step table seats r choice) (λ fault. fault ≡ Memory)
 
   module _ (object : O) (r : Remains) (choice : ℕ) (left : IsLeftBy o object r) where

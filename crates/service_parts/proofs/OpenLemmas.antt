@@ -4,8 +4,8 @@ use Rattle.std.proofs.lemmas.List.FromFn.{length-map-range_with_len}
 use Rattle.cx_base.specs.declared.object.Object.{Ghosts}
 use Rattle.cx_core.specs.declared.entry.Base.{Base}
 use Rattle.cx_core.specs.Base.{LawfulBase}
-use Rattle.cx_rule.specs.Running.{Running, instance_at}
-use Rattle.cx_rule.specs.Seats.{Seated}
+use Rattle.table_invariant.specs.Running.{Running, instance_at}
+use Rattle.table_invariant.specs.Seats.{Seated}
 use Rattle.cx_service.specs.Starts.{Starts}
 use Rattle.cx_table.specs.declared.remains.Remains.{Remains}
 use Rattle.cx_service.specs.ClosedOrder.{IsClosedLinearizable}

@@ -1,16 +1,16 @@
 -- The result of an operation that is asked for until it is answered.
 use Rattle.std.specs.Prelude.{◌≡◌, ◌+◌, ◌≤◌, ◌⊎◌, ℕ, List, [], ◌∷◌, ◌++◌, Result, MatchResult, length}
-use Rattle.cx_rule.specs.Running.{Running}
-use Rattle.cx_rule.specs.Seats.{Seated, StepsOn}
-use Rattle.cx_rule.specs.Timing.{BeginsIn, EndsIn, KeepsTimes, ReadsIn}
+use Rattle.table_invariant.specs.Running.{Running}
+use Rattle.table_invariant.specs.Seats.{Seated, StepsOn}
+use Rattle.table_invariant.specs.Timing.{BeginsIn, EndsIn, KeepsTimes, ReadsIn}
 use Rattle.cx_service.specs.Callers.{FindsCurrent, IsCallerOf, IsStoppedOf, StoppedSeat}
 use Rattle.cx_service.specs.CatchUps.{HasSeen}
 use Rattle.cx_service.specs.Submits.{next_entry}
 use Rattle.cx_service.specs.Updates.{KeepsLists}
-use Rattle.cx_turns.specs.Answering.{with_answer, reads_with}
+use Rattle.cx_attempts.specs.Answering.{with_answer, reads_with}
 use Rattle.service_parts.specs.Callers.{IsBack}
-use Rattle.service_parts.specs.declared.call.Asked.{Asked}
-use Rattle.service_parts.specs.declared.call.Asked.TheVariants.{Told, Worn, Stopped}
+use Rattle.service_parts.specs.declared.call.AskOutcome.{AskOutcome}
+use Rattle.service_parts.specs.declared.call.AskOutcome.TheVariants.{Told, Worn, Stopped}
 
 -- none of the caller's operations began or was answered since, and no step was taken back
 pub record IsIdleSince (before after : Seated) : Type 0 where
@@ -55,13 +55,13 @@ pub record IsReadBeside (op : List ℕ) (place : ℕ) (reply : List ℕ) (before
 
 -- The result of an operation, which left these words in the caller's buffer. One that is told is answered beside the queue at the place that is told,
 -- or as an entry of it, whose ticket is the one below that place; the words are its reply.
-abbrev pub IsAsked : {O : Type 0} → Running O → List ℕ → List ℕ → Seated → Asked → Type 0
+abbrev pub IsAsked : {O : Type 0} → Running O → List ℕ → List ℕ → Seated → AskOutcome → Type 0
 IsAsked r op reply before (Told after place) = IsBack r before after × (IsReadBeside op place reply before after ⊎ ((ticket : ℕ) × (place ≡ ticket + 1) × IsOperationAnswered r op ticket reply before after))
 IsAsked r op reply before (Worn after) = IsLeftAlone r before after
 IsAsked r op reply before (Stopped after) = IsStoppedIn r before after
 
 -- What its caller has seen before, it has seen then: an answer stands at or above each place that the caller had seen.
-abbrev pub KeepsPlaces : ℕ → Seated → Asked → Type 0
+abbrev pub KeepsPlaces : ℕ → Seated → AskOutcome → Type 0
 KeepsPlaces callers before (Told after place) = (seen : ℕ) → HasSeen callers seen before.known.local → (seen ≤ place) × HasSeen callers seen after.known.local
 KeepsPlaces callers before (Worn after) = (seen : ℕ) → HasSeen callers seen before.known.local → HasSeen callers seen after.known.local
 KeepsPlaces callers before (Stopped after) = Unit {0}

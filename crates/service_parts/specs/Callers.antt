@@ -1,8 +1,8 @@
 -- Callers that are lent to workers and handed back.
 use Rattle.std.specs.Prelude.{◌≡◌, ℕ, List, [], ◌∷◌, All, length, map}
 use Rattle.std.specs.List.{range_with_len}
-use Rattle.cx_rule.specs.Running.{IsSeatOf, Running}
-use Rattle.cx_rule.specs.Seats.{Seated}
+use Rattle.table_invariant.specs.Running.{IsSeatOf, Running}
+use Rattle.table_invariant.specs.Seats.{Seated}
 use Rattle.cx_service.specs.Callers.{IsCallerOf}
 use Rattle.cx_service.specs.Closes.{seat_of}
 use Rattle.cx_service.specs.declared.close.Handed.{Handed}

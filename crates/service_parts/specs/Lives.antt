@@ -2,10 +2,10 @@
 use Rattle.std.specs.Prelude.{◌≡◌, ◌≤◌, ℕ, List, length}
 use Rattle.cx_core.specs.declared.entry.Base.{Base}
 use Rattle.cx_core.specs.Base.{LawfulBase}
-use Rattle.cx_rule.specs.Running.{Running, instance_at}
-use Rattle.cx_rule.specs.Seats.{Seated}
+use Rattle.table_invariant.specs.Running.{Running, instance_at}
+use Rattle.table_invariant.specs.Seats.{Seated}
 use Rattle.cx_table.specs.declared.remains.Remains.{Remains}
-use Rattle.cx_table.specs.Remains.{Leaves}
+use Rattle.cx_table.specs.Remains.{ClosingWitness}
 use Rattle.cx_service.specs.ClosedOrder.{IsLinearizedBy}
 use Rattle.recovery.specs.Kept.{IsKeptBy, IsOpened}
 use Rattle.service_parts.specs.Callers.{AreAllCallers, AreNew, TellsEach}
@@ -38,7 +38,7 @@ pub record IsLeftBy {O : Type 0} (o : Ghosts O) (object : O) (r : Remains) : Typ
   pub seats : List Seated
   pub object_is : table.object ≡ object
   pub opened : IsOpened o.line_count o.lawful table
-  pub leaves : Leaves table (instance_at table o.step o.only_reads) seats r
+  pub leaves : ClosingWitness table (instance_at table o.step o.only_reads) seats r
   pub order : IsLinearizedBy leaves
 
 -- it was of this many callers, and opened from this base

@@ -11,7 +11,7 @@ use std::thread;
 
 /// The result of an operation that is asked for until it is answered.
 #[derive(Drop)]
-pub enum Asked {
+pub enum AskOutcome {
     /// It is done and durable, or read of what is durable, and the reply is written: the place by which another caller catches up with it, after
     /// an entry its ticket plus 1, and of a read the read's.
     Told(Caller, u64),
@@ -32,15 +32,15 @@ pub fn ask<O: Object, R: Wait>(
     caller: Caller,
     op: &OpWords,
     reply: &mut OpWords,
-) -> Asked
+) -> AskOutcome
     requires { IsCallerOf service.now caller }
     ensures asked { IsAsked service.now op.now reply.new caller result }
     ensures sees { KeepsPlaces service.now.callers caller result }
 {
     if service.object().reads(op) {
-        look(rt, service, caller, op, reply)
+        read_beside(rt, service, caller, op, reply)
     } else {
-        enter(rt, service, caller, op, reply)
+        update_once(rt, service, caller, op, reply)
     }
 }
 
@@ -71,13 +71,13 @@ pub fn follow<O: Object, R: Wait>(
 }
 
 /// Asks for any operation, as an entry of the queue.
-fn enter<O: Object, R: Wait>(
+fn update_once<O: Object, R: Wait>(
     rt: &R,
     service: &Service<O>,
     caller: Caller,
     op: &OpWords,
     reply: &mut OpWords,
-) -> Asked
+) -> AskOutcome
     requires { IsCallerOf service.now caller }
     ensures asked { IsAsked service.now op.now reply.new caller result }
     ensures sees { KeepsPlaces service.now.callers caller result }
@@ -87,27 +87,27 @@ fn enter<O: Object, R: Wait>(
         match service.update(rt, caller, op, reply) {
             Updated::Done(back, ticket) => {
                 let place = back.place_behind(ticket);
-                return Asked::Told(back, place);
+                return AskOutcome::Told(back, place);
             }
             Updated::Full(back, _) => {
                 thread::yield_now();
                 caller = back;
             }
-            Updated::Worn(back) => return Asked::Worn(back),
-            Updated::Halted(stopped) => return Asked::Stopped(stopped),
+            Updated::Worn(back) => return AskOutcome::Worn(back),
+            Updated::Halted(stopped) => return AskOutcome::Stopped(stopped),
         }
     }
     unreachable!()
 }
 
 /// Asks for one that only reads, beside the queue or in it.
-fn look<O: Object, R: Wait>(
+fn read_beside<O: Object, R: Wait>(
     rt: &R,
     service: &Service<O>,
     caller: Caller,
     op: &OpWords,
     reply: &mut OpWords,
-) -> Asked
+) -> AskOutcome
     requires caller { IsCallerOf service.now caller }
     requires reads { IsTrue (O.only_reads service.now.object op.now) }
     ensures asked { IsAsked service.now op.now reply.new caller result }
@@ -116,17 +116,17 @@ fn look<O: Object, R: Wait>(
     let mut caller = caller;
     for _ in rt.forever() {
         match service.read(rt, caller, op, reply) {
-            ReadDone::Read(back, place) => return Asked::Told(back, place),
+            ReadDone::Read(back, place) => return AskOutcome::Told(back, place),
             ReadDone::Queued(back, ticket) => {
                 let place = back.place_behind(ticket);
-                return Asked::Told(back, place);
+                return AskOutcome::Told(back, place);
             }
             ReadDone::Full(back, _) => {
                 thread::yield_now();
                 caller = back;
             }
-            ReadDone::Worn(back) => return Asked::Worn(back),
-            ReadDone::Halted(stopped) => return Asked::Stopped(stopped),
+            ReadDone::Worn(back) => return AskOutcome::Worn(back),
+            ReadDone::Halted(stopped) => return AskOutcome::Stopped(stopped),
         }
     }
     unreachable!()

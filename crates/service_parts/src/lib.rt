@@ -16,7 +16,7 @@ mod kept_base;
 mod life;
 mod workers;
 
-pub use call::{Asked, ask, follow};
+pub use call::{AskOutcome, ask, follow};
 pub use kept_base::recovered;
 pub use life::{closed, serve, started};
 pub use workers::{Worked, Worker, work_together};

@@ -7,7 +7,7 @@ ghost use Rattle.cx_service.specs.Closes.{seats_of};
 ghost use Rattle.cx_service.specs.Starts.{AreFewCallers};
 ghost use Rattle.cx_table.specs.Remains.{AreSeats, locals_of};
 ghost use Rattle.recovery.specs.Kept.{IsOpened};
-ghost use Rattle.cx_rule.specs.Running.{instance_at};
+ghost use Rattle.table_invariant.specs.Running.{instance_at};
 ghost use Rattle.service_parts.specs.Lives.{IsOpenWith, IsServiceFrom, IsServedBy, MayServe};
 
 use crate::workers::{Worker, work_together};

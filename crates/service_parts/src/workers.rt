@@ -1,8 +1,8 @@
 //! A worker for each caller, each on a thread of its own.
 
 ghost use Rattle.std.specs.Prelude.{◌≡◌, ◌<◌, ℕ, IfOk, length, map, slice_index_or, vec_len};
-ghost use Rattle.cx_rule.specs.Running.{Running};
-ghost use Rattle.cx_rule.specs.Seats.{Seated};
+ghost use Rattle.table_invariant.specs.Running.{Running};
+ghost use Rattle.table_invariant.specs.Seats.{Seated};
 ghost use Rattle.cx_service.specs.Callers.{IsCallerOf};
 ghost use Rattle.cx_service.specs.Closes.{seats_of};
 ghost use Rattle.service_parts.specs.Callers.{AreAllCallers, HaveWorked, IsWorked};

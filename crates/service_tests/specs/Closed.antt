@@ -3,10 +3,10 @@ use Rattle.std.specs.Prelude.{◌≡◌, ℕ, List}
 use Rattle.cx_base.specs.declared.object.Object.{Ghosts}
 use Rattle.cx_base.specs.declared.tally.Tally.{Tally}
 use Rattle.cx_base.specs.Tally.{IsTally, tally_reads, tally_step}
-use Rattle.cx_rule.specs.Running.{Running, instance_at}
-use Rattle.cx_rule.specs.Seats.{Seated}
+use Rattle.table_invariant.specs.Running.{Running, instance_at}
+use Rattle.table_invariant.specs.Seats.{Seated}
 use Rattle.cx_table.specs.declared.remains.Remains.{Remains}
-use Rattle.cx_table.specs.Remains.{Leaves}
+use Rattle.cx_table.specs.Remains.{ClosingWitness}
 use Rattle.recovery.specs.Kept.{IsOpened}
 
 -- a service of the running sum was opened from a lawful base
@@ -18,7 +18,7 @@ pub record IsClosedTally (r : Remains) : Type 0 where
   pub table : Running Tally
   pub seats : List Seated
   pub opened : IsOpenedTally table
-  pub leaves : Leaves table (instance_at table (λ _. tally_step) (λ _. tally_reads)) seats r
+  pub leaves : ClosingWitness table (instance_at table (λ _. tally_step) (λ _. tally_reads)) seats r
 
 -- a service of any object of the given number of lines was opened from a lawful base, and that is what it left when it was closed
 pub record IsClosed {O : Type 0} (o : Ghosts O) (lines : ℕ) (r : Remains) : Type 0 where
@@ -26,4 +26,4 @@ pub record IsClosed {O : Type 0} (o : Ghosts O) (lines : ℕ) (r : Remains) : Ty
   pub seats : List Seated
   pub of : o.line_count table.object ≡ lines
   pub opened : IsOpened o.line_count o.lawful table
-  pub leaves : Leaves table (instance_at table o.step o.only_reads) seats r
+  pub leaves : ClosingWitness table (instance_at table o.step o.only_reads) seats r

@@ -2,8 +2,8 @@
 
 use crate::calls::{Came, SUBMIT_TWICE, Told, UPDATE, UPDATE_TWICE};
 use crate::holds::holds;
-use crate::parts_of_sums::{Part, played};
 use crate::starts::NO_LIMIT;
+use crate::sum_calls::{Part, played};
 use crate::tasks::Work;
 use cx_core::FullNote;
 use std::alloc::{AllocError, Global};

@@ -9,7 +9,7 @@
 #[cfg(test)]
 mod alone;
 #[cfg(test)]
-mod behind;
+mod applied_sets;
 #[cfg(test)]
 mod calls;
 #[cfg(test)]
@@ -27,13 +27,9 @@ mod closed;
 #[cfg(test)]
 mod holds;
 #[cfg(test)]
-mod kept;
-#[cfg(test)]
-mod later;
-#[cfg(test)]
 mod laws;
 #[cfg(test)]
-mod listed;
+mod listed_lines;
 #[cfg(test)]
 mod losses;
 #[cfg(test)]
@@ -43,13 +39,15 @@ mod no_memory;
 #[cfg(test)]
 mod pairs;
 #[cfg(test)]
-mod parts_of_sums;
-#[cfg(test)]
 mod places;
 #[cfg(test)]
 mod renewals;
 #[cfg(test)]
+mod renewed_callers;
+#[cfg(test)]
 mod reopened;
+#[cfg(test)]
+mod row_tables;
 #[cfg(test)]
 mod rows;
 #[cfg(test)]
@@ -59,7 +57,9 @@ mod stops;
 #[cfg(test)]
 mod submits;
 #[cfg(test)]
-mod taken;
+mod sum_calls;
+#[cfg(test)]
+mod sum_formats;
 #[cfg(test)]
 mod tasks;
 #[cfg(test)]

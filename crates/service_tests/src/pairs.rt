@@ -9,8 +9,8 @@ ghost use Rattle.service_tests.specs.Closed.{IsClosed};
 ghost use Rattle.service_tests.specs.Tests.{IsBack, IsOf};
 
 use crate::calls::{Told, UPDATE_TWICE, asked_between};
-use crate::parts_of_sums::Pair;
 use crate::starts::{NO_LIMIT, two};
+use crate::sum_calls::Pair;
 use crate::tasks::Work;
 use cx_base::Object;
 use cx_core::Base;
@@ -69,7 +69,7 @@ fn pair_closed<O: Object>(
 }
 
 // A turn of one of two callers, whose list has what it was told.
-fn turn_made<O: Object>(
+fn attempt_made<O: Object>(
     service: &Service<O>,
     pair: Pair,
     work: Work,
@@ -111,7 +111,7 @@ fn turns_made<O: Object>(
 {
     let mut pair = pair;
     for turn in turns {
-        pair = turn_made(service, pair, work, turn, one, other);
+        pair = attempt_made(service, pair, work, turn, one, other);
     }
     pair
 }

@@ -8,7 +8,7 @@ use crate::alone::{Alone, made_alone};
 use crate::calls::{Came, Told};
 use crate::closed::recovered_of;
 use crate::holds::holds;
-use crate::listed::LINES;
+use crate::listed_lines::LINES;
 use crate::pairs::{Ended, Turn, run_pair};
 use crate::starts::NO_LIMIT;
 use crate::tasks::Work;

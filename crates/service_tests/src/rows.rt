@@ -2,8 +2,8 @@
 
 use crate::calls::{Came, READ, SUBMIT, Told, UPDATE, Way};
 use crate::holds::holds;
-use crate::parts_of_sums::{Part, adds_up, played, played_alone};
 use crate::starts::{NO_LIMIT, all_started};
+use crate::sum_calls::{Part, adds_up, played, played_alone};
 use crate::tasks::{Work, adds};
 use cx_base::tally::Tally;
 use cx_service::StartFault;

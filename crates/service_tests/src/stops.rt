@@ -2,8 +2,8 @@
 
 use crate::calls::{Came, READ, Told, UPDATE, Way};
 use crate::holds::holds;
-use crate::parts_of_sums::{Part, adds_up, played};
 use crate::starts::{NO_LIMIT, has_rising_codes};
+use crate::sum_calls::{Part, adds_up, played};
 use crate::tasks::Work;
 use cx_base::root_place;
 use cx_table::Remains;

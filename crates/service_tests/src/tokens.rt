@@ -11,7 +11,7 @@ use crate::tasks::{adds, sum};
 use crossbeam_channel::{Receiver, Sender, bounded};
 use cx_base::tally::Tally;
 use cx_service::{Caller, Handed, Service, Stopped};
-use service_parts::{Asked, Worked, Worker, ask, follow, serve};
+use service_parts::{AskOutcome, Worked, Worker, ask, follow, serve};
 use std::alloc::{AllocError, Global};
 use std::sync::Wait;
 use std::test::Fail;
@@ -86,12 +86,12 @@ fn write_once<R: Wait>(
 {
     let mut reply = [0; 144];
     match ask(rt, service, caller, &adds(1), &mut reply) {
-        Asked::Told(back, place) => {
+        AskOutcome::Told(back, place) => {
             let is_handed = sender.send(rt, place).is_ok();
             Ok((back, is_handed && reply[0] == place))
         }
-        Asked::Worn(back) => Ok((back, false)),
-        Asked::Stopped(stopped) => Err(stopped),
+        AskOutcome::Worn(back) => Ok((back, false)),
+        AskOutcome::Stopped(stopped) => Err(stopped),
     }
 }
 
@@ -142,9 +142,9 @@ fn read_once<R: Wait>(
     let back = follow(rt, service, caller, place)?;
     let mut reply = [0; 144];
     match ask(rt, service, back, &sum(), &mut reply) {
-        Asked::Told(back, at) => Ok((back, at >= place && reply[0] == at)),
-        Asked::Worn(back) => Ok((back, false)),
-        Asked::Stopped(stopped) => Err(stopped),
+        AskOutcome::Told(back, at) => Ok((back, at >= place && reply[0] == at)),
+        AskOutcome::Worn(back) => Ok((back, false)),
+        AskOutcome::Stopped(stopped) => Err(stopped),
     }
 }
 

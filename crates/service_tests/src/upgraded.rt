@@ -6,8 +6,8 @@ ghost use Rattle.recovery.specs.Recovery.{NumbersWithin};
 
 use crate::calls::{UPDATE, asked};
 use crate::holds::holds;
-use crate::later::LaterTally;
 use crate::starts::one_started;
+use crate::sum_formats::LaterTally;
 use crate::tasks::{adds, words_of};
 use crate::written::{DOCUMENT, Written, image_of};
 use cx_core::{Base, slot_start};

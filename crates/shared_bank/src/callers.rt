@@ -7,7 +7,7 @@ use bank::{Bank, Op, Reply};
 use cx_base::OP_WORDS;
 use cx_core::Base;
 use cx_service::{Caller, Handed, Service};
-use service_parts::{Asked, Worked, Worker, ask, recovered, serve};
+use service_parts::{AskOutcome, Worked, Worker, ask, recovered, serve};
 use std::alloc::{AllocError, Global};
 use std::sync::Wait;
 use std::thread::Threads;
@@ -21,7 +21,7 @@ const ALL: u64 = 64_000;
 
 /// How many answers of each kind there were: transfers, refused overdrafts, and audits that found what all have together.
 #[derive(Clone, Copy, Debug)]
-pub struct Counts {
+pub struct CallCounts {
     pub moved: u64,
     pub refused: u64,
     pub right: u64,
@@ -37,31 +37,31 @@ pub struct Found {
 /// What the callers of a life were answered, and what was found after the loss of power that followed.
 #[derive(Clone, Copy, Debug)]
 pub struct BankLife {
-    pub told: Counts,
+    pub told: CallCounts,
     pub found: Found,
 }
 
 const NOT_FOUND: Found = Found { first: 0, all: 0 };
 
-const NOTHING: Counts = Counts {
+const NOTHING: CallCounts = CallCounts {
     moved: 0,
     refused: 0,
     right: 0,
 };
 
-impl Counts {
+impl CallCounts {
     /// With one answer more.
-    fn with(self, reply: Reply) -> Counts {
+    fn with(self, reply: Reply) -> CallCounts {
         match reply {
-            Reply::Moved => Counts {
+            Reply::Moved => CallCounts {
                 moved: self.moved.wrapping_add(1),
                 ..self
             },
-            Reply::Overdraft(_) => Counts {
+            Reply::Overdraft(_) => CallCounts {
                 refused: self.refused.wrapping_add(1),
                 ..self
             },
-            Reply::Value(ALL) => Counts {
+            Reply::Value(ALL) => CallCounts {
                 right: self.right.wrapping_add(1),
                 ..self
             },
@@ -70,7 +70,7 @@ impl Counts {
     }
 
     /// Those of all callers.
-    fn of_all(each: &[Counts]) -> Counts {
+    fn of_all(each: &[CallCounts]) -> CallCounts {
         let mut all = NOTHING;
         for one in each {
             all.moved = all.moved.wrapping_add(one.moved);
@@ -83,9 +83,9 @@ impl Counts {
 
 impl BankLife {
     /// What all callers were answered, and what the only one that looked found.
-    fn of(told: &[Counts], found: &[Found]) -> BankLife {
+    fn of(told: &[CallCounts], found: &[Found]) -> BankLife {
         BankLife {
-            told: Counts::of_all(told),
+            told: CallCounts::of_all(told),
             found: found.first().copied().unwrap_or(NOT_FOUND),
         }
     }
@@ -141,11 +141,11 @@ struct Mover {
 }
 
 impl Worker<Bank> for Mover {
-    type Told = Counts;
+    type Told = CallCounts;
 
     ghost tells = { λ _ _ _ _ _. Unit {0} };
 
-    fn work<R: Wait>(&self, rt: &R, service: &Service<Bank>, caller: Caller) -> Worked<Counts> {
+    fn work<R: Wait>(&self, rt: &R, service: &Service<Bank>, caller: Caller) -> Worked<CallCounts> {
         let number = caller.number();
         let mut caller = caller;
         let mut told = NOTHING;
@@ -158,12 +158,12 @@ impl Worker<Bank> for Mover {
                 &operation(number, step).words(),
                 &mut reply,
             ) {
-                Asked::Told(back, _) => {
+                AskOutcome::Told(back, _) => {
                     told = told.with(Reply::of(&reply));
                     caller = back;
                 }
-                Asked::Worn(back) => caller = back,
-                Asked::Stopped(stopped) => {
+                AskOutcome::Worn(back) => caller = back,
+                AskOutcome::Stopped(stopped) => {
                     let caller = Handed::Stopped(stopped);
                     return Worked { caller, told };
                 }
@@ -204,7 +204,7 @@ fn value<R: Wait>(rt: &R, service: &Service<Bank>, caller: Caller, op: Op) -> Wo
 {
     let mut reply = [0; OP_WORDS];
     match ask(rt, service, caller, &op.words(), &mut reply) {
-        Asked::Told(back, _) => {
+        AskOutcome::Told(back, _) => {
             let caller = Handed::Idle(back);
             let told = match Reply::of(&reply) {
                 Reply::Value(has) => has,
@@ -212,11 +212,11 @@ fn value<R: Wait>(rt: &R, service: &Service<Bank>, caller: Caller, op: Op) -> Wo
             };
             Worked { caller, told }
         }
-        Asked::Worn(back) => {
+        AskOutcome::Worn(back) => {
             let caller = Handed::Idle(back);
             Worked { caller, told: 0 }
         }
-        Asked::Stopped(stopped) => {
+        AskOutcome::Stopped(stopped) => {
             let caller = Handed::Stopped(stopped);
             Worked { caller, told: 0 }
         }

@@ -9,13 +9,13 @@ use Rattle.cx_core.specs.declared.local.Local.{Local}
 use Rattle.cx_core.specs.Rights.{downgraded_on, is_at, is_on, shared_on}
 use Rattle.cx_core.specs.State.{Instance, one_more}
 use Rattle.cx_core.proofs.Sums.{on_same}
-use Rattle.cx_rule.specs.declared.rule.Known.{Known}
+use Rattle.table_invariant.specs.declared.rule.Known.{Known}
 use Rattle.cx_table.specs.Fitting.{Fitting, Has, IsNoted, has_of}
 use Rattle.cx_table.specs.Running.{Running, instance_at}
 use Rattle.cx_table.specs.Seats.{Seated, known_after}
 use Rattle.cx_table.specs.Steps.{Steps}
-use Rattle.cx_rule.proofs.HasMore.{some_same}
-use Rattle.strong_trylock.specs.Ends.{but_downgraded}
+use Rattle.table_invariant.proofs.HasMore.{some_same}
+use Rattle.strong_trylock.specs.Ends.{except_downgraded}
 use Rattle.strong_trylock.specs.Held.{all_rights, rights_in}
 
 -- what is held shared then was held shared before
@@ -73,21 +73,21 @@ downgraded_ended r step reads replica found before after steps on =
 
 -- and nothing else is changed but the steps
 ends : (before : Seated) (is_shared is_passer : Bool) → is_shared ≡ false → is_passer ≡ false →
-    but_downgraded (record before {
+    except_downgraded (record before {
       known = record before.known {
         local = cond is_shared (record before.known.local { shared = None; steps = one_more before.known.local.steps })
             (cond is_passer (record before.known.local { passer = None; steps = one_more before.known.local.steps }) (record before.known.local { downgraded = None; steps = one_more before.known.local.steps }));
         noted = before.known.noted ++ [];
       };
-    }) ≡ but_downgraded before
+    }) ≡ except_downgraded before
 ends before true b e f = absurd (false≢true (sym e))
 ends before false true e f = absurd (false≢true (sym f))
-ends before false false e f = ap (λ ns. (let b : Seated = record (but_downgraded before) { known = record (but_downgraded before).known { noted = ns } } in b)) (append-nil before.known.noted)
+ends before false false e f = ap (λ ns. (let b : Seated = record (except_downgraded before) { known = record (except_downgraded before).known { noted = ns } } in b)) (append-nil before.known.noted)
 
 pub downgraded_alone : {O : Type 0} (r : Running O) (step : O → List ℕ → List ℕ → List ℕ × List ℕ) (reads : O → List ℕ → Bool) (replica found : ℕ) (before after : Seated) →
-    Steps r step reads (BackOff replica) found before after → downgraded_on before.known.local ≡ Some replica → but_downgraded after ≡ but_downgraded before
+    Steps r step reads (BackOff replica) found before after → downgraded_on before.known.local ≡ Some replica → except_downgraded after ≡ except_downgraded before
 downgraded_alone r step reads replica found before after steps on =
     let l = before.known.local in
     let few = steps.lawful.few.apart replica in
     let one : is_on replica (downgraded_on l) ≡ 1 = ap (is_on replica) on ∙ on_same replica replica refl in
-    ap but_downgraded steps.made ∙ ends before (is_at replica (shared_on l)) (is_at replica l.passer) (off replica (shared_on l) (omega (arith, few, one))) (off replica l.passer (omega (arith, few, one)))
+    ap except_downgraded steps.made ∙ ends before (is_at replica (shared_on l)) (is_at replica l.passer) (off replica (shared_on l) (omega (arith, few, one))) (off replica l.passer (omega (arith, few, one)))

@@ -29,5 +29,5 @@ pub record Ends {O : Type 0} (r : Running O) (step : O → List ℕ → List ℕ
   pub rights : all_rights after ≡ left
 
 -- a seat but for what is downgraded and the steps
-abbrev pub but_downgraded : Seated → Seated
-but_downgraded s = record s { known = record s.known { local = record s.known.local { downgraded = None; steps = 0 } } }
+abbrev pub except_downgraded : Seated → Seated
+except_downgraded s = record s { known = record s.known { local = record s.known.local { downgraded = None; steps = 0 } } }

@@ -4,10 +4,10 @@
 ghost use Rattle.std.specs.Prelude.{◌≡◌, None, OnOk};
 ghost use Rattle.cx_core.specs.declared.kinds.Kind.TheVariants.{BackOff, ReleaseExclusive};
 ghost use Rattle.cx_core.specs.LockEvents.{IsClean};
-ghost use Rattle.cx_rule.specs.Stores.{IsReplayedIn, IsReplayedToPlaceIn};
+ghost use Rattle.table_invariant.specs.Stores.{IsReplayedIn, IsReplayedToPlaceIn};
 ghost use Rattle.cx_table.specs.Calls.{MakesStep};
 ghost use Rattle.cx_table.specs.Tokens.{IsDowngradedOf, IsExclusiveOf, IsSharedOf};
-ghost use Rattle.strong_trylock.specs.Ends.{Downgrades, Ends, but_downgraded};
+ghost use Rattle.strong_trylock.specs.Ends.{Downgrades, Ends, except_downgraded};
 ghost use Rattle.strong_trylock.specs.Held.{HasRight, all_rights};
 
 use cx_base::{Halt, Object};
@@ -66,7 +66,7 @@ pub fn release_downgraded<O: Object>(
 ) -> Result<(), Halt>
     requires held { HasRight IsDowngradedOf shared.now seat.old held }
     ensures step { MakesStep shared.now seat.old seat.new result (λ _. Ends shared.now O.step O.only_reads (BackOff held.replica) (record (all_rights seat.old) { downgraded = None }) seat.old seat.new) }
-    ensures rest { OnOk result (but_downgraded seat.new ≡ but_downgraded seat.old) }
+    ensures rest { OnOk result (except_downgraded seat.new ≡ except_downgraded seat.old) }
 {
     shared.back_off(seat, SharedRight::Downgraded(held))?;
     Ok(())

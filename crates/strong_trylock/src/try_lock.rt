@@ -2,7 +2,7 @@
 
 ghost use Rattle.std.specs.Prelude.{IfOk, OnErr, OnOk};
 ghost use Rattle.cx_core.specs.declared.kinds.Kind.TheVariants.{TryExclusive, TryShared};
-ghost use Rattle.cx_rule.specs.Stores.{FittingIn};
+ghost use Rattle.table_invariant.specs.Stores.{FittingIn};
 ghost use Rattle.cx_table.specs.Calls.{MakesFittingStep, MayStep};
 ghost use Rattle.strong_trylock.specs.Tries.{HaltsShared, TriesExclusive, TriesShared};
 

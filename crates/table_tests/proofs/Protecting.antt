@@ -3,21 +3,21 @@ use Rattle.std.proofs.Common.{All, ◌≡◌, ◌<◌, ℕ, List, ap, sym, subst
 use Rattle.cx_base.specs.declared.object.Object.{Ghosts}
 use Rattle.cx_core.specs.Region.{region_words}
 use Rattle.cx_core.specs.Rights.{held_dirty}
-use Rattle.cx_rule.specs.Fitting.{SomeFits}
-use Rattle.cx_rule.specs.Running.{IsSeatOf, Running}
-use Rattle.cx_rule.specs.Seats.{Seated}
+use Rattle.table_invariant.specs.Fitting.{SomeFits}
+use Rattle.table_invariant.specs.Running.{IsSeatOf, Running}
+use Rattle.table_invariant.specs.Seats.{Seated}
 use Rattle.cx_table.specs.Right.{Right}
 use Rattle.cx_table.specs.Tokens.{IsExclusiveOf}
-use Rattle.mutation_queue.specs.Protections.{but_protected}
+use Rattle.mutation_queue.specs.Protections.{except_protected}
 use Rattle.replica.specs.Held.{IsHeld}
 use Rattle.replica.specs.Replays.{IsHeldImage, IsReady, noted_place}
 
 -- a replica that is held still is
-pub held_protected : {O : Type 0} (lines : ℕ) (r : Running O) (lawful : List ℕ → Type 0) (step : List ℕ → List ℕ → List ℕ × List ℕ) (before after : Seated) (held : Right) → IsSeatOf r after → but_protected after ≡ but_protected before → IsHeld lines r lawful step before held → IsHeld lines r lawful step after held
+pub held_protected : {O : Type 0} (lines : ℕ) (r : Running O) (lawful : List ℕ → Type 0) (step : List ℕ → List ℕ → List ℕ × List ℕ) (before after : Seated) (held : Right) → IsSeatOf r after → except_protected after ≡ except_protected before → IsHeld lines r lawful step before held → IsHeld lines r lawful step after held
 held_protected lines r lawful step before after held of same was =
     let right = was.right in
-    let there : IsExclusiveOf r.callers (but_protected before) held = record { few = right.few; caller = right.caller; holds = right.holds } in
-    let here : IsExclusiveOf r.callers (but_protected after) held = subst (λ s. IsExclusiveOf r.callers s held) (sym same) there in
+    let there : IsExclusiveOf r.callers (except_protected before) held = record { few = right.few; caller = right.caller; holds = right.holds } in
+    let here : IsExclusiveOf r.callers (except_protected after) held = subst (λ s. IsExclusiveOf r.callers s held) (sym same) there in
     record {
       sized = was.sized;
       of = of;
@@ -27,13 +27,13 @@ held_protected lines r lawful step before after held of same was =
     }
 
 -- one that is the image after its place still is
-pub image_protected : {O : Type 0} (lines : ℕ) (r : Running O) (lawful : List ℕ → Type 0) (step : List ℕ → List ℕ → List ℕ × List ℕ) (before after : Seated) → but_protected after ≡ but_protected before → IsHeldImage lines lawful r.base step before.known → IsHeldImage lines lawful r.base step after.known
+pub image_protected : {O : Type 0} (lines : ℕ) (r : Running O) (lawful : List ℕ → Type 0) (step : List ℕ → List ℕ → List ℕ × List ℕ) (before after : Seated) → except_protected after ≡ except_protected before → IsHeldImage lines lawful r.base step before.known → IsHeldImage lines lawful r.base step after.known
 image_protected lines r lawful step before after same was =
-    let there : IsHeldImage lines lawful r.base step (but_protected before).known = record { begun = was.begun; replayed = was.replayed } in
-    let here : IsHeldImage lines lawful r.base step (but_protected after).known = subst (λ (s : Seated). IsHeldImage lines lawful r.base step s.known) (sym same) there in
+    let there : IsHeldImage lines lawful r.base step (except_protected before).known = record { begun = was.begun; replayed = was.replayed } in
+    let here : IsHeldImage lines lawful r.base step (except_protected after).known = subst (λ (s : Seated). IsHeldImage lines lawful r.base step s.known) (sym same) there in
     record { begun = here.begun; replayed = here.replayed }
 
-pub ready_protected : {O : Type 0} (o : Ghosts O) (r : Running O) (before after : Seated) (held : Right) (at : ℕ) → IsSeatOf r after → but_protected after ≡ but_protected before → IsReady o r held at before → IsReady o r held at after
+pub ready_protected : {O : Type 0} (o : Ghosts O) (r : Running O) (before after : Seated) (held : Right) (at : ℕ) → IsSeatOf r after → except_protected after ≡ except_protected before → IsReady o r held at before → IsReady o r held at after
 ready_protected o r before after held at of same was = record {
   is_held = held_protected (o.line_count r.object) r (o.lawful r.object) (o.step r.object) before after held of same was.is_held;
   image = image_protected (o.line_count r.object) r (o.lawful r.object) (o.step r.object) before after same was.image;

@@ -4,7 +4,7 @@ use Rattle.cx_base.specs.Noted.{NotesLead}
 use Rattle.cx_core.specs.declared.entry.Base.{Base}
 use Rattle.cx_core.specs.Region.{place_of}
 use Rattle.cx_core.specs.Rights.{exclusive_on, is_at}
-use Rattle.cx_rule.specs.declared.rule.Known.{Known}
+use Rattle.table_invariant.specs.declared.rule.Known.{Known}
 use Rattle.cx_table.specs.Fitting.{IsReplayed, IsReplayedToPlace, start}
 use Rattle.cx_table.specs.Running.{Running, instance_at}
 use Rattle.cx_table.specs.Seats.{Seated, marked_load, place_noted}

@@ -5,12 +5,12 @@ use Rattle.cx_core.specs.declared.local.HeldExclusive.{HeldExclusive}
 use Rattle.cx_core.specs.declared.local.HeldShared.{HeldShared}
 use Rattle.cx_core.specs.Region.{region_words}
 use Rattle.cx_core.specs.Rights.{shared_on}
-use Rattle.cx_rule.specs.Fitting.{Fitting}
-use Rattle.cx_rule.specs.Running.{IsRunning, Running}
-use Rattle.cx_rule.specs.Seats.{Seated}
+use Rattle.table_invariant.specs.Fitting.{Fitting}
+use Rattle.table_invariant.specs.Running.{IsRunning, Running}
+use Rattle.table_invariant.specs.Seats.{Seated}
 use Rattle.cx_table.specs.Right.{Right}
-use Rattle.cx_turns.specs.Replaying.{beside_replay, but_shared_loads}
-use Rattle.replica.specs.Held.{beside_held, but_loaded, but_words}
+use Rattle.cx_attempts.specs.Replaying.{unchanged_by_replay, except_shared_loads}
+use Rattle.replica.specs.Held.{unchanged_by_access, except_loaded, except_words}
 use Rattle.replica.specs.Laws.{taken_held}
 use Rattle.strong_trylock.specs.declared.try_lock.ExclusiveTried.{ExclusiveTried}
 use Rattle.strong_trylock.specs.declared.try_lock.ExclusiveTried.TheVariants.{Got}
@@ -18,20 +18,20 @@ use Rattle.strong_trylock.specs.Held.{AllRights, all_rights, no_rights}
 use Rattle.strong_trylock.specs.Tries.{AnswersExclusive, TriesExclusive}
 use Rattle.table_tests.specs.Turns.{TakesIt}
 
-words_kept : (o : Option HeldExclusive) → option_map (λ (h : HeldExclusive). h.replica) (option_map but_words o) ≡ option_map (λ (h : HeldExclusive). h.replica) o
+words_kept : (o : Option HeldExclusive) → option_map (λ (h : HeldExclusive). h.replica) (option_map except_words o) ≡ option_map (λ (h : HeldExclusive). h.replica) o
 words_kept None = refl
 words_kept (Some h) = refl
 
-loaded_kept : (r : ℕ) (o : Option HeldShared) → option_map (λ (h : HeldShared). h.replica) (option_map (but_loaded r) o) ≡ option_map (λ (h : HeldShared). h.replica) o
+loaded_kept : (r : ℕ) (o : Option HeldShared) → option_map (λ (h : HeldShared). h.replica) (option_map (except_loaded r) o) ≡ option_map (λ (h : HeldShared). h.replica) o
 loaded_kept r None = refl
 loaded_kept r (Some h) = refl
 
-held_rights : (r : ℕ) (s : Seated) → all_rights (beside_held r s) ≡ all_rights s
+held_rights : (r : ℕ) (s : Seated) → all_rights (unchanged_by_access r s) ≡ all_rights s
 held_rights r s =
-    ap (λ o. (let x : AllRights = record (all_rights s) { exclusive = o; shared = shared_on (beside_held r s).known.local } in x)) (words_kept s.known.local.exclusive)
+    ap (λ o. (let x : AllRights = record (all_rights s) { exclusive = o; shared = shared_on (unchanged_by_access r s).known.local } in x)) (words_kept s.known.local.exclusive)
     ∙ ap (λ o. (let x : AllRights = record (all_rights s) { shared = o } in x)) (loaded_kept r s.known.local.shared)
 
-pub access_rights : (r : ℕ) (before after : Seated) → beside_held r after ≡ beside_held r before → all_rights after ≡ all_rights before
+pub access_rights : (r : ℕ) (before after : Seated) → unchanged_by_access r after ≡ unchanged_by_access r before → all_rights after ≡ all_rights before
 access_rights r before after same = sym (held_rights r after) ∙ ap all_rights same ∙ held_rights r before
 
 pub took_it : {O : Type 0} (line_count : O → ℕ) (lawful : O → List ℕ → Type 0) (r : Running O) (step : O → List ℕ → List ℕ → List ℕ × List ℕ) (reads : O → List ℕ → Bool) (q : ℕ) (before after : Seated) (tried : ExclusiveTried) (held : Right) →

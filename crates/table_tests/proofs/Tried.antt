@@ -4,10 +4,10 @@ use Rattle.std.proofs.lemmas.List.Elements.{All-drop, All-from_get_or, All-same,
 use Rattle.std.specs.Result.{result_ok}
 use Rattle.cx_base.specs.Memory.{Words}
 use Rattle.cx_core.specs.declared.kinds.Kind.TheVariants.{TryExclusive}
-use Rattle.cx_rule.specs.Fitting.{Fitting}
-use Rattle.cx_rule.specs.Running.{IsSeatOf, Running}
-use Rattle.cx_rule.specs.Seats.{Seated}
-use Rattle.cx_rule.specs.Steps.{Steps}
+use Rattle.table_invariant.specs.Fitting.{Fitting}
+use Rattle.table_invariant.specs.Running.{IsSeatOf, Running}
+use Rattle.table_invariant.specs.Seats.{Seated}
+use Rattle.table_invariant.specs.Steps.{Steps}
 use Rattle.cx_table.specs.Right.{Right}
 use Rattle.cx_table.specs.Tokens.{TriedExclusive, TriedShared}
 use Rattle.replica.specs.Held.{IsHeldShared, IsSized}

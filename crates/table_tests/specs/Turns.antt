@@ -1,7 +1,7 @@
 -- A replica held exclusively that can be released.
 use Rattle.std.specs.Prelude.{◌≡◌, ℕ, List, Some}
-use Rattle.cx_rule.specs.Running.{Running}
-use Rattle.cx_rule.specs.Seats.{Seated}
+use Rattle.table_invariant.specs.Running.{Running}
+use Rattle.table_invariant.specs.Seats.{Seated}
 use Rattle.cx_table.specs.Right.{Right}
 use Rattle.replica.specs.Flushes.{IsFlushed}
 use Rattle.replica.specs.Held.{IsHeld}

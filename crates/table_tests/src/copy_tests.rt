@@ -2,7 +2,7 @@
 
 ghost use Rattle.std.specs.Prelude.{◌≡◌, IfOk, IfSome};
 ghost use Rattle.cx_core.specs.LockEvents.{CanTryShared};
-ghost use Rattle.cx_rule.specs.Running.{IsSeatOf};
+ghost use Rattle.table_invariant.specs.Running.{IsSeatOf};
 ghost use Rattle.replica.specs.Copies.{HoldsBoth};
 ghost use Rattle.replica.specs.Held.{IsHeld};
 ghost use Rattle.table_tests.specs.Replaying.{IsNew};
@@ -14,9 +14,9 @@ use crate::images::{
 };
 use crate::tables::{NO_LIMIT, closed, made, update};
 use crate::turns::{try_one, turn};
+use cx_attempts::Scratch;
 use cx_base::{Halt, Object};
 use cx_table::{CallerSeat, Exclusive, Remains, Shared, SharedHold};
-use cx_turns::Scratch;
 use doc_store::DocStore;
 use mutation_queue::LinkTried;
 use replica::renew_from;

@@ -2,7 +2,7 @@
 
 ghost use Rattle.std.specs.Prelude.{◌≡◌, ◌<◌};
 ghost use Rattle.cx_base.specs.Tally.{IsTally, tally_step};
-ghost use Rattle.cx_rule.specs.Running.{IsSeatOf};
+ghost use Rattle.table_invariant.specs.Running.{IsSeatOf};
 ghost use Rattle.replica.specs.Held.{IsHeld};
 ghost use Rattle.table_tests.specs.Replaying.{IsNew};
 

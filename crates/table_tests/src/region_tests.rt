@@ -4,8 +4,8 @@ ghost use Rattle.std.specs.Prelude.{◌≡◌, ◌+◌, ◌-◌, ◌*◌, ◌^�
 ghost use Rattle.cx_base.specs.Memory.{Becomes, Words};
 ghost use Rattle.cx_core.specs.Base.{LawfulBase};
 ghost use Rattle.cx_core.specs.Region.{place_of, region_words};
-ghost use Rattle.cx_rule.specs.Fitting.{base_of};
-ghost use Rattle.cx_rule.specs.Running.{IsSeatOf};
+ghost use Rattle.table_invariant.specs.Fitting.{base_of};
+ghost use Rattle.table_invariant.specs.Running.{IsSeatOf};
 ghost use Rattle.replica.specs.Held.{IsHeld};
 ghost use Rattle.replica.specs.Replays.{IsHeldImage, noted_place};
 ghost use Rattle.replica.specs.Stepping.{IsSteppable};

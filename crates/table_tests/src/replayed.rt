@@ -5,7 +5,7 @@ ghost use Rattle.cx_base.specs.Memory.{Words};
 ghost use Rattle.cx_core.specs.declared.local.Protection.TheVariants.{Confirmed, Unprotected};
 ghost use Rattle.cx_core.specs.Region.{region_words};
 ghost use Rattle.cx_core.specs.RingEvents.{Protects};
-ghost use Rattle.cx_rule.specs.Running.{IsSeatOf};
+ghost use Rattle.table_invariant.specs.Running.{IsSeatOf};
 ghost use Rattle.cx_table.specs.Tokens.{IsDowngradedOf};
 ghost use Rattle.replica.specs.Held.{IsHeldShared, IsSized};
 ghost use Rattle.replica.specs.Laws.{IsTaken};

@@ -1,7 +1,7 @@
 //! Tables of two callers, and how they end.
 
 ghost use Rattle.std.specs.Prelude.{◌≡◌, ◌≤◌, IfOk, IsTrue, OnOk};
-ghost use Rattle.cx_rule.specs.Running.{IsSeatOf};
+ghost use Rattle.table_invariant.specs.Running.{IsSeatOf};
 ghost use Rattle.mutation_queue.specs.Tests.{IsPairOf};
 ghost use Rattle.table_tests.specs.Replaying.{IsNew};
 ghost use Rattle.strong_trylock.specs.Held.{all_rights, no_rights};

@@ -2,7 +2,7 @@
 
 ghost use Rattle.std.specs.Prelude.{◌<◌};
 ghost use Rattle.cx_base.specs.Memory.{Words};
-ghost use Rattle.cx_rule.specs.Running.{IsSeatOf};
+ghost use Rattle.table_invariant.specs.Running.{IsSeatOf};
 ghost use Rattle.table_tests.specs.Replaying.{IsNew};
 
 use crate::commands::{entry_of, put};
@@ -10,11 +10,11 @@ use crate::holds::holds;
 use crate::images::{LINES, is_clean, opening, stepped};
 use crate::region_tests::step_one;
 use crate::tables::{NO_LIMITS, closed, made, update};
-use crate::turns::{Turns, make_turns};
+use crate::turns::{RaisesFront, make_attempts};
+use cx_attempts::Scratch;
 use cx_base::{Halt, Object, VecMemory};
 use cx_core::{Base, Entry};
 use cx_table::{CallerSeat, Remains, Shared};
-use cx_turns::Scratch;
 use doc_store::DocStore;
 use mutation_queue::LinkTried;
 use std::alloc::{AllocError, Global};
@@ -23,10 +23,10 @@ use std::test::Fail;
 use std::thread::{Threads, join};
 
 // The ticket of a caller's entry, and its turns.
-type Done = (u64, Turns);
+type Done = (u64, RaisesFront);
 
 // A caller without entries links one, and makes this many turns.
-fn link_and_turn<O: Object>(
+fn link_and_attempt<O: Object>(
     shared: &Shared<O>,
     seat: &mut CallerSeat,
     op: &[u64; 144],
@@ -39,7 +39,7 @@ fn link_and_turn<O: Object>(
     match update(shared, seat, op)? {
         LinkTried::Linked { ticket } => Ok(Some((
             ticket,
-            make_turns(shared, seat, ticket, count, scratch)?,
+            make_attempts(shared, seat, ticket, count, scratch)?,
         ))),
         LinkTried::Again | LinkTried::Worn => Ok(None),
     }
@@ -56,7 +56,7 @@ fn on_thread<O: Object>(
     requires { IsNew shared.now seat }
     ensures { IsSeatOf shared.now result.0 }
 {
-    let done = link_and_turn(shared, &mut seat, op, count, &mut scratch);
+    let done = link_and_attempt(shared, &mut seat, op, count, &mut scratch);
     (seat, done.ok().flatten())
 }
 
@@ -207,7 +207,7 @@ fn places_of(
 }
 
 // The entries that two callers replayed, where each made `count` turns rightly.
-fn replayed(first: &Turns, second: &Turns, count: u64) -> Option<u64> {
+fn replayed(first: &RaisesFront, second: &RaisesFront, count: u64) -> Option<u64> {
     let all = first.taken.saturating_add(first.refused) == count
         && second.taken.saturating_add(second.refused) == count;
     if all && first.right && second.right {
@@ -258,8 +258,8 @@ fn one_then_other(
 ) -> Result<Option<(Ended, u64, u64)>, AllocError> {
     let (shared, mut first, mut second) = made(alloc, DocStore::of(LINES), &NO_LIMITS)?;
     let (mut room, mut other_room) = (Scratch::new(alloc)?, Scratch::new(alloc)?);
-    let one = link_and_turn(&shared, &mut first, &ops[0], 2, &mut room);
-    let other = link_and_turn(&shared, &mut second, &ops[1], 1, &mut other_room);
+    let one = link_and_attempt(&shared, &mut first, &ops[0], 2, &mut room);
+    let other = link_and_attempt(&shared, &mut second, &ops[1], 1, &mut other_room);
     let (taken, other_taken) = (room.taken, other_room.taken);
     let left = closed(alloc, shared, first, second)?;
     match both_ended(one.ok().flatten(), other.ok().flatten(), left) {

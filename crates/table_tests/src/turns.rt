@@ -1,17 +1,17 @@
 //! A caller takes replicas, one after another, brings each up to a ticket, and gives it up again.
 
 ghost use Rattle.std.specs.Prelude.{◌≡◌, ◌*◌, ◌<◌, IfOk, IfSome, OnOk, Some, None, Ok};
-ghost use Rattle.cx_rule.specs.Running.{IsSeatOf};
+ghost use Rattle.table_invariant.specs.Running.{IsSeatOf};
 ghost use Rattle.replica.specs.Held.{IsHeld};
 ghost use Rattle.replica.specs.Laws.{IsTaken};
 ghost use Rattle.replica.specs.Replays.{IsHeldImage};
 ghost use Rattle.table_tests.specs.Turns.{IsFlushedImage, TakesIt};
 ghost use Rattle.strong_trylock.specs.Held.{all_rights, no_rights};
 
+use cx_attempts::{Scratch, replay_to};
 use cx_base::{Halt, Object};
 use cx_core::Protection;
 use cx_table::{CallerSeat, Downgraded, Exclusive, Shared};
-use cx_turns::{Scratch, replay_to};
 use mutation_queue::{Protected, protect, unprotect};
 use replica::{begin, flush};
 use strong_trylock::{ExclusiveTried, downgrade, release_downgraded, try_exclusive};
@@ -19,7 +19,7 @@ use strong_trylock::{ExclusiveTried, downgrade, release_downgraded, try_exclusiv
 /// The result of a caller's turns: how many replicas it took, how many others held, how many entries it replayed, and
 /// whether each place was that of the image up to the ticket.
 #[derive(Drop)]
-pub(crate) struct Turns {
+pub(crate) struct RaisesFront {
     pub(crate) taken: u64,
     pub(crate) refused: u64,
     pub(crate) replayed: u64,
@@ -150,20 +150,20 @@ pub(crate) fn turn<O: Object>(
 }
 
 /// Makes this many turns, on each replica in turn from the caller's first on.
-pub(crate) fn make_turns<O: Object>(
+pub(crate) fn make_attempts<O: Object>(
     shared: &Shared<O>,
     seat: &mut CallerSeat,
     ticket: u64,
     count: u64,
     scratch: &mut Scratch,
-) -> Result<Turns, Halt>
+) -> Result<RaisesFront, Halt>
     requires seat { IsSeatOf shared.now seat.old }
     requires free { all_rights seat.old ≡ no_rights }
     ensures seat { IsSeatOf shared.now seat.new }
 {
     let replicas = 2 * shared.callers();
     let first = 2 * seat.number();
-    let mut done = Turns {
+    let mut done = RaisesFront {
         taken: 0,
         refused: 0,
         replayed: 0,
@@ -178,7 +178,7 @@ pub(crate) fn make_turns<O: Object>(
 }
 
 // The turns with one more. Its place is the one above the ticket, or where it was above that before, the same.
-fn noted(mut done: Turns, places: Option<Places>, ticket: u64) -> Turns {
+fn noted(mut done: RaisesFront, places: Option<Places>, ticket: u64) -> RaisesFront {
     match places {
         None => done.refused = done.refused.saturating_add(1),
         Some((before, after)) => {

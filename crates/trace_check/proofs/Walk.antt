@@ -13,8 +13,8 @@ use Rattle.cx_core.specs.Lawful.{Lawful}
 use Rattle.cx_core.specs.Layout.{cur_at, dur_at}
 use Rattle.cx_core.specs.State.{Core, Instance, State}
 use Rattle.core_runs.proofs.Keeps.{event_kept}
-use Rattle.seat_memory.specs.Wins.{IsWayBy, wins_of}
-use Rattle.seat_memory.proofs.Chaining.{way_up, wins_append}
+use Rattle.caller_cache.specs.Wins.{IsWayBy, wins_of}
+use Rattle.caller_cache.proofs.Chaining.{way_up, wins_append}
 use Rattle.trace_text.specs.declared.trace.TraceLine.{TraceLine}
 use Rattle.trace_text.specs.declared.trace.TraceWhat.{TraceWhat}
 use Rattle.trace_text.specs.declared.trace.TraceWhat.TheVariants.{Event, Crash}

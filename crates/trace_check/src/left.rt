@@ -4,13 +4,13 @@ ghost use Rattle.std.specs.Prelude.{◌≡◌, ◌%◌, ◌<◌, ◌≤◌, IfOk
 ghost use Rattle.cx_core.specs.Chain.{IsCodeChain};
 ghost use Rattle.cx_core.specs.Lawful.{Lawful};
 ghost use Rattle.cx_core.specs.State.{instance_of};
-ghost use Rattle.seat_memory.specs.Wins.{wins_of};
+ghost use Rattle.caller_cache.specs.Wins.{wins_of};
 ghost use Rattle.trace_check.specs.Lines.{LeavesPlace};
 
+use caller_cache::lead_on;
 use core_events::CoreState;
 use cx_base::{Object, root_place};
 use cx_core::{Local, WonCode};
-use seat_memory::lead_on;
 use std::alloc::{AllocError, Global};
 
 /// The place that is recovered from what a crash leaves of a state by choice. `Err` means out of memory.

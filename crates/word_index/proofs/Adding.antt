@@ -8,33 +8,33 @@ use Rattle.avl_words.specs.Ways.{before, behind, spot, with_new}
 use Rattle.avl_words.proofs.Spots.{new_items, new_balanced}
 use Rattle.avl_words.specs.Changes.{IsBeside, CanPut as CanPutNode, PutsNode}
 use Rattle.avl_words.specs.Lines.{word_of, line_count, with_word}
-use Rattle.avl_words.specs.Words.{root, Stands, times as tree_times}
+use Rattle.avl_words.specs.Words.{root, RepresentsTree, times as tree_times}
 use Rattle.avl_words.specs.Exact.{tree_in, with_tree}
 use Rattle.avl_words.proofs.ExactWords.{tree_in_is}
 use Rattle.avl_words.proofs.ExactTrees.{AreThere, tree_header}
-use Rattle.index_checks.specs.Layout.{Place, lines_at, nodes_of, IsAt, Placed, Arranged, StandsFor, RevisionHead, head_of}
-use Rattle.index_checks.proofs.Arranging.{arranged_tree, tree_few}
+use Rattle.index_validation.specs.Layout.{PairLayout, lines_at, nodes_of, IsAt, Placed, IsLaidOut, StandsFor, RevisionHead, head_of}
+use Rattle.index_validation.proofs.Arranging.{arranged_tree, tree_few}
 use Rattle.word_index.specs.Exact.{order_in, with_new_pair, with_one_more, with_added}
 use Rattle.word_index.specs.Fresh.{HasRoom, CanTake}
 use Rattle.word_index.specs.Insertion.{IsPairWritten, PairWritten, CanAdd, Adds}
 use Rattle.word_index.specs.Walk.{IsWalkEnded}
 use Rattle.word_index.proofs.Cutting.{times_middle, times_parts}
-use Rattle.index_checks.proofs.Texts.{key_small, document_small}
+use Rattle.index_validation.proofs.Texts.{key_small, document_small}
 use Rattle.word_index.proofs.ExactTaking.{IsPlain, new_pair_is}
 use Rattle.word_index.proofs.Frames.{times, times_append, times_cons, times_self, nodes_and_blocks, tree_lines}
 use Rattle.word_index.proofs.Putting.{lines_of_places, few_pairs}
-use Rattle.word_index.proofs.Relaying.{IsRelaid, relaid_words, relaid_once, relaid_there, relaid, at_most_once}
+use Rattle.word_index.proofs.NewLinks.{IsRelaid, relaid_words, relaid_once, relaid_there, relaid, at_most_once}
 use Rattle.word_index.proofs.Splits.{below_split, above_split}
 use Rattle.word_index.proofs.KeyPlaces.{tree_of, map_append, walk_end, end_stands, IsMissing, none_at}
-use Rattle.index_checks.proofs.Revisions.{triples_of}
+use Rattle.index_validation.proofs.Revisions.{triples_of}
 use Rattle.word_index.proofs.Triples.{HasTriples, written_at, triples_added}
 
-no_tree : (ws : List ℕ) (here : Tree ℕ) → Stands ws here → 0 ≡ root here → here ≡ Empty
+no_tree : (ws : List ℕ) (here : Tree ℕ) → RepresentsTree ws here → 0 ≡ root here → here ≡ Empty
 no_tree ws Empty s e = refl
 no_tree ws (Node l x r) s e = absurd (let some = s.0.some in omega arith)
 
 -- a pair among the pairs that stand at places
-placed_insert : (x z : List ℕ) (front rest : List Place) (lower others : Store) (place : Place) (pair : List ℕ × List ℕ) → Placed x front lower → Placed z (front ++ rest) (lower ++ others) → IsAt z place pair → Placed z (front ++ place ∷ rest) (lower ++ pair ∷ others)
+placed_insert : (x z : List ℕ) (front rest : List PairLayout) (lower others : Store) (place : PairLayout) (pair : List ℕ × List ℕ) → Placed x front lower → Placed z (front ++ rest) (lower ++ others) → IsAt z place pair → Placed z (front ++ place ∷ rest) (lower ++ pair ∷ others)
 placed_insert x z [] rest [] others place pair n m is = (is, m)
 placed_insert x z [] rest (q ∷ lower) others place pair n m is = absurd n
 placed_insert x z (p ∷ front) rest [] others place pair n m is = absurd n
@@ -45,7 +45,7 @@ pub add_room : (x : List ℕ) (version : ℕ) (store : Store) (s : StandsFor x v
 add_room x version store s pair l = (let e = lines_of_places x s.places store s.arranged.nodes.pairs in omega (arith, e, l))
 
 -- beside the tree
-apart_of : (z : List ℕ) (head : RevisionHead) (store : Store) (tree : Tree ℕ) (places : List Place) (given : List ℕ) (place : Place) (node : ℕ) → Arranged z head store tree places given (lines_at place) → node ≡ place.node → tree_times node tree ≡ 0
+apart_of : (z : List ℕ) (head : RevisionHead) (store : Store) (tree : Tree ℕ) (places : List PairLayout) (given : List ℕ) (place : PairLayout) (node : ℕ) → IsLaidOut z head store tree places given (lines_at place) → node ≡ place.node → tree_times node tree ≡ 0
 apart_of z head store tree places given place node a e =
     let used = flat_map lines_at places in
     let once = a.once node in
@@ -134,7 +134,7 @@ module _ (x : List ℕ) (pair : List ℕ × List ℕ) (version : ℕ) (store : S
         tree = with_new (order_in pair.0 x) node s.tree;
         places = m.split.front ++ p.place ∷ m.split.rest;
         given = p.given;
-        arranged = subst (λ st. Arranged now (head_of version s.last) st (with_new (order_in pair.0 x) node s.tree) (m.split.front ++ p.place ∷ m.split.rest) p.given []) same
+        arranged = subst (λ st. IsLaidOut now (head_of version s.last) st (with_new (order_in pair.0 x) node s.tree) (m.split.front ++ p.place ∷ m.split.rest) p.given []) same
             (relaid z (head_of version s.last) store (m.split.lower ++ pair ∷ m.split.others) s.tree (with_new (order_in pair.0 x) node s.tree) s.places (m.split.front ++ p.place ∷ m.split.rest) p.given (lines_at p.place) [] p.arranged new_order same_lines
             now relaid_now new_even (placed_insert x z m.split.front m.split.rest m.split.lower m.split.others p.place pair m.split.placed_front placed_here p.is));
         told = ap (triples_of (m.split.front ++ p.place ∷ m.split.rest)) (sym same)

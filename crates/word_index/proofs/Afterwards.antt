@@ -2,7 +2,7 @@
 use Rattle.std.proofs.Common.{◌≡◌, ℕ, List, Some, subst, sym}
 use Rattle.cx_base.specs.Store.{Store, IsKey, IsDocument}
 use Rattle.doc_model.specs.Meaning.{with_pair, without_key}
-use Rattle.index_checks.specs.Layout.{StandsFor, IsIndex}
+use Rattle.index_validation.specs.Layout.{StandsFor, IsIndex}
 use Rattle.word_index.specs.Answers.{IsFound}
 use Rattle.word_index.specs.Exact.{with_document, with_key_removed}
 use Rattle.word_index.specs.Insertion.{Inserts}

@@ -6,9 +6,9 @@ use Rattle.std.proofs.lemmas.List.Elements.{All-nil}
 use Rattle.word_index.specs.Exact.{with_empty_header}
 use Rattle.avl_words.specs.Tree.{Empty}
 use Rattle.avl_words.specs.Lines.{IsPartLength}
-use Rattle.index_checks.specs.Layout.{IsIndex, StandsFor}
-use Rattle.index_checks.specs.Reading.{store_in}
-use Rattle.index_checks.proofs.LawfulWords.{store_is}
+use Rattle.index_validation.specs.Layout.{IsIndex, StandsFor}
+use Rattle.index_validation.specs.Reading.{store_in}
+use Rattle.index_validation.proofs.LawfulWords.{store_is}
 
 -- the header of no pairs
 header_word : (ws front : List ℕ) (i : ℕ) → take 8 ws ≡ front → i < 8 → get_or ws i 0 ≡ get_or front i 0

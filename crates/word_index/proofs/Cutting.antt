@@ -7,7 +7,7 @@ use Rattle.cx_base.specs.Memory.{Becomes, Always}
 use Rattle.cx_base.specs.Store.{Store}
 use Rattle.doc_model.specs.Meaning.{document_at, without_key}
 use Rattle.avl_words.specs.Tree.{Tree, items, Balanced, size}
-use Rattle.index_checks.proofs.Arranging.{tree_few}
+use Rattle.index_validation.proofs.Arranging.{tree_few}
 use Rattle.avl_words.specs.Ways.{whole, before, behind, spot}
 use Rattle.avl_words.specs.Removal.{with_out, without}
 use Rattle.avl_words.proofs.Removing.{out_items, out_balanced}
@@ -18,30 +18,30 @@ use Rattle.avl_words.specs.Words.{root, times as tree_times}
 use Rattle.avl_words.specs.Exact.{with_tree}
 use Rattle.avl_words.proofs.ExactWords.{tree_in_is}
 use Rattle.avl_words.proofs.ExactTrees.{AreThere, tree_header}
-use Rattle.index_checks.specs.Layout.{Place, lines_at, nodes_of, Arranged, StandsFor, IsIndex, head_of}
-use Rattle.index_checks.proofs.LawfulWords.{store_is}
-use Rattle.index_checks.proofs.Lines.{all_left}
-use Rattle.index_checks.proofs.OneStore.{placed_append}
+use Rattle.index_validation.specs.Layout.{PairLayout, lines_at, nodes_of, IsLaidOut, StandsFor, IsIndex, head_of}
+use Rattle.index_validation.proofs.LawfulWords.{store_is}
+use Rattle.index_validation.proofs.Lines.{all_left}
+use Rattle.index_validation.proofs.OneStore.{placed_append}
 use Rattle.word_index.specs.Changes.{SameLine, LoosePair, HasLoosePair}
 use Rattle.word_index.specs.Exact.{order_in, with_one_less, node_at, with_node_cut, is_key_in, with_pair_given, with_key_removed}
 use Rattle.word_index.specs.Removal.{CanCut, Cuts}
 use Rattle.word_index.specs.Walk.{AtSpot}
 use Rattle.word_index.proofs.ExactGiving.{pair_is_given}
 use Rattle.word_index.proofs.Frames.{times, times_append, at_same}
-use Rattle.word_index.proofs.Relaying.{IsRelaid, relaid_words, relaid_once, relaid_there, loose_same, relaid}
+use Rattle.word_index.proofs.NewLinks.{IsRelaid, relaid_words, relaid_once, relaid_there, loose_same, relaid}
 use Rattle.word_index.proofs.Splits.{document_there, without_itself}
 use Rattle.word_index.proofs.KeyPlaces.{tree_of, map_append, walk_end, HasPlace, spot_place, spot_missing}
-use Rattle.index_checks.proofs.Revisions.{triples_of}
+use Rattle.index_validation.proofs.Revisions.{triples_of}
 use Rattle.word_index.proofs.Triples.{HasTriples, removed_at, triples_without}
 
 -- how often a line stands in places with one place among them
-pub times_middle : (x : ℕ) (front rest : List Place) (place : Place) →
+pub times_middle : (x : ℕ) (front rest : List PairLayout) (place : PairLayout) →
     times x (flat_map lines_at (front ++ place ∷ rest)) ≡ times x (flat_map lines_at front) + times x (lines_at place) + times x (flat_map lines_at rest)
 times_middle x front rest place =
     ap (times x) (flat_map-append lines_at front (place ∷ rest)) ∙
     omega (arith, times_append x (flat_map lines_at front) (lines_at place ++ flat_map lines_at rest), times_append x (lines_at place) (flat_map lines_at rest))
 
-pub times_parts : (x : ℕ) (front rest : List Place) → times x (flat_map lines_at (front ++ rest)) ≡ times x (flat_map lines_at front) + times x (flat_map lines_at rest)
+pub times_parts : (x : ℕ) (front rest : List PairLayout) → times x (flat_map lines_at (front ++ rest)) ≡ times x (flat_map lines_at front) + times x (flat_map lines_at rest)
 times_parts x front rest = ap (times x) (flat_map-append lines_at front rest) ∙ times_append x (flat_map lines_at front) (flat_map lines_at rest)
 
 -- the words without a node
@@ -62,8 +62,8 @@ module _ (ws key : List ℕ) (version : ℕ) (store : Store) (s : StandsFor ws v
       let b = subst Balanced (sym (spot_whole (order_in key ws) [] s.tree)) s.arranged.nodes.balanced in
       subst (λ u. Balanced (with_out way u)) (sym h.here_is) (out_balanced way h.left node h.right (subst (λ u. Balanced (whole way u)) h.here_is b))
 
-  arranged : Arranged ws (head_of version s.last) (h.at.lower ++ h.at.pair ∷ h.at.after) s.tree (h.at.front ++ h.at.place ∷ h.at.rest) s.given []
-  arranged = subst (λ ps. Arranged ws (head_of version s.last) (h.at.lower ++ h.at.pair ∷ h.at.after) s.tree ps s.given []) h.at.places_are (subst (λ st. Arranged ws (head_of version s.last) st s.tree s.places s.given []) h.at.store_is s.arranged)
+  arranged : IsLaidOut ws (head_of version s.last) (h.at.lower ++ h.at.pair ∷ h.at.after) s.tree (h.at.front ++ h.at.place ∷ h.at.rest) s.given []
+  arranged = subst (λ ps. IsLaidOut ws (head_of version s.last) (h.at.lower ++ h.at.pair ∷ h.at.after) s.tree ps s.given []) h.at.places_are (subst (λ st. IsLaidOut ws (head_of version s.last) st s.tree s.places s.given []) h.at.store_is s.arranged)
 
   same_lines : (x : ℕ) → times x (flat_map lines_at (h.at.front ++ h.at.rest) ++ s.given ++ (lines_at h.at.place ++ [])) ≡ times x (flat_map lines_at (h.at.front ++ h.at.place ∷ h.at.rest) ++ s.given ++ [])
   same_lines x =

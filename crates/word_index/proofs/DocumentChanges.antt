@@ -8,9 +8,9 @@ use Rattle.cx_base.specs.Packing.{packed}
 use Rattle.cx_base.specs.Store.{Store, blocks}
 use Rattle.avl_words.specs.Tree.{Tree}
 use Rattle.avl_words.specs.Lines.{word_of, with_word, IsWithin}
-use Rattle.index_checks.specs.Layout.{IsChain, Holds, Place, lines_at, Arranged, RevisionHead, Placed}
-use Rattle.index_checks.proofs.Lines.{all_left, all_right, lines_within, place_lines}
-use Rattle.index_checks.proofs.Texts.{blocks_are}
+use Rattle.index_validation.specs.Layout.{IsChain, Holds, PairLayout, lines_at, IsLaidOut, RevisionHead, Placed}
+use Rattle.index_validation.proofs.Lines.{all_left, all_right, lines_within, place_lines}
+use Rattle.index_validation.proofs.Texts.{blocks_are}
 use Rattle.word_index.specs.Changes.{SameLine, with_line_given, LooseChain, IsGiven}
 use Rattle.word_index.specs.Exact.{with_chain_given, with_chain_filled, with_text, document_blocks, with_refilled, with_emptied, with_renewed, with_rewritten, with_replaced}
 use Rattle.word_index.specs.Fresh.{HasRoom, CanTake, IsChainWritten}
@@ -20,9 +20,9 @@ use Rattle.word_index.proofs.ExactGiving.{chain_is_given}
 use Rattle.word_index.proofs.ExactTaking.{text_is_written}
 use Rattle.word_index.proofs.Frames.{times, times_append, times_cons, times_self, absent, stored_elsewhere, same_then, holds_same}
 use Rattle.word_index.proofs.Putting.{lines_of_places, lines_of_append, lines_of_cons, packed_word, written_holds}
-use Rattle.word_index.proofs.Refilling.{SameNext, chain_on, IsFilled, chain_filled}
-use Rattle.word_index.proofs.Relaying.{all_present}
-use Rattle.word_index.proofs.Renewing.{IsAround, around, with_lines, IsRenewed, most, parts, not_here, renewed}
+use Rattle.word_index.proofs.FilledChains.{SameNext, chain_on, IsFilled, chain_filled}
+use Rattle.word_index.proofs.NewLinks.{all_present}
+use Rattle.word_index.proofs.ReplacedDocuments.{IsAround, around, with_lines, IsRenewed, most, parts, not_here, renewed}
 
 -- two words of a node are stored
 pub record IsNamed (x now : List ℕ) (node a b : ℕ) : Type 0 where
@@ -59,7 +59,7 @@ chain_keeps zero line ws = refl
 chain_keeps (suc n) line ws = chain_keeps n (word_of ws line 0) (with_line_given line ws) ∙ given_keeps line ws
 
 -- one place for another, and loose lines
-balanced : (k : ℕ) (front rest : List Place) (place other : Place) (given loose now_loose : List ℕ) → times k (lines_at other) + times k now_loose ≡ times k (lines_at place) + times k loose →
+balanced : (k : ℕ) (front rest : List PairLayout) (place other : PairLayout) (given loose now_loose : List ℕ) → times k (lines_at other) + times k now_loose ≡ times k (lines_at place) + times k loose →
     times k (flat_map lines_at (front ++ other ∷ rest) ++ given ++ now_loose) ≡ times k (flat_map lines_at (front ++ place ∷ rest) ++ given ++ loose)
 balanced k front rest place other given loose now_loose e =
     omega (
@@ -74,20 +74,20 @@ balanced k front rest place other given loose now_loose e =
     )
 
 -- the pairs with a document in place of another
-pub record IsRewritten (now : List ℕ) (head : RevisionHead) (lower after : Store) (pair : List ℕ × List ℕ) (front rest : List Place) (place : Place) (revision : ℕ) : Type 0 where
+pub record IsRewritten (now : List ℕ) (head : RevisionHead) (lower after : Store) (pair : List ℕ × List ℕ) (front rest : List PairLayout) (place : PairLayout) (revision : ℕ) : Type 0 where
   pub tree : Tree ℕ
   pub lines : List ℕ
   pub given : List ℕ
-  pub arranged : Arranged now head (lower ++ pair ∷ after) tree (front ++ with_lines place lines revision ∷ rest) given []
+  pub arranged : IsLaidOut now head (lower ++ pair ∷ after) tree (front ++ with_lines place lines revision ∷ rest) given []
 
-node_within : (x : List ℕ) (head : RevisionHead) (store : Store) (tree : Tree ℕ) (front rest : List Place) (place : Place) (given loose : List ℕ) → Arranged x head store tree (front ++ place ∷ rest) given loose → All (IsWithin x) (lines_at place)
+node_within : (x : List ℕ) (head : RevisionHead) (store : Store) (tree : Tree ℕ) (front rest : List PairLayout) (place : PairLayout) (given loose : List ℕ) → IsLaidOut x head store tree (front ++ place ∷ rest) given loose → All (IsWithin x) (lines_at place)
 node_within x head store tree front rest place given loose a =
     place_lines (IsWithin x) front rest place (all_left (IsWithin x) (flat_map lines_at (front ++ place ∷ rest)) given
     (all_left (IsWithin x) (flat_map lines_at (front ++ place ∷ rest) ++ given) loose (lines_within x head store tree (front ++ place ∷ rest) given loose a)))
 
 -- a pair gets a revision
-module _ (v y : List ℕ) (head : RevisionHead) (lower after : Store) (pair : List ℕ × List ℕ) (tree : Tree ℕ) (front rest : List Place) (place : Place) (given : List ℕ) (shape : Placed v front lower)
-    (a : Arranged y head (lower ++ pair ∷ after) tree (front ++ place ∷ rest) given []) (revision : ℕ) where
+module _ (v y : List ℕ) (head : RevisionHead) (lower after : Store) (pair : List ℕ × List ℕ) (tree : Tree ℕ) (front rest : List PairLayout) (place : PairLayout) (given : List ℕ) (shape : Placed v front lower)
+    (a : IsLaidOut y head (lower ++ pair ∷ after) tree (front ++ place ∷ rest) given []) (revision : ℕ) where
   told_words : IsRenewed y (with_word place.node 7 revision y) place place.document_lines pair.1 revision
   told_words =
       let n = place.node in
@@ -108,7 +108,7 @@ module _ (v y : List ℕ) (head : RevisionHead) (lower after : Store) (pair : Li
         told = get_or-set_same y (8 * n + 7) revision 0 (omega arith);
       }
 
-  pub told_is : Arranged (with_word place.node 7 revision y) head (lower ++ pair ∷ after) tree (front ++ with_lines place place.document_lines revision ∷ rest) given []
+  pub told_is : IsLaidOut (with_word place.node 7 revision y) head (lower ++ pair ∷ after) tree (front ++ with_lines place place.document_lines revision ∷ rest) given []
   told_is =
       renewed v y head lower after pair tree front rest place given [] shape a (with_word place.node 7 revision y) place.document_lines pair.1 [] revision told_words
       (λ k. balanced k front rest place (with_lines place place.document_lines revision) given [] [] refl)
@@ -118,7 +118,7 @@ module _ (x : List ℕ) (node : ℕ) (document : List ℕ) (c : CanRewrite x nod
   old = c.place.document_lines
 
   -- the pair's place with its document in other lines
-  abbrev moved : List ℕ → Place
+  abbrev moved : List ℕ → PairLayout
   moved lines = with_lines c.place lines c.place.revision
 
   r : IsAround x c.front c.rest c.lower c.after c.place c.pair
@@ -228,7 +228,7 @@ module _ (x : List ℕ) (node : ℕ) (document : List ℕ) (c : CanRewrite x nod
         told = m.rest 7 (omega arith) (omega arith) (omega arith) ∙ r.is.revised;
       }
 
-  bare_is : Arranged bare c.head (c.lower ++ (c.pair.0, []) ∷ c.after) c.tree (c.front ++ moved [] ∷ c.rest) c.given (old ++ [])
+  bare_is : IsLaidOut bare c.head (c.lower ++ (c.pair.0, []) ∷ c.after) c.tree (c.front ++ moved [] ∷ c.rest) c.given (old ++ [])
   bare_is =
       renewed x x c.head c.lower c.after c.pair c.tree c.front c.rest c.place c.given [] c.placed_front c.arranged bare [] [] (old ++ []) c.place.revision bare_words
       (λ k. balanced k c.front c.rest c.place (moved []) c.given [] (old ++ []) (

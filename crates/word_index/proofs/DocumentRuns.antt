@@ -6,7 +6,7 @@ use Rattle.std.proofs.lemmas.Bool.Decides.{nat_tests}
 use Rattle.cx_base.specs.Packing.{packed, unpacked}
 use Rattle.cx_base.specs.Store.{blocks}
 use Rattle.avl_words.specs.Lines.{word_of, with_word, IsWithin}
-use Rattle.index_checks.proofs.Texts.{blocks_are}
+use Rattle.index_validation.proofs.Texts.{blocks_are}
 use Rattle.word_index.specs.Packed.{IsPacked}
 use Rattle.word_index.specs.Changes.{LooseChain}
 use Rattle.word_index.specs.Exact.{with_chain_given, with_chain_filled, with_text, document_blocks, with_refilled, with_emptied, with_renewed, with_rewritten, with_replaced}
@@ -14,7 +14,7 @@ use Rattle.word_index.specs.Fresh.{CanTake}
 use Rattle.word_index.specs.Rewriting.{HasLines, CanRewrite, IsOld}
 use Rattle.word_index.proofs.DocumentChanges.{node_here, old_lines, rewritten_here, chain_loose, renew_can, renew_here}
 use Rattle.word_index.proofs.Putting.{length_unpacked}
-use Rattle.word_index.proofs.Refilling.{filled_long}
+use Rattle.word_index.proofs.FilledChains.{filled_long}
 
 -- the blocks of a document
 pub blocks_of_words : (len count : ℕ) (words : List ℕ) → count ≡ div_ceil len 56 → blocks (unpacked len words) ≡ count

@@ -1,7 +1,7 @@
 -- What is taken out leaves the exact words of its meaning.
 use Rattle.std.proofs.Common.{◌≡◌, ◌^◌, ◌+◌, ◌*◌, ◌/◌, ◌<◌, ◌≤◌, ℕ, zero, suc, List, refl, sym, ap, ◌∙◌, arith}
 use Rattle.cx_base.specs.Memory.{Words}
-use Rattle.index_checks.proofs.Texts.{blocks_are}
+use Rattle.index_validation.proofs.Texts.{blocks_are}
 use Rattle.avl_words.specs.Lines.{with_word, word_of}
 use Rattle.word_index.proofs.Giving.{ChainSoFar, so_far_none, so_far_more, so_far_all, next_can_be_given}
 use Rattle.word_index.proofs.PairsGiven.{text_given, pair_given, has_document_text, has_key_text, node_can_be_given}

@@ -9,7 +9,7 @@ use Rattle.cx_base.specs.Memory.{overwritten}
 use Rattle.cx_base.specs.Packing.{packed, unpacked}
 use Rattle.cx_base.specs.Store.{blocks}
 use Rattle.avl_words.specs.Lines.{with_word, word_of}
-use Rattle.index_checks.proofs.Texts.{blocks_are}
+use Rattle.index_validation.proofs.Texts.{blocks_are}
 use Rattle.word_index.proofs.Putting.{length_unpacked}
 use Rattle.word_index.specs.Packed.{IsPacked}
 use Rattle.word_index.specs.Changes.{with_line_given}

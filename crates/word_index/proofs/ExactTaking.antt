@@ -10,7 +10,7 @@ use Rattle.cx_base.specs.Store.{blocks, pair_lines}
 use Rattle.cx_base.proofs.WordLemmas.{Words-set, Words-at, Words-overwritten, length-overwritten, overwritten_before, overwritten_behind, overwritten_within}
 use Rattle.cx_base.proofs.PackingLemmas.{unpacked-packed, packed_fit}
 use Rattle.avl_words.specs.Lines.{IsWithin, with_word, word_of}
-use Rattle.index_checks.proofs.Texts.{blocks_are}
+use Rattle.index_validation.proofs.Texts.{blocks_are}
 use Rattle.word_index.proofs.Putting.{room_less, room_after_line, room_after_text, node_still, pair_written}
 use Rattle.word_index.proofs.Taking.{end_small, new_line, given_line}
 use Rattle.word_index.proofs.Writing.{WrittenSoFar, written_none, can_take_next, taken_within, written_more, written_all}

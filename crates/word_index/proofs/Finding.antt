@@ -1,9 +1,9 @@
 -- The revision of a key where the walk to it ends.
 use Rattle.std.proofs.Common.{false, ◌≡◌, ◌≢◌, ℕ, List, ◌∷◌, ◌++◌, Some, None, sym, ap, ap₂, ◌∙◌}
 use Rattle.avl_words.specs.Lines.{word_of}
-use Rattle.index_checks.specs.Layout.{IsIndex}
-use Rattle.index_checks.specs.Reading.{revised_in}
-use Rattle.index_checks.proofs.Revisions.{triples_of, triples_read}
+use Rattle.index_validation.specs.Layout.{IsIndex}
+use Rattle.index_validation.specs.Reading.{revised_in}
+use Rattle.index_validation.proofs.Revisions.{triples_of, triples_read}
 use Rattle.word_index.specs.Answers.{IsFoundIn}
 use Rattle.word_index.specs.Walk.{AtEnd}
 use Rattle.word_index.proofs.KeyPlaces.{spot_none, spot_place, spot_missing, spot_found}

@@ -11,8 +11,8 @@ use Rattle.avl_words.specs.Lines.{with_word, word_of}
 use Rattle.avl_words.specs.Tree.{Tree, Empty, Node, items}
 use Rattle.avl_words.specs.Words.{times as tree_times}
 use Rattle.avl_words.proofs.Frames.{stands_same}
-use Rattle.index_checks.specs.Layout.{IsChain, Holds, Place, lines_at, nodes_of, IsAt, Placed, Nodes}
-use Rattle.index_checks.proofs.Lines.{all_left, all_right}
+use Rattle.index_validation.specs.Layout.{IsChain, Holds, PairLayout, lines_at, nodes_of, IsAt, Placed, Nodes}
+use Rattle.index_validation.proofs.Lines.{all_left, all_right}
 use Rattle.word_index.specs.Changes.{SameLine}
 
 -- how often a line stands in a list
@@ -62,7 +62,7 @@ holds_same ws now first lines bytes same h = record {
 abbrev pub SameNode : List ℕ → List ℕ → ℕ → Type 0
 SameNode before now node = (i : ℕ) → i < 8 → 3 ≤ i → word_of now node i ≡ word_of before node i
 
-pub at_same : (ws now : List ℕ) (place : Place) (pair : List ℕ × List ℕ) → SameNode ws now place.node → All (SameLine ws now) (place.key_lines ++ place.document_lines) → IsAt ws place pair → IsAt now place pair
+pub at_same : (ws now : List ℕ) (place : PairLayout) (pair : List ℕ × List ℕ) → SameNode ws now place.node → All (SameLine ws now) (place.key_lines ++ place.document_lines) → IsAt ws place pair → IsAt now place pair
 at_same ws now place pair node blocks is = record {
   key = subst (λ x. Holds now x place.key_lines pair.0) (sym (node 3 (omega arith) (omega arith)))
       (holds_same ws now (word_of ws place.node 3) place.key_lines pair.0 (all_left (SameLine ws now) place.key_lines place.document_lines blocks) is.key);
@@ -74,10 +74,10 @@ at_same ws now place pair node blocks is = record {
 }
 
 -- the blocks of places
-abbrev pub blocks_of : List Place → List ℕ
+abbrev pub blocks_of : List PairLayout → List ℕ
 blocks_of places = flat_map (λ p. p.key_lines ++ p.document_lines) places
 
-pub nodes_and_blocks : (x : ℕ) (places : List Place) → times x (flat_map lines_at places) ≡ times x (nodes_of places) + times x (blocks_of places)
+pub nodes_and_blocks : (x : ℕ) (places : List PairLayout) → times x (flat_map lines_at places) ≡ times x (nodes_of places) + times x (blocks_of places)
 nodes_and_blocks x [] = refl
 nodes_and_blocks x (p ∷ places) =
     omega (
@@ -90,7 +90,7 @@ nodes_and_blocks x (p ∷ places) =
     )
 
 -- pairs of which the nodes' own words and the blocks are as they were
-pub placed_same : (ws now : List ℕ) (places : List Place) (store : Store) → All (SameNode ws now) (nodes_of places) → All (SameLine ws now) (blocks_of places) → Placed ws places store → Placed now places store
+pub placed_same : (ws now : List ℕ) (places : List PairLayout) (store : Store) → All (SameNode ws now) (nodes_of places) → All (SameLine ws now) (blocks_of places) → Placed ws places store → Placed now places store
 placed_same ws now [] [] nodes blocks n = n
 placed_same ws now [] (pair ∷ store) nodes blocks n = absurd n
 placed_same ws now (place ∷ places) [] nodes blocks n = absurd n
@@ -100,12 +100,12 @@ placed_same ws now (place ∷ places) (pair ∷ store) nodes blocks n = (
 )
 
 -- what holds of all lines of places holds of their nodes and of their blocks
-pub all_nodes : (P : ℕ → Type 0) (places : List Place) → All P (flat_map lines_at places) → All P (nodes_of places)
+pub all_nodes : (P : ℕ → Type 0) (places : List PairLayout) → All P (flat_map lines_at places) → All P (nodes_of places)
 all_nodes P [] all = All-nil P
 all_nodes P (p ∷ places) all =
     All-cons P p.node (nodes_of places) (All-head P p.node (p.key_lines ++ p.document_lines) (all_left P (lines_at p) (flat_map lines_at places) all)) (all_nodes P places (all_right P (lines_at p) (flat_map lines_at places) all))
 
-pub all_blocks : (P : ℕ → Type 0) (places : List Place) → All P (flat_map lines_at places) → All P (blocks_of places)
+pub all_blocks : (P : ℕ → Type 0) (places : List PairLayout) → All P (flat_map lines_at places) → All P (blocks_of places)
 all_blocks P [] all = All-nil P
 all_blocks P (p ∷ places) all =
     All-append P (p.key_lines ++ p.document_lines) (blocks_of places) (All-tail P p.node (p.key_lines ++ p.document_lines) (all_left P (lines_at p) (flat_map lines_at places) all))
@@ -125,10 +125,10 @@ pub tree_lines : (x : ℕ) (t : Tree ℕ) → tree_times x t ≡ times x (items 
 tree_lines x Empty = refl
 tree_lines x (Node l y r) = omega (arith, tree_lines x l, tree_lines x r, times_append x (items l) (y ∷ items r), times_cons x y (items r))
 
-pub place_lines_counted : (x : ℕ) (ws : List ℕ) (from : ℕ) (tree : Tree ℕ) (places : List Place) (store : Store) → Nodes ws from tree places store → tree_times x tree ≡ times x (nodes_of places)
+pub place_lines_counted : (x : ℕ) (ws : List ℕ) (from : ℕ) (tree : Tree ℕ) (places : List PairLayout) (store : Store) → Nodes ws from tree places store → tree_times x tree ≡ times x (nodes_of places)
 place_lines_counted x ws from tree places store n = tree_lines x tree ∙ ap (times x) n.in_order
 
-pub nodes_same : (ws now : List ℕ) (from : ℕ) (tree : Tree ℕ) (places : List Place) (store : Store) → length now ≡ length ws → All (SameLine ws now) (flat_map lines_at places) → Nodes ws from tree places store → Nodes now from tree places store
+pub nodes_same : (ws now : List ℕ) (from : ℕ) (tree : Tree ℕ) (places : List PairLayout) (store : Store) → length now ≡ length ws → All (SameLine ws now) (flat_map lines_at places) → Nodes ws from tree places store → Nodes now from tree places store
 nodes_same ws now from tree places store long same n = record {
   root_is = n.root_is;
   shape = stands_same ws now tree long

@@ -6,9 +6,9 @@ use Rattle.std.proofs.lemmas.List.{append-nil, get_or-set_same, get_or-set_other
 use Rattle.std.proofs.lemmas.List.Elements.{All-head, All-tail, All-weaker}
 use Rattle.cx_base.specs.Store.{Store}
 use Rattle.avl_words.specs.Lines.{IsWithin, with_word, word_of, IsPartLength}
-use Rattle.index_checks.proofs.Lines.{all_left, all_right, lines_there, lines_within}
-use Rattle.index_checks.proofs.Totals.{few_given}
-use Rattle.index_checks.specs.Layout.{IsChain, Place, lines_at, Nodes, Arranged, RevisionHead}
+use Rattle.index_validation.proofs.Lines.{all_left, all_right, lines_there, lines_within}
+use Rattle.index_validation.proofs.Totals.{few_given}
+use Rattle.index_validation.specs.Layout.{IsChain, PairLayout, lines_at, Nodes, IsLaidOut, RevisionHead}
 use Rattle.word_index.proofs.Frames.{times, times_append, times_cons, times_self, absent, stored_elsewhere, same_then, chain_same, nodes_same}
 use Rattle.word_index.specs.Changes.{SameLine, with_line_given, CanGive, IsLoose, LooseChain, ChainGiven}
 use Rattle.avl_words.specs.Tree.{Tree}
@@ -104,8 +104,8 @@ moved_line x line used given loose =
 one_more : (n : ℕ) → n + 1 ≡ suc n
 one_more n = omega arith
 
-pub give_arranged : (ws : List ℕ) (head : RevisionHead) (store : Store) (tree : Tree ℕ) (places : List Place) (given loose : List ℕ) (line : ℕ) → Arranged ws head store tree places given (line ∷ loose) →
-    Arranged (with_line_given line ws) head store tree places (line ∷ given) loose × All (SameLine ws (with_line_given line ws)) loose
+pub give_arranged : (ws : List ℕ) (head : RevisionHead) (store : Store) (tree : Tree ℕ) (places : List PairLayout) (given loose : List ℕ) (line : ℕ) → IsLaidOut ws head store tree places given (line ∷ loose) →
+    IsLaidOut (with_line_given line ws) head store tree places (line ∷ given) loose × All (SameLine ws (with_line_given line ws)) loose
 give_arranged ws head store tree places given loose line a =
     let used = flat_map lines_at places in
     let alone = stands_alone line (word_of ws 0 3) used given loose (a.once line) in
@@ -138,7 +138,7 @@ give_arranged ws head store tree places given loose line a =
     )
 
 -- a chain of loose lines, some of which are given back
-pub record Partly (before now : List ℕ) (head : RevisionHead) (store : Store) (tree : Tree ℕ) (places : List Place) (others : List ℕ) (i line count : ℕ) : Type 0 where
+pub record Partly (before now : List ℕ) (head : RevisionHead) (store : Store) (tree : Tree ℕ) (places : List PairLayout) (others : List ℕ) (i line count : ℕ) : Type 0 where
   pub rest : List ℕ
   pub loose : IsLoose now head store tree places rest others
   pub chain : IsChain now line rest
@@ -147,7 +147,7 @@ pub record Partly (before now : List ℕ) (head : RevisionHead) (store : Store) 
 
 abbrev pub ChainSoFar : ℕ → ℕ → ℕ → ℕ → List ℕ → List ℕ → Type 0
 ChainSoFar first count i line before now =
-    (head : RevisionHead) (store : Store) (tree : Tree ℕ) (places : List Place) (lines others : List ℕ) → IsLoose before head store tree places lines others → IsChain before first lines → count ≡ length lines →
+    (head : RevisionHead) (store : Store) (tree : Tree ℕ) (places : List PairLayout) (lines others : List ℕ) → IsLoose before head store tree places lines others → IsChain before first lines → count ≡ length lines →
     Partly before now head store tree places others i line count
 
 pub so_far_none : (first count : ℕ) (x y : List ℕ) → x ≡ y → ChainSoFar first count 0 first x y
@@ -161,8 +161,8 @@ so_far_none first count x y e head store tree places lines others loose chain co
     })
 
 -- the next line is there
-part_within : (x y : List ℕ) (head : RevisionHead) (store : Store) (tree : Tree ℕ) (places : List Place) (others rest given : List ℕ) (i line count : ℕ) → i < count → i + length rest ≡ count →
-    Arranged y head store tree places given (rest ++ others) → IsChain y line rest → CanGive y line
+part_within : (x y : List ℕ) (head : RevisionHead) (store : Store) (tree : Tree ℕ) (places : List PairLayout) (others rest given : List ℕ) (i line count : ℕ) → i < count → i + length rest ≡ count →
+    IsLaidOut y head store tree places given (rest ++ others) → IsChain y line rest → CanGive y line
 part_within x y head store tree places others [] given i line count l e a c = absurd (omega arith)
 part_within x y head store tree places others (r ∷ rest) given i line count l e a c = record {
   there = subst (IsWithin y) (sym c.0) (All-head (IsWithin y) r (rest ++ others) (all_right (IsWithin y) (flat_map lines_at places ++ given) (r ∷ (rest ++ others)) (lines_within y head store tree places given (r ∷ (rest ++ others)) a)));
@@ -178,8 +178,8 @@ next_can_be_given first count i line x y l h r =
 pub all_same_then : (x y z lines : List ℕ) → All (SameLine x y) lines → All (SameLine y z) lines → All (SameLine x z) lines
 all_same_then x y z lines p q = λ k d l. same_then x y z (get_or lines k d) (p k d l) (q k d l)
 
-part_more : (x y z : List ℕ) (head : RevisionHead) (store : Store) (tree : Tree ℕ) (places : List Place) (others rest given : List ℕ) (i line next count : ℕ) → i < count → i + length rest ≡ count →
-    Arranged y head store tree places given (rest ++ others) → IsChain y line rest → All (SameLine x y) others → word_of y line 0 ≡ next → z ≡ with_line_given line y →
+part_more : (x y z : List ℕ) (head : RevisionHead) (store : Store) (tree : Tree ℕ) (places : List PairLayout) (others rest given : List ℕ) (i line next count : ℕ) → i < count → i + length rest ≡ count →
+    IsLaidOut y head store tree places given (rest ++ others) → IsChain y line rest → All (SameLine x y) others → word_of y line 0 ≡ next → z ≡ with_line_given line y →
     Partly x z head store tree places others (i + 1) next count
 part_more x y z head store tree places others [] given i line next count l e a c same word is = absurd (omega arith)
 part_more x y z head store tree places others (r ∷ rest) given i line next count l e a c same word is =
@@ -201,9 +201,9 @@ so_far_more first count i line next x y z l r word is head store tree places lin
     let p = r head store tree places lines others loose chain counted in
     part_more x y z head store tree places others p.rest p.loose.given i line next count l p.left p.loose.arranged p.chain p.same word is
 
-none_left : (x y : List ℕ) (head : RevisionHead) (store : Store) (tree : Tree ℕ) (places : List Place) (others rest given : List ℕ) (i count : ℕ) → i ≡ count → i + length rest ≡ count →
-    Arranged y head store tree places given (rest ++ others) → Arranged y head store tree places given (others ++ [])
-none_left x y head store tree places others [] given i count e l a = subst (Arranged y head store tree places given) (sym (append-nil others)) a
+none_left : (x y : List ℕ) (head : RevisionHead) (store : Store) (tree : Tree ℕ) (places : List PairLayout) (others rest given : List ℕ) (i count : ℕ) → i ≡ count → i + length rest ≡ count →
+    IsLaidOut y head store tree places given (rest ++ others) → IsLaidOut y head store tree places given (others ++ [])
+none_left x y head store tree places others [] given i count e l a = subst (IsLaidOut y head store tree places given) (sym (append-nil others)) a
 none_left x y head store tree places others (r ∷ rest) given i count e l a = absurd (omega arith)
 
 pub so_far_all : (first count i line : ℕ) (x y : List ℕ) → i ≡ count → ChainSoFar first count i line x y → ChainGiven first count x y

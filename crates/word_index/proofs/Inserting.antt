@@ -10,10 +10,10 @@ use Rattle.avl_words.specs.Lines.{line_count, word_of, with_word}
 use Rattle.avl_words.specs.Words.{root}
 use Rattle.avl_words.specs.Exact.{with_tree}
 use Rattle.avl_words.proofs.ExactWords.{tree_in_is}
-use Rattle.index_checks.specs.Layout.{Arranged, head_of, IsRevision, StandsFor, IsIndex}
-use Rattle.index_checks.specs.Reading.{store_in, revised_in}
-use Rattle.index_checks.proofs.LawfulWords.{store_is}
-use Rattle.index_checks.proofs.Totals.{all_lines}
+use Rattle.index_validation.specs.Layout.{IsLaidOut, head_of, IsRevision, StandsFor, IsIndex}
+use Rattle.index_validation.specs.Reading.{store_in, revised_in}
+use Rattle.index_validation.proofs.LawfulWords.{store_is}
+use Rattle.index_validation.proofs.Totals.{all_lines}
 use Rattle.word_index.specs.Exact.{document_blocks, order_in, with_new_pair, with_one_more, with_added, node_at, with_replaced, with_written, is_key_in, with_document, inserted_in}
 use Rattle.word_index.specs.Answers.{IsNodeOf}
 use Rattle.word_index.specs.Fresh.{CanTake}
@@ -24,13 +24,13 @@ use Rattle.word_index.specs.Rewriting.{CanRewrite}
 use Rattle.word_index.specs.Walk.{HasNode, AtSpot}
 use Rattle.word_index.proofs.Adding.{add_room, added_stands, plain_of}
 use Rattle.word_index.proofs.DocumentChanges.{replaced_is}
-use Rattle.word_index.proofs.Renewing.{with_lines}
+use Rattle.word_index.proofs.ReplacedDocuments.{with_lines}
 use Rattle.word_index.proofs.ExactTaking.{new_pair_is}
 use Rattle.word_index.proofs.NodeReads.{document_text}
 use Rattle.word_index.proofs.Putting.{lines_of_append, lines_of_cons, lines_of_places}
 use Rattle.word_index.proofs.Splits.{above_split, below_split, above_behind, below_behind, document_there, document_missing}
 use Rattle.word_index.proofs.KeyPlaces.{tree_of, walk_end, IsMissing, HasPlace, none_at, place_is_at, place_node, spot_node}
-use Rattle.index_checks.proofs.Revisions.{triples_of, triples_read}
+use Rattle.index_validation.proofs.Revisions.{triples_of, triples_read}
 use Rattle.word_index.proofs.Triples.{Triple, HasTriples, StandsWith, written_at, triples_replaced, raised, stands_again, written_revisions, revisions_of}
 use Rattle.doc_model.specs.Revisions.{RevisedStore, next_revision, store_written}
 use Rattle.std.specs.List.{All}
@@ -87,7 +87,7 @@ module _ (x key document : List ℕ) (version : ℕ) (store : Store) (s : Stands
       place = h.at.place;
       given = s.given;
       here = h.at.node_is;
-      arranged = subst (λ ps. Arranged x (head_of version s.last) (h.at.lower ++ h.at.pair ∷ h.at.after) s.tree ps s.given []) h.at.places_are (subst (λ st. Arranged x (head_of version s.last) st s.tree s.places s.given []) h.at.store_is s.arranged);
+      arranged = subst (λ ps. IsLaidOut x (head_of version s.last) (h.at.lower ++ h.at.pair ∷ h.at.after) s.tree ps s.given []) h.at.places_are (subst (λ st. IsLaidOut x (head_of version s.last) st s.tree s.places s.given []) h.at.store_is s.arranged);
       placed_front = h.at.placed_front;
       room = (let lines = here_lines in subst (λ k. lines_of h.at.lower + pair_lines (k, document) + lines_of h.at.after + 1 ≤ line_count x) (sym (ap (λ (p : List ℕ × List ℕ). p.0) h.pair_is)) (omega (arith, lines, room)));
     }
@@ -103,7 +103,7 @@ module _ (x key document : List ℕ) (version : ℕ) (store : Store) (s : Stands
           tree = w.tree;
           places = h.at.front ++ place ∷ h.at.rest;
           given = w.given;
-          arranged = subst (λ st. Arranged (with_replaced document node revision x) (head_of version s.last) st w.tree (h.at.front ++ place ∷ h.at.rest) w.given []) same w.arranged;
+          arranged = subst (λ st. IsLaidOut (with_replaced document node revision x) (head_of version s.last) st w.tree (h.at.front ++ place ∷ h.at.rest) w.given []) same w.arranged;
           told = ap (triples_of (h.at.front ++ place ∷ h.at.rest)) here_with
               ∙ triples_replaced x key h.at.front h.at.rest h.at.lower h.at.after h.at.placed_front h.below h.above h.document h.at.place document place
               ∙ ap (written_at key document revision) (sym (ap₂ triples_of h.at.places_are here_is));
@@ -130,18 +130,18 @@ module _ (x key document : List ℕ) (version : ℕ) (store : Store) (s : Stands
       HasTriples (cond b (with_replaced document (node_at key x) revision x) (with_added (key, document) revision x)) (head_of version s.last) (with_pair key document store) (written_at key document revision (triples_of s.places store))
   there_with revision is_key is_document room b e =
       let node = root (walk_end (order_in key x) s.tree).1 in
-      let Stands : List ℕ → Type 0 = λ w. HasTriples w (head_of version s.last) (with_pair key document store) (written_at key document revision (triples_of s.places store)) in
+      let RepresentsTree : List ℕ → Type 0 = λ w. HasTriples w (head_of version s.last) (with_pair key document store) (written_at key document revision (triples_of s.places store)) in
       elim (cases_eq node 0) [
         | inl z ↦
             let m = none_at x key version store s (sym z) in
             let lines = missing_lines m in
             let f : false ≡ b = sym (missing_key m) ∙ e in
-            subst (λ b. Stands (cond b (with_replaced document (node_at key x) revision x) (with_added (key, document) revision x))) f (added_is revision (sym z) is_key is_document (omega (arith, lines, room)))
+            subst (λ b. RepresentsTree (cond b (with_replaced document (node_at key x) revision x) (with_added (key, document) revision x))) f (added_is revision (sym z) is_key is_document (omega (arith, lines, room)))
         | inr n ↦
             let h = place_is_at x key version store s node refl n in
             let t : true ≡ b = sym (here_key node h) ∙ e in
-            subst (λ b. Stands (cond b (with_replaced document (node_at key x) revision x) (with_added (key, document) revision x))) t
-            (subst (λ n. Stands (with_replaced document n revision x)) node_at_is (replaced_stands node h revision is_document room))
+            subst (λ b. RepresentsTree (cond b (with_replaced document (node_at key x) revision x) (with_added (key, document) revision x))) t
+            (subst (λ n. RepresentsTree (with_replaced document n revision x)) node_at_is (replaced_stands node h revision is_document room))
       ]
 
 pub room_parts : (total count : ℕ) → leb total (count - 1) ≡ true → 1 ≤ count → total + 1 ≤ count

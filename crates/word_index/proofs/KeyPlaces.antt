@@ -14,13 +14,13 @@ use Rattle.avl_words.specs.Tree.{Tree, Empty, Node, items, size}
 use Rattle.avl_words.specs.Ways.{Turn, whole, before, behind, spot, IsCutBy, WayEnds}
 use Rattle.avl_words.proofs.Spots.{IsBetween, parted, spot_whole, spot_ends, spot_items, top_between, size_is}
 use Rattle.avl_words.specs.Lines.{word_of, IsWithin}
-use Rattle.avl_words.specs.Words.{root, Stands, IsTree}
+use Rattle.avl_words.specs.Words.{root, RepresentsTree, IsTree}
 use Rattle.avl_words.proofs.Walks.{stands_at, goes_right, goes_left, way_ends, way_ended, way_ends_same, way_ended_same, few_on_way, few_at_node, deep_none}
-use Rattle.index_checks.specs.Layout.{Place, lines_at, nodes_of, IsAt, Placed, Arranged, StandsFor, IsIndex, RevisionHead, head_of}
-use Rattle.index_checks.proofs.Arranging.{arranged_tree}
-use Rattle.index_checks.proofs.Lines.{all_left, all_right, all_middle, lines_there, lines_within, place_lines}
-use Rattle.index_checks.proofs.OneStore.{placed_count}
-use Rattle.index_checks.proofs.Texts.{text_is, key_small}
+use Rattle.index_validation.specs.Layout.{PairLayout, lines_at, nodes_of, IsAt, Placed, IsLaidOut, StandsFor, IsIndex, RevisionHead, head_of}
+use Rattle.index_validation.proofs.Arranging.{arranged_tree}
+use Rattle.index_validation.proofs.Lines.{all_left, all_right, all_middle, lines_there, lines_within, place_lines}
+use Rattle.index_validation.proofs.OneStore.{placed_count}
+use Rattle.index_validation.proofs.Texts.{text_is, key_small}
 use Rattle.word_index.specs.Answers.{IsNodeOf, IsFound}
 use Rattle.word_index.specs.Exact.{order_in}
 use Rattle.word_index.specs.Walk.{HasNode, AtSpot, FewVisits, OnWay, toward, walk_order, IsFirst, IsPassing, IsWalkEnded, IsFirstNode, Walked}
@@ -29,7 +29,7 @@ use Rattle.word_index.proofs.NodeReads.{node_key}
 use Rattle.word_index.proofs.Splits.{all_above, document_there, document_missing}
 
 -- how the node of a place compares with a key
-pub order_at_place : (ws key : List ℕ) (place : Place) (pair : List ℕ × List ℕ) → IsAt ws place pair → IsKey pair.0 → order_in key ws place.node ≡ key_cmp pair.0 key
+pub order_at_place : (ws key : List ℕ) (place : PairLayout) (pair : List ℕ × List ℕ) → IsAt ws place pair → IsKey pair.0 → order_in key ws place.node ≡ key_cmp pair.0 key
 order_at_place ws key place pair is limits = ap (λ k. key_cmp k key) (text_is ws place.node 3 place.key_lines pair.0 is.key is.key_length (key_small pair.0 limits))
 
 module _ (ws key : List ℕ) where
@@ -39,7 +39,7 @@ module _ (ws key : List ℕ) where
   above_after Equal k e n r l = greater_from_above r key (subst (λ x. key_cmp x r ≡ Less) (same_key k key (sym e)) l)
   above_after Greater k e n r l = greater_from_above r key (below_both key k r (above_from_greater k key (sym e)) l)
 
-  all_above_nodes : (k : List ℕ) (places : List Place) (store : Store) → Placed ws places store → All (λ p. IsKey p.0) store → key_cmp k key ≢ Less → All (λ p. key_cmp k p.0 ≡ Less) store → All (λ n. order_in key ws n ≡ Greater) (nodes_of places)
+  all_above_nodes : (k : List ℕ) (places : List PairLayout) (store : Store) → Placed ws places store → All (λ p. IsKey p.0) store → key_cmp k key ≢ Less → All (λ p. key_cmp k p.0 ≡ Less) store → All (λ n. order_in key ws n ≡ Greater) (nodes_of places)
   all_above_nodes k [] [] n keys ne above = All-nil (λ n. order_in key ws n ≡ Greater)
   all_above_nodes k [] (q ∷ store) n keys ne above = absurd n
   all_above_nodes k (p ∷ places) [] n keys ne above = absurd n
@@ -48,7 +48,7 @@ module _ (ws key : List ℕ) where
       (order_at_place ws key p q n.0 (All-head (λ p. IsKey p.0) q store keys) ∙ above_after (key_cmp k key) k refl ne q.0 (All-head (λ p. key_cmp k p.0 ≡ Less) q store above))
       (all_above_nodes k places store n.1 (All-tail (λ p. IsKey p.0) q store keys) ne (All-tail (λ p. key_cmp k p.0 ≡ Less) q store above))
 
-  pub cut_nodes : (places : List Place) (store : Store) → Placed ws places store → KeysRise store → All (λ p. IsKey p.0) store → IsCutBy (order_in key ws) (nodes_of places)
+  pub cut_nodes : (places : List PairLayout) (store : Store) → Placed ws places store → KeysRise store → All (λ p. IsKey p.0) store → IsCutBy (order_in key ws) (nodes_of places)
   cut_nodes [] [] n r keys = tt
   cut_nodes [] (q ∷ store) n r keys = absurd n
   cut_nodes (p ∷ places) [] n r keys = absurd n
@@ -58,7 +58,7 @@ module _ (ws key : List ℕ) where
       (λ ne. all_above_nodes q.0 places store n.1 rest (λ l. ne (here ∙ l)) r.0, cut_nodes places store n.1 r.1 rest)
 
   -- the pairs of nodes that are below or above
-  pub below_pairs : (places : List Place) (store : Store) → Placed ws places store → All (λ p. IsKey p.0) store → All (λ n. order_in key ws n ≡ Less) (nodes_of places) → All (λ p. key_cmp p.0 key ≡ Less) store
+  pub below_pairs : (places : List PairLayout) (store : Store) → Placed ws places store → All (λ p. IsKey p.0) store → All (λ n. order_in key ws n ≡ Less) (nodes_of places) → All (λ p. key_cmp p.0 key ≡ Less) store
   below_pairs [] [] n keys all = All-nil (λ p. key_cmp p.0 key ≡ Less)
   below_pairs [] (q ∷ store) n keys all = absurd n
   below_pairs (p ∷ places) [] n keys all = absurd n
@@ -66,7 +66,7 @@ module _ (ws key : List ℕ) where
       All-cons (λ p. key_cmp p.0 key ≡ Less) q store (sym (order_at_place ws key p q n.0 (All-head (λ p. IsKey p.0) q store keys)) ∙ All-head (λ n. order_in key ws n ≡ Less) p.node (nodes_of places) all)
       (below_pairs places store n.1 (All-tail (λ p. IsKey p.0) q store keys) (All-tail (λ n. order_in key ws n ≡ Less) p.node (nodes_of places) all))
 
-  pub above_pairs : (places : List Place) (store : Store) → Placed ws places store → All (λ p. IsKey p.0) store → All (λ n. order_in key ws n ≡ Greater) (nodes_of places) → All (λ p. key_cmp key p.0 ≡ Less) store
+  pub above_pairs : (places : List PairLayout) (store : Store) → Placed ws places store → All (λ p. IsKey p.0) store → All (λ n. order_in key ws n ≡ Greater) (nodes_of places) → All (λ p. key_cmp key p.0 ≡ Less) store
   above_pairs [] [] n keys all = All-nil (λ p. key_cmp key p.0 ≡ Less)
   above_pairs [] (q ∷ store) n keys all = absurd n
   above_pairs (p ∷ places) [] n keys all = absurd n
@@ -76,9 +76,9 @@ module _ (ws key : List ℕ) where
       (above_pairs places store n.1 (All-tail (λ p. IsKey p.0) q store keys) (All-tail (λ n. order_in key ws n ≡ Greater) p.node (nodes_of places) all))
 
 -- places and pairs in two parts, by their nodes
-pub record IsSplit (ws : List ℕ) (places : List Place) (store : Store) (xs ys : List ℕ) : Type 0 where
-  pub front : List Place
-  pub rest : List Place
+pub record IsSplit (ws : List ℕ) (places : List PairLayout) (store : Store) (xs ys : List ℕ) : Type 0 where
+  pub front : List PairLayout
+  pub rest : List PairLayout
   pub lower : Store
   pub others : Store
   pub places_are : places ≡ front ++ rest
@@ -91,7 +91,7 @@ pub record IsSplit (ws : List ℕ) (places : List Place) (store : Store) (xs ys 
 same_head : (x y : ℕ) (xs ys : List ℕ) → x ∷ xs ≡ y ∷ ys → (x ≡ y) × (xs ≡ ys)
 same_head x y xs ys e = (cc, cc)
 
-pub split_at : (ws : List ℕ) (places : List Place) (store : Store) (xs ys : List ℕ) → Placed ws places store → nodes_of places ≡ xs ++ ys → IsSplit ws places store xs ys
+pub split_at : (ws : List ℕ) (places : List PairLayout) (store : Store) (xs ys : List ℕ) → Placed ws places store → nodes_of places ≡ xs ++ ys → IsSplit ws places store xs ys
 split_at ws places store [] ys n e = record { front = []; rest = places; lower = []; others = store; places_are = refl; store_is = refl; front_nodes = refl; rest_nodes = e; placed_front = tt; placed_rest = n }
 split_at ws [] store (x ∷ xs) ys n e = absurd (let f : ⊥ = cc in f)
 split_at ws (p ∷ places) [] (x ∷ xs) ys n e = absurd n
@@ -112,8 +112,8 @@ split_at ws (p ∷ places) (q ∷ store) (x ∷ xs) ys n e =
     }
 
 -- a pair of a store at a place
-pub node_there : (ws : List ℕ) (head : RevisionHead) (store lower others : Store) (tree : Tree ℕ) (places front rest : List Place) (given loose : List ℕ) (node : ℕ) (place : Place) (pair : List ℕ × List ℕ) →
-    Arranged ws head store tree places given loose → IsStore store → places ≡ front ++ place ∷ rest → store ≡ lower ++ pair ∷ others → node ≡ place.node → IsAt ws place pair → IsNodeOf ws node pair
+pub node_there : (ws : List ℕ) (head : RevisionHead) (store lower others : Store) (tree : Tree ℕ) (places front rest : List PairLayout) (given loose : List ℕ) (node : ℕ) (place : PairLayout) (pair : List ℕ × List ℕ) →
+    IsLaidOut ws head store tree places given loose → IsStore store → places ≡ front ++ place ∷ rest → store ≡ lower ++ pair ∷ others → node ≡ place.node → IsAt ws place pair → IsNodeOf ws node pair
 node_there ws head store lower others tree places front rest given loose node place pair a lawful p s e is = record {
   place = place;
   here = e;
@@ -127,8 +127,8 @@ node_there ws head store lower others tree places front rest given loose node pl
 }
 
 -- the first of some pairs
-pub first_node : (ws : List ℕ) (head : RevisionHead) (store lower others : Store) (tree : Tree ℕ) (places front rest : List Place) (given loose : List ℕ) (node : ℕ) (nodes : List ℕ) →
-    Arranged ws head store tree places given loose → IsStore store → places ≡ front ++ rest → store ≡ lower ++ others → Placed ws rest others → nodes_of rest ≡ nodes → IsFirst node nodes → All (λ n. 1 ≤ n) nodes → IsFirstNode ws node others
+pub first_node : (ws : List ℕ) (head : RevisionHead) (store lower others : Store) (tree : Tree ℕ) (places front rest : List PairLayout) (given loose : List ℕ) (node : ℕ) (nodes : List ℕ) →
+    IsLaidOut ws head store tree places given loose → IsStore store → places ≡ front ++ rest → store ≡ lower ++ others → Placed ws rest others → nodes_of rest ≡ nodes → IsFirst node nodes → All (λ n. 1 ≤ n) nodes → IsFirstNode ws node others
 first_node ws head store lower [] tree places front [] given loose node [] a lawful p s n e f some = f
 first_node ws head store lower [] tree places front [] given loose node (m ∷ nodes) a lawful p s n e f some = absurd (let g : ⊥ = cc in g)
 first_node ws head store lower [] tree places front (q ∷ rest) given loose node nodes a lawful p s n e f some = absurd n
@@ -139,10 +139,10 @@ first_node ws head store lower (pair ∷ others) tree places front (q ∷ rest) 
     (subst (λ x. 1 ≤ x) (sym f) (All-head (λ n. 1 ≤ n) m nodes some), node_there ws head store lower others tree places front rest given loose node q pair a lawful p s (f ∙ sym h.0) n.0)
 
 -- a node of a tree in order, and its place
-pub record IsHere (ws : List ℕ) (places : List Place) (store : Store) (xs : List ℕ) (x : ℕ) (ys : List ℕ) : Type 0 where
-  pub front : List Place
-  pub rest : List Place
-  pub place : Place
+pub record IsHere (ws : List ℕ) (places : List PairLayout) (store : Store) (xs : List ℕ) (x : ℕ) (ys : List ℕ) : Type 0 where
+  pub front : List PairLayout
+  pub rest : List PairLayout
+  pub place : PairLayout
   pub lower : Store
   pub after : Store
   pub pair : List ℕ × List ℕ
@@ -155,7 +155,7 @@ pub record IsHere (ws : List ℕ) (places : List Place) (store : Store) (xs : Li
   pub is : IsAt ws place pair
   pub placed_rest : Placed ws rest after
 
-here_of : (ws : List ℕ) (places front rest : List Place) (store lower others : Store) (xs : List ℕ) (x : ℕ) (ys : List ℕ) → places ≡ front ++ rest → store ≡ lower ++ others → nodes_of front ≡ xs → nodes_of rest ≡ x ∷ ys → Placed ws front lower → Placed ws rest others →
+here_of : (ws : List ℕ) (places front rest : List PairLayout) (store lower others : Store) (xs : List ℕ) (x : ℕ) (ys : List ℕ) → places ≡ front ++ rest → store ≡ lower ++ others → nodes_of front ≡ xs → nodes_of rest ≡ x ∷ ys → Placed ws front lower → Placed ws rest others →
     IsHere ws places store xs x ys
 here_of ws places front [] store lower others xs x ys p s f r n m = absurd (let g : ⊥ = cc in g)
 here_of ws places front (q ∷ rest) store lower [] xs x ys p s f r n m = absurd m
@@ -178,7 +178,7 @@ here_of ws places front (q ∷ rest) store lower (pair ∷ others) xs x ys p s f
       placed_rest = m.1;
     }
 
-pub here_at : (ws : List ℕ) (places : List Place) (store : Store) (xs : List ℕ) (x : ℕ) (ys : List ℕ) → Placed ws places store → nodes_of places ≡ xs ++ x ∷ ys → IsHere ws places store xs x ys
+pub here_at : (ws : List ℕ) (places : List PairLayout) (store : Store) (xs : List ℕ) (x : ℕ) (ys : List ℕ) → Placed ws places store → nodes_of places ≡ xs ++ x ∷ ys → IsHere ws places store xs x ys
 here_at ws places store xs x ys n e =
     let s = split_at ws places store xs (x ∷ ys) n e in
     here_of ws places s.front s.rest store s.lower s.others xs x ys s.places_are s.store_is s.front_nodes s.rest_nodes s.placed_front s.placed_rest
@@ -272,10 +272,10 @@ module _ (ws : List ℕ) (version : ℕ) (store : Store) (s : StandsFor ws versi
         }
 
     -- the end of a walk
-    pub end_stands : Stands ws (spot (walk_order past key ws) [] s.tree).1
-    end_stands = stands_at ws (spot (walk_order past key ws) [] s.tree).0 (spot (walk_order past key ws) [] s.tree).1 (subst (Stands ws) (sym (spot_whole (walk_order past key ws) [] s.tree)) s.arranged.nodes.shape)
+    pub end_stands : RepresentsTree ws (spot (walk_order past key ws) [] s.tree).1
+    end_stands = stands_at ws (spot (walk_order past key ws) [] s.tree).0 (spot (walk_order past key ws) [] s.tree).1 (subst (RepresentsTree ws) (sym (spot_whole (walk_order past key ws) [] s.tree)) s.arranged.nodes.shape)
 
-    no_node : (here : Tree ℕ) (node : ℕ) → Stands ws here → node ≡ root here → node ≡ 0 → items here ≡ []
+    no_node : (here : Tree ℕ) (node : ℕ) → RepresentsTree ws here → node ≡ root here → node ≡ 0 → items here ≡ []
     no_node Empty node h e z = refl
     no_node (Node l x r) node h e z = absurd (let some = h.0.some in omega arith)
 
@@ -339,7 +339,7 @@ is_other Equal e f = (let g : true ≡ false = e in cc)
 is_other Greater e f = cc
 
 -- the walk to a key ends at nothing
-pub record IsMissing (ws key : List ℕ) (places : List Place) (store : Store) (way : List (Turn ℕ)) : Type 0 where
+pub record IsMissing (ws key : List ℕ) (places : List PairLayout) (store : Store) (way : List (Turn ℕ)) : Type 0 where
   pub split : IsSplit ws places store (before way) (behind way)
   pub below : All (λ p. key_cmp p.0 key ≡ Less) split.lower
   pub above : All (λ p. key_cmp key p.0 ≡ Less) split.others
@@ -360,7 +360,7 @@ pub spot_none : (ws key nodes sides : List ℕ) (d node above version : ℕ) (st
 spot_none ws key nodes sides d node above version store s e z = none_at ws key version store s (sym z ∙ e.at.node_is)
 
 -- or at the node of the key
-pub record HasPlace (ws key : List ℕ) (places : List Place) (store : Store) (way : List (Turn ℕ)) (here : Tree ℕ) (node : ℕ) : Type 0 where
+pub record HasPlace (ws key : List ℕ) (places : List PairLayout) (store : Store) (way : List (Turn ℕ)) (here : Tree ℕ) (node : ℕ) : Type 0 where
   pub left : Tree ℕ
   pub right : Tree ℕ
   pub document : List ℕ
@@ -414,7 +414,7 @@ nodes_some ws version store s =
     all_nodes (λ n. 1 ≤ n) s.places (All-weaker (λ l. (1 ≤ l) × (l < word_of ws 0 3)) (λ l. 1 ≤ l) (λ l h. h.0) (flat_map lines_at s.places)
     (all_left (λ l. (1 ≤ l) × (l < word_of ws 0 3)) (flat_map lines_at s.places) s.given (all_left (λ l. (1 ≤ l) × (l < word_of ws 0 3)) (flat_map lines_at s.places ++ s.given) [] (lines_there ws (head_of version s.last) store s.tree s.places s.given [] s.arranged))))
 
-pub map_append : (f : Place → ℕ) (xs ys : List Place) → map f (xs ++ ys) ≡ map f xs ++ map f ys
+pub map_append : (f : PairLayout → ℕ) (xs ys : List PairLayout) → map f (xs ++ ys) ≡ map f xs ++ map f ys
 map_append f [] ys = refl
 map_append f (x ∷ xs) ys = ap (λ u. f x ∷ u) (map_append f xs ys)
 
@@ -443,7 +443,7 @@ spot_node ws key nodes sides d node above spot n i =
     record { pair = (key, f.0); is = f.2 }
 
 -- past a key
-not_above : (ws key : List ℕ) (places : List Place) (store : Store) → Placed ws places store → All (λ p. IsKey p.0) store → All (λ n. walk_order true key ws n ≡ Less) (nodes_of places) → All (λ p. is_lt (key_cmp key p.0) ≡ false) store
+not_above : (ws key : List ℕ) (places : List PairLayout) (store : Store) → Placed ws places store → All (λ p. IsKey p.0) store → All (λ n. walk_order true key ws n ≡ Less) (nodes_of places) → All (λ p. is_lt (key_cmp key p.0) ≡ false) store
 not_above ws key [] [] n keys all = All-nil (λ p. is_lt (key_cmp key p.0) ≡ false)
 not_above ws key [] (q ∷ store) n keys all = absurd n
 not_above ws key (p ∷ places) [] n keys all = absurd n

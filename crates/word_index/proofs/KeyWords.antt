@@ -8,10 +8,10 @@ use Rattle.cx_base.proofs.PackingLemmas.{packed_byte}
 use Rattle.cx_base.specs.Packing.{byte_at, packed_at, packed, unpacked}
 use Rattle.cx_base.specs.Store.{key_cmp, IsKey}
 use Rattle.avl_words.specs.Lines.{IsWithin, word_of}
-use Rattle.index_checks.specs.Blocks.{HasChainWords}
-use Rattle.index_checks.specs.Layout.{Holds}
-use Rattle.index_checks.proofs.BlockReads.{chain_first, chain_next}
-use Rattle.index_checks.proofs.Texts.{key_small}
+use Rattle.index_validation.specs.Blocks.{HasChainWords}
+use Rattle.index_validation.specs.Layout.{Holds}
+use Rattle.index_validation.proofs.BlockReads.{chain_first, chain_next}
+use Rattle.index_validation.proofs.Texts.{key_small}
 use Rattle.word_index.specs.Answers.{IsNodeOf}
 use Rattle.word_index.specs.Walk.{HasNode}
 use Rattle.word_index.proofs.KeyOrders.{alike_to, words_bytes}

@@ -17,13 +17,13 @@ pub mod KeyOrders
 pub mod WordsApart
 pub mod KeyPlaces
 pub mod KeyWords
-pub mod Reaching
-pub mod Relaying
+pub mod UnkeptWalks
+pub mod NewLinks
 pub mod Cutting
 pub mod Adding
 pub mod Afterwards
-pub mod Renewing
-pub mod Refilling
+pub mod ReplacedDocuments
+pub mod FilledChains
 pub mod DocumentChanges
 pub mod DocumentRuns
 pub mod Inserting

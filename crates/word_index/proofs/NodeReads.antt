@@ -3,13 +3,13 @@ use Rattle.std.proofs.Common.{◌≡◌, ◌*◌, ◌<◌, ◌≤◌, ℕ, List,
 use Rattle.std.proofs.lemmas.List.Elements.{All-head, All-tail}
 use Rattle.cx_base.proofs.PackingLemmas.{unpacked-packed}
 use Rattle.cx_base.specs.Packing.{unpacked}
-use Rattle.index_checks.proofs.Texts.{key_small, text_is}
-use Rattle.index_checks.specs.Reading.{text_at}
+use Rattle.index_validation.proofs.Texts.{key_small, text_is}
+use Rattle.index_validation.specs.Reading.{text_at}
 use Rattle.cx_base.specs.Store.{IsKey}
 use Rattle.avl_words.specs.Lines.{IsWithin, word_of}
-use Rattle.index_checks.proofs.Lines.{all_left, all_right}
-use Rattle.index_checks.specs.Blocks.{IsTextAt, HasText}
-use Rattle.index_checks.specs.Layout.{Holds}
+use Rattle.index_validation.proofs.Lines.{all_left, all_right}
+use Rattle.index_validation.specs.Blocks.{IsTextAt, HasText}
+use Rattle.index_validation.specs.Layout.{Holds}
 use Rattle.word_index.specs.Answers.{IsNodeOf, IsPackOf}
 use Rattle.word_index.specs.Walk.{HasNode}
 

@@ -5,18 +5,18 @@ use Rattle.std.specs.Int.{div_ceil}
 use Rattle.std.proofs.lemmas.List.Elements.{All-head, All-tail}
 use Rattle.cx_base.specs.Store.{Store}
 use Rattle.avl_words.specs.Lines.{IsWithin, word_of}
-use Rattle.index_checks.proofs.Lines.{all_left, all_right, lines_within}
-use Rattle.index_checks.proofs.Totals.{few_given}
-use Rattle.index_checks.specs.Blocks.{IsTextAt}
-use Rattle.index_checks.specs.Layout.{IsChain, Holds, Place, lines_at, Arranged, RevisionHead}
+use Rattle.index_validation.proofs.Lines.{all_left, all_right, lines_within}
+use Rattle.index_validation.proofs.Totals.{few_given}
+use Rattle.index_validation.specs.Blocks.{IsTextAt}
+use Rattle.index_validation.specs.Layout.{IsChain, Holds, PairLayout, lines_at, IsLaidOut, RevisionHead}
 use Rattle.word_index.proofs.Frames.{times, times_append, times_cons, holds_same}
 use Rattle.word_index.proofs.Giving.{give_arranged}
 use Rattle.word_index.specs.Changes.{SameLine, with_line_given, CanGive, IsLoose, ChainGiven, LooseText, TextGiven, LoosePair, HasLoosePair, PairGiven}
 use Rattle.avl_words.specs.Tree.{Tree}
 
 -- loose lines in another order
-pub reordered : (ws : List ℕ) (head : RevisionHead) (store : Store) (tree : Tree ℕ) (places : List Place) (given loose other : List ℕ) → ((x : ℕ) → times x other ≡ times x loose) →
-    Arranged ws head store tree places given loose → Arranged ws head store tree places given other
+pub reordered : (ws : List ℕ) (head : RevisionHead) (store : Store) (tree : Tree ℕ) (places : List PairLayout) (given loose other : List ℕ) → ((x : ℕ) → times x other ≡ times x loose) →
+    IsLaidOut ws head store tree places given loose → IsLaidOut ws head store tree places given other
 reordered ws head store tree places given loose other same a = record {
   sized = a.sized;
   version_word = a.version_word;
@@ -31,7 +31,7 @@ reordered ws head store tree places given loose other same a = record {
   no_seventh = a.no_seventh;
 }
 
-pub loose_within : (ws : List ℕ) (head : RevisionHead) (store : Store) (tree : Tree ℕ) (places : List Place) (given loose : List ℕ) → Arranged ws head store tree places given loose → All (IsWithin ws) loose
+pub loose_within : (ws : List ℕ) (head : RevisionHead) (store : Store) (tree : Tree ℕ) (places : List PairLayout) (given loose : List ℕ) → IsLaidOut ws head store tree places given loose → All (IsWithin ws) loose
 loose_within ws head store tree places given loose a = all_right (IsWithin ws) (flat_map lines_at places ++ given) loose (lines_within ws head store tree places given loose a)
 
 -- the blocks of a text
@@ -47,7 +47,7 @@ text_given node at first len count x y z e first_is len_is counted given head st
     (block_count len count (length bytes) (length lines) counted (sym len_here ∙ text.long) text.holds.enough)
 
 -- the document's blocks, then the key's, then the node
-document_first : (x : ℕ) (place : Place) → times x (place.document_lines ++ (place.node ∷ place.key_lines)) ≡ times x (lines_at place ++ [])
+document_first : (x : ℕ) (place : PairLayout) → times x (place.document_lines ++ (place.node ∷ place.key_lines)) ≡ times x (lines_at place ++ [])
 document_first x place =
     omega (
       arith,
@@ -58,7 +58,7 @@ document_first x place =
       times_append x place.key_lines place.document_lines,
     )
 
-pub loose_document : (ws : List ℕ) (node : ℕ) (head : RevisionHead) (store : Store) (tree : Tree ℕ) (places : List Place) (place : Place) (pair : List ℕ × List ℕ) → LoosePair ws node head store tree places place pair →
+pub loose_document : (ws : List ℕ) (node : ℕ) (head : RevisionHead) (store : Store) (tree : Tree ℕ) (places : List PairLayout) (place : PairLayout) (pair : List ℕ × List ℕ) → LoosePair ws node head store tree places place pair →
     IsLoose ws head store tree places place.document_lines (place.node ∷ place.key_lines) × IsTextAt ws node 5 place.document_lines pair.1
 loose_document ws node head store tree places place pair p =
     let a = reordered ws head store tree places p.loose.given (lines_at place ++ []) (place.document_lines ++ (place.node ∷ place.key_lines)) (λ x. document_first x place) p.loose.arranged in
@@ -73,11 +73,11 @@ loose_document ws node head store tree places place pair p =
       }),
     )
 
-key_first : (x : ℕ) (place : Place) → times x (place.key_lines ++ (place.node ∷ [])) ≡ times x ((place.node ∷ place.key_lines) ++ [])
+key_first : (x : ℕ) (place : PairLayout) → times x (place.key_lines ++ (place.node ∷ [])) ≡ times x ((place.node ∷ place.key_lines) ++ [])
 key_first x place =
     omega (arith, times_append x place.key_lines (place.node ∷ []), times_cons x place.node [], times_append x (place.node ∷ place.key_lines) [], times_cons x place.node place.key_lines)
 
-pub loose_key : (x y : List ℕ) (node : ℕ) (head : RevisionHead) (store : Store) (tree : Tree ℕ) (places : List Place) (place : Place) (pair : List ℕ × List ℕ) → LoosePair x node head store tree places place pair → TextGiven node 5 x y →
+pub loose_key : (x y : List ℕ) (node : ℕ) (head : RevisionHead) (store : Store) (tree : Tree ℕ) (places : List PairLayout) (place : PairLayout) (pair : List ℕ × List ℕ) → LoosePair x node head store tree places place pair → TextGiven node 5 x y →
     IsLoose y head store tree places place.key_lines (place.node ∷ []) × IsTextAt y node 3 place.key_lines pair.0
 loose_key x y node head store tree places place pair p t =
     let d = loose_document x node head store tree places place pair p in
@@ -95,7 +95,7 @@ loose_key x y node head store tree places place pair p t =
       }),
     )
 
-pub loose_node : (x y z : List ℕ) (node : ℕ) (head : RevisionHead) (store : Store) (tree : Tree ℕ) (places : List Place) (place : Place) (pair : List ℕ × List ℕ) → LoosePair x node head store tree places place pair →
+pub loose_node : (x y z : List ℕ) (node : ℕ) (head : RevisionHead) (store : Store) (tree : Tree ℕ) (places : List PairLayout) (place : PairLayout) (pair : List ℕ × List ℕ) → LoosePair x node head store tree places place pair →
     TextGiven node 5 x y → TextGiven node 3 y z → IsLoose z head store tree places (place.node ∷ []) []
 loose_node x y z node head store tree places place pair p t u =
     let k = loose_key x y node head store tree places place pair p t in

@@ -10,10 +10,10 @@ use Rattle.std.proofs.lemmas.List.Sums.{sum_by-cons, sum_by-append}
 use Rattle.cx_base.specs.Packing.{byte_at, packed_at, packed, unpacked}
 use Rattle.cx_base.specs.Store.{Store, pair_lines, lines_of}
 use Rattle.avl_words.specs.Lines.{IsWithin, word_of}
-use Rattle.index_checks.proofs.BlockReads.{word_at_past}
-use Rattle.index_checks.proofs.Lines.{all_left, all_right}
-use Rattle.index_checks.proofs.Totals.{all_lines}
-use Rattle.index_checks.specs.Layout.{Holds, Place, lines_at, Placed, Arranged, RevisionHead}
+use Rattle.index_validation.proofs.BlockReads.{word_at_past}
+use Rattle.index_validation.proofs.Lines.{all_left, all_right}
+use Rattle.index_validation.proofs.Totals.{all_lines}
+use Rattle.index_validation.specs.Layout.{Holds, PairLayout, lines_at, Placed, IsLaidOut, RevisionHead}
 use Rattle.word_index.proofs.Frames.{times, times_append, times_cons, holds_same}
 use Rattle.word_index.proofs.PairsGiven.{reordered, loose_within}
 use Rattle.word_index.proofs.Taking.{from_one}
@@ -26,7 +26,7 @@ use Rattle.word_index.specs.Insertion.{PairWritten}
 use Rattle.avl_words.specs.Tree.{Tree}
 
 -- the lines of a store's places are as many as the store takes
-pub lines_of_places : (ws : List ℕ) (places : List Place) (store : Store) → Placed ws places store → length (flat_map lines_at places) ≡ lines_of store
+pub lines_of_places : (ws : List ℕ) (places : List PairLayout) (store : Store) → Placed ws places store → length (flat_map lines_at places) ≡ lines_of store
 lines_of_places ws [] [] n = refl
 lines_of_places ws [] (q ∷ store) n = absurd n
 lines_of_places ws (p ∷ places) [] n = absurd n
@@ -66,7 +66,7 @@ pub count_blocks : (len count bytes : ℕ) → count ≡ len / 56 + min 1 (len %
 count_blocks len count bytes c e = omega arith
 
 -- written words hold the bytes packed in them
-pub written_holds : (x y : List ℕ) (head : RevisionHead) (store : Store) (tree : Tree ℕ) (places : List Place) (first count n len : ℕ) (words bytes loose : List ℕ) → IsPackOf n len words bytes → length bytes ≤ 8 * n → count ≡ div_ceil len 56 →
+pub written_holds : (x y : List ℕ) (head : RevisionHead) (store : Store) (tree : Tree ℕ) (places : List PairLayout) (first count n len : ℕ) (words bytes loose : List ℕ) → IsPackOf n len words bytes → length bytes ≤ 8 * n → count ≡ div_ceil len 56 →
     (w : IsChainWritten x y head store tree places first count 0 words loose) → Holds y first w.lines bytes
 written_holds x y head store tree places first count n len words bytes loose p short counted w = record {
   chain = w.chain;
@@ -79,7 +79,7 @@ pairs_of_lines : (store : Store) → length store ≤ lines_of store
 pairs_of_lines [] = omega arith
 pairs_of_lines (q ∷ store) = omega (arith, pairs_of_lines store, sum_by-cons pair_lines q store)
 
-pub few_pairs : (ws : List ℕ) (head : RevisionHead) (store : Store) (tree : Tree ℕ) (places : List Place) (given loose : List ℕ) → Arranged ws head store tree places given loose → word_of ws 0 5 ≤ 2 ^ 32
+pub few_pairs : (ws : List ℕ) (head : RevisionHead) (store : Store) (tree : Tree ℕ) (places : List PairLayout) (given loose : List ℕ) → IsLaidOut ws head store tree places given loose → word_of ws 0 5 ≤ 2 ^ 32
 few_pairs ws head store tree places given loose a =
     omega (arith, pairs_of_lines store, lines_of_places ws places store a.nodes.pairs, all_lines ws head store tree places given loose a, a.pair_count, a.end_to, a.sized.few)
 

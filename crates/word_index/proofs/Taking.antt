@@ -6,9 +6,9 @@ use Rattle.std.proofs.lemmas.List.{get_or-set_same, get_or-set_other, length-set
 use Rattle.std.proofs.lemmas.List.Elements.{All-head, All-tail, All-weaker}
 use Rattle.cx_base.specs.Store.{Store}
 use Rattle.avl_words.specs.Lines.{IsWithin, with_word, word_of, IsPartLength}
-use Rattle.index_checks.proofs.Lines.{all_left, all_right, lines_there, lines_within}
-use Rattle.index_checks.proofs.Totals.{all_lines}
-use Rattle.index_checks.specs.Layout.{IsChain, Place, lines_at, Nodes, Arranged, RevisionHead}
+use Rattle.index_validation.proofs.Lines.{all_left, all_right, lines_there, lines_within}
+use Rattle.index_validation.proofs.Totals.{all_lines}
+use Rattle.index_validation.specs.Layout.{IsChain, PairLayout, lines_at, Nodes, IsLaidOut, RevisionHead}
 use Rattle.word_index.proofs.Frames.{times, times_append, times_cons, stored_elsewhere, same_then, chain_same, nodes_same}
 use Rattle.word_index.proofs.Giving.{moved_line}
 use Rattle.word_index.specs.Changes.{SameLine}
@@ -16,7 +16,7 @@ use Rattle.word_index.specs.Fresh.{HasRoom, CanTake, AreLinesTaken, LineTaken}
 use Rattle.avl_words.specs.Tree.{Tree}
 
 -- the lists of lines that are from 1 on
-pub from_one : (ws : List ℕ) (said : RevisionHead) (store : Store) (tree : Tree ℕ) (places : List Place) (given loose : List ℕ) → Arranged ws said store tree places given loose →
+pub from_one : (ws : List ℕ) (said : RevisionHead) (store : Store) (tree : Tree ℕ) (places : List PairLayout) (given loose : List ℕ) → IsLaidOut ws said store tree places given loose →
     All (λ x. 1 ≤ x) (flat_map lines_at places) × All (λ x. 1 ≤ x) given × All (λ x. 1 ≤ x) loose
 from_one ws said store tree places given loose a =
     let used = flat_map lines_at places in
@@ -31,7 +31,7 @@ header_stored ws i v lines l some = λ k d below. stored_elsewhere ws 0 i v (get
 one_more_end : (k end m : ℕ) → 1 ≤ end → m ≡ cond (leb 1 k && ltb k end) 1 0 → m + cond (eqb end k) 1 0 ≡ cond (leb 1 k && ltb k (end + 1)) 1 0
 one_more_end k end m some e = grind (arith, nat_tests)
 
-pub new_taken : (x : List ℕ) (said : RevisionHead) (store : Store) (tree : Tree ℕ) (places : List Place) (given loose : List ℕ) (line : ℕ) → Arranged x said store tree places given loose → HasRoom x places loose 1 →
+pub new_taken : (x : List ℕ) (said : RevisionHead) (store : Store) (tree : Tree ℕ) (places : List PairLayout) (given loose : List ℕ) (line : ℕ) → IsLaidOut x said store tree places given loose → HasRoom x places loose 1 →
     word_of x 0 2 ≡ 0 → word_of x 0 3 ≡ line → AreLinesTaken x (with_word 0 3 (line + 1) x) said store tree places (line ∷ []) loose
 new_taken x said store tree places (g ∷ given) loose line a room none end =
     absurd (let some = All-head (λ y. 1 ≤ y) g given (from_one x said store tree places (g ∷ given) loose a).1 in omega (arith, some, a.given_back.0, none))
@@ -69,7 +69,7 @@ new_taken x said store tree places [] loose line a room none end =
       long = long;
     }
 
-pub given_taken : (x : List ℕ) (said : RevisionHead) (store : Store) (tree : Tree ℕ) (places : List Place) (given loose : List ℕ) (head : ℕ) → Arranged x said store tree places given loose →
+pub given_taken : (x : List ℕ) (said : RevisionHead) (store : Store) (tree : Tree ℕ) (places : List PairLayout) (given loose : List ℕ) (head : ℕ) → IsLaidOut x said store tree places given loose →
     (head ≡ 0 → ⊥) → word_of x 0 2 ≡ head → AreLinesTaken x (with_word 0 4 (word_of x 0 4 - 1) (with_word 0 2 (word_of x head 0) x)) said store tree places (head ∷ []) loose
 given_taken x said store tree places [] loose head a some is = absurd (some (sym is ∙ a.given_back))
 given_taken x said store tree places (g ∷ given) loose head a some is =
@@ -108,7 +108,7 @@ given_taken x said store tree places (g ∷ given) loose head a some is =
 pub end_small : (x : List ℕ) (more : ℕ) → CanTake x more → word_of x 0 3 ≤ 2 ^ 32
 end_small x more c = omega (arith, c.arranged.end_to, c.arranged.sized.few)
 
-head_known : (x : List ℕ) (said : RevisionHead) (store : Store) (tree : Tree ℕ) (places : List Place) (given loose : List ℕ) (head : ℕ) → Arranged x said store tree places given loose → (head ≡ 0 → ⊥) → word_of x 0 2 ≡ head →
+head_known : (x : List ℕ) (said : RevisionHead) (store : Store) (tree : Tree ℕ) (places : List PairLayout) (given loose : List ℕ) (head : ℕ) → IsLaidOut x said store tree places given loose → (head ≡ 0 → ⊥) → word_of x 0 2 ≡ head →
     IsWithin x head × (1 ≤ word_of x 0 4)
 head_known x said store tree places [] loose head a some is = absurd (some (sym is ∙ a.given_back))
 head_known x said store tree places (g ∷ given) loose head a some is =

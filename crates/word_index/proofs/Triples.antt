@@ -11,10 +11,10 @@ use Rattle.cx_base.specs.Store.{Store, IsStore, key_cmp}
 use Rattle.doc_model.specs.Revisions.{RevisedStore, revision_at, next_revision, triples_below, triples_above}
 use Rattle.avl_words.specs.Tree.{Tree}
 use Rattle.avl_words.specs.Lines.{word_of, with_word, IsPartLength}
-use Rattle.index_checks.specs.Layout.{IsChain, Place, lines_at, Placed, Nodes, RevisionHead, head_of, IsRevision, Arranged, StandsFor}
-use Rattle.index_checks.specs.Lawful.{head_in}
-use Rattle.index_checks.specs.Reading.{revised_in}
-use Rattle.index_checks.proofs.Revisions.{triples_of, all_triples, all_places, triples_read, last_read}
+use Rattle.index_validation.specs.Layout.{IsChain, PairLayout, lines_at, Placed, Nodes, RevisionHead, head_of, IsRevision, IsLaidOut, StandsFor}
+use Rattle.index_validation.specs.Lawful.{head_in}
+use Rattle.index_validation.specs.Reading.{revised_in}
+use Rattle.index_validation.proofs.Revisions.{triples_of, all_triples, all_places, triples_read, last_read}
 use Rattle.word_index.specs.Changes.{SameLine}
 use Rattle.word_index.proofs.Frames.{chain_same, nodes_same}
 use Rattle.word_index.proofs.Splits.{missing_in, there_in, over_split, under_split, over_behind, under_behind}
@@ -34,20 +34,20 @@ abbrev pub removed_at : List ℕ → List Triple → List Triple
 removed_at key triples = triples_below key triples ++ triples_above key triples
 
 -- pairs in two parts
-triples_append : (ws : List ℕ) (front rest : List Place) (lower others : Store) → Placed ws front lower → triples_of (front ++ rest) (lower ++ others) ≡ triples_of front lower ++ triples_of rest others
+triples_append : (ws : List ℕ) (front rest : List PairLayout) (lower others : Store) → Placed ws front lower → triples_of (front ++ rest) (lower ++ others) ≡ triples_of front lower ++ triples_of rest others
 triples_append ws [] rest [] others n = refl
 triples_append ws [] rest (q ∷ lower) others n = absurd n
 triples_append ws (p ∷ front) rest [] others n = absurd n
 triples_append ws (p ∷ front) rest (q ∷ lower) others n = ap (λ ts. (q, p.revision) ∷ ts) (triples_append ws front rest lower others n.1)
 
-all_keys : (P : List ℕ → Type 0) (places : List Place) (store : Store) → All (λ p. P p.0) store → All (λ (t : Triple). P t.0.0) (triples_of places store)
+all_keys : (P : List ℕ → Type 0) (places : List PairLayout) (store : Store) → All (λ p. P p.0) store → All (λ (t : Triple). P t.0.0) (triples_of places store)
 all_keys P [] store all = All-nil _
 all_keys P (p ∷ places) [] all = All-nil _
 all_keys P (p ∷ places) (q ∷ store) all =
     All-cons (λ (t : Triple). P t.0.0) (q, p.revision) (triples_of places store) (All-head (λ p. P p.0) q store all) (all_keys P places store (All-tail (λ p. P p.0) q store all))
 
 -- around a key, at which there is a pair or none
-module _ (ws key : List ℕ) (front rest : List Place) (lower others : Store) (placed : Placed ws front lower) (below : All (λ p. key_cmp p.0 key ≡ Less) lower) (above : All (λ p. key_cmp key p.0 ≡ Less) others) where
+module _ (ws key : List ℕ) (front rest : List PairLayout) (lower others : Store) (placed : Placed ws front lower) (below : All (λ p. key_cmp p.0 key ≡ Less) lower) (above : All (λ p. key_cmp key p.0 ≡ Less) others) where
   abbrev left : List Triple
   left = triples_of front lower
 
@@ -70,7 +70,7 @@ module _ (ws key : List ℕ) (front rest : List Place) (lower others : Store) (p
   pub triples_apart : triples_of (front ++ rest) (lower ++ others) ≡ removed_at key (triples_of (front ++ rest) (lower ++ others))
   triples_apart = triples_append ws front rest lower others placed ∙ sym (ap₂ (λ a b. a ++ b) apart_below apart_above)
 
-  pub triples_added : (document : List ℕ) (place : Place) (revision : ℕ) → place.revision ≡ revision →
+  pub triples_added : (document : List ℕ) (place : PairLayout) (revision : ℕ) → place.revision ≡ revision →
       triples_of (front ++ place ∷ rest) (lower ++ (key, document) ∷ others) ≡ written_at key document revision (triples_of (front ++ rest) (lower ++ others))
   triples_added document place revision e =
       let make : ℕ → Triple = λ r. ((key, document), r) in
@@ -82,7 +82,7 @@ module _ (ws key : List ℕ) (front rest : List Place) (lower others : Store) (p
       ∙ ap (λ o. option_map (λ (t : Triple). t.1) o) (missing_in key_of_triple key left right left_under right_over)
 
   -- or the pair with this document
-  module _ (old : List ℕ) (place : Place) where
+  module _ (old : List ℕ) (place : PairLayout) where
     abbrev whole : List Triple
     whole = triples_of (front ++ place ∷ rest) (lower ++ (key, old) ∷ others)
 
@@ -103,16 +103,16 @@ module _ (ws key : List ℕ) (front rest : List Place) (lower others : Store) (p
         ap (λ (ts : List Triple). option_map (λ (t : Triple). t.1) (find (λ (t : Triple). is_eq (key_cmp t.0.0 key)) ts)) (e ∙ triples_append ws front (place ∷ rest) lower ((key, old) ∷ others) placed)
         ∙ ap (λ o. option_map (λ (t : Triple). t.1) o) (there_in key_of_triple key here refl left right left_under)
 
-    pub triples_replaced : (document : List ℕ) (other : Place) → triples_of (front ++ other ∷ rest) (lower ++ (key, document) ∷ others) ≡ written_at key document other.revision whole
+    pub triples_replaced : (document : List ℕ) (other : PairLayout) → triples_of (front ++ other ∷ rest) (lower ++ (key, document) ∷ others) ≡ written_at key document other.revision whole
     triples_replaced document other =
         triples_append ws front (other ∷ rest) lower ((key, document) ∷ others) placed ∙ sym (ap₂ (λ a b. a ++ ((key, document), other.revision) ∷ b) behind_below behind_above)
 
 -- words in which pairs stand, with these revisions
 pub record HasTriples (words : List ℕ) (head : RevisionHead) (store : Store) (triples : List Triple) : Type 0 where
   pub tree : Tree ℕ
-  pub places : List Place
+  pub places : List PairLayout
   pub given : List ℕ
-  pub arranged : Arranged words head store tree places given []
+  pub arranged : IsLaidOut words head store tree places given []
   pub told : triples_of places store ≡ triples
 
 -- another version or last revision in the header
@@ -121,7 +121,7 @@ pub record IsHeaded (before now : List ℕ) : Type 0 where
   pub header : (i : ℕ) → i ≢ 0 → i ≢ 6 → get_or now i 0 ≡ get_or before i 0
   pub lines : (lines : List ℕ) → All (λ x. 1 ≤ x) lines → All (SameLine before now) lines
 
-pub headed_arranged : (x y : List ℕ) (head : RevisionHead) (store : Store) (tree : Tree ℕ) (places : List Place) (given loose : List ℕ) → IsHeaded x y → Arranged x head store tree places given loose → Arranged y (head_in y) store tree places given loose
+pub headed_arranged : (x y : List ℕ) (head : RevisionHead) (store : Store) (tree : Tree ℕ) (places : List PairLayout) (given loose : List ℕ) → IsHeaded x y → IsLaidOut x head store tree places given loose → IsLaidOut y (head_in y) store tree places given loose
 headed_arranged x y head store tree places given loose h a =
     let some = from_one x head store tree places given loose a in
     let end = h.header 3 (omega arith) (omega arith) in
@@ -139,13 +139,13 @@ headed_arranged x y head store tree places given loose h a =
       no_seventh = h.header 7 (omega arith) (omega arith) ∙ a.no_seventh;
     }
 
-raised_arranged : (x : List ℕ) (head : RevisionHead) (store : Store) (tree : Tree ℕ) (places : List Place) (given loose : List ℕ) (last : ℕ) → Arranged x head store tree places given loose →
-    Arranged (with_word 0 6 last x) (head_of head.version last) store tree places given loose
+raised_arranged : (x : List ℕ) (head : RevisionHead) (store : Store) (tree : Tree ℕ) (places : List PairLayout) (given loose : List ℕ) (last : ℕ) → IsLaidOut x head store tree places given loose →
+    IsLaidOut (with_word 0 6 last x) (head_of head.version last) store tree places given loose
 raised_arranged x head store tree places given loose last a =
     let y = with_word 0 6 last x in
     let version : word_of y 0 0 ≡ head.version = get_or-set_other x 6 0 last 0 (omega arith) ∙ a.version_word in
     let raised : word_of y 0 6 ≡ last = get_or-set_same x 6 last 0 (let whole = a.sized.whole in let some = a.sized.some in omega arith) in
-    subst (λ h. Arranged y h store tree places given loose) (ap₂ head_of version raised) (headed_arranged x y head store tree places given loose
+    subst (λ h. IsLaidOut y h store tree places given loose) (ap₂ head_of version raised) (headed_arranged x y head store tree places given loose
     (record { long = length-set x 6 last; header = λ i zero six. get_or-set_other x 6 i last 0 six; lines = λ lines some. header_stored x 6 last lines (omega arith) some }) a)
 
 pub raised : (x : List ℕ) (head : RevisionHead) (store : Store) (triples : List Triple) (last : ℕ) → HasTriples x head store triples → HasTriples (with_word 0 6 last x) (head_of head.version last) store triples

@@ -10,17 +10,17 @@ use Rattle.doc_model.specs.Revisions.{pairs_in}
 use Rattle.avl_words.specs.Tree.{Tree, Empty, Node, size, items}
 use Rattle.avl_words.specs.Exact.{tree_at}
 use Rattle.avl_words.specs.Lines.{word_of, with_word}
-use Rattle.index_checks.specs.Lawful.{IsLawful, head_in}
-use Rattle.index_checks.specs.Layout.{Place, Placed, nodes_of, RevisionHead, head_of, IsRevision, Arranged, StandsFor}
-use Rattle.index_checks.specs.Order.{nodes_in_order, HasTree, IsLeftPassed, AreNoted, to_come}
-use Rattle.index_checks.specs.Reading.{StandsForRevised}
-use Rattle.index_checks.proofs.Arranging.{arranged_tree, arranged_nodes}
-use Rattle.index_checks.proofs.OneStore.{placed_append, placed_count}
-use Rattle.index_checks.proofs.Orders.{tree_of}
-use Rattle.index_checks.proofs.Revisions.{triples_of}
+use Rattle.index_validation.specs.Lawful.{IsLawful, head_in}
+use Rattle.index_validation.specs.Layout.{PairLayout, Placed, nodes_of, RevisionHead, head_of, IsRevision, IsLaidOut, StandsFor}
+use Rattle.index_validation.specs.Order.{nodes_in_order, HasTree, IsLeftPassed, AreNoted, to_come}
+use Rattle.index_validation.specs.Reading.{StandsForRevised}
+use Rattle.index_validation.proofs.Arranging.{arranged_tree, arranged_nodes}
+use Rattle.index_validation.proofs.OneStore.{placed_append, placed_count}
+use Rattle.index_validation.proofs.Orders.{tree_of}
+use Rattle.index_validation.proofs.Revisions.{triples_of}
 use Rattle.word_index.specs.Upgrading.{with_first_revisions, upgraded_in, first_revisions, IsMigrated}
 use Rattle.word_index.proofs.DocumentChanges.{told_is}
-use Rattle.word_index.proofs.Renewing.{stands_linked, around, with_lines}
+use Rattle.word_index.proofs.ReplacedDocuments.{stands_linked, around, with_lines}
 use Rattle.word_index.proofs.Taking.{header_stored}
 use Rattle.word_index.proofs.Triples.{Triple, IsHeaded, headed_arranged, stands_again}
 
@@ -29,10 +29,10 @@ unfoldable pub with_header : List ℕ → List ℕ
 with_header words = with_word 0 6 1 (with_word 0 0 2 words)
 
 -- the place of a pair with its first revision
-abbrev first_at : Place → Place
+abbrev first_at : PairLayout → PairLayout
 first_at place = with_lines place place.document_lines 1
 
-first_triples : (ws : List ℕ) (places : List Place) (store : Store) → Placed ws places store → triples_of (map first_at places) store ≡ map (λ pair. (pair, 1)) store
+first_triples : (ws : List ℕ) (places : List PairLayout) (store : Store) → Placed ws places store → triples_of (map first_at places) store ≡ map (λ pair. (pair, 1)) store
 first_triples ws [] [] n = refl
 first_triples ws [] (q ∷ store) n = absurd n
 first_triples ws (p ∷ places) [] n = absurd n
@@ -49,8 +49,8 @@ first_given (q ∷ store) =
     All-cons (λ (t : Triple). IsRevision (head_of 2 1) t.1) (q, 1) (map (λ pair. (pair, 1)) store) here (first_given store)
 
 -- one pair after the other gets its first revision
-firsts_told : (y : List ℕ) (head : RevisionHead) (tree : Tree ℕ) (given : List ℕ) (front rest : List Place) (lower others : Store) → Placed y front lower → Placed y rest others → Arranged y head (lower ++ others) tree (front ++ rest) given [] →
-    Arranged (with_first_revisions (nodes_of rest) y) head (lower ++ others) tree (front ++ map first_at rest) given []
+firsts_told : (y : List ℕ) (head : RevisionHead) (tree : Tree ℕ) (given : List ℕ) (front rest : List PairLayout) (lower others : Store) → Placed y front lower → Placed y rest others → IsLaidOut y head (lower ++ others) tree (front ++ rest) given [] →
+    IsLaidOut (with_first_revisions (nodes_of rest) y) head (lower ++ others) tree (front ++ map first_at rest) given []
 firsts_told y head tree given front [] lower others n m a = a
 firsts_told y head tree given front (p ∷ rest) lower [] n m a = absurd m
 firsts_told y head tree given front (p ∷ rest) lower (q ∷ others) n m a =
@@ -59,10 +59,10 @@ firsts_told y head tree given front (p ∷ rest) lower (q ∷ others) n m a =
     let r = around y now front rest lower others (first_at p) q n b.nodes.pairs in
     let split : front ++ first_at p ∷ rest ≡ (front ++ first_at p ∷ []) ++ rest = sym (append_assoc front (first_at p ∷ []) rest) in
     let parts : lower ++ q ∷ others ≡ (lower ++ q ∷ []) ++ others = sym (append_assoc lower (q ∷ []) others) in
-    let c = subst (λ ps. Arranged now head ((lower ++ q ∷ []) ++ others) tree ps given []) split (subst (λ st. Arranged now head st tree (front ++ first_at p ∷ rest) given []) parts b) in
+    let c = subst (λ ps. IsLaidOut now head ((lower ++ q ∷ []) ++ others) tree ps given []) split (subst (λ st. IsLaidOut now head st tree (front ++ first_at p ∷ rest) given []) parts b) in
     let d = firsts_told now head tree given (front ++ first_at p ∷ []) rest (lower ++ q ∷ []) others (placed_append now front (first_at p ∷ []) lower (q ∷ []) r.placed_front (r.is, tt)) r.placed_rest c in
-    subst (λ ps. Arranged (with_first_revisions (nodes_of rest) now) head (lower ++ q ∷ others) tree ps given []) (append_assoc front (first_at p ∷ []) (map first_at rest))
-    (subst (λ st. Arranged (with_first_revisions (nodes_of rest) now) head st tree ((front ++ first_at p ∷ []) ++ map first_at rest) given []) (sym parts) d)
+    subst (λ ps. IsLaidOut (with_first_revisions (nodes_of rest) now) head (lower ++ q ∷ others) tree ps given []) (append_assoc front (first_at p ∷ []) (map first_at rest))
+    (subst (λ st. IsLaidOut (with_first_revisions (nodes_of rest) now) head st tree ((front ++ first_at p ∷ []) ++ map first_at rest) given []) (sym parts) d)
 
 module _ (x : List ℕ) (store : Store) (s : StandsFor x 1 store) where
   there : 8 ≤ length x
@@ -86,8 +86,8 @@ module _ (x : List ℕ) (store : Store) (s : StandsFor x 1 store) where
       let within = there in
       ap₂ head_of (get_or-set_other y 6 0 1 0 (omega arith) ∙ get_or-set_same x 0 2 0 (omega arith)) (get_or-set_same y 6 1 0 (omega (arith, long, within)))
 
-  headed : Arranged (with_header x) (head_of 2 1) store s.tree s.places s.given []
-  headed = subst (λ h. Arranged (with_header x) h store s.tree s.places s.given []) head_is (headed_arranged x (with_header x) (head_of 1 s.last) store s.tree s.places s.given [] is_headed s.arranged)
+  headed : IsLaidOut (with_header x) (head_of 2 1) store s.tree s.places s.given []
+  headed = subst (λ h. IsLaidOut (with_header x) h store s.tree s.places s.given []) head_is (headed_arranged x (with_header x) (head_of 1 s.last) store s.tree s.places s.given [] is_headed s.arranged)
 
   pub header_tree : HasTree (with_header x) (word_of (with_header x) 0 1) 0
   header_tree =

@@ -16,10 +16,10 @@ use Rattle.avl_words.specs.Words.{root, times as tree_times}
 use Rattle.avl_words.specs.Exact.{node_word, link_of, with_links, with_tree}
 use Rattle.avl_words.proofs.ExactTrees.{AreThere, links_long}
 use Rattle.avl_words.proofs.ExactWords.{tree_in_is}
-use Rattle.index_checks.specs.Layout.{StandsFor, IsIndex, head_of}
-use Rattle.index_checks.specs.Reading.{store_in}
-use Rattle.index_checks.proofs.LawfulWords.{store_is}
-use Rattle.index_checks.proofs.Texts.{document_small}
+use Rattle.index_validation.specs.Layout.{StandsFor, IsIndex, head_of}
+use Rattle.index_validation.specs.Reading.{store_in}
+use Rattle.index_validation.proofs.LawfulWords.{store_is}
+use Rattle.index_validation.proofs.Texts.{document_small}
 use Rattle.word_index.specs.Changes.{HasLoosePair}
 use Rattle.word_index.specs.Exact.{order_in, node_at, block_words, with_chain_filled, document_blocks, with_refilled, with_emptied, with_renewed, with_rewritten, with_replaced, with_written, with_new_pair, with_one_more, with_added, with_one_less, with_node_cut, with_pair_given, is_key_in, with_document, with_key_removed}
 use Rattle.word_index.specs.Fresh.{CanTake}

@@ -5,8 +5,8 @@ use Rattle.std.proofs.lemmas.Bool.{cases_lt}
 use Rattle.std.proofs.lemmas.List.Elements.{All-head}
 use Rattle.cx_base.specs.Store.{Store}
 use Rattle.avl_words.specs.Lines.{IsWithin, word_of, IsPartLength}
-use Rattle.index_checks.proofs.Lines.{all_left, all_right}
-use Rattle.index_checks.specs.Layout.{IsChain, Place, lines_at, Nodes, Arranged, RevisionHead}
+use Rattle.index_validation.proofs.Lines.{all_left, all_right}
+use Rattle.index_validation.specs.Layout.{IsChain, PairLayout, lines_at, Nodes, IsLaidOut, RevisionHead}
 use Rattle.word_index.proofs.Frames.{chain_same, nodes_same}
 use Rattle.word_index.proofs.Giving.{stands_alone, all_same_then}
 use Rattle.word_index.proofs.PairsGiven.{loose_within}
@@ -16,8 +16,8 @@ use Rattle.word_index.specs.Fresh.{HasRoom, CanTake, LineTaken, LineFilled, IsBl
 use Rattle.avl_words.specs.Tree.{Tree}
 
 -- a loose line that is filled
-pub fill_arranged : (x y : List ℕ) (head : RevisionHead) (store : Store) (tree : Tree ℕ) (places : List Place) (given loose content : List ℕ) (line : ℕ) → Arranged x head store tree places given (line ∷ loose) → LineFilled line content x y →
-    Arranged y head store tree places given (line ∷ loose) × All (SameLine x y) loose
+pub fill_arranged : (x y : List ℕ) (head : RevisionHead) (store : Store) (tree : Tree ℕ) (places : List PairLayout) (given loose content : List ℕ) (line : ℕ) → IsLaidOut x head store tree places given (line ∷ loose) → LineFilled line content x y →
+    IsLaidOut y head store tree places given (line ∷ loose) × All (SameLine x y) loose
 fill_arranged x y head store tree places given loose content line a f =
     let used = flat_map lines_at places in
     let alone = stands_alone line (word_of x 0 3) used given loose (a.once line) in
@@ -44,7 +44,7 @@ fill_arranged x y head store tree places given loose content line a f =
 -- words of which the last blocks are written
 abbrev pub WrittenSoFar : List ℕ → ℕ → ℕ → ℕ → List ℕ → List ℕ → Type 0
 WrittenSoFar words count j next before now =
-    (head : RevisionHead) (store : Store) (tree : Tree ℕ) (places : List Place) (given loose : List ℕ) → Arranged before head store tree places given loose → HasRoom before places loose count →
+    (head : RevisionHead) (store : Store) (tree : Tree ℕ) (places : List PairLayout) (given loose : List ℕ) → IsLaidOut before head store tree places given loose → HasRoom before places loose count →
     IsChainWritten before now head store tree places next j (7 * (count - j)) words loose
 
 pub written_none : (words : List ℕ) (count : ℕ) (x y : List ℕ) → x ≡ y → WrittenSoFar words count 0 0 x y

@@ -8,8 +8,8 @@ use Rattle.doc_model.specs.Revisions.{revision_at}
 use Rattle.word_index.specs.Packed.{IsPacked}
 use Rattle.word_index.specs.declared.texts.Key.{Key}
 use Rattle.avl_words.specs.Lines.{word_of, IsPartLength}
-use Rattle.index_checks.specs.Layout.{Place, IsAt, lines_at, StandsFor}
-use Rattle.index_checks.specs.Reading.{revised_in}
+use Rattle.index_validation.specs.Layout.{PairLayout, IsAt, lines_at, StandsFor}
+use Rattle.index_validation.specs.Reading.{revised_in}
 
 -- these bytes, packed
 pub record IsPackOf (n len : ℕ) (words bytes : List ℕ) : Type 0 where
@@ -28,7 +28,7 @@ pub record IsPackedPair (name : Key) (len : ℕ) (words : List ℕ) : Type 0 whe
 
 -- a node of this pair
 pub record IsNodeOf (words : List ℕ) (node : ℕ) (pair : List ℕ × List ℕ) : Type 0 where
-  pub place : Place
+  pub place : PairLayout
   pub here : node ≡ place.node
   pub holds : IsAt words place pair
   pub within : All (λ line. 8 * line + 8 ≤ length words) (lines_at place)

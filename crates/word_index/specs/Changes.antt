@@ -2,8 +2,8 @@
 use Rattle.std.specs.Prelude.{◌≡◌, ◌^◌, ◌+◌, ◌<◌, ◌≤◌, ℕ, List, ◌++◌, [], length, All, Bool, is_some}
 use Rattle.cx_base.specs.Store.{Store}
 use Rattle.avl_words.specs.Lines.{IsWithin, word_of, with_word}
-use Rattle.index_checks.specs.Blocks.{IsTextAt}
-use Rattle.index_checks.specs.Layout.{IsChain, Place, lines_at, IsAt, RevisionHead, Arranged, StandsFor}
+use Rattle.index_validation.specs.Blocks.{IsTextAt}
+use Rattle.index_validation.specs.Layout.{IsChain, PairLayout, lines_at, IsAt, RevisionHead, IsLaidOut, StandsFor}
 use Rattle.doc_model.specs.Meaning.{document_at, without_key}
 use Rattle.avl_words.specs.Tree.{Tree}
 
@@ -21,16 +21,16 @@ pub record CanGive (words : List ℕ) (line : ℕ) : Type 0 where
   pub few : word_of words 0 4 ≤ 2 ^ 32
 
 -- the first lines of a chain are loose, and so are others
-pub record IsLoose (words : List ℕ) (head : RevisionHead) (store : Store) (tree : Tree ℕ) (places : List Place) (lines others : List ℕ) : Type 0 where
+pub record IsLoose (words : List ℕ) (head : RevisionHead) (store : Store) (tree : Tree ℕ) (places : List PairLayout) (lines others : List ℕ) : Type 0 where
   pub given : List ℕ
-  pub arranged : Arranged words head store tree places given (lines ++ others)
+  pub arranged : IsLaidOut words head store tree places given (lines ++ others)
 
 -- a chain of loose lines
 pub record LooseChain (words : List ℕ) (first count : ℕ) : Type 0 where
   pub head : RevisionHead
   pub store : Store
   pub tree : Tree ℕ
-  pub places : List Place
+  pub places : List PairLayout
   pub lines : List ℕ
   pub others : List ℕ
   pub loose : IsLoose words head store tree places lines others
@@ -38,13 +38,13 @@ pub record LooseChain (words : List ℕ) (first count : ℕ) : Type 0 where
   pub counted : count ≡ length lines
 
 -- a chain of loose lines is given back, and the other loose lines are as they were
-pub record IsGiven (before now : List ℕ) (head : RevisionHead) (store : Store) (tree : Tree ℕ) (places : List Place) (others : List ℕ) : Type 0 where
+pub record IsGiven (before now : List ℕ) (head : RevisionHead) (store : Store) (tree : Tree ℕ) (places : List PairLayout) (others : List ℕ) : Type 0 where
   pub loose : IsLoose now head store tree places others []
   pub same : All (SameLine before now) others
 
 abbrev pub ChainGiven : ℕ → ℕ → List ℕ → List ℕ → Type 0
 ChainGiven first count before now =
-    (head : RevisionHead) (store : Store) (tree : Tree ℕ) (places : List Place) (lines others : List ℕ) → IsLoose before head store tree places lines others → IsChain before first lines → count ≡ length lines →
+    (head : RevisionHead) (store : Store) (tree : Tree ℕ) (places : List PairLayout) (lines others : List ℕ) → IsLoose before head store tree places lines others → IsChain before first lines → count ≡ length lines →
     IsGiven before now head store tree places others
 
 -- the blocks that a node names by its words at and at + 1, all loose
@@ -52,7 +52,7 @@ pub record LooseText (words : List ℕ) (node at : ℕ) : Type 0 where
   pub head : RevisionHead
   pub store : Store
   pub tree : Tree ℕ
-  pub places : List Place
+  pub places : List PairLayout
   pub lines : List ℕ
   pub others : List ℕ
   pub bytes : List ℕ
@@ -61,11 +61,11 @@ pub record LooseText (words : List ℕ) (node at : ℕ) : Type 0 where
 
 abbrev pub TextGiven : ℕ → ℕ → List ℕ → List ℕ → Type 0
 TextGiven node at before now =
-    (head : RevisionHead) (store : Store) (tree : Tree ℕ) (places : List Place) (lines others bytes : List ℕ) → IsLoose before head store tree places lines others → IsTextAt before node at lines bytes →
+    (head : RevisionHead) (store : Store) (tree : Tree ℕ) (places : List PairLayout) (lines others bytes : List ℕ) → IsLoose before head store tree places lines others → IsTextAt before node at lines bytes →
     IsGiven before now head store tree places others
 
 -- a pair that stands at a place of its own, beside the pairs of a store
-pub record LoosePair (words : List ℕ) (node : ℕ) (head : RevisionHead) (store : Store) (tree : Tree ℕ) (places : List Place) (place : Place) (pair : List ℕ × List ℕ) : Type 0 where
+pub record LoosePair (words : List ℕ) (node : ℕ) (head : RevisionHead) (store : Store) (tree : Tree ℕ) (places : List PairLayout) (place : PairLayout) (pair : List ℕ × List ℕ) : Type 0 where
   pub loose : IsLoose words head store tree places (lines_at place) []
   pub here : node ≡ place.node
   pub is : IsAt words place pair
@@ -74,14 +74,14 @@ pub record HasLoosePair (words : List ℕ) (node : ℕ) : Type 0 where
   pub head : RevisionHead
   pub store : Store
   pub tree : Tree ℕ
-  pub places : List Place
-  pub place : Place
+  pub places : List PairLayout
+  pub place : PairLayout
   pub pair : List ℕ × List ℕ
   pub there : LoosePair words node head store tree places place pair
 
 abbrev pub PairGiven : ℕ → List ℕ → List ℕ → Type 0
 PairGiven node before now =
-    (head : RevisionHead) (store : Store) (tree : Tree ℕ) (places : List Place) (place : Place) (pair : List ℕ × List ℕ) → LoosePair before node head store tree places place pair → IsLoose now head store tree places [] []
+    (head : RevisionHead) (store : Store) (tree : Tree ℕ) (places : List PairLayout) (place : PairLayout) (pair : List ℕ × List ℕ) → LoosePair before node head store tree places place pair → IsLoose now head store tree places [] []
 
 -- The words after stand for the store without the key, and the answer is whether the key was there.
 pub record IsWithout (now : List ℕ) (store : Store) (key : List ℕ) (found : Bool) : Type 0 where

@@ -11,7 +11,7 @@ use Rattle.avl_words.specs.Ways.{spot, with_new}
 use Rattle.avl_words.specs.Removal.{without}
 use Rattle.avl_words.specs.Exact.{tree_in, with_tree}
 use Rattle.avl_words.specs.Words.{root}
-use Rattle.index_checks.specs.Reading.{text_at, store_in}
+use Rattle.index_validation.specs.Reading.{text_at, store_in}
 use Rattle.avl_words.specs.Lines.{with_word, word_of, line_count}
 use Rattle.word_index.specs.Changes.{with_line_given}
 use Rattle.word_index.specs.declared.insertion.Inserted.{Inserted}

@@ -3,34 +3,34 @@ use Rattle.std.specs.Prelude.{◌≡◌, ◌≢◌, ◌+◌, ◌*◌, ◌/◌, �
 use Rattle.std.specs.List.{flat_map}
 use Rattle.cx_base.specs.Store.{Store}
 use Rattle.avl_words.specs.Lines.{word_of, line_count}
-use Rattle.index_checks.specs.Layout.{IsChain, Place, lines_at, RevisionHead, Arranged}
+use Rattle.index_validation.specs.Layout.{IsChain, PairLayout, lines_at, RevisionHead, IsLaidOut}
 use Rattle.word_index.specs.Changes.{SameLine}
 use Rattle.avl_words.specs.Tree.{Tree}
 
 -- the given number of further lines can be taken, beside those of the places and the loose ones; line 0 is not one of them
-abbrev pub HasRoom : List ℕ → List Place → List ℕ → ℕ → Type 0
+abbrev pub HasRoom : List ℕ → List PairLayout → List ℕ → ℕ → Type 0
 HasRoom words places loose more = length (flat_map lines_at places) + length loose + more + 1 ≤ line_count words
 
 pub record CanTake (words : List ℕ) (more : ℕ) : Type 0 where
   pub head : RevisionHead
   pub store : Store
   pub tree : Tree ℕ
-  pub places : List Place
+  pub places : List PairLayout
   pub given : List ℕ
   pub loose : List ℕ
-  pub arranged : Arranged words head store tree places given loose
+  pub arranged : IsLaidOut words head store tree places given loose
   pub room : HasRoom words places loose more
 
 -- lines are loose now, and the other loose lines are as they were
-pub record AreLinesTaken (before now : List ℕ) (head : RevisionHead) (store : Store) (tree : Tree ℕ) (places : List Place) (taken loose : List ℕ) : Type 0 where
+pub record AreLinesTaken (before now : List ℕ) (head : RevisionHead) (store : Store) (tree : Tree ℕ) (places : List PairLayout) (taken loose : List ℕ) : Type 0 where
   pub given : List ℕ
-  pub arranged : Arranged now head store tree places given (taken ++ loose)
+  pub arranged : IsLaidOut now head store tree places given (taken ++ loose)
   pub same : All (SameLine before now) loose
   pub long : length now ≡ length before
 
 abbrev pub LineTaken : ℕ → List ℕ → List ℕ → Type 0
 LineTaken line before now =
-    (head : RevisionHead) (store : Store) (tree : Tree ℕ) (places : List Place) (given loose : List ℕ) → Arranged before head store tree places given loose → HasRoom before places loose 1 → AreLinesTaken before now head store tree places (line ∷ []) loose
+    (head : RevisionHead) (store : Store) (tree : Tree ℕ) (places : List PairLayout) (given loose : List ℕ) → IsLaidOut before head store tree places given loose → HasRoom before places loose 1 → AreLinesTaken before now head store tree places (line ∷ []) loose
 
 -- what a line is filled with, and that nothing else changes
 pub record LineFilled (line : ℕ) (content before now : List ℕ) : Type 0 where
@@ -45,7 +45,7 @@ pub record IsBlock (next : ℕ) (words : List ℕ) (from : ℕ) (content : List 
   pub long : length content ≡ 8
 
 -- words stand in a chain of `count` new lines
-pub record IsChainWritten (before now : List ℕ) (head : RevisionHead) (store : Store) (tree : Tree ℕ) (places : List Place) (first count from : ℕ) (words loose : List ℕ) : Type 0 where
+pub record IsChainWritten (before now : List ℕ) (head : RevisionHead) (store : Store) (tree : Tree ℕ) (places : List PairLayout) (first count from : ℕ) (words loose : List ℕ) : Type 0 where
   pub lines : List ℕ
   pub taken : AreLinesTaken before now head store tree places lines loose
   pub chain : IsChain now first lines
@@ -54,5 +54,5 @@ pub record IsChainWritten (before now : List ℕ) (head : RevisionHead) (store :
 
 abbrev pub TextWritten : List ℕ → ℕ → ℕ → List ℕ → List ℕ → Type 0
 TextWritten words count first before now =
-    (head : RevisionHead) (store : Store) (tree : Tree ℕ) (places : List Place) (given loose : List ℕ) → Arranged before head store tree places given loose → HasRoom before places loose count →
+    (head : RevisionHead) (store : Store) (tree : Tree ℕ) (places : List PairLayout) (given loose : List ℕ) → IsLaidOut before head store tree places given loose → HasRoom before places loose count →
     IsChainWritten before now head store tree places first count 0 words loose

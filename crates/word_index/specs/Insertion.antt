@@ -5,7 +5,7 @@ use Rattle.doc_model.specs.Meaning.{document_at, with_pair, has_room}
 use Rattle.avl_words.specs.Tree.{Tree}
 use Rattle.avl_words.specs.Lines.{line_count}
 use Rattle.avl_words.specs.Words.{IsNode}
-use Rattle.index_checks.specs.Layout.{Place, lines_at, IsAt, RevisionHead, Arranged, StandsFor, IsIndex}
+use Rattle.index_validation.specs.Layout.{PairLayout, lines_at, IsAt, RevisionHead, IsLaidOut, StandsFor, IsIndex}
 use Rattle.word_index.specs.Answers.{IsNodeOf}
 use Rattle.word_index.specs.Exact.{with_added, with_replaced, inserted_in, with_document}
 use Rattle.word_index.specs.Rewriting.{CanExchange}
@@ -31,19 +31,19 @@ pub record LinesAt (node n : ℕ) (words : List ℕ) : Type 0 where
   pub some : node ≢ 0 → (pair : List ℕ × List ℕ) → IsNodeOf words node pair → n ≡ pair_lines pair
 
 -- a pair stands at a new place, with a revision, whose node is a leaf, beside the tree
-pub record IsPairWritten (before now : List ℕ) (head : RevisionHead) (store : Store) (tree : Tree ℕ) (places : List Place) (pair : List ℕ × List ℕ) (revision node : ℕ) : Type 0 where
+pub record IsPairWritten (before now : List ℕ) (head : RevisionHead) (store : Store) (tree : Tree ℕ) (places : List PairLayout) (pair : List ℕ × List ℕ) (revision node : ℕ) : Type 0 where
   pub given : List ℕ
-  pub place : Place
+  pub place : PairLayout
   pub here : node ≡ place.node
   pub revised : place.revision ≡ revision
-  pub arranged : Arranged now head store tree places given (lines_at place)
+  pub arranged : IsLaidOut now head store tree places given (lines_at place)
   pub is : IsAt now place pair
   pub leaf : IsNode now node 0 0 1
   pub long : length now ≡ length before
 
 abbrev pub PairWritten : List ℕ × List ℕ → ℕ → ℕ → List ℕ → List ℕ → Type 0
 PairWritten pair revision node old now =
-    (head : RevisionHead) (store : Store) (tree : Tree ℕ) (places : List Place) (given : List ℕ) → Arranged old head store tree places given [] → HasRoom old places [] (pair_lines pair) → IsPairWritten old now head store tree places pair revision node
+    (head : RevisionHead) (store : Store) (tree : Tree ℕ) (places : List PairLayout) (given : List ℕ) → IsLaidOut old head store tree places given [] → HasRoom old places [] (pair_lines pair) → IsPairWritten old now head store tree places pair revision node
 
 -- there is room for a pair whose key is not there, at the place where the walk to its key ended at nothing
 pub record CanAdd (words nodes sides : List ℕ) (depth : ℕ) (pair : List ℕ × List ℕ) : Type 0 where

@@ -1,6 +1,6 @@
 -- The node at the end of a walk to its key is taken out.
 use Rattle.std.specs.Prelude.{◌≡◌, ◌≢◌, ℕ, false, List}
-use Rattle.index_checks.specs.Layout.{IsIndex}
+use Rattle.index_validation.specs.Layout.{IsIndex}
 use Rattle.word_index.specs.Exact.{with_node_cut, with_pair_given}
 use Rattle.word_index.specs.Walk.{AtSpot}
 

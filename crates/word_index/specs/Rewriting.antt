@@ -3,7 +3,7 @@ use Rattle.std.specs.Prelude.{◌≡◌, ◌≢◌, ◌↔◌, ◌+◌, ◌≤�
 use Rattle.cx_base.specs.Store.{Store, blocks, pair_lines, lines_of}
 use Rattle.avl_words.specs.Tree.{Tree}
 use Rattle.avl_words.specs.Lines.{word_of, line_count, IsWithin}
-use Rattle.index_checks.specs.Layout.{IsChain, Place, Placed, RevisionHead, Arranged}
+use Rattle.index_validation.specs.Layout.{IsChain, PairLayout, Placed, RevisionHead, IsLaidOut}
 use Rattle.word_index.specs.Exact.{document_blocks}
 
 -- a chain of `count` lines that are there
@@ -20,12 +20,12 @@ pub record CanRewrite (words : List ℕ) (node : ℕ) (document : List ℕ) : Ty
   pub lower : Store
   pub after : Store
   pub pair : List ℕ × List ℕ
-  pub front : List Place
-  pub rest : List Place
-  pub place : Place
+  pub front : List PairLayout
+  pub rest : List PairLayout
+  pub place : PairLayout
   pub given : List ℕ
   pub here : node ≡ place.node
-  pub arranged : Arranged words head (lower ++ pair ∷ after) tree (front ++ place ∷ rest) given []
+  pub arranged : IsLaidOut words head (lower ++ pair ∷ after) tree (front ++ place ∷ rest) given []
   pub placed_front : Placed words front lower
   pub room : lines_of lower + pair_lines (pair.0, document) + lines_of after + 1 ≤ line_count words
 

@@ -4,9 +4,9 @@ use Rattle.cx_base.specs.Memory.{Words}
 use Rattle.cx_base.specs.Store.{Store}
 use Rattle.doc_model.specs.Revisions.{RevisedStore}
 use Rattle.avl_words.specs.Lines.{with_word, word_of}
-use Rattle.index_checks.specs.Layout.{StandsFor}
-use Rattle.index_checks.specs.Order.{nodes_in_order}
-use Rattle.index_checks.specs.Reading.{StandsForRevised}
+use Rattle.index_validation.specs.Layout.{StandsFor}
+use Rattle.index_validation.specs.Order.{nodes_in_order}
+use Rattle.index_validation.specs.Reading.{StandsForRevised}
 
 -- the pairs of these nodes get revision 1
 abbrev pub with_first_revisions : List ℕ → List ℕ → List ℕ

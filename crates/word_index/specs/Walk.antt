@@ -9,7 +9,7 @@ use Rattle.cx_base.specs.declared.memory.Memory.{Ghosts}
 use Rattle.avl_words.specs.Tree.{Tree}
 use Rattle.avl_words.specs.Ways.{behind, spot}
 use Rattle.avl_words.specs.Words.{IsOnWay, IsSpot}
-use Rattle.index_checks.specs.Layout.{StandsFor}
+use Rattle.index_validation.specs.Layout.{StandsFor}
 use Rattle.word_index.specs.Answers.{IsNodeOf}
 use Rattle.word_index.specs.Exact.{order_in}
 

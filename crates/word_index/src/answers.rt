@@ -6,7 +6,7 @@ ghost use Rattle.cx_base.specs.Packing.{unpacked};
 ghost use Rattle.cx_base.specs.Store.{Store};
 ghost use Rattle.doc_model.specs.Meaning.{pairs_above};
 ghost use Rattle.avl_words.specs.Lines.{IsLoadable};
-ghost use Rattle.index_checks.specs.Layout.{IsIndex, StandsFor};
+ghost use Rattle.index_validation.specs.Layout.{IsIndex, StandsFor};
 ghost use Rattle.word_index.specs.Answers.{IsFoundIn, IsLeast, IsNodeOf, IsPackOf};
 ghost use Rattle.word_index.specs.Walk.{HasNode, Walks};
 

@@ -4,8 +4,8 @@ ghost use Rattle.std.specs.Prelude.{◌≡◌, ◌+◌, ◌*◌, ◌/◌, ◌%�
 ghost use Rattle.cx_base.specs.Calls.{Finds};
 ghost use Rattle.cx_base.specs.Packing.{packed, packed_at};
 ghost use Rattle.avl_words.specs.Lines.{IsLoadable, IsWithin, word_of};
-ghost use Rattle.index_checks.specs.Blocks.{HasChainWords, IsTextAt, HasText};
-ghost use Rattle.index_checks.specs.Layout.{Holds};
+ghost use Rattle.index_validation.specs.Blocks.{HasChainWords, IsTextAt, HasText};
+ghost use Rattle.index_validation.specs.Layout.{Holds};
 ghost use Rattle.word_index.specs.Answers.{IsPackOf};
 
 use avl_words::word;

@@ -4,7 +4,7 @@ ghost use Rattle.std.specs.Prelude.{◌≡◌, ◌<◌, ◌∷◌, [], IsTrue, I
 ghost use Rattle.cx_base.specs.Calls.{Changes};
 ghost use Rattle.cx_base.specs.Memory.{Becomes};
 ghost use Rattle.avl_words.specs.Lines.{IsPartLength};
-ghost use Rattle.index_checks.specs.Layout.{StandsFor};
+ghost use Rattle.index_validation.specs.Layout.{StandsFor};
 ghost use Rattle.word_index.specs.Exact.{with_empty_header};
 
 use cx_base::{Halt, Memory};

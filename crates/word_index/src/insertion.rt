@@ -7,7 +7,7 @@ ghost use Rattle.cx_base.specs.Packing.{unpacked};
 ghost use Rattle.cx_base.specs.Store.{Store, lines_of, pair_lines};
 ghost use Rattle.doc_model.specs.Revisions.{next_revision};
 ghost use Rattle.avl_words.specs.Lines.{IsLoadable, IsStorable, word_of};
-ghost use Rattle.index_checks.specs.Layout.{IsIndex, StandsFor};
+ghost use Rattle.index_validation.specs.Layout.{IsIndex, StandsFor};
 ghost use Rattle.word_index.specs.Answers.{IsPackedPair, IsNodeOf};
 ghost use Rattle.word_index.specs.Packed.{IsPacked};
 ghost use Rattle.word_index.specs.Exact.{with_new_pair};

@@ -41,7 +41,7 @@ mod walk;
 
 pub use answers::{find, least_above, read_document};
 pub use format::format_index;
-pub use index_checks::{
+pub use index_validation::{
     lawful, lawful_words_have_one_revised_store, lawful_words_have_one_store, pairs_of,
     words_stand_for_one_store, words_tell_their_store,
 };

@@ -6,8 +6,8 @@ ghost use Rattle.cx_base.specs.Calls.{Finds};
 ghost use Rattle.cx_base.specs.Packing.{unpacked};
 ghost use Rattle.cx_base.specs.Store.{Store, key_cmp};
 ghost use Rattle.avl_words.specs.Lines.{IsLoadable, word_of};
-ghost use Rattle.index_checks.specs.Layout.{IsIndex, StandsFor};
-ghost use Rattle.index_checks.specs.Reading.{revised_in};
+ghost use Rattle.index_validation.specs.Layout.{IsIndex, StandsFor};
+ghost use Rattle.index_validation.specs.Reading.{revised_in};
 ghost use Rattle.word_index.specs.Answers.{IsPackOf, IsNodeOf};
 ghost use Rattle.word_index.specs.Walk.{HasNode};
 

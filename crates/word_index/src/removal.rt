@@ -5,7 +5,7 @@ ghost use Rattle.cx_base.specs.Calls.{Changes};
 ghost use Rattle.cx_base.specs.Memory.{Becomes};
 ghost use Rattle.cx_base.specs.Packing.{unpacked};
 ghost use Rattle.avl_words.specs.Lines.{IsStorable};
-ghost use Rattle.index_checks.specs.Layout.{IsIndex};
+ghost use Rattle.index_validation.specs.Layout.{IsIndex};
 ghost use Rattle.word_index.specs.Exact.{is_key_in, with_key_removed};
 ghost use Rattle.word_index.specs.Removal.{CanCut, Cuts, TakesOut};
 ghost use Rattle.word_index.specs.Walk.{FewVisits, Walked};

@@ -1,10 +1,10 @@
 //! Words of version 1 become words of version 2.
 
 ghost use Rattle.std.specs.Prelude.{◌≡◌};
-ghost use Rattle.index_checks.specs.Lawful.{IsLawful};
+ghost use Rattle.index_validation.specs.Lawful.{IsLawful};
 ghost use Rattle.word_index.specs.Upgrading.{upgraded_in, IsMigrated};
 
-use index_checks::InOrder;
+use index_validation::InOrder;
 
 /// Makes lawful words of version 1 words of version 2, with the same pairs. Each gets revision 1, and 1 is the last one given, also where
 /// there are no pairs.

@@ -5,7 +5,7 @@ ghost use Rattle.std.specs.declared.cmp.Ordering.TheVariants.{Less, Greater};
 ghost use Rattle.cx_base.specs.Calls.{Finds};
 ghost use Rattle.cx_base.specs.Packing.{unpacked};
 ghost use Rattle.avl_words.specs.Lines.{IsLoadable};
-ghost use Rattle.index_checks.specs.Layout.{IsIndex};
+ghost use Rattle.index_validation.specs.Layout.{IsIndex};
 ghost use Rattle.word_index.specs.Walk.{AtEnd, AtSpot, VisitsFew, Walks, toward};
 
 use crate::nodes::order_at;

@@ -2,7 +2,7 @@
 
 use crate::holds::holds;
 use doc_model::Pair;
-use index_checks::{lawful, pairs_of};
+use index_validation::{lawful, pairs_of};
 use std::alloc::{AllocError, Global};
 use std::test::Fail;
 use word_index::upgrade_index;

@@ -5,7 +5,7 @@ ghost use Rattle.cx_base.specs.Memory.{Always};
 ghost use Rattle.cx_base.specs.Packing.{unpacked, packed};
 ghost use Rattle.cx_base.specs.Store.{IsKey, IsDocument};
 ghost use Rattle.word_index.specs.Packed.{IsPacked};
-ghost use Rattle.index_checks.specs.Layout.{IsIndex};
+ghost use Rattle.index_validation.specs.Layout.{IsIndex};
 
 use crate::holds::holds;
 use cx_base::{Halt, Memory, Steps, VecMemory, pack, packed_unpacks};

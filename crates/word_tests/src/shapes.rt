@@ -1,11 +1,11 @@
 //! Words with the shape of a tree, and words without.
 
 ghost use Rattle.std.specs.Prelude.{length};
-ghost use Rattle.index_checks.specs.Order.{HasTree};
+ghost use Rattle.index_validation.specs.Order.{HasTree};
 ghost use Rattle.avl_words.specs.Lines.{IsPartLength};
 
 use crate::holds::holds;
-use index_checks::{InOrder, is_balanced};
+use index_validation::{InOrder, is_balanced};
 
 // Four lines: the second is a node over the first and the third.
 const TREE: [u64; 32] = [

@@ -1,6 +1,6 @@
 use Rattle.std.proofs.Common.{◌≡◌, of_z, rules, subst, to_z, w32}
 use Rattle.githoppu_c.specs.Closings.{ClosesAs}
-use Rattle.githoppu_c.specs.declared.content.AnyContent.{AnyContent}
+use Rattle.githoppu_c.specs.declared.content.AnyHandleState.{AnyHandleState}
 use Rattle.githoppu_c.proofs.githoppu_close.Goals as goal
 
 pub returns-then-code-eq-OTHERS : goal.returns-then-code-eq-OTHERS
@@ -13,4 +13,4 @@ returns-else-code-eq-OTHERS c =
     let after = c.close-code.new.self in
     let same : c.deref_mut.result.now ≡ c.args.session.content = search rules in
     let code : c.close-code.result ≡ to_z w32 (of_z w32 c.close-code.result) = search rules in
-    (after, c.close-code.ensures.callable, subst (λ (before : AnyContent). ClosesAs before after (to_z w32 (of_z w32 c.close-code.result))) same (subst (ClosesAs c.deref_mut.result.now after) code c.close-code.ensures.closes))
+    (after, c.close-code.ensures.callable, subst (λ (before : AnyHandleState). ClosesAs before after (to_z w32 (of_z w32 c.close-code.result))) same (subst (ClosesAs c.deref_mut.result.now after) code c.close-code.ensures.closes))

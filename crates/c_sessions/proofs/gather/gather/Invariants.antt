@@ -1,6 +1,6 @@
 use Rattle.std.proofs.Common.{◌≤◌, ◌-◌, List, length}
 use Rattle.std.specs.Prelude.{vec_capacity}
-use Rattle.cx_rule.specs.Running.{Running}
+use Rattle.table_invariant.specs.Running.{Running}
 use Rattle.cx_service.specs.declared.close.Handed.{Handed}
 use Rattle.c_sessions.specs.Handing.{HasTaken}
 use Rattle.c_sessions.proofs.gather.gather.Given as goal

@@ -2,7 +2,7 @@ use Rattle.std.proofs.Common.{◌≡◌, ◌≤◌, ap, length, map, subst, sym,
 use Rattle.std.specs.List.{range_with_len}
 use Rattle.std.proofs.lemmas.List.{length-map}
 use Rattle.std.proofs.lemmas.List.FromFn.{length-range_with_len}
-use Rattle.cx_rule.specs.Running.{Running}
+use Rattle.table_invariant.specs.Running.{Running}
 use Rattle.c_sessions.specs.Sessions.{caller_number_in}
 use Rattle.c_sessions.proofs.Numbers.{as_many, number_of}
 use Rattle.c_sessions.proofs.start.open_from.Goals as goal

@@ -1,6 +1,6 @@
 use Rattle.std.proofs.Common.{rules, ◌≡◌, ◌∷◌, ℕ, List, All, ap, drop, length, map, subst, sym, ◌∙◌}
 use Rattle.crossbeam_queue.specs.Passes.{view}
-use Rattle.cx_rule.specs.Running.{Running}
+use Rattle.table_invariant.specs.Running.{Running}
 use Rattle.c_sessions.specs.declared.rule.Knows.{Knows}
 use Rattle.c_sessions.proofs.Endings.{own_due}
 use Rattle.std.proofs.lemmas.List.Elements.{All-push, All-tail}

@@ -1,7 +1,7 @@
 use Rattle.std.proofs.Common.{◌≡◌, ◌∙◌, ◌+◌, ◌-◌, ◌<◌, ap, arith, refl, subst, Some}
 use Rattle.crossbeam_queue.specs.Passes.{view}
 use Rattle.seat_pool.specs.Pooling.{limits_at}
-use Rattle.seat_pool.specs.declared.hand.Hand.{Hand}
+use Rattle.seat_pool.specs.declared.hand.LenderPass.{LenderPass}
 use Rattle.client_pool.specs.Pools.{AreCallersPlaced}
 use Rattle.client_pool.specs.declared.client.Client.{Client}
 use Rattle.client_pool.specs.declared.client.Closing.{Closing}
@@ -20,7 +20,7 @@ loop-number-preserved g c =
       pass = made.pass.0;
       placed = placed_more r table n (view c.loop-number.pass) (view c.new_client-client.new.pass) i.placed (let few = c.loop-number-test.true in let most = c.requires.count.1 in omega (arith, few, most)) made.pass.1;
       room = (let room = i.room in let same = c.push_reserved.ensures.capacity in omega (arith, room, same));
-      limits = ap (λ (v : Hand). limits_at v.home) made.pass.1 ∙ i.limits;
+      limits = ap (λ (v : LenderPass). limits_at v.home) made.pass.1 ∙ i.limits;
       made = made_more r table (limits_at (view c.args.pass).home) (limits_at (view c.loop-number.pass).home) n c.loop-number.clients.items c.push_reserved.new.self.items x x i.made c.push_reserved.ensures.items made.client i.limits refl refl refl refl;
     }
 

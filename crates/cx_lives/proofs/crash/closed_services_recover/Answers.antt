@@ -1,7 +1,7 @@
 use Rattle.std.proofs.Common.{Err, Ok, subst, sym}
 use Rattle.cx_base.specs.OldFormat.{no_old_format}
 use Rattle.cx_core.specs.Base.{LawfulBase}
-use Rattle.cx_rule.specs.Running.{instance_at}
+use Rattle.table_invariant.specs.Running.{instance_at}
 use Rattle.recovery.specs.Images.{IsReadable}
 use Rattle.recovery.specs.Kept.{IsKeptBy, crash_of}
 use Rattle.recovery.specs.Recovery.{IsFaultOf, IsRecovered}

@@ -3,8 +3,8 @@ use Rattle.std.specs.Prelude.{MatchBool}
 use Rattle.std.specs.List.{range_with_len}
 use Rattle.std.proofs.lemmas.List.Sorted.{IsNonDecreasingBy-from_sort_by_key}
 use Rattle.cx_core.specs.declared.local.Local.{Local}
-use Rattle.cx_rule.specs.Running.{instance_at}
-use Rattle.cx_rule.specs.Seats.{Seated}
+use Rattle.table_invariant.specs.Running.{instance_at}
+use Rattle.table_invariant.specs.Seats.{Seated}
 use Rattle.cx_service.specs.Closes.{seats_of}
 use Rattle.life_records.specs.Journal.{IsByTicket, IsRecordOf}
 use Rattle.life_records.specs.Told.{IsTold}

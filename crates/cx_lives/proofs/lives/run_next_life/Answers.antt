@@ -1,6 +1,6 @@
 use Rattle.std.proofs.Common.{List, ◌++◌, ◌∷◌, [], sym, subst, Some}
 use Rattle.cx_core.proofs.HistoryLemmas.{ObjectLaws}
-use Rattle.cx_rule.specs.Ending.{Ending}
+use Rattle.table_invariant.specs.Ending.{Ending}
 use Rattle.life_records.specs.Begins.{nothing_begun}
 use Rattle.life_records.specs.declared.record.LifeRecord.{LifeRecord}
 use Rattle.cx_lives.specs.Lives.{HaveLived, begun_by}

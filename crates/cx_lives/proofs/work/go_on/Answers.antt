@@ -1,7 +1,7 @@
 use Rattle.std.proofs.Common.{subst, sym}
 use Rattle.cx_lives.specs.Ends.{IsWorkOf}
 use Rattle.cx_lives.specs.Works.{IsFullLeft, IsClientLeft, ServedOf}
-use Rattle.cx_lives.proofs.Turning.{given_up_work}
+use Rattle.cx_lives.proofs.CommandOutcomes.{given_up_work}
 use Rattle.cx_lives.proofs.work.go_on.Goals as goal
 
 pub serve_on-requires-clause-left : goal.serve_on-requires-clause-left

@@ -1,5 +1,5 @@
 use Rattle.std.proofs.Common.{arith, refl}
-use Rattle.cx_lives.proofs.Turning.{first_served}
+use Rattle.cx_lives.proofs.CommandOutcomes.{first_served}
 use Rattle.cx_lives.proofs.work.serve.Goals as goal
 
 pub serve_on-requires-clause-left : goal.serve_on-requires-clause-left

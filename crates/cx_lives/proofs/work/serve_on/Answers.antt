@@ -1,13 +1,13 @@
 use Rattle.std.proofs.Common.{◌≡◌, ◌+◌, ◌-◌, ◌≤◌, Some, ap, arith, length, refl, subst, sym, true}
 use Rattle.life_records.specs.Scripts.{named_op}
 use Rattle.life_records.specs.declared.record.FullLine.{FullLine}
-use Rattle.cx_lives.specs.Ends.{IsKeptOut, IsWorkOf, Turned, full_in}
+use Rattle.cx_lives.specs.Ends.{IsKeptOut, IsWorkOf, IsCommandOutcome, full_in}
 use Rattle.cx_lives.specs.Serving.{IsServed}
 use Rattle.cx_lives.specs.Works.{IsFullLeft}
 use Rattle.cx_lives.specs.declared.progress.Work.{Work}
 use Rattle.cx_lives.specs.declared.work.Left.{Left}
 use Rattle.cx_lives.proofs.Commands.{count_all, count_more, count_none, named_here}
-use Rattle.cx_lives.proofs.Turning.{full_line, whole_work}
+use Rattle.cx_lives.proofs.CommandOutcomes.{full_line, whole_work}
 use Rattle.cx_lives.proofs.work.serve_on.Goals as goal
 use Rattle.cx_lives.proofs.work.serve_on.Goals.{then-command-client+in_ok-turn+in-Next, else-command-client}
 
@@ -31,7 +31,7 @@ loop-at-preserved g c =
     elim c.if-command-client.branch [
       | then-command-client+in_ok-turn+in-Next w ↦ (record {
         served = rw (w.progress-is, w.number-is) (subst (λ k. IsServed (g.O.TypedObject.meaning c.args.service.now.object) c.args.life.now c.args.service.now k (c.loop-at.number + 1) w.in-Next.back) w.if-command-client.true
-            (subst (Turned (g.O.TypedObject.meaning c.args.service.now.object) c.args.life.now c.args.service.now command.client (c.loop-at.number + 1)) w.in-Next.is w.in_ok-turn.ensures));
+            (subst (IsCommandOutcome (g.O.TypedObject.meaning c.args.service.now.object) c.args.life.now c.args.service.now command.client (c.loop-at.number + 1)) w.in-Next.is w.in_ok-turn.ensures));
         count = count_more c.args.life.now items c.commands-commands.ensures c.loop-at.at command c.command_at-command.ensures
             me c.loop-at.number c.loop-at.invariant.count _ w.number-is w.if-command-client.true;
         few = omega (arith, w.number-is, c.loop-at.invariant.few);
@@ -68,7 +68,7 @@ returns-in-Full g c =
     let same : n + 1 - 1 ≡ n = omega arith in
     let back = c.in-Full.back in
     let note = c.in-Full.note in
-    let told : IsKeptOut (g.O.TypedObject.meaning c.args.service.now.object) life r command.client (n + 1 - 1) back note = subst (Turned (g.O.TypedObject.meaning c.args.service.now.object) life r command.client (n + 1)) c.in-Full.is c.in_ok-turn.ensures in
+    let told : IsKeptOut (g.O.TypedObject.meaning c.args.service.now.object) life r command.client (n + 1 - 1) back note = subst (IsCommandOutcome (g.O.TypedObject.meaning c.args.service.now.object) life r command.client (n + 1)) c.in-Full.is c.in_ok-turn.ensures in
     let kept : IsKeptOut (g.O.TypedObject.meaning c.args.service.now.object) life r me n back note = subst (λ k. IsKeptOut (g.O.TypedObject.meaning c.args.service.now.object) life r me k back note) same (subst (λ k. IsKeptOut (g.O.TypedObject.meaning c.args.service.now.object) life r k (n + 1 - 1) back note) c.if-command-client.true told) in
     let left : Left g.row.O-Reply.Denot = record { progress = back; at = c.loop-at.at; number = n; begun = true } in
     let line : FullLine = record { client = me; command = n + 1; note = note } in

@@ -1,10 +1,10 @@
 use Rattle.std.proofs.Common.{◌∙◌, sym, subst, arith}
 use Rattle.cx_core.specs.Base.{LawfulBase}
 use Rattle.cx_core.proofs.MergeLemmas.{history_is}
-use Rattle.cx_rule.specs.Rule.{opening_limited}
-use Rattle.cx_rule.specs.Running.{instance_at}
+use Rattle.table_invariant.specs.Rule.{opening_limited}
+use Rattle.table_invariant.specs.Running.{instance_at}
 use Rattle.core_runs.proofs.Ordering.{linearizable}
-use Rattle.cx_rule.proofs.Opening.{limited_lawful}
+use Rattle.table_invariant.proofs.Opening.{limited_lawful}
 use Rattle.cx_service.proofs.CallOrder.{keeps_calls, keeps_images, none_linked, none_made}
 use Rattle.cx_service.proofs.closed_order.closed_tables_are_linearizable.Goals as goal
 

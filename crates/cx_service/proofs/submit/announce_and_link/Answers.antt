@@ -1,13 +1,13 @@
 use Rattle.std.proofs.Common.{◌≡◌, ◌+◌, ◌*◌, ap, inl, inr, sym, subst, arith, ◌∙◌}
 use Rattle.std.proofs.lemmas.Result.{IfOk-weaker, on_err_weaker}
 use Rattle.cx_core.specs.QueueEvents.{IsIdle, cell_of}
-use Rattle.cx_rule.specs.Running.{instance_at}
-use Rattle.cx_rule.specs.Seats.{IsAtLimit, Seated}
+use Rattle.table_invariant.specs.Running.{instance_at}
+use Rattle.table_invariant.specs.Seats.{IsAtLimit, Seated}
 use Rattle.mutation_queue.specs.Links.{EndsBy, HaltsTry, MakesTries, Tried}
 use Rattle.cx_service.specs.Callers.{unlinked}
 use Rattle.cx_service.specs.Submits.{EntersIn}
 use Rattle.cx_service.proofs.Announced.{both_ok, halted_in, if_any_err}
-use Rattle.cx_service.proofs.Entering.{answered_still, beside_submit, entered, halts, halts_linking, no_sets_read, stale, tries_of}
+use Rattle.cx_service.proofs.Entering.{answered_still, unchanged_by_submit, entered, halts, halts_linking, no_sets_read, stale, tries_of}
 use Rattle.cx_service.proofs.Looking.{cur_caller, cur_loaded, enters_then, halted_then, tries_then, writing_then}
 use Rattle.cx_service.proofs.submit.announce_and_link.Goals as goal
 
@@ -19,7 +19,7 @@ returns-in_err-_cur-clause-halted g c =
     let front = ap (λ (x : Seated). x.known.local.front) halted.same in
     let steps = ap (λ (x : Seated). x.known.local.steps) halted.same in
     if_any_err c.from_residual.result (
-      (halts c.args.shared.now s t (ap beside_submit halted.same) (146 + 2 * c.args.tries) c.requires.caller (ap (λ (x : Seated). x.known.local.own) halted.same) (ap (λ (x : Seated). x.known.times.linked) halted.same) (omega (arith, front)) (let cur = ap (λ (x : Seated). x.known.local.seen_cur) halted.same in omega (arith, cur)) (omega (arith, steps))
+      (halts c.args.shared.now s t (ap unchanged_by_submit halted.same) (146 + 2 * c.args.tries) c.requires.caller (ap (λ (x : Seated). x.known.local.own) halted.same) (ap (λ (x : Seated). x.known.times.linked) halted.same) (omega (arith, front)) (let cur = ap (λ (x : Seated). x.known.local.seen_cur) halted.same in omega (arith, cur)) (omega (arith, steps))
           (λ k within idle. record { free = ap (λ (x : Seated). x.known.local.seen_free) halted.same; scans = ap (λ (x : Seated). x.known.local.scans) halted.same })
           (subst (λ (x : Seated). IsAtLimit x.known.local) (sym halted.same) halted.limit) (omega (arith, steps))),
       inl (record {

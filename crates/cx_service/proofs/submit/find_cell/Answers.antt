@@ -1,13 +1,13 @@
 use Rattle.std.proofs.Common.{◌+◌, ap, arith, inl, refl}
 use Rattle.std.proofs.lemmas.Result.{IfOk-weaker, on_err_weaker}
-use Rattle.cx_rule.specs.Running.{instance_at}
-use Rattle.cx_rule.specs.Seats.{Seated}
+use Rattle.table_invariant.specs.Running.{instance_at}
+use Rattle.table_invariant.specs.Seats.{Seated}
 use Rattle.cx_service.specs.Submits.{FindsAgain, FindsCell}
 use Rattle.cx_service.proofs.Looking.{caller_then, finds_at_once, finds_then, free_ends, free_loaded, looked_first, looked_then, looking_then}
 use Rattle.cx_service.proofs.submit.find_cell.Goals as goal
 
-pub give_again-requires-clause-caller : goal.give_again-requires-clause-caller
-give_again-requires-clause-caller g c =
+pub reclaim_cells-requires-clause-caller : goal.reclaim_cells-requires-clause-caller
+reclaim_cells-requires-clause-caller g c =
     let r = c.args.shared.now in
     let s = c.args.seat.now in
     let t = c.load_free.new.seat in
@@ -24,13 +24,13 @@ returns-clause-found g c =
     let r = c.args.shared.now in
     let s = c.args.seat.now in
     let t = c.load_free.new.seat in
-    let v = c.give_again.new.seat in
+    let v = c.reclaim_cells.new.seat in
     let instance = instance_at r g.O.Object.step g.O.Object.only_reads in
     let step = c.in_ok-_free.ensures.made in
-    let looked = looked_then 1 (r.callers + 3) (r.callers + 4) s t v (omega arith) (free_loaded instance s t c.in_ok-_free._free step.made) c.give_again.ensures.looked in
-    IfOk-weaker c.give_again.result (FindsAgain r.callers t v) (FindsCell r.callers s v)
+    let looked = looked_then 1 (r.callers + 3) (r.callers + 4) s t v (omega arith) (free_loaded instance s t c.in_ok-_free._free step.made) c.reclaim_cells.ensures.looked in
+    IfOk-weaker c.reclaim_cells.result (FindsAgain r.callers t v) (FindsCell r.callers s v)
     (λ found finds. finds_then r.callers s t v found (c.in_default.ensures.none.0 refl) step.allowed (free_ends r instance s t c.in_ok-_free._free step.made c.requires) (ap (λ (x : Seated). x.known.local.scans) step.made) (ap (λ (x : Seated). x.known.local.steps) step.made) looked finds)
-    c.give_again.ensures.found
+    c.reclaim_cells.ensures.found
 
 pub returns-clause-halted : goal.returns-clause-halted
 returns-clause-halted g c =
@@ -38,11 +38,11 @@ returns-clause-halted g c =
     let s = c.args.seat.now in
     let t = c.load_free.new.seat in
     let step = c.in_ok-_free.ensures.made in
-    on_err_weaker c.give_again.result
+    on_err_weaker c.reclaim_cells.result
     (λ h. record {
       limit = h.limit;
       used = c.in_default.ensures.none.0 refl;
-      looking = looking_then (r.callers + 2) (r.callers + 3) s t c.give_again.new.seat (omega arith) (ap (λ (x : Seated). x.known.local.scans) step.made) (ap (λ (x : Seated). x.known.local.steps) step.made) h.looking;
+      looking = looking_then (r.callers + 2) (r.callers + 3) s t c.reclaim_cells.new.seat (omega arith) (ap (λ (x : Seated). x.known.local.scans) step.made) (ap (λ (x : Seated). x.known.local.steps) step.made) h.looking;
       since = (let one = ap (λ (x : Seated). x.known.local.steps) step.made in omega (arith, one, h.since));
     })
-    c.give_again.ensures.halted
+    c.reclaim_cells.ensures.halted

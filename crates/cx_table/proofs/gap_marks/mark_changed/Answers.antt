@@ -1,5 +1,5 @@
 use Rattle.std.proofs.Common.{inl, inr, refl, ◌∙◌, arith}
-use Rattle.cx_rule.specs.Running.{instance_at}
+use Rattle.table_invariant.specs.Running.{instance_at}
 use Rattle.cx_table.proofs.GapLoads.{has_still, leaves_more, leaves_none}
 use Rattle.cx_table.proofs.GapWalks.{changed_more, changed_none}
 use Rattle.cx_table.proofs.gap_marks.mark_changed.Goals as goal

@@ -1,8 +1,8 @@
 use Rattle.std.proofs.Common.{◌≤◌, length, refl, sym, ap, subst, arith}
 use Rattle.std.proofs.lemmas.List.{length-take-le}
-use Rattle.cx_rule.specs.Listed.{HasGap}
-use Rattle.cx_rule.specs.Running.{instance_at}
-use Rattle.cx_rule.specs.Seats.{Seated}
+use Rattle.table_invariant.specs.Listed.{HasGap}
+use Rattle.table_invariant.specs.Running.{instance_at}
+use Rattle.table_invariant.specs.Seats.{Seated}
 use Rattle.cx_table.specs.GapWords.{IsNamed, TellsLines, lines_from}
 use Rattle.cx_table.proofs.GapLoads.{has_named, loads_leave, run_gaps}
 use Rattle.cx_table.proofs.GapWalks.{marked_lines, told_walk, walk_by}

@@ -2,8 +2,8 @@ use Rattle.std.proofs.Common.{◌≡◌, ◌+◌, ◌↔◌, Bool, Global, Vec, 
 use Rattle.std.proofs.lemmas.Option.{same_Some, slice_get-get_or}
 use Rattle.std.specs.List.{Contains, slice_get}
 use Rattle.cx_core.specs.Rights.{exclusive_on, held_dirty}
-use Rattle.cx_rule.specs.Seats.{Seated, known_of}
-use Rattle.seat_memory.specs.declared.summary.Summary.{Summary}
+use Rattle.table_invariant.specs.Seats.{Seated, known_of}
+use Rattle.caller_cache.specs.declared.summary.CachedLocal.{CachedLocal}
 use Rattle.cx_table.proofs.Marking.{DirtyTo, dirty_all, dirty_off, dirty_on}
 use Rattle.cx_table.proofs.gather.mark_dirty.Goals as goal
 use Rattle.cx_table.proofs.gather.mark_dirty.Goals.{in-Some+then-replica-replicas, in-Some+else-replica-replicas, in_default}
@@ -13,7 +13,7 @@ loop-k-preserved c =
     let seats = c.args.seats.now in
     let seat = c.index-seats-k.result in
     let at : slice_get seats c.loop-k.k ≡ Some seat = slice_get-get_or seats c.loop-k.k seat c.loop-k-test.true ∙ ap Some (sym c.index-seats-k.is) in
-    let on : exclusive_on seat.known.local ≡ c.seat.inside.summary.exclusive = sym (ap (λ (m : Summary). m.exclusive) c.seat.invariant.0.is ∙ ap (λ (s : Seated). exclusive_on s.known.local) c.seat.view_is) in
+    let on : exclusive_on seat.known.local ≡ c.seat.inside.summary.exclusive = sym (ap (λ (m : CachedLocal). m.exclusive) c.seat.invariant.0.is ∙ ap (λ (s : Seated). exclusive_on s.known.local) c.seat.view_is) in
     let n = c.loop-k.k in
     let size : length c.seat.inside.copy.words ≡ c.args.region = ap (λ (s : Seated). s.region) c.seat.view_is ∙ ap (λ (s : Seated). s.region) c.index-seats-k.is ∙ c.requires.regions n seat c.loop-k-test.true in
     elim c.match-seat.branch [

@@ -2,11 +2,11 @@ use Rattle.std.proofs.Common.{◌≡◌, ◌+◌, ◌≤◌, ◌++◌, ◌∷◌
 use Rattle.std.proofs.lemmas.List.{append-nil}
 use Rattle.std.specs.Option.{option_to_list}
 use Rattle.cx_core.specs.declared.local.WonCode.{WonCode}
-use Rattle.cx_rule.specs.Seats.{Seated}
-use Rattle.seat_memory.specs.declared.summary.Summary.{Summary}
+use Rattle.table_invariant.specs.Seats.{Seated}
+use Rattle.caller_cache.specs.declared.summary.CachedLocal.{CachedLocal}
 use Rattle.cx_table.specs.Remains.{locals_of}
-use Rattle.seat_memory.specs.Wins.{wins_of}
-use Rattle.seat_memory.proofs.Chaining.{no_win}
+use Rattle.caller_cache.specs.Wins.{wins_of}
+use Rattle.caller_cache.proofs.Chaining.{no_win}
 use Rattle.cx_table.proofs.Closing.{wins_more}
 use Rattle.cx_table.proofs.gather.note_wins.Goals as goal
 use Rattle.cx_table.proofs.gather.note_wins.Goals.{in-Some, in_default}
@@ -18,7 +18,7 @@ loop-k-preserved c =
     let old = c.loop-k.invariant in
     let seat = c.index-seats-k.result in
     let more = wins_more seats k seat c.loop-k-test.true c.index-seats-k.is in
-    let on : c.seat.inside.summary.won ≡ seat.known.local.won = ap (λ (m : Summary). m.won) c.seat.invariant.0.is ∙ ap (λ (s : Seated). s.known.local.won) c.seat.view_is in
+    let on : c.seat.inside.summary.won ≡ seat.known.local.won = ap (λ (m : CachedLocal). m.won) c.seat.invariant.0.is ∙ ap (λ (s : Seated). s.known.local.won) c.seat.view_is in
     let P : Vec WonCode Global → Type 0 = λ v. (length seats ≤ vec_capacity v) × (vec_len v ≤ k + 1) × (v.items ≡ wins_of (locals_of (take (k + 1) seats))) in
     let all : P c.match-seat.wins = elim c.match-seat.branch [
       | in-Some w ↦ (

@@ -1,6 +1,6 @@
 use Rattle.std.proofs.Common.{◌≡◌, ◌≤◌, length, take, vec_capacity, vec_len}
 use Rattle.cx_table.specs.Remains.{locals_of}
-use Rattle.seat_memory.specs.Wins.{wins_of}
+use Rattle.caller_cache.specs.Wins.{wins_of}
 use Rattle.cx_table.proofs.gather.note_wins.Given as goal
 
 abbrev pub invariant-loop-k : goal.invariant-loop-k

@@ -2,7 +2,7 @@ use Rattle.std.proofs.Common.{◌≡◌, ◌∙◌, ap, sym, subst, drop}
 use Rattle.std.proofs.lemmas.Result.{IfOk-weaker}
 use Rattle.cx_core.specs.Region.{object_part}
 use Rattle.doc_store.specs.ExactStep.{IsImageOfStore}
-use Rattle.index_checks.specs.Reading.{revised_in}
+use Rattle.index_validation.specs.Reading.{revised_in}
 use Rattle.doc_commands.proofs.loads.pairs_of.Goals as goal
 
 pub documents-requires : goal.documents-requires

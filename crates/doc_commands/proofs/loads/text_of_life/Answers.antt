@@ -10,7 +10,7 @@ use Rattle.doc_store.specs.DocumentMeaning.{document_meaning}
 use Rattle.doc_store.specs.ExactStep.{IsImageOfStore}
 use Rattle.doc_text.specs.Generated.{generated_life}
 use Rattle.doc_text.specs.Summary.{summary_text}
-use Rattle.index_checks.specs.Reading.{StandsForRevised}
+use Rattle.index_validation.specs.Reading.{StandsForRevised}
 use Rattle.life_records.specs.Begins.{Begun, nothing_begun}
 use Rattle.life_records.specs.Records.{Life, LifeRecord}
 use Rattle.doc_commands.specs.ScriptTexts.{store_left}

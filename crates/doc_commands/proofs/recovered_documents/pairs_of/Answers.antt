@@ -2,7 +2,7 @@ use Rattle.std.proofs.Common.{◌≡◌, ◌∙◌, List, ℕ, ap, drop, subst, 
 use Rattle.std.proofs.lemmas.Result.{IfOk-weaker}
 use Rattle.cx_core.specs.Region.{object_part}
 use Rattle.doc_store.specs.ExactStep.{IsImageOfStore}
-use Rattle.index_checks.specs.Reading.{StandsForRevised, revised_in}
+use Rattle.index_validation.specs.Reading.{StandsForRevised, revised_in}
 use Rattle.doc_commands.specs.Documents.{HaveDocuments}
 use Rattle.doc_commands.proofs.recovered_documents.pairs_of.Goals as goal
 

@@ -5,7 +5,7 @@ use Rattle.cx_base.proofs.MemoryLemmas.{Becomes-weaker, Becomes-then}
 use Rattle.cx_base.proofs.ReadLemmas.{Becomes-from-read, always_read}
 use Rattle.doc_model.specs.Meaning.{set_reply}
 use Rattle.doc_store.specs.ExactStep.{Exactly}
-use Rattle.index_checks.specs.Reading.{revised_in}
+use Rattle.index_validation.specs.Reading.{revised_in}
 use Rattle.word_index.specs.Exact.{with_document}
 use Rattle.std.proofs.lemmas.Result.{IfOk-weaker}
 use Rattle.doc_store.proofs.ExactSteps.{stale_runs, current_runs}

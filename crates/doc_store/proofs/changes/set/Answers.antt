@@ -4,7 +4,7 @@ use Rattle.cx_base.specs.Packing.{unpacked}
 use Rattle.cx_base.proofs.MemoryLemmas.{Becomes-then}
 use Rattle.cx_base.proofs.ReadLemmas.{Becomes-from-read, always_read}
 use Rattle.doc_model.specs.Revisions.{next_revision}
-use Rattle.index_checks.specs.Reading.{revised_in}
+use Rattle.index_validation.specs.Reading.{revised_in}
 use Rattle.word_index.specs.Insertion.{PutsDocument}
 use Rattle.doc_store.specs.StoreLaws.{lines_are}
 use Rattle.doc_store.proofs.ExactSteps.{set_runs}

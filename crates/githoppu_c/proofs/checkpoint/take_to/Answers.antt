@@ -2,7 +2,7 @@ use Rattle.std.proofs.Common.{◌≡◌, ◌+◌, ◌∙◌, ap, inl, length, re
 use Rattle.std.specs.Arc.{arc_value}
 use Rattle.cx_core.specs.Region.{region_words}
 use Rattle.c_sessions.specs.Sessions.{TakesIn}
-use Rattle.c_sessions.specs.declared.checkpoint.Taken.TheVariants.{At}
+use Rattle.c_sessions.specs.declared.checkpoint.SessionCheckpoint.TheVariants.{At}
 use Rattle.githoppu_c.proofs.Checkpointed.{taken_base, written_of}
 use Rattle.githoppu_c.proofs.checkpoint.take_to.Goals as goal
 

@@ -1,6 +1,6 @@
 use Rattle.std.proofs.Common.{ap, ◌∙◌}
 use Rattle.cx_core.specs.declared.entry.Base.{Base}
-use Rattle.cx_rule.specs.Running.{Running}
+use Rattle.table_invariant.specs.Running.{Running}
 use Rattle.githoppu_c.proofs.open.opened.Goals as goal
 
 pub returns-in-Ok : goal.returns-in-Ok

@@ -1,5 +1,5 @@
 use Rattle.std.proofs.Common.{◌≡◌, ◌⊎◌, ℤ, ap, inl, inr, of_z, rules, subst, sym, to_z, w32}
-use Rattle.cx_rule.specs.Running.{Running}
+use Rattle.table_invariant.specs.Running.{Running}
 use Rattle.githoppu_c.specs.Codes.{IsOpenCode, open_code}
 use Rattle.githoppu_c.specs.Objects.{IsObjectFault, IsObjectIn}
 use Rattle.githoppu_c.specs.Recoveries.{IsRefusal}

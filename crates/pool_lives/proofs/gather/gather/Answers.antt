@@ -4,7 +4,7 @@ use Rattle.client_pool.specs.declared.client.Client.{Client}
 use Rattle.cx_lives.proofs.Gathering.{first_result}
 use Rattle.cx_lives.specs.Works.{AreResultsFrom}
 use Rattle.pool_lives.specs.Working.{ClientServedOf}
-use Rattle.pool_lives.specs.declared.work.Served.{Served}
+use Rattle.pool_lives.specs.declared.work.ServedClient.{ServedClient}
 use Rattle.pool_lives.proofs.Joining.{gathered_more, gathered_none}
 use Rattle.pool_lives.proofs.gather.gather.Goals as goal
 
@@ -28,11 +28,11 @@ loop-works-preserved g c =
     let r = c.args.pool.now.service in
     let table = c.args.pool.now.line.table.shared.table_id in
     let all = c.loop-works.all in
-    let works : List (Result (Served g.row.O-Reply.Denot) AllocError) = c.loop-works.works.items in
-    let left : List (Result (Served g.row.O-Reply.Denot) AllocError) = c.first_of.new.items.items in
+    let works : List (Result (ServedClient g.row.O-Reply.Denot) AllocError) = c.loop-works.works.items in
+    let left : List (Result (ServedClient g.row.O-Reply.Denot) AllocError) = c.first_of.new.items.items in
     let n = length all.clients.items in
     let served = c.in_ok-served.served in
-    let whole : works ≡ Ok served ∷ left = c.first_of.ensures ∙ ap (λ (w : Result (Served g.row.O-Reply.Denot) AllocError). w ∷ left) c.in_ok-served.was in
+    let whole : works ≡ Ok served ∷ left = c.first_of.ensures ∙ ap (λ (w : Result (ServedClient g.row.O-Reply.Denot) AllocError). w ∷ left) c.in_ok-served.was in
     let rest = first_result (ClientServedOf m life r table life.clients) n works left c.first_of.result served c.first_of.ensures c.in_ok-served.was c.loop-works.invariant.rest in
     let more = c.in_ok-all.ensures in
     let longer : length c.in_ok-all.all.clients.items ≡ n + 1 = ap length more.client ∙ length-append all.clients.items (served.client ∷ []) in

@@ -1,9 +1,9 @@
 use Rattle.std.proofs.Common.{◌≡◌, ℕ, List, Some}
 use Rattle.std.proofs.lemmas.List.Elements.{All-weaker}
 use Rattle.std.specs.List.{slice_get}
-use Rattle.cx_rule.specs.Rule.{AreImages}
-use Rattle.cx_rule.specs.Running.{instance_at}
-use Rattle.cx_rule.specs.Seats.{Seated}
+use Rattle.table_invariant.specs.Rule.{AreImages}
+use Rattle.table_invariant.specs.Running.{instance_at}
+use Rattle.table_invariant.specs.Seats.{Seated}
 use Rattle.recovery.specs.Taken.{IsCheckpoint}
 use Rattle.recovery.proofs.Taken.{taken_of}
 use Rattle.recovery.proofs.checkpoints.base_of_checkpoint.Goals as goal

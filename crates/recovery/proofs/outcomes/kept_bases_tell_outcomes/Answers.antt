@@ -2,7 +2,7 @@ use Rattle.std.proofs.Common.{◌+◌, ◌≤◌, ℕ, List, length, sym, subst}
 use Rattle.cx_core.specs.declared.entry.Entry.{Entry}
 use Rattle.cx_core.specs.History.{full_image}
 use Rattle.cx_core.specs.State.{State}
-use Rattle.cx_rule.specs.Running.{instance_at}
+use Rattle.table_invariant.specs.Running.{instance_at}
 use Rattle.core_runs.proofs.WholeLaws.{entries_of}
 use Rattle.recovery.specs.Outcomes.{TellsOutcome}
 use Rattle.recovery.proofs.LastEntries.{full_tells}

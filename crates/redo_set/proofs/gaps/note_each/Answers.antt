@@ -2,7 +2,7 @@ use Rattle.std.proofs.Common.{◌≡◌, refl, sym, subst, ap, ◌∙◌, arith,
 use Rattle.std.proofs.lemmas.Result.{err_from_is_err_and}
 use Rattle.cx_core.specs.Gaps.{gap_of}
 use Rattle.cx_core.specs.State.{one_more}
-use Rattle.cx_rule.specs.Seats.{Seated}
+use Rattle.table_invariant.specs.Seats.{Seated}
 use Rattle.redo_set.specs.Gaps.{LeavesGap, NotesGaps, steps_on}
 use Rattle.redo_set.proofs.GapCounts.{steps_next}
 use Rattle.redo_set.proofs.GapEnds.{begins_at, noting_more, noting_none, told_gap}

@@ -1,9 +1,9 @@
 use Rattle.std.proofs.Common.{◌≡◌, ◌+◌, ◌*◌, ◌≤◌, inl, inr, ℕ, List, slice_index, ap, sym, subst, arith}
 use Rattle.std.proofs.lemmas.Option.{slice_get-get_or}
 use Rattle.cx_core.specs.QueueEvents.{cell_of}
-use Rattle.cx_rule.specs.Running.{IsSeatOf, instance_at}
-use Rattle.cx_rule.specs.Seats.{Seated}
-use Rattle.cx_rule.proofs.Stepping.{on_same, on_then, on_then_one}
+use Rattle.table_invariant.specs.Running.{IsSeatOf, instance_at}
+use Rattle.table_invariant.specs.Seats.{Seated}
+use Rattle.table_invariant.proofs.Stepping.{on_same, on_then, on_then_one}
 use Rattle.redo_set.specs.Offering.{OffersSet}
 use Rattle.redo_set.proofs.Offerings.{HasWritten, no_cell, offered_now, offers_still, put_can, tells_written, writes_of, writes_still, written_kept, written_more, written_none}
 use Rattle.redo_set.proofs.offers.offer.Goals as goal

@@ -1,4 +1,4 @@
-use Rattle.cx_rule.specs.Running.{IsSeatOf}
+use Rattle.table_invariant.specs.Running.{IsSeatOf}
 use Rattle.cx_table.specs.Seats.{StepsOn}
 use Rattle.redo_set.proofs.Offerings.{HasWritten}
 use Rattle.redo_set.proofs.offers.offer.Given as goal

@@ -2,11 +2,11 @@ use Rattle.std.proofs.Common.{◌+◌, ◌<◌, List, ℕ, length, take, refl, a
 use Rattle.std.proofs.lemmas.List.{length-set, length-take}
 use Rattle.cx_core.specs.declared.kinds.Kind.TheVariants.{ReadSet}
 use Rattle.cx_core.specs.Events.{Guard}
-use Rattle.cx_rule.specs.Running.{instance_at}
-use Rattle.cx_rule.specs.Seats.{Seated, unseen}
-use Rattle.cx_rule.proofs.Stepping.{on_then_one}
+use Rattle.table_invariant.specs.Running.{instance_at}
+use Rattle.table_invariant.specs.Seats.{Seated, unseen}
+use Rattle.table_invariant.proofs.Stepping.{on_then_one}
 use Rattle.cx_table.proofs.Runs.{take_set}
-use Rattle.redo_set.specs.Taking.{LeavesTaking, ReadsSetWords}
+use Rattle.redo_set.specs.Taking.{KeepsTaking, ReadsSetWords}
 use Rattle.redo_set.proofs.Results.{on_err}
 use Rattle.redo_set.proofs.Takings.{fewer_so, leaves_read, words_more, words_none}
 use Rattle.redo_set.proofs.taken.read_each.Goals as goal
@@ -46,7 +46,7 @@ returns-in_err-into-clause-halted g c =
 pub returns-in_err-into-clause-leaves : goal.returns-in_err-into-clause-leaves
 returns-in_err-into-clause-leaves g c =
     let inv = c.loop-i.invariant in
-    subst (LeavesTaking c.args.shared.now c.args.seat.now) (sym c.in_err-into.ensures.halted.same)
+    subst (KeepsTaking c.args.shared.now c.args.seat.now) (sym c.in_err-into.ensures.halted.same)
     (leaves_read g.O.Object c.args.shared.now c.args.ticket 1 (take c.loop-i.i c.loop-i.into) c.args.seat.now c.loop-i.seat inv.read inv.of inv.since)
 
 pub returns-clause-leaves : goal.returns-clause-leaves

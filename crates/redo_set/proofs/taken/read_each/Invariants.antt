@@ -1,5 +1,5 @@
 use Rattle.std.proofs.Common.{◌≡◌, length, take}
-use Rattle.cx_rule.specs.Running.{IsSeatOf}
+use Rattle.table_invariant.specs.Running.{IsSeatOf}
 use Rattle.cx_table.specs.Seats.{StepsOn}
 use Rattle.redo_set.specs.Taking.{ReadsSetWords}
 use Rattle.redo_set.proofs.taken.read_each.Given as goal

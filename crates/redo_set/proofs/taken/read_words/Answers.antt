@@ -1,6 +1,6 @@
 use Rattle.std.proofs.Common.{length, subst, sym, OnErr, OnOk, ℕ}
-use Rattle.cx_rule.specs.Seats.{Seated}
-use Rattle.redo_set.specs.Taking.{HaltsReadingSet, LeavesTaking, MayReadSet, ReadsSetWords}
+use Rattle.table_invariant.specs.Seats.{Seated}
+use Rattle.redo_set.specs.Taking.{HaltsReadingSet, KeepsTaking, MayReadSet, ReadsSetWords}
 use Rattle.redo_set.proofs.Takings.{leaves_read, run_since, run_words}
 use Rattle.redo_set.proofs.taken.read_words.Goals as goal
 
@@ -25,7 +25,7 @@ returns-clause-read g c =
     subst (λ (s : Seated). OnOk c.read_each.result (ReadsSetWords g.O.Object c.args.shared.now c.args.ticket 1 c.read_each.new.into s c.read_each.new.seat)) c.if-read_set_words.ensures.run.0 c.read_each.ensures.read
 
 pub returns-clause-leaves : goal.returns-clause-leaves
-returns-clause-leaves g c = subst (λ (s : Seated). LeavesTaking c.args.shared.now s c.read_each.new.seat) c.if-read_set_words.ensures.run.0 c.read_each.ensures.leaves
+returns-clause-leaves g c = subst (λ (s : Seated). KeepsTaking c.args.shared.now s c.read_each.new.seat) c.if-read_set_words.ensures.run.0 c.read_each.ensures.leaves
 
 pub returns-clause-halted : goal.returns-clause-halted
 returns-clause-halted g c =

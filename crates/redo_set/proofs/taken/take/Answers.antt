@@ -3,9 +3,9 @@ use Rattle.std.proofs.lemmas.Bool.{false≢true}
 use Rattle.std.proofs.lemmas.List.{get_or-set_same, length-drop, length-set, length-take-le}
 use Rattle.cx_core.specs.SetEvents.{ShowsOffer}
 use Rattle.cx_core.specs.State.{one_more}
-use Rattle.cx_rule.specs.Running.{instance_at}
-use Rattle.cx_rule.specs.Seats.{IsAtLimit, Seated}
-use Rattle.redo_set.specs.Taking.{LeavesTaking, sets_read}
+use Rattle.table_invariant.specs.Running.{instance_at}
+use Rattle.table_invariant.specs.Seats.{IsAtLimit, Seated}
+use Rattle.redo_set.specs.Taking.{KeepsTaking, sets_read}
 use Rattle.redo_set.proofs.Results.{on_err}
 use Rattle.redo_set.proofs.Takings.{halts_first, leaves_looked, leaves_none, leaves_set, looked_is, put_behind, read_whole, reading_so, set_is, unoffered_is, whole_noted}
 use Rattle.redo_set.proofs.taken.take.Goals as goal
@@ -105,7 +105,7 @@ returns-then-not-names-clause-leaves g c = leaves_looked c.args.shared.now g.O.O
 
 pub returns-in_err-count-clause-leaves : goal.returns-in_err-count-clause-leaves
 returns-in_err-count-clause-leaves g c =
-    subst (LeavesTaking c.args.shared.now c.args.seat.now) (sym c.in_err-count.ensures.halted.same)
+    subst (KeepsTaking c.args.shared.now c.args.seat.now) (sym c.in_err-count.ensures.halted.same)
     (leaves_looked c.args.shared.now g.O.Object.step g.O.Object.only_reads c.args.cell c.args.ticket c.in_ok-found.found c.args.seat.now c.load_offer.new.seat c.in_ok-found.ensures.made)
 
 pub returns-in_err-read_words-clause-leaves : goal.returns-in_err-read_words-clause-leaves

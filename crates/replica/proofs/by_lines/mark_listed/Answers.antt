@@ -1,5 +1,5 @@
 use Rattle.std.proofs.Common.{◌+◌, ap, subst, sym, arith}
-use Rattle.cx_rule.specs.Seats.{Seated}
+use Rattle.table_invariant.specs.Seats.{Seated}
 use Rattle.replica.specs.Copies.{HoldsBothIn}
 use Rattle.replica.specs.Replays.{noted_place}
 use Rattle.replica.proofs.Listing.{both_loaded, listed_marks}

@@ -1,7 +1,7 @@
 use Rattle.std.proofs.Common.{refl}
 use Rattle.cx_core.specs.Region.{region_words}
-use Rattle.cx_rule.specs.Fitting.{AgreeTo}
-use Rattle.cx_rule.proofs.Copying.{agree_equal}
+use Rattle.table_invariant.specs.Fitting.{AgreeTo}
+use Rattle.table_invariant.proofs.Copying.{agree_equal}
 use Rattle.replica.proofs.copy.copy_from.Goals as goal
 
 pub returns-clause-copied : goal.returns-clause-copied

@@ -2,10 +2,10 @@ use Rattle.std.proofs.Common.{false, ◌≡◌, ◌+◌, ◌*◌, ◌/◌, ◌<�
 use Rattle.std.proofs.lemmas.Bool.{false≢true}
 use Rattle.std.proofs.lemmas.List.{get_or_append_left, length-take-le}
 use Rattle.cx_core.specs.Region.{region_words}
-use Rattle.cx_rule.specs.declared.rule.Known.{Known}
-use Rattle.cx_rule.specs.Seats.{Seated}
+use Rattle.table_invariant.specs.declared.rule.Known.{Known}
+use Rattle.table_invariant.specs.Seats.{Seated}
 use Rattle.line_lanes.specs.Lines.{DiffersInLine}
-use Rattle.replica.specs.Copies.{AreSeen, CopiesOn, EndsPart, HoldsBothIn, IsCopiedTo, LoadsAtMost, beside_copy}
+use Rattle.replica.specs.Copies.{AreSeen, CopiesOn, EndsPart, HoldsBothIn, IsCopiedTo, LoadsAtMost, unchanged_by_copy}
 use Rattle.replica.proofs.CopySteps.{at_err, loads_fewer, loads_most, loads_on, short_on}
 use Rattle.replica.proofs.LineCopies.{on_same_line, on_stored_line}
 use Rattle.replica.proofs.copy.copy_piece.Goals.{then-differs-line+in_ok-store_line, else-differs-line}
@@ -50,7 +50,7 @@ loop-line-preserved g c =
             counts = subst (λ (k : Known). LoadsAtMost most before k) (sym knows) (loads_on most 0 most before known w.store_line.new.seat.known (omega arith) was.counts after.ends.counts);
             bound = (let is = ap (λ (k : Known). k.local.steps) knows in let before = was.bound in let most = after.ends.bound in omega (arith, is, before, most));
             since = (let is = ap (λ (s : Seated). s.known.local.steps) now in let before = was.since in let more = after.leaves.since in omega (arith, is, before, more));
-            rest = ap beside_copy now ∙ after.leaves.rest ∙ was.rest;
+            rest = ap unchanged_by_copy now ∙ after.leaves.rest ∙ was.rest;
           })
       | else-differs-line w ↦ (
           let now = w.seat-is in
@@ -65,7 +65,7 @@ loop-line-preserved g c =
             counts = subst (λ (k : Known). LoadsAtMost most before k) (sym knows) was.counts;
             bound = (let same = ap (λ (k : Known). k.local.steps) knows in let most = was.bound in omega (arith, same, most));
             since = (let is = ap (λ (s : Seated). s.known.local.steps) now in let before = was.since in omega (arith, is, before));
-            rest = ap beside_copy now ∙ was.rest;
+            rest = ap unchanged_by_copy now ∙ was.rest;
           })
     ]
 

@@ -1,8 +1,8 @@
 use Rattle.std.proofs.Common.{◌≡◌, ◌+◌, ◌*◌, length}
 use Rattle.cx_table.specs.Seats.{StepsOn}
-use Rattle.replica.specs.Copies.{AreSeen, CopiesOn, HoldsBothIn, LoadsAtMost, beside_copy}
+use Rattle.replica.specs.Copies.{AreSeen, CopiesOn, HoldsBothIn, LoadsAtMost, unchanged_by_copy}
 use Rattle.replica.proofs.copy.copy_piece.Given as goal
-use Rattle.cx_rule.specs.Seats.{StepsBy}
+use Rattle.table_invariant.specs.Seats.{StepsBy}
 
 -- the lines so far are copied, and the others are as they were loaded
 abbrev pub invariant-loop-line : goal.invariant-loop-line
@@ -13,5 +13,5 @@ invariant-loop-line g l = record {
   counts : LoadsAtMost (2 * length l.fn.held_words) l.fn.seat.known l.seat.known;
   bound : StepsBy (2 * length l.fn.held_words + 8 * l.line) l.fn.seat l.seat;
   since : StepsOn l.fn.seat l.seat;
-  rest : beside_copy l.seat ≡ beside_copy l.fn.seat;
+  rest : unchanged_by_copy l.seat ≡ unchanged_by_copy l.fn.seat;
 }

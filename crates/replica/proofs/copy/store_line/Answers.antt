@@ -1,10 +1,10 @@
 use Rattle.std.proofs.Common.{◌≡◌, ◌+◌, ◌<◌, inr, length, refl, ap, sym, subst, ◌∙◌, arith, slice_index}
 use Rattle.cx_core.specs.Region.{region_words}
-use Rattle.cx_rule.specs.declared.rule.Known.{Known}
-use Rattle.cx_rule.specs.Running.{instance_at}
+use Rattle.table_invariant.specs.declared.rule.Known.{Known}
+use Rattle.table_invariant.specs.Running.{instance_at}
 use Rattle.cx_core.specs.declared.kinds.Kind.TheVariants.{StoreWord}
-use Rattle.cx_rule.specs.Seats.{IsAtLimit, Seated, known_after}
-use Rattle.replica.specs.Copies.{AreSeen, CopiesOn, EndsPart, HoldsBothIn, LoadsAtMost, SomeDiffers, beside_copy}
+use Rattle.table_invariant.specs.Seats.{IsAtLimit, Seated, known_after}
+use Rattle.replica.specs.Copies.{AreSeen, CopiesOn, EndsPart, HoldsBothIn, LoadsAtMost, SomeDiffers, unchanged_by_copy}
 use Rattle.replica.proofs.CopySteps.{at_err, loads_on, store_counts}
 use Rattle.replica.proofs.LineCopies.{on_over, on_same, seen_behind}
 use Rattle.replica.proofs.copy.store_line.Goals.{then-held_words-i+in_ok-store_copied, else-held_words-i}
@@ -36,7 +36,7 @@ loop-i-preserved g c =
             counts = subst (λ (k : Known). LoadsAtMost 0 before k) (sym knows) (loads_on 0 0 0 before known (known_after instance (StoreWord c.args.held.now.replica (c.args.from + i) (slice_index vs i)) known 0) refl was.counts (store_counts instance c.args.held.now.replica (c.args.from + i) (slice_index vs i) known));
             bound = (let one = ap (λ (k : Known). k.local.steps) knows in let most = was.bound in omega (arith, one, most));
             since = (let is = ap (λ (s : Seated). s.known.local.steps) now in let before = was.since in let more = after.leaves.since in omega (arith, is, before, more));
-            rest = ap beside_copy now ∙ after.leaves.rest ∙ was.rest;
+            rest = ap unchanged_by_copy now ∙ after.leaves.rest ∙ was.rest;
           })
       | else-held_words-i w ↦ (
           let now = w.seat-is in
@@ -48,7 +48,7 @@ loop-i-preserved g c =
             counts = subst (λ (k : Known). LoadsAtMost 0 before k) (sym knows) was.counts;
             bound = (let same = ap (λ (k : Known). k.local.steps) knows in let most = was.bound in omega (arith, same, most));
             since = (let is = ap (λ (s : Seated). s.known.local.steps) now in let before = was.since in omega (arith, is, before));
-            rest = ap beside_copy now ∙ was.rest;
+            rest = ap unchanged_by_copy now ∙ was.rest;
           })
     ]
 

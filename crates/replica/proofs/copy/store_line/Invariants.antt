@@ -1,6 +1,6 @@
 use Rattle.std.proofs.Common.{◌≡◌, ◌+◌, ◌≤◌, length}
 use Rattle.cx_table.specs.Seats.{StepsOn}
-use Rattle.replica.specs.Copies.{AreSeen, CopiesOn, HoldsBothIn, LoadsAtMost, beside_copy}
+use Rattle.replica.specs.Copies.{AreSeen, CopiesOn, HoldsBothIn, LoadsAtMost, unchanged_by_copy}
 use Rattle.replica.proofs.copy.store_line.Given as goal
 
 -- the words so far are copied, and the others are as they were loaded
@@ -12,5 +12,5 @@ invariant-loop-i g l = record {
   counts : LoadsAtMost 0 l.fn.seat.known l.seat.known;
   bound : l.seat.known.local.steps + l.first ≤ l.fn.seat.known.local.steps + l.i;
   since : StepsOn l.fn.seat l.seat;
-  rest : beside_copy l.seat ≡ beside_copy l.fn.seat;
+  rest : unchanged_by_copy l.seat ≡ unchanged_by_copy l.fn.seat;
 }

@@ -1,7 +1,7 @@
 use Rattle.std.proofs.Common.{◌≡◌, sym, subst, ◌∙◌, []}
 use Rattle.cx_core.specs.Region.{region_words}
 use Rattle.cx_core.specs.Rights.{held_dirty}
-use Rattle.cx_rule.specs.Seats.{Seated}
+use Rattle.table_invariant.specs.Seats.{Seated}
 use Rattle.replica.proofs.Persisting.{none_left, persisted_image}
 use Rattle.replica.specs.Flushes.{Persists}
 use Rattle.replica.specs.Replays.{IsHeldImage}

@@ -1,6 +1,6 @@
 use Rattle.std.proofs.Common.{subst}
 use Rattle.cx_core.specs.declared.kinds.Kind.TheVariants.{Persist}
-use Rattle.cx_rule.specs.Steps.{Steps}
+use Rattle.table_invariant.specs.Steps.{Steps}
 use Rattle.replica.proofs.Persisting.{fewer_persisted, persists}
 use Rattle.replica.proofs.flushes.persist_dirty.Goals as goal
 

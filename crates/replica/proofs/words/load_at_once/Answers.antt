@@ -1,6 +1,6 @@
 use Rattle.std.proofs.Common.{◌≡◌, ◌+◌, length, false, subst, arith, slice_index}
 use Rattle.cx_core.specs.declared.kinds.Kind.TheVariants.{LoadWord}
-use Rattle.cx_rule.specs.Steps.{Steps}
+use Rattle.table_invariant.specs.Steps.{Steps}
 use Rattle.cx_table.specs.Runs.{loads_from}
 use Rattle.replica.proofs.Runs.{one_made}
 use Rattle.replica.proofs.words.load_at_once.Goals as goal

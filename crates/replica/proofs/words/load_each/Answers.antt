@@ -1,8 +1,8 @@
 use Rattle.std.proofs.Common.{◌+◌, length, take, refl, sym, subst, arith}
 use Rattle.std.proofs.lemmas.List.{length-set}
 use Rattle.cx_core.specs.RegionEvents.{CanLoad}
-use Rattle.cx_rule.specs.Running.{instance_at}
-use Rattle.cx_rule.specs.Seats.{IsAtLimit, Seated}
+use Rattle.table_invariant.specs.Running.{instance_at}
+use Rattle.table_invariant.specs.Seats.{IsAtLimit, Seated}
 use Rattle.cx_table.proofs.Runs.{may_still}
 use Rattle.cx_table.specs.Runs.{Runs, loads_from, no_step}
 use Rattle.replica.proofs.Runs.{on_err, run_more}

@@ -1,6 +1,6 @@
 use Rattle.std.proofs.Common.{◌+◌, ◌<◌, ℕ, length, take}
 use Rattle.cx_core.specs.RegionEvents.{CanLoad}
-use Rattle.cx_rule.specs.Running.{IsSeatOf}
+use Rattle.table_invariant.specs.Running.{IsSeatOf}
 use Rattle.cx_table.specs.Runs.{Runs, loads_from}
 use Rattle.replica.proofs.words.load_each.Given as goal
 

@@ -3,7 +3,7 @@ use Rattle.crossbeam_queue.specs.Passes.{view}
 use Rattle.cx_service.specs.declared.close.Handed.TheVariants.{Idle}
 use Rattle.seat_pool.specs.Gathering.{IsGathering}
 use Rattle.seat_pool.specs.Pooling.{total_weight}
-use Rattle.seat_pool.specs.declared.hand.Hand.{Hand}
+use Rattle.seat_pool.specs.declared.hand.LenderPass.{LenderPass}
 use Rattle.seat_pool.proofs.Gatherings.{as_held, as_many, drained, still_gathering}
 use Rattle.seat_pool.proofs.Poolings.{total_both}
 use Rattle.seat_pool.proofs.gather.drain.Goals as goal
@@ -54,4 +54,4 @@ pub returns-in-None-take-clause-same : goal.returns-in-None-take-clause-same
 returns-in-None-take-clause-same g c =
     let same = c.in-None-take.ensures.caller.0 in
     let kept = c.loop.invariant.gathering in
-    (ap (λ (u : Hand). u.placed) same ∙ kept.placed, ap (λ (u : Hand). u.told) same ∙ kept.told, ap (λ (u : Hand). u.shown) same ∙ kept.shown)
+    (ap (λ (u : LenderPass). u.placed) same ∙ kept.placed, ap (λ (u : LenderPass). u.told) same ∙ kept.told, ap (λ (u : LenderPass). u.shown) same ∙ kept.shown)

@@ -4,7 +4,7 @@ use Rattle.crossbeam_queue.specs.Passes.{view}
 use Rattle.cx_service.specs.declared.close.Handed.{Handed}
 use Rattle.seat_pool.specs.Gathering.{kept_list}
 use Rattle.seat_pool.specs.Pooling.{both}
-use Rattle.seat_pool.specs.declared.hand.Hand.{Hand}
+use Rattle.seat_pool.specs.declared.hand.LenderPass.{LenderPass}
 use Rattle.seat_pool.proofs.Gatherings.{as_held, gathers_kept, gathers_no_more, kept_fits}
 use Rattle.seat_pool.proofs.gather.take_in.Goals as goal
 
@@ -13,7 +13,7 @@ push_reserved-requires g c =
     let r = c.args.service.now in
     let v = view c.args.pass.now in
     let w = view c.args.lent.pass in
-    let most : length (both v w).held ≤ r.callers = subst (λ (u : Hand). length u.held ≤ r.callers) c.merge.ensures.1 c.learn.ensures.room in
+    let most : length (both v w).held ≤ r.callers = subst (λ (u : LenderPass). length u.held ≤ r.callers) c.merge.ensures.1 c.learn.ensures.room in
     let fits = kept_fits r v w c.args.gathered.items c.args.lent.kept c.in-Some.handed c.in-Some.is c.requires.gathered.0 c.requires.lent.kept most in
     let room = c.requires.gathered.1 in
     omega (arith, fits, room, c.args.gathered.ok)

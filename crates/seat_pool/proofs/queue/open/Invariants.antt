@@ -1,5 +1,5 @@
 use Rattle.std.proofs.Common.{map}
-use Rattle.cx_rule.specs.Seats.{Seated, nobody}
+use Rattle.table_invariant.specs.Seats.{Seated, nobody}
 use Rattle.seat_pool.proofs.queue.open.Given as goal
 
 abbrev pub ghosts-open_for : goal.ghosts-open_for

@@ -2,10 +2,10 @@ use Rattle.std.proofs.Common.{◌<◌, ℕ, Bool, List, subst, sym, Result, Ok, 
 use Rattle.cx_base.specs.Tally.{IsTally}
 use Rattle.cx_core.specs.declared.kinds.Kind.TheVariants.{StoreWord}
 use Rattle.cx_core.specs.Region.{region_words}
-use Rattle.cx_rule.specs.Fitting.{Fitting}
-use Rattle.cx_rule.specs.Running.{Running}
-use Rattle.cx_rule.specs.Seats.{Seated}
-use Rattle.cx_rule.specs.Steps.{Halts, Steps}
+use Rattle.table_invariant.specs.Fitting.{Fitting}
+use Rattle.table_invariant.specs.Running.{Running}
+use Rattle.table_invariant.specs.Seats.{Seated}
+use Rattle.table_invariant.specs.Steps.{Halts, Steps}
 use Rattle.cx_table.specs.Right.{Right}
 use Rattle.replica.specs.Copies.{HoldsBoth}
 use Rattle.replica.proofs.CopySteps.{both_store}

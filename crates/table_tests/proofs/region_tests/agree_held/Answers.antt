@@ -1,8 +1,8 @@
 use Rattle.std.proofs.Common.{true, subst, sym}
 use Rattle.cx_core.specs.Region.{region_words}
-use Rattle.cx_rule.specs.Fitting.{FitsKnown}
-use Rattle.cx_rule.specs.Running.{Running}
-use Rattle.cx_rule.specs.Seats.{Seated}
+use Rattle.table_invariant.specs.Fitting.{FitsKnown}
+use Rattle.table_invariant.specs.Running.{Running}
+use Rattle.table_invariant.specs.Seats.{Seated}
 use Rattle.replica.specs.Stepping.{IsSteppable}
 use Rattle.replica.proofs.Stepping.{image_steppable}
 use Rattle.table_tests.proofs.region_tests.agree_held.Goals as goal

@@ -1,4 +1,4 @@
-use Rattle.cx_turns.proofs.ReadEntries.{first_and_rest}
+use Rattle.cx_attempts.proofs.ReadEntries.{first_and_rest}
 use Rattle.table_tests.proofs.Tried.{rest_words}
 use Rattle.table_tests.proofs.replayed.entry_of.Goals as goal
 

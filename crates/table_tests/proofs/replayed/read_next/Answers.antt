@@ -1,7 +1,7 @@
 use Rattle.std.proofs.Common.{◌^◌, ◌<◌, inl, subst, sym}
 use Rattle.cx_core.specs.History.{IsLawfulEntry}
-use Rattle.cx_rule.specs.Fitting.{HasEntry, entries_of}
-use Rattle.cx_turns.proofs.ReadEntries.{ready_read}
+use Rattle.table_invariant.specs.Fitting.{HasEntry, entries_of}
+use Rattle.cx_attempts.proofs.ReadEntries.{ready_read}
 use Rattle.table_tests.proofs.replayed.read_next.Goals as goal
 
 pub returns-clause-ready : goal.returns-clause-ready

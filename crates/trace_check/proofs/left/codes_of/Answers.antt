@@ -1,5 +1,5 @@
 use Rattle.std.proofs.Common.{ap, ◌∙◌}
-use Rattle.seat_memory.specs.Wins.{wins_of}
+use Rattle.caller_cache.specs.Wins.{wins_of}
 use Rattle.trace_check.proofs.Walk.{chain_read}
 use Rattle.trace_check.proofs.left.codes_of.Goals as goal
 

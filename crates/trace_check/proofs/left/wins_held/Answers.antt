@@ -2,8 +2,8 @@ use Rattle.std.proofs.Common.{◌≡◌, ◌+◌, ◌≤◌, ◌++◌, ◌∷◌
 use Rattle.std.proofs.lemmas.List.{append-nil}
 use Rattle.std.specs.Option.{option_to_list}
 use Rattle.cx_core.specs.declared.local.WonCode.{WonCode}
-use Rattle.seat_memory.specs.Wins.{wins_of}
-use Rattle.seat_memory.proofs.Chaining.{no_win}
+use Rattle.caller_cache.specs.Wins.{wins_of}
+use Rattle.caller_cache.proofs.Chaining.{no_win}
 use Rattle.trace_check.proofs.Walk.{wins_more}
 use Rattle.trace_check.proofs.left.wins_held.Goals as goal
 use Rattle.trace_check.proofs.left.wins_held.Goals.{in-Some+in_ok-push, in_default}

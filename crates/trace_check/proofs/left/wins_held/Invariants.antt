@@ -1,5 +1,5 @@
 use Rattle.std.proofs.Common.{◌≡◌, ◌≤◌, take, vec_len}
-use Rattle.seat_memory.specs.Wins.{wins_of}
+use Rattle.caller_cache.specs.Wins.{wins_of}
 use Rattle.trace_check.proofs.left.wins_held.Given as goal
 
 abbrev pub invariant-loop-local : goal.invariant-loop-local

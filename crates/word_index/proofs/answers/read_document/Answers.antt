@@ -4,7 +4,7 @@ use Rattle.std.proofs.lemmas.Result.{IfOk-weaker}
 use Rattle.std.specs.Prelude.{ℕ, List, replicate}
 use Rattle.cx_base.specs.Memory.{Reads}
 use Rattle.cx_base.proofs.ReadLemmas.{Reads-weaker}
-use Rattle.index_checks.specs.Blocks.{HasText, IsTextAt}
+use Rattle.index_validation.specs.Blocks.{HasText, IsTextAt}
 use Rattle.word_index.specs.Answers.{IsPackOf}
 use Rattle.word_index.proofs.NodeReads.{has_document, document_text}
 use Rattle.avl_words.proofs.Memories.{found, loadable}

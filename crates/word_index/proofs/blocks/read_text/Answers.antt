@@ -2,7 +2,7 @@ use Rattle.std.proofs.Common.{◌≡◌, ◌+◌, ◌≤◌, ℕ, List, length, 
 use Rattle.cx_base.proofs.MemoryLemmas.{always_at_most}
 use Rattle.cx_base.proofs.ReadLemmas.{Reads-none, Reads-loaded}
 use Rattle.avl_words.specs.Lines.{word_of}
-use Rattle.index_checks.specs.Blocks.{HasText}
+use Rattle.index_validation.specs.Blocks.{HasText}
 use Rattle.word_index.proofs.blocks.read_text.Goals as goal
 
 len_short : (ws : List ℕ) (node at n len : ℕ) → HasText ws node at n → word_of ws node (at + 1) ≡ len → (len + 7) / 8 ≤ n

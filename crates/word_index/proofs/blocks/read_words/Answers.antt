@@ -3,7 +3,7 @@ use Rattle.std.proofs.Common.{◌≡◌, ◌≢◌, ◌<◌, ◌+◌, ◌*◌, g
 use Rattle.std.proofs.lemmas.List.{length-set, get_or-set_other}
 use Rattle.cx_base.specs.Packing.{packed}
 use Rattle.cx_base.proofs.ReadLemmas.{kept_then, Reads-loaded, Reads-then, Reads-weaker}
-use Rattle.index_checks.proofs.BlockReads.{read_more, read_all}
+use Rattle.index_validation.proofs.BlockReads.{read_more, read_all}
 use Rattle.avl_words.proofs.Memories.{found}
 use Rattle.word_index.proofs.blocks.read_words.Goals as goal
 

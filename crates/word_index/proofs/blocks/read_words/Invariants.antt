@@ -1,7 +1,7 @@
 use Rattle.std.proofs.Common.{◌≡◌, ◌≤◌, ◌%◌, ℕ, get_or, length}
 use Rattle.cx_base.specs.Memory.{Becomes, Framed, Reads}
 use Rattle.avl_words.specs.Lines.{IsPartLength}
-use Rattle.index_checks.proofs.BlockReads.{ReadSoFar}
+use Rattle.index_validation.proofs.BlockReads.{ReadSoFar}
 use Rattle.word_index.proofs.blocks.read_words.Given as goal
 
 abbrev pub invariant-loop-i : goal.invariant-loop-i

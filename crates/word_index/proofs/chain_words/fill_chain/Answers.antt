@@ -4,7 +4,7 @@ use Rattle.cx_base.proofs.ReadLemmas.{Reads-none, Reads-loaded, Reads-weaker}
 use Rattle.avl_words.proofs.Memories.{always_said, changed, loadable, storable}
 use Rattle.word_index.specs.Exact.{with_chain_filled}
 use Rattle.word_index.specs.Rewriting.{HasLines}
-use Rattle.word_index.proofs.Refilling.{line_there, lines_on, fill_begins, fill_goes_on, fill_ends}
+use Rattle.word_index.proofs.FilledChains.{line_there, lines_on, fill_begins, fill_goes_on, fill_ends}
 use Rattle.word_index.proofs.chain_words.fill_chain.Goals as goal
 
 pub loop-j-init : goal.loop-j-init

@@ -4,7 +4,7 @@ use Rattle.cx_base.specs.Packing.{unpacked}
 use Rattle.cx_base.specs.Store.{Store, lines_of}
 use Rattle.cx_base.proofs.MemoryLemmas.{Becomes-then}
 use Rattle.cx_base.proofs.ReadLemmas.{Becomes-from-read, always_read, Reads-then}
-use Rattle.index_checks.specs.Layout.{StandsFor, IsIndex}
+use Rattle.index_validation.specs.Layout.{StandsFor, IsIndex}
 use Rattle.word_index.specs.Exact.{inserted_in, with_document}
 use Rattle.word_index.specs.Insertion.{IsInsertKnown, LinesAt}
 use Rattle.word_index.specs.Walk.{AtSpot}

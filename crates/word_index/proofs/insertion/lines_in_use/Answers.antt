@@ -3,8 +3,8 @@ use Rattle.cx_base.specs.Store.{Store, lines_of}
 use Rattle.cx_base.proofs.MemoryLemmas.{always_at_most}
 use Rattle.cx_base.proofs.ReadLemmas.{Reads-none, Reads-loaded, Reads-weaker}
 use Rattle.avl_words.specs.Lines.{word_of}
-use Rattle.index_checks.proofs.Totals.{all_lines}
-use Rattle.index_checks.specs.Layout.{StandsFor, IsIndex, head_of}
+use Rattle.index_validation.proofs.Totals.{all_lines}
+use Rattle.index_validation.specs.Layout.{StandsFor, IsIndex, head_of}
 use Rattle.word_index.proofs.Putting.{lines_of_places}
 use Rattle.avl_words.proofs.Memories.{found}
 use Rattle.word_index.proofs.insertion.lines_in_use.Goals as goal

@@ -1,5 +1,5 @@
 use Rattle.std.proofs.Common.{rules}
-use Rattle.index_checks.specs.Reading.{revised_in}
+use Rattle.index_validation.specs.Reading.{revised_in}
 use Rattle.word_index.proofs.nodes.last_revision.Goals as goal
 
 -- the last revision stands in the header

@@ -1,7 +1,7 @@
 use Rattle.std.proofs.Common.{◌≡◌, ◌+◌, ◌≤◌, ℕ, List, length, sym, ap, subst, arith}
 use Rattle.avl_words.specs.Lines.{with_word}
-use Rattle.index_checks.specs.Order.{to_come}
-use Rattle.index_checks.proofs.Orders.{some_noted}
+use Rattle.index_validation.specs.Order.{to_come}
+use Rattle.index_validation.proofs.Orders.{some_noted}
 use Rattle.word_index.specs.Upgrading.{with_first_revisions, upgraded_in, IsMigrated}
 use Rattle.word_index.proofs.Upgrades.{with_header, header_tree, header_count, upgrade_begins, upgrade_more, upgrade_ends, to_come_same, are_noted_same, is_migrated}
 use Rattle.word_index.proofs.upgrade.upgrade_index.Goals as goal

@@ -1,5 +1,5 @@
 use Rattle.std.proofs.Common.{◌≡◌, ◌+◌, length}
-use Rattle.index_checks.specs.Order.{AreNoted, to_come}
+use Rattle.index_validation.specs.Order.{AreNoted, to_come}
 use Rattle.word_index.specs.Upgrading.{with_first_revisions, upgraded_in}
 use Rattle.word_index.proofs.upgrade.upgrade_index.Given as goal
 

@@ -5,7 +5,7 @@ use Rattle.cx_base.proofs.ReadLemmas.{kept_then, Reads-none, Reads-then, Reads-w
 use Rattle.avl_words.proofs.Memories.{always_said, always_kept, loadable, found}
 use Rattle.word_index.proofs.NodeReads.{node_within}
 use Rattle.word_index.proofs.KeyPlaces.{few_counted, is_same, is_other}
-use Rattle.word_index.proofs.Reaching.{some_begins, some_few, some_few_node, some_has_node, some_ends, some_ends_same, some_deep, some_on}
+use Rattle.word_index.proofs.UnkeptWalks.{some_begins, some_few, some_few_node, some_has_node, some_ends, some_ends_same, some_deep, some_on}
 use Rattle.word_index.proofs.walk.reach.Goals as goal
 
 pub loop-depth-init : goal.loop-depth-init

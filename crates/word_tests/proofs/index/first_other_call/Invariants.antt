@@ -1,6 +1,6 @@
 use Rattle.std.proofs.Common.{◌≡◌, IsTrue}
 use Rattle.cx_base.specs.Memory.{Always}
-use Rattle.index_checks.specs.Layout.{IsIndex}
+use Rattle.index_validation.specs.Layout.{IsIndex}
 use Rattle.word_tests.proofs.index.first_other_call.Given as goal
 
 abbrev pub invariant-loop-i : goal.invariant-loop-i

@@ -1,4 +1,4 @@
-use Rattle.index_checks.specs.Order.{AreNoted}
+use Rattle.index_validation.specs.Order.{AreNoted}
 use Rattle.word_tests.proofs.shapes.are_walked.Given as goal
 
 abbrev pub invariant-loop-line : goal.invariant-loop-line

@@ -1,19 +1,19 @@
 use Rattle.std.proofs.Common.{sym, ◌∙◌}
-use Rattle.cx_rule.specs.Running.{Running}
-use Rattle.c_sessions.specs.Places.{SeesFrom, place_seen}
+use Rattle.table_invariant.specs.Running.{Running}
+use Rattle.c_sessions.specs.Places.{CatchesUpFrom, place_seen}
 use Rattle.c_sessions.proofs.Places.{Left, sees_go, left_by}
 use Rattle.c_sessions.proofs.session.Session.catch_up.Goals as goal
 
 left : (g : _) (c : goal.After-self-2-1 g) →
-    Left c.args.self.now c.see-handed.result.0 c.place_seen-self.result (place_seen c.see-handed.result.1 c.args.place c.args.self.now.place)
-    (λ (r : Running _) x y. SeesFrom r c.args.place x c.see-handed.result.1 y)
+    Left c.args.self.now c.catch_up_idle-handed.result.0 c.place_seen-self.result (place_seen c.catch_up_idle-handed.result.1 c.args.place c.args.self.now.place)
+    (λ (r : Running _) x y. CatchesUpFrom r c.args.place x c.catch_up_idle-handed.result.1 y)
 left g c =
     let s = c.args.self.now in
     let service = c.deref.result.now in
     let b = c.in-Some.handed in
-    let h = c.see-handed.result.0 in
-    left_by _ s b h service _ _ c.deref.ensures c.requires.ready (sym c.take.ensures.value ∙ c.in-Some.is) c.place_seen-self.ensures c.see-handed.ensures.ready c.see-handed.ensures.sees
-    (λ of seen. sees_go service s.place c.args.place b c.see-handed.result.1 h of seen c.see-handed.ensures.sees)
+    let h = c.catch_up_idle-handed.result.0 in
+    left_by _ s b h service _ _ c.deref.ensures c.requires.ready (sym c.take.ensures.value ∙ c.in-Some.is) c.place_seen-self.ensures c.catch_up_idle-handed.ensures.ready c.catch_up_idle-handed.ensures.sees
+    (λ of seen. sees_go service s.place c.args.place b c.catch_up_idle-handed.result.1 h of seen c.catch_up_idle-handed.ensures.sees)
 
 pub returns-clause-ready : goal.returns-clause-ready
 returns-clause-ready g c = (left g c).ready

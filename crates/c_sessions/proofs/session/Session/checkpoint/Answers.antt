@@ -1,5 +1,5 @@
 use Rattle.std.proofs.Common.{sym, ◌∙◌}
-use Rattle.cx_rule.specs.Running.{Running}
+use Rattle.table_invariant.specs.Running.{Running}
 use Rattle.c_sessions.specs.Images.{TakesFrom, place_taken}
 use Rattle.c_sessions.proofs.Places.{Left, takes_go, left_by}
 use Rattle.c_sessions.proofs.session.Session.checkpoint.Goals as goal

@@ -1,19 +1,19 @@
 use Rattle.std.proofs.Common.{sym, ◌∙◌}
-use Rattle.cx_rule.specs.Running.{Running}
+use Rattle.table_invariant.specs.Running.{Running}
 use Rattle.c_sessions.specs.Calls.{FinishesFrom, place_after}
 use Rattle.c_sessions.proofs.Places.{Left, finishes_go, left_by}
 use Rattle.c_sessions.proofs.session.Session.finish.Goals as goal
 
 left : (g : _) (c : goal.After-self-2-1 g) →
-    Left c.args.self.now c.end-handed.result.0 c.place_after-self.result (place_after c.end-handed.result.1 c.args.self.now.place)
-    (λ (r : Running _) x y. FinishesFrom r c.args.tries.count x c.end-handed.result.1 y c.end-handed.new.reply)
+    Left c.args.self.now c.finish_linked-handed.result.0 c.place_after-self.result (place_after c.finish_linked-handed.result.1 c.args.self.now.place)
+    (λ (r : Running _) x y. FinishesFrom r c.args.tries.count x c.finish_linked-handed.result.1 y c.finish_linked-handed.new.reply)
 left g c =
     let s = c.args.self.now in
     let service = c.deref.result.now in
     let b = c.in-Some.handed in
-    let h = c.end-handed.result.0 in
-    left_by _ s b h service _ _ c.deref.ensures c.requires.ready (sym c.take.ensures.value ∙ c.in-Some.is) c.place_after-self.ensures c.end-handed.ensures.ready c.end-handed.ensures.finishes
-    (λ of seen. finishes_go service s.place c.args.tries.count b c.end-handed.result.1 h c.end-handed.new.reply seen c.end-handed.ensures.finishes)
+    let h = c.finish_linked-handed.result.0 in
+    left_by _ s b h service _ _ c.deref.ensures c.requires.ready (sym c.take.ensures.value ∙ c.in-Some.is) c.place_after-self.ensures c.finish_linked-handed.ensures.ready c.finish_linked-handed.ensures.finishes
+    (λ of seen. finishes_go service s.place c.args.tries.count b c.finish_linked-handed.result.1 h c.finish_linked-handed.new.reply seen c.finish_linked-handed.ensures.finishes)
 
 pub returns-clause-ready : goal.returns-clause-ready
 returns-clause-ready g c = (left g c).ready

@@ -1,7 +1,7 @@
 use Rattle.std.proofs.Common.{refl, subst}
 use Rattle.seat_pool.specs.Gathering.{AreCallsTold}
 use Rattle.client_pool.specs.declared.client.Client.{Client}
-use Rattle.cx_rule.specs.Running.{instance_at}
+use Rattle.table_invariant.specs.Running.{instance_at}
 use Rattle.client_pool.proofs.History.{all_stand_in, are_answered}
 use Rattle.client_pool.proofs.Closing.{all_of, lents_are}
 use Rattle.client_pool.proofs.Whole.{are_whole, front_within}

@@ -1,5 +1,5 @@
 use Rattle.std.proofs.Common.{◌≡◌, ℕ, List, ap, arith, length, refl, subst, ◌∙◌}
-use Rattle.cx_rule.specs.Seats.{Seated}
+use Rattle.table_invariant.specs.Seats.{Seated}
 use Rattle.client_pool.specs.Pools.{AreNewClients, HaveRoom}
 use Rattle.client_pool.proofs.Opening.{as_long}
 use Rattle.client_pool.proofs.pool.Pool.open.Goals as goal

@@ -16,10 +16,10 @@ returns-in-Found g c =
     let r = c.args.self.now.service in
     let table = c.args.self.now.line.table.shared.table_id in
     let before = c.args.client.now in
-    let seen = seen_with c.in-Found.place c.look.new.reply in
+    let seen = seen_with c.in-Found.place c.read_beside.new.reply in
     let floor = c.place-floor.result in
     let least = c.place-floor.ensures in
-    let after : Client = record { number = before.number; floor = seen.place; caught_up = before.caught_up; answers = c.push_reserved.new.self; lent = c.look.new.lent; closing = before.closing } in
+    let after : Client = record { number = before.number; floor = seen.place; caught_up = before.caught_up; answers = c.push_reserved.new.self; lent = c.read_beside.new.lent; closing = before.closing } in
     let begun = c.in-Ok.ensures in
     let found = c.in-Found.ensures in
     let shows = read_since r table before.lent c.begin.new.lent after.lent begun.tells c.args.op.now floor c.in-Ok.caller seen found.0 in
@@ -35,14 +35,14 @@ returns-in-Entered-Done g c =
     let table = c.args.self.now.line.table.shared.table_id in
     let before = c.args.client.now in
     let caller = c.in-Entered-Done.caller in
-    let reply = c.look.new.reply in
+    let reply = c.read_beside.new.reply in
     let ticket = c.in-Entered-Done.ticket in
     let answer = answer_with ticket reply in
     let floor = c.place-floor.result in
     let least = c.place-floor.ensures in
-    let after : Client = record { number = before.number; floor = answer.ticket + 1; caught_up = before.caught_up; answers = c.push_reserved-in-Entered-Done.new.self; lent = c.look.new.lent; closing = before.closing } in
+    let after : Client = record { number = before.number; floor = answer.ticket + 1; caught_up = before.caught_up; answers = c.push_reserved-in-Entered-Done.new.self; lent = c.read_beside.new.lent; closing = before.closing } in
     let x = c.in-Ok.caller in
-    let told = read_told r table c.args.op.now reply floor before.lent c.begin.new.lent after.lent x caller ticket c.in-Ok.ensures (subst (LooksOn r table c.args.op.now c.look.new.reply x c.begin.new.lent after.lent) c.in-Entered-Done.field-0-is c.in-Entered-Done.ensures) in (
+    let told = read_told r table c.args.op.now reply floor before.lent c.begin.new.lent after.lent x caller ticket c.in-Ok.ensures (subst (LooksOn r table c.args.op.now c.read_beside.new.reply x c.begin.new.lent after.lent) c.in-Entered-Done.field-0-is c.in-Entered-Done.ensures) in (
       updated r table before after c.args.op.now floor caller told.0 answer (omega (arith, least)) (omega (arith, least)) told.1 (record { number = refl; limits = told.1.limits; closing = refl }) refl
           (c.push_reserved-in-Entered-Done.ensures.items ∙ ap (λ (l : List Answered). l ++ Updated caller answer ∷ []) c.reserve.ensures.items) refl,
       told.2,
@@ -55,7 +55,7 @@ returns-in-Entered-Full g c =
     let before = c.args.client.now in
     let x = c.in-Ok.caller in
     full_more r table before _ refl c.reserve.ensures.items (IsReadRefused r) c.in-Entered-Full.note
-    (read_full r table c.args.op.now c.look.new.reply c.place-floor.result before.lent c.begin.new.lent c.look.new.lent x c.in-Ok.ensures c.in-Entered-Full.note (subst (LooksOn r table c.args.op.now c.look.new.reply x c.begin.new.lent c.look.new.lent) c.in-Entered-Full.field-0-is c.in-Entered-Full.ensures))
+    (read_full r table c.args.op.now c.read_beside.new.reply c.place-floor.result before.lent c.begin.new.lent c.read_beside.new.lent x c.in-Ok.ensures c.in-Entered-Full.note (subst (LooksOn r table c.args.op.now c.read_beside.new.reply x c.begin.new.lent c.read_beside.new.lent) c.in-Entered-Full.field-0-is c.in-Entered-Full.ensures))
 
 pub returns-in-Entered-Worn : goal.returns-in-Entered-Worn
 returns-in-Entered-Worn g c =
@@ -64,7 +64,7 @@ returns-in-Entered-Worn g c =
     let before = c.args.client.now in
     let x = c.in-Ok.caller in
     worn_more r table before _ refl c.reserve.ensures.items (IsReadRefused r)
-    (read_worn r table c.args.op.now c.look.new.reply c.place-floor.result before.lent c.begin.new.lent c.look.new.lent x c.in-Ok.ensures (subst (LooksOn r table c.args.op.now c.look.new.reply x c.begin.new.lent c.look.new.lent) c.in-Entered-Worn.field-0-is c.in-Entered-Worn.ensures))
+    (read_worn r table c.args.op.now c.read_beside.new.reply c.place-floor.result before.lent c.begin.new.lent c.read_beside.new.lent x c.in-Ok.ensures (subst (LooksOn r table c.args.op.now c.read_beside.new.reply x c.begin.new.lent c.read_beside.new.lent) c.in-Entered-Worn.field-0-is c.in-Entered-Worn.ensures))
 
 pub returns-in-Entered-Halted : goal.returns-in-Entered-Halted
 returns-in-Entered-Halted g c =
@@ -73,7 +73,7 @@ returns-in-Entered-Halted g c =
     let before = c.args.client.now in
     let x = c.in-Ok.caller in
     stopped_more r table before _ refl c.reserve.ensures.items (HaltsClientRead r c.args.op.now) c.in-Entered-Halted.linked
-    (read_stopped r table c.args.op.now c.look.new.reply c.place-floor.result before.lent c.begin.new.lent c.look.new.lent x c.in-Ok.ensures c.in-Entered-Halted.linked (subst (LooksOn r table c.args.op.now c.look.new.reply x c.begin.new.lent c.look.new.lent) c.in-Entered-Halted.field-0-is c.in-Entered-Halted.ensures))
+    (read_stopped r table c.args.op.now c.read_beside.new.reply c.place-floor.result before.lent c.begin.new.lent c.read_beside.new.lent x c.in-Ok.ensures c.in-Entered-Halted.linked (subst (LooksOn r table c.args.op.now c.read_beside.new.reply x c.begin.new.lent c.read_beside.new.lent) c.in-Entered-Halted.field-0-is c.in-Entered-Halted.ensures))
 
 pub returns-in-Err : goal.returns-in-Err
 returns-in-Err g c =
@@ -89,7 +89,7 @@ overflow_add-client g c =
     let table = c.args.self.now.line.table.shared.table_id in
     let x = c.in-Ok.caller in
     let mid = c.begin.new.lent in
-    let after = c.look.new.lent in
-    let told = read_told r table c.args.op.now c.look.new.reply c.place-floor.result c.args.client.now.lent mid after x c.in-Entered-Done.caller c.in-Entered-Done.ticket c.in-Ok.ensures (subst (LooksOn r table c.args.op.now c.look.new.reply x mid after) c.in-Entered-Done.field-0-is c.in-Entered-Done.ensures) in
+    let after = c.read_beside.new.lent in
+    let told = read_told r table c.args.op.now c.read_beside.new.reply c.place-floor.result c.args.client.now.lent mid after x c.in-Entered-Done.caller c.in-Entered-Done.ticket c.in-Ok.ensures (subst (LooksOn r table c.args.op.now c.read_beside.new.reply x mid after) c.in-Entered-Done.field-0-is c.in-Entered-Done.ensures) in
     let small = told.1.small in
     omega (arith, small)

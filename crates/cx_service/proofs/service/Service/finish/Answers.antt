@@ -1,6 +1,6 @@
 use Rattle.std.proofs.Common.{subst}
 use Rattle.cx_service.specs.Drives.{Drives, answer_with}
-use Rattle.cx_service.proofs.Turning.{again_done, again_halted, again_more}
+use Rattle.cx_service.proofs.Attempting.{again_done, again_halted, again_more}
 use Rattle.cx_service.proofs.service.Service.finish.Goals as goal
 
 pub returns-in-Done : goal.returns-in-Done

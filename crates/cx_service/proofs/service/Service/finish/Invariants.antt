@@ -1,4 +1,4 @@
-use Rattle.cx_service.proofs.Turning.{DrivesAgain}
+use Rattle.cx_service.proofs.Attempting.{DrivesAgain}
 use Rattle.cx_service.proofs.service.Service.finish.Given as goal
 
 -- the entry stands, unanswered

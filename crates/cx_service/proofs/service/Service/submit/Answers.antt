@@ -1,8 +1,8 @@
 use Rattle.std.proofs.Common.{◌+◌, ◌*◌, sym, subst, ◌∙◌, arith, ap}
-use Rattle.cx_rule.specs.Running.{Running}
+use Rattle.table_invariant.specs.Running.{Running}
 use Rattle.cx_service.specs.Callers.{IsCallerOf, unlinked}
 use Rattle.cx_service.specs.Submits.{FindsCell, HaltsEntering, HaltsLooking, LooksForCell, SubmitFull, SubmitsIn}
-use Rattle.cx_service.specs.declared.callers.Desk.{Desk}
+use Rattle.cx_service.specs.declared.callers.CallerState.{CallerState}
 use Rattle.cx_service.proofs.Looking.{caller_then, full_there, halts_looking, looked_first, submits_then}
 use Rattle.cx_service.proofs.service.Service.submit.Goals as goal
 
@@ -10,7 +10,7 @@ pub enter-requires-clause-caller : goal.enter-requires-clause-caller
 enter-requires-clause-caller g c =
     let r = c.args.self.now in
     let s = c.deref_mut.result.now.seat in
-    let is = ap (λ (d : Desk). d.seat) c.deref_mut.ensures.value ∙ c.caller.view_is in
+    let is = ap (λ (d : CallerState). d.seat) c.deref_mut.ensures.value ∙ c.caller.view_is in
     let t = c.find_cell.new.seat in
     let looked = subst (λ (x : Running g.row.O.Denot). LooksForCell (x.callers + 4) s t) c.self.view_is c.find_cell.ensures.looked in
     let caller = subst (IsCallerOf r) (sym is) c.requires.caller in
@@ -21,7 +21,7 @@ pub returns-in-Ok-Err : goal.returns-in-Ok-Err
 returns-in-Ok-Err g c =
     let r = c.args.self.now in
     let s = c.deref_mut.result.now.seat in
-    let is = ap (λ (d : Desk). d.seat) c.deref_mut.ensures.value ∙ c.caller.view_is in
+    let is = ap (λ (d : CallerState). d.seat) c.deref_mut.ensures.value ∙ c.caller.view_is in
     let t = c.find_cell.new.seat in
     let most = 200 + r.callers + 3 * c.args.tries in
     let looked = subst (λ (x : Running g.row.O.Denot). LooksForCell (x.callers + 4) s t) c.self.view_is c.find_cell.ensures.looked in
@@ -34,7 +34,7 @@ pub returns-in-Err : goal.returns-in-Err
 returns-in-Err g c =
     let r = c.args.self.now in
     let s = c.deref_mut.result.now.seat in
-    let is = ap (λ (d : Desk). d.seat) c.deref_mut.ensures.value ∙ c.caller.view_is in
+    let is = ap (λ (d : CallerState). d.seat) c.deref_mut.ensures.value ∙ c.caller.view_is in
     let t = c.find_cell.new.seat in
     let most = 200 + r.callers + 3 * c.args.tries in
     let looked = subst (λ (x : Running g.row.O.Denot). LooksForCell (x.callers + 4) s t) c.self.view_is c.find_cell.ensures.looked in
@@ -46,7 +46,7 @@ pub returns-in-Ok-Ok : goal.returns-in-Ok-Ok
 returns-in-Ok-Ok g c =
     let r = c.args.self.now in
     let s = c.deref_mut.result.now.seat in
-    let is = ap (λ (d : Desk). d.seat) c.deref_mut.ensures.value ∙ c.caller.view_is in
+    let is = ap (λ (d : CallerState). d.seat) c.deref_mut.ensures.value ∙ c.caller.view_is in
     let t = c.find_cell.new.seat in
     let looked = subst (λ (x : Running g.row.O.Denot). LooksForCell (x.callers + 4) s t) c.self.view_is c.find_cell.ensures.looked in
     let finds = subst (FindsCell r.callers s t) c.in-Ok-Ok.field-0-is (subst (λ (x : Running g.row.O.Denot). FindsCell x.callers s t c.in-Ok-Ok.field-0) c.self.view_is c.in-Ok-Ok.ensures.found) in

@@ -1,6 +1,6 @@
-use Rattle.cx_service.proofs.Turning.{LooksOn}
+use Rattle.cx_service.proofs.Attempting.{LooksOn}
 use Rattle.cx_service.proofs.service.Service.try_read.Given as goal
 
--- in each turn so far a refusal was met
-abbrev pub invariant-loop-turn : goal.invariant-loop-turn
-invariant-loop-turn g l = LooksOn l.self l._turn l.fn.caller l.caller
+-- in each attempt so far a refusal was met
+abbrev pub invariant-loop-attempt : goal.invariant-loop-attempt
+invariant-loop-attempt g l = LooksOn l.self l._attempt l.fn.caller l.caller

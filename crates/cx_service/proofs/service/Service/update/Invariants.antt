@@ -1,9 +1,9 @@
 use Rattle.std.proofs.Common.{◌≡◌, ◌≤◌}
-use Rattle.cx_rule.specs.Seats.{IsAtLimit, images_of}
-use Rattle.cx_rule.specs.Timing.{KeepsTimes}
+use Rattle.table_invariant.specs.Seats.{IsAtLimit, images_of}
+use Rattle.table_invariant.specs.Timing.{KeepsTimes}
 use Rattle.cx_service.specs.Callers.{IsCallerOf}
 use Rattle.cx_service.specs.Updates.{KeepsLists, SubmitsAgain}
-use Rattle.cx_turns.specs.Turns.{StepsOn}
+use Rattle.cx_attempts.specs.Attempts.{StepsOn}
 use Rattle.cx_service.proofs.service.Service.update.Given as goal
 
 -- the caller is in no call, its lists are as they were, its scans are no fewer, and its front did not fall; where it was at its limit no step was

@@ -1,5 +1,5 @@
 use Rattle.std.proofs.Common.{length, ap, sym, ◌∙◌}
-use Rattle.cx_rule.specs.Seats.{Seated}
+use Rattle.table_invariant.specs.Seats.{Seated}
 use Rattle.cx_table.proofs.SetOffers.{no_own_set}
 use Rattle.cx_table.proofs.seat.CallerSeat.offered_cell.Goals as goal
 

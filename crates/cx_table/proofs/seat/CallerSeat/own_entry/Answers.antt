@@ -1,9 +1,9 @@
 use Rattle.std.proofs.Common.{ap, subst, ◌∙◌}
 use Rattle.cx_core.specs.declared.entry.Entry.{Entry}
 use Rattle.cx_core.specs.QueueEvents.{cell_of}
-use Rattle.cx_rule.specs.Seats.{Seated}
-use Rattle.seat_memory.specs.Summaries.{IsOwnEntry}
-use Rattle.seat_memory.proofs.OwnEntries.{own_read}
+use Rattle.table_invariant.specs.Seats.{Seated}
+use Rattle.caller_cache.specs.Summaries.{IsOwnEntry}
+use Rattle.caller_cache.proofs.OwnEntries.{own_read}
 use Rattle.cx_table.proofs.seat.CallerSeat.own_entry.Goals as goal
 
 pub returns : goal.returns

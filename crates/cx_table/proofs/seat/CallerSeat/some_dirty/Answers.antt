@@ -1,8 +1,8 @@
 use Rattle.std.proofs.Common.{◌<◌, ℕ, IfNone, IfSome, subst}
 use Rattle.std.specs.List.{Contains}
 use Rattle.cx_core.specs.Rights.{held_dirty}
-use Rattle.cx_rule.specs.Seats.{Seated, known_of}
-use Rattle.seat_memory.proofs.Covering.{dirty_none, dirty_some}
+use Rattle.table_invariant.specs.Seats.{Seated, known_of}
+use Rattle.caller_cache.proofs.Covering.{dirty_none, dirty_some}
 use Rattle.cx_table.proofs.seat.CallerSeat.some_dirty.Goals as goal
 
 pub returns-clause-some : goal.returns-clause-some

@@ -1,6 +1,6 @@
 use Rattle.std.proofs.Common.{subst}
-use Rattle.cx_rule.specs.Fitting.{IsKeptSet, IsSetWithin}
-use Rattle.cx_rule.specs.Seats.{Seated, known_of}
+use Rattle.table_invariant.specs.Fitting.{IsKeptSet, IsSetWithin}
+use Rattle.table_invariant.specs.Seats.{Seated, known_of}
 use Rattle.cx_table.proofs.Keeping.{handed_out}
 use Rattle.cx_table.proofs.seat.CallerSeat.take_kept.Goals as goal
 

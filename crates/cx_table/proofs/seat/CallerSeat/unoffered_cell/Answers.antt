@@ -1,7 +1,7 @@
 use Rattle.std.proofs.Common.{◌≡◌, ◌<◌, Some, IfSome, false, sym, subst}
 use Rattle.cx_core.specs.QueueEvents.{cell_of}
 use Rattle.cx_core.specs.SetEvents.{CanWriteSet}
-use Rattle.cx_rule.specs.Seats.{Seated}
+use Rattle.table_invariant.specs.Seats.{Seated}
 use Rattle.cx_table.specs.OwnCells.{HasTicketAs}
 use Rattle.cx_table.proofs.SetOffers.{cell_to_write, no_cell_to_write}
 use Rattle.cx_table.proofs.seat.CallerSeat.unoffered_cell.Goals as goal

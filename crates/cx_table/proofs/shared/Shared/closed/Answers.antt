@@ -6,12 +6,12 @@ use Rattle.cx_core.specs.Layout.{vol_at, per_at}
 use Rattle.cx_core.specs.Region.{region_words}
 use Rattle.cx_core.specs.State.{Instance}
 use Rattle.cx_core.specs.Merge.{history_of}
-use Rattle.cx_rule.specs.Ending.{locals_known}
-use Rattle.cx_rule.specs.Rule.{RuleHolds}
-use Rattle.cx_rule.specs.Running.{instance_at}
-use Rattle.seat_memory.specs.Wins.{IsWayBy}
+use Rattle.table_invariant.specs.Ending.{locals_known}
+use Rattle.table_invariant.specs.Rule.{RuleHolds}
+use Rattle.table_invariant.specs.Running.{instance_at}
+use Rattle.caller_cache.specs.Wins.{IsWayBy}
 use Rattle.cx_table.proofs.Closing.{leaves, same_part}
-use Rattle.cx_rule.proofs.Keeps.{key_instance}
+use Rattle.table_invariant.proofs.Keeps.{key_instance}
 use Rattle.cx_table.proofs.shared.Shared.closed.Goals as goal
 
 twice : (n c : ℕ) → n * (2 * c) + n * (2 * c) ≡ n * (4 * c)

@@ -1,8 +1,8 @@
 use Rattle.std.proofs.Common.{ℕ, ap, subst, sym, ◌∙◌}
 use Rattle.cx_core.specs.Layout.{lock_at}
 use Rattle.cx_core.specs.LockEvents.{IsClean}
-use Rattle.cx_rule.specs.Running.{IsRunning, Running, instance_at}
-use Rattle.cx_rule.proofs.Giving.{learns_downgrade}
+use Rattle.table_invariant.specs.Running.{IsRunning, Running, instance_at}
+use Rattle.table_invariant.proofs.Giving.{learns_downgrade}
 use Rattle.cx_table.specs.Right.{Right}
 use Rattle.cx_table.proofs.Handing.{laws_at}
 use Rattle.cx_table.proofs.shared.Shared.downgrade.Goals as goal

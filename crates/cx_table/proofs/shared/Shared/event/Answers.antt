@@ -1,4 +1,4 @@
-use Rattle.cx_rule.proofs.Keeps.{allows_found}
+use Rattle.table_invariant.proofs.Keeps.{allows_found}
 use Rattle.cx_table.proofs.shared.Shared.event.Goals as goal
 
 pub run-requires-clause-allows : goal.run-requires-clause-allows

@@ -2,11 +2,11 @@ use Rattle.std.proofs.Common.{◌≡◌, ◌∷◌, ◌++◌, [], ℕ, List, Som
 use Rattle.std.proofs.lemmas.List.{map-append, append-nil}
 use Rattle.std.proofs.lemmas.List.Elements.{All-pop, All-weaker}
 use Rattle.atomic_table.specs.Table.{Me}
-use Rattle.cx_rule.specs.declared.rule.Known.{Known}
+use Rattle.table_invariant.specs.declared.rule.Known.{Known}
 use Rattle.cx_table.specs.Remains.{known_by}
-use Rattle.cx_rule.specs.Running.{IsSeatOf}
-use Rattle.cx_rule.specs.Seats.{Seated}
-use Rattle.cx_rule.proofs.Moves.{enters}
+use Rattle.table_invariant.specs.Running.{IsSeatOf}
+use Rattle.table_invariant.specs.Seats.{Seated}
+use Rattle.table_invariant.proofs.Moves.{enters}
 use Rattle.cx_table.proofs.shared.Shared.joined.Goals as goal
 
 pub load_new_seat-closing-requires : goal.load_new_seat-closing-requires

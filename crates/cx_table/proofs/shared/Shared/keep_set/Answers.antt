@@ -1,9 +1,9 @@
 use Rattle.std.proofs.Common.{subst, sym}
-use Rattle.cx_rule.specs.Offers.{TellsSet}
-use Rattle.cx_rule.specs.Running.{instance_at}
-use Rattle.cx_rule.specs.Seats.{Seated, known_of}
-use Rattle.cx_rule.specs.Steps.{KeepsSet, TeachesKept}
-use Rattle.seat_memory.proofs.SummaryLaws.{IsSeat, seated}
+use Rattle.table_invariant.specs.Offers.{TellsSet}
+use Rattle.table_invariant.specs.Running.{instance_at}
+use Rattle.table_invariant.specs.Seats.{Seated, known_of}
+use Rattle.table_invariant.specs.Steps.{KeepsSet, TeachesKept}
+use Rattle.caller_cache.proofs.SummaryLaws.{IsSeat, seated}
 use Rattle.cx_table.proofs.Handing.{laws_at}
 use Rattle.cx_table.proofs.Keeping.{kept_fits, kept_made, told_within}
 use Rattle.cx_table.proofs.shared.Shared.keep_set.Goals as goal

@@ -1,4 +1,4 @@
-use Rattle.cx_rule.proofs.Giving.{allows_learned}
+use Rattle.table_invariant.proofs.Giving.{allows_learned}
 use Rattle.cx_table.specs.Words.{put_by}
 use Rattle.cx_table.proofs.shared.Shared.learned.Goals as goal
 

@@ -1,7 +1,7 @@
-use Rattle.cx_rule.specs.Running.{instance_at}
-use Rattle.cx_rule.specs.Seats.{kind_found, known_of}
-use Rattle.cx_rule.specs.Steps.{Teaches}
+use Rattle.table_invariant.specs.Running.{instance_at}
+use Rattle.table_invariant.specs.Seats.{kind_found, known_of}
+use Rattle.table_invariant.specs.Steps.{KnowledgeAfter}
 use Rattle.cx_table.proofs.shared.Shared.learned.Given as goal
 
 abbrev pub ghosts-run : goal.ghosts-run
-ghosts-run g a = record { tells = λ found. Teaches (instance_at a.self.now g.O.Object.step g.O.Object.only_reads) (kind_found (instance_at a.self.now g.O.Object.step g.O.Object.only_reads) a.about.now (known_of a.seat.now.me.0).local found) (known_of a.seat.now.me.0) found }
+ghosts-run g a = record { tells = λ found. KnowledgeAfter (instance_at a.self.now g.O.Object.step g.O.Object.only_reads) (kind_found (instance_at a.self.now g.O.Object.step g.O.Object.only_reads) a.about.now (known_of a.seat.now.me.0).local found) (known_of a.seat.now.me.0) found }

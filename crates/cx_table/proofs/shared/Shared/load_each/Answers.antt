@@ -1,6 +1,6 @@
 use Rattle.std.proofs.Common.{refl, sym, ◌∙◌, subst, arith}
 use Rattle.std.proofs.lemmas.List.{take_all}
-use Rattle.cx_rule.specs.Running.{instance_at}
+use Rattle.table_invariant.specs.Running.{instance_at}
 use Rattle.cx_table.specs.Runs.{AreLoaded, TeachesRun, loads_from}
 use Rattle.cx_table.proofs.Runs.{taught_nothing}
 use Rattle.cx_table.proofs.shared.Shared.load_each.Goals as goal

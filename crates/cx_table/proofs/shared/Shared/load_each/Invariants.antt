@@ -1,5 +1,5 @@
 use Rattle.std.proofs.Common.{◌≡◌, ◌*◌, length}
-use Rattle.cx_rule.specs.Running.{instance_at}
+use Rattle.table_invariant.specs.Running.{instance_at}
 use Rattle.cx_table.specs.Runs.{AreLoaded}
 use Rattle.cx_table.proofs.shared.Shared.load_each.Given as goal
 

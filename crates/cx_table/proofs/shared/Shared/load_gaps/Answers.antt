@@ -1,7 +1,7 @@
 use Rattle.std.proofs.Common.{◌≡◌, ◌+◌, length, refl, sym, ap, ◌∙◌, arith}
-use Rattle.cx_rule.specs.declared.rule.Known.{Known}
-use Rattle.cx_rule.specs.Running.{IsSeatOf}
-use Rattle.seat_memory.proofs.SummaryLaws.{IsSeat, seated}
+use Rattle.table_invariant.specs.declared.rule.Known.{Known}
+use Rattle.table_invariant.specs.Running.{IsSeatOf}
+use Rattle.caller_cache.proofs.SummaryLaws.{IsSeat, seated}
 use Rattle.cx_table.specs.Gaps.{gaps_from}
 use Rattle.cx_table.specs.Runs.{Runs}
 use Rattle.cx_table.proofs.Handing.{laws_at}

@@ -2,9 +2,9 @@ use Rattle.std.proofs.Common.{◌+◌, ◌<◌, ◌∷◌, [], List, length, ref
 use Rattle.std.proofs.lemmas.List.{length-set}
 use Rattle.atomic_table.specs.Table.{Me}
 use Rattle.cx_core.specs.Layout.{gap_at, word_count}
-use Rattle.cx_rule.specs.declared.rule.Known.{Known}
-use Rattle.cx_rule.specs.Running.{IsRunning, Running, instance_at}
-use Rattle.cx_rule.specs.Seats.{known_of}
+use Rattle.table_invariant.specs.declared.rule.Known.{Known}
+use Rattle.table_invariant.specs.Running.{IsRunning, Running, instance_at}
+use Rattle.table_invariant.specs.Seats.{known_of}
 use Rattle.cx_table.specs.Gaps.{gaps_from}
 use Rattle.cx_table.proofs.GapSteps.{gap_within}
 use Rattle.cx_table.proofs.Runs.{taught_nothing, taught_on}

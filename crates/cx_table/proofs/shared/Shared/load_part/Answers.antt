@@ -1,9 +1,9 @@
 use Rattle.std.proofs.Common.{false, ◌≡◌, ◌+◌, length, refl, sym, ◌∙◌, subst, arith}
 use Rattle.std.proofs.lemmas.List.{length-set}
 use Rattle.cx_core.proofs.LayoutLemmas.{vol_within}
-use Rattle.cx_rule.specs.Running.{instance_at}
-use Rattle.cx_rule.specs.Seats.{known_of}
-use Rattle.cx_rule.proofs.Giving.{learns_load}
+use Rattle.table_invariant.specs.Running.{instance_at}
+use Rattle.table_invariant.specs.Seats.{known_of}
+use Rattle.table_invariant.proofs.Giving.{learns_load}
 use Rattle.cx_table.specs.Runs.{AreLoaded}
 use Rattle.cx_table.proofs.Runs.{loaded_on}
 use Rattle.cx_table.proofs.shared.Shared.load_part.Goals as goal

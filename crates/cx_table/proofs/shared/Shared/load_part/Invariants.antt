@@ -1,7 +1,7 @@
 use Rattle.std.proofs.Common.{◌≡◌, ◌+◌, List, ℕ, length}
 use Rattle.atomic_table.specs.Table.{Me}
-use Rattle.cx_rule.specs.declared.rule.Known.{Known}
-use Rattle.cx_rule.specs.Running.{instance_at}
+use Rattle.table_invariant.specs.declared.rule.Known.{Known}
+use Rattle.table_invariant.specs.Running.{instance_at}
 use Rattle.cx_table.specs.Runs.{AreLoaded}
 use Rattle.cx_table.proofs.shared.Shared.load_part.Given as goal
 

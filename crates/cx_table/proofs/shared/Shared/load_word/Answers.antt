@@ -1,8 +1,8 @@
 use Rattle.std.proofs.Common.{ap, ◌∙◌, length}
 use Rattle.cx_core.specs.Layout.{vol_at}
-use Rattle.cx_rule.specs.Running.{Running, instance_at}
-use Rattle.cx_rule.specs.Seats.{Seated}
-use Rattle.cx_rule.proofs.Giving.{learns_load}
+use Rattle.table_invariant.specs.Running.{Running, instance_at}
+use Rattle.table_invariant.specs.Seats.{Seated}
+use Rattle.table_invariant.proofs.Giving.{learns_load}
 use Rattle.cx_table.proofs.shared.Shared.load_word.Goals as goal
 
 pub made_learned-requires-clause-learns : goal.made_learned-requires-clause-learns

@@ -1,4 +1,4 @@
-use Rattle.cx_rule.specs.Running.{instance_at}
+use Rattle.table_invariant.specs.Running.{instance_at}
 use Rattle.cx_table.specs.Words.{put_by}
 use Rattle.cx_table.proofs.MadeSteps.{learns_made, made_shown}
 use Rattle.cx_table.proofs.shared.Shared.made.Goals as goal

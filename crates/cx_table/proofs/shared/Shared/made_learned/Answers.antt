@@ -1,17 +1,17 @@
 use Rattle.std.proofs.Common.{◌∙◌, ◌≤◌, ap, subst, sym}
-use Rattle.cx_rule.specs.Running.{IsRunning, Running, instance_at}
-use Rattle.cx_rule.specs.Seats.{Seated, SeenGuard, kind_found}
-use Rattle.cx_rule.specs.Steps.{IsLearned, Steps}
+use Rattle.table_invariant.specs.Running.{IsRunning, Running, instance_at}
+use Rattle.table_invariant.specs.Seats.{Seated, SeenGuard, kind_found}
+use Rattle.table_invariant.specs.Steps.{MayStepKnowing, Steps}
 use Rattle.cx_table.specs.Words.{put_by}
 use Rattle.cx_table.proofs.Handing.{laws_at, step_fits}
-use Rattle.seat_memory.specs.Following.{CanFollow, IsFollowed}
-use Rattle.seat_memory.proofs.FollowedSteps.{can_follow, step_made}
-use Rattle.seat_memory.proofs.SummaryLaws.{IsSeat, seated}
+use Rattle.caller_cache.specs.Following.{CanFollow, IsFollowed}
+use Rattle.caller_cache.proofs.FollowedSteps.{can_follow, step_made}
+use Rattle.caller_cache.proofs.SummaryLaws.{IsSeat, seated}
 use Rattle.cx_table.proofs.shared.Shared.made_learned.Goals as goal
 
 pub learned-found-requires-clause-learns : goal.learned-found-requires-clause-learns
 learned-found-requires-clause-learns g c =
-    subst (λ (s : Seated). IsLearned (instance_at c.args.self.now g.O.Object.step g.O.Object.only_reads) c.args.kind.now s.known c.args.word (put_by c.args.instruction)) (sym c.seat.view_is) c.requires.learns
+    subst (λ (s : Seated). MayStepKnowing (instance_at c.args.self.now g.O.Object.step g.O.Object.only_reads) c.args.kind.now s.known c.args.word (put_by c.args.instruction)) (sym c.seat.view_is) c.requires.learns
 
 pub follow-requires : goal.follow-requires
 follow-requires g c =

@@ -3,10 +3,10 @@ use Rattle.atomic_table.specs.Table as atomic
 use Rattle.cx_core.specs.declared.entry.Base.{Base}
 use Rattle.cx_core.specs.Region.{place_of as place_at}
 use Rattle.cx_core.specs.State.{Instance, opening_words}
-use Rattle.cx_rule.specs.Rule.{RuleHolds}
-use Rattle.cx_rule.specs.Seats.{opening_view}
+use Rattle.table_invariant.specs.Rule.{RuleHolds}
+use Rattle.table_invariant.specs.Seats.{opening_view}
 use Rattle.cx_table.proofs.Closing.{all_seated}
-use Rattle.cx_rule.proofs.Opening.{opening_held}
+use Rattle.table_invariant.proofs.Opening.{opening_held}
 use Rattle.cx_table.proofs.shared.Shared.make.Goals as goal
 
 abbrev base_of : ℕ → List ℕ → Base

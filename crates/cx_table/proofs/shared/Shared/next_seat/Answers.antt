@@ -2,13 +2,13 @@ use Rattle.std.proofs.Common.{◌≡◌, ◌+◌, ◌<◌, ℕ, [], List, length
 use Rattle.atomic_table.specs.Seated.{TableId}
 use Rattle.cx_core.specs.Region.{slot_number}
 use Rattle.cx_core.specs.State.{opening_local}
-use Rattle.cx_rule.specs.declared.rule.Known.{Known}
+use Rattle.table_invariant.specs.declared.rule.Known.{Known}
 use Rattle.std.proofs.lemmas.List.{length-replicate}
-use Rattle.seat_memory.specs.Copies.{Copied}
-use Rattle.seat_memory.specs.Summaries.{summary_of}
-use Rattle.cx_rule.specs.Seats.{Seated, opening_known, opening_view}
-use Rattle.cx_rule.proofs.Moves.{cut_rests, one_caller, splits}
-use Rattle.seat_memory.proofs.OpeningSeats.{opening_copied, opening_summarised}
+use Rattle.caller_cache.specs.Copies.{Copied}
+use Rattle.caller_cache.specs.Summaries.{summary_of}
+use Rattle.table_invariant.specs.Seats.{Seated, opening_known, opening_view}
+use Rattle.table_invariant.proofs.Moves.{cut_rests, one_caller, splits}
+use Rattle.caller_cache.proofs.OpeningSeats.{opening_copied, opening_summarised}
 use Rattle.cx_table.proofs.shared.Shared.next_seat.Goals as goal
 
 -- two seats that contracts see the same of

@@ -1,7 +1,7 @@
 use Rattle.std.proofs.Common.{ap, subst, ◌∙◌}
 use Rattle.cx_core.specs.Layout.{gap_at}
-use Rattle.cx_rule.specs.Running.{IsRunning, Running, instance_at}
-use Rattle.cx_rule.proofs.GapNoting.{learns_gap}
+use Rattle.table_invariant.specs.Running.{IsRunning, Running, instance_at}
+use Rattle.table_invariant.proofs.GapNoting.{learns_gap}
 use Rattle.cx_table.proofs.Handing.{laws_at}
 use Rattle.cx_table.proofs.shared.Shared.note_gap.Goals as goal
 

@@ -1,7 +1,7 @@
 use Rattle.std.proofs.Common.{sym}
-use Rattle.cx_rule.specs.Running.{instance_at}
-use Rattle.cx_rule.specs.Seats.{known_of}
-use Rattle.cx_rule.proofs.Keeping.{allows_keeping}
+use Rattle.table_invariant.specs.Running.{instance_at}
+use Rattle.table_invariant.specs.Seats.{known_of}
+use Rattle.table_invariant.proofs.Keeping.{allows_keeping}
 use Rattle.cx_table.proofs.Handing.{laws_at}
 use Rattle.cx_table.proofs.shared.Shared.note_kept.Goals as goal
 

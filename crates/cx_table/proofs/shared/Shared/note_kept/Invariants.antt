@@ -1,6 +1,6 @@
-use Rattle.cx_rule.specs.Running.{instance_at}
-use Rattle.cx_rule.specs.Seats.{known_of}
-use Rattle.cx_rule.specs.Steps.{TeachesKept}
+use Rattle.table_invariant.specs.Running.{instance_at}
+use Rattle.table_invariant.specs.Seats.{known_of}
+use Rattle.table_invariant.specs.Steps.{TeachesKept}
 use Rattle.cx_table.proofs.shared.Shared.note_kept.Given as goal
 
 abbrev pub ghosts-run : goal.ghosts-run

@@ -1,11 +1,11 @@
 use Rattle.std.proofs.Common.{◌*◌, ◌+◌, ap, subst, ◌∙◌}
 use Rattle.cx_core.specs.Layout.{offer_at}
-use Rattle.cx_rule.specs.Running.{IsRunning, Running}
-use Rattle.cx_rule.specs.Seats.{Seated}
+use Rattle.table_invariant.specs.Running.{IsRunning, Running}
+use Rattle.table_invariant.specs.Seats.{Seated}
 use Rattle.cx_table.proofs.Handing.{laws_at}
 use Rattle.cx_table.proofs.SetOffers.{learns_offering}
-use Rattle.seat_memory.specs.declared.summary.Summary.{Summary}
-use Rattle.seat_memory.proofs.FollowedSteps.{small_ticket}
+use Rattle.caller_cache.specs.declared.summary.CachedLocal.{CachedLocal}
+use Rattle.caller_cache.proofs.FollowedSteps.{small_ticket}
 use Rattle.cx_table.proofs.shared.Shared.offer.Goals as goal
 
 pub stored_learned-requires-clause-learns : goal.stored_learned-requires-clause-learns
@@ -15,7 +15,7 @@ stored_learned-requires-clause-learns g c =
     let laws = laws_at g.O.Object.line_count g.O.Object.lawful g.O.Object.step t running g.met.O.Object.keeps (λ o image law. (g.met.O.Object.shape o image law).0) g.met.O.Object.replies in
     learns_offering g.O.Object.line_count g.O.Object.lawful g.O.Object.step g.O.Object.only_reads t c.args.j c.offer_at-word.result c.offering_word-offering.result c.seat.inside.seat.me c.seat.inside.summary c.seat.inside.before c.args.seat.now running laws
     c.seat.invariant.0 (ap (λ (s : Seated). s.known) c.seat.view_is) c.requires.may.guard c.requires.told
-    (c.offer_at-word.ensures ∙ ap (λ n. offer_at c.self.inside.callers.number (16 * n + c.args.j)) (c.from.ensures ∙ ap (λ (m : Summary). m.number) c.seat.invariant.0.is ∙ ap (λ (s : Seated). s.known.local.number) c.seat.view_is)
+    (c.offer_at-word.ensures ∙ ap (λ n. offer_at c.self.inside.callers.number (16 * n + c.args.j)) (c.from.ensures ∙ ap (λ (m : CachedLocal). m.number) c.seat.invariant.0.is ∙ ap (λ (s : Seated). s.known.local.number) c.seat.view_is)
     ∙ ap (λ (r : Running _). offer_at r.callers (16 * c.args.seat.now.known.local.number + c.args.j)) c.self.view_is)
     c.offering_word-offering.ensures
 

@@ -1,9 +1,9 @@
 use Rattle.std.proofs.Common.{◌≡◌, arith, ap, subst, sym, ◌∙◌, length}
 use Rattle.cx_core.specs.Layout.{per_at}
-use Rattle.cx_rule.specs.Fitting.{TellsWord}
-use Rattle.cx_rule.specs.Running.{Running, instance_at}
-use Rattle.cx_rule.specs.Seats.{Seated, SeenGuard, known_of}
-use Rattle.cx_rule.proofs.Giving.{learns_persist}
+use Rattle.table_invariant.specs.Fitting.{TellsWord}
+use Rattle.table_invariant.specs.Running.{Running, instance_at}
+use Rattle.table_invariant.specs.Seats.{Seated, SeenGuard, known_of}
+use Rattle.table_invariant.proofs.Giving.{learns_persist}
 use Rattle.cx_core.specs.declared.kinds.Kind.TheVariants.{Persist}
 use Rattle.cx_table.proofs.shared.Shared.persist.Goals as goal
 

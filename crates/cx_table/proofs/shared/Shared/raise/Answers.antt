@@ -1,9 +1,9 @@
 use Rattle.std.proofs.Common.{ap, rules, subst, ◌∙◌}
-use Rattle.cx_rule.specs.Running.{IsRunning, Running}
-use Rattle.cx_rule.specs.Seats.{Seated, known_of}
+use Rattle.table_invariant.specs.Running.{IsRunning, Running}
+use Rattle.table_invariant.specs.Seats.{Seated, known_of}
 use Rattle.cx_table.proofs.Handing.{laws_at}
-use Rattle.seat_memory.proofs.Raising.{dur_within, raise_learned, raised_fits, raised_made}
-use Rattle.seat_memory.specs.Raised.{raised_summary}
+use Rattle.caller_cache.proofs.Raising.{dur_within, raise_learned, raised_fits, raised_made}
+use Rattle.caller_cache.specs.Raised.{raised_summary}
 use Rattle.cx_table.proofs.shared.Shared.raise.Goals as goal
 
 pub raise_learned-found-requires-clause-on : goal.raise_learned-found-requires-clause-on

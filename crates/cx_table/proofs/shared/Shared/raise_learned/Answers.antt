@@ -1,4 +1,4 @@
-use Rattle.cx_rule.proofs.Raising.{allows_raised}
+use Rattle.table_invariant.proofs.Raising.{allows_raised}
 use Rattle.cx_table.proofs.shared.Shared.raise_learned.Goals as goal
 
 pub run-requires-clause-allows : goal.run-requires-clause-allows

@@ -1,8 +1,8 @@
 use Rattle.std.specs.Prelude.{List}
 use Rattle.cx_core.specs.declared.local.Answer.{Answer}
-use Rattle.cx_rule.specs.Raises.{IsRaiseLearned, TeachesRaised}
-use Rattle.cx_rule.specs.Running.{instance_at}
-use Rattle.cx_rule.specs.Seats.{known_of}
+use Rattle.table_invariant.specs.Raises.{IsRaiseLearned, TeachesRaised}
+use Rattle.table_invariant.specs.Running.{instance_at}
+use Rattle.table_invariant.specs.Seats.{known_of}
 use Rattle.cx_table.proofs.shared.Shared.raise_learned.Given as goal
 
 abbrev pub ghosts-run : goal.ghosts-run

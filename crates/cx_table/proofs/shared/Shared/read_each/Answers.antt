@@ -4,9 +4,9 @@ use Rattle.atomic_table.specs.Table.{Me}
 use Rattle.cx_core.specs.Events.{Guard}
 use Rattle.cx_core.specs.declared.kinds.Kind.TheVariants.{ReadCell}
 use Rattle.cx_core.specs.Layout.{cell_at, word_count}
-use Rattle.cx_rule.specs.declared.rule.Known.{Known}
-use Rattle.cx_rule.specs.Running.{IsRunning, Running, instance_at}
-use Rattle.cx_rule.specs.Seats.{known_of, unseen}
+use Rattle.table_invariant.specs.declared.rule.Known.{Known}
+use Rattle.table_invariant.specs.Running.{IsRunning, Running, instance_at}
+use Rattle.table_invariant.specs.Seats.{known_of, unseen}
 use Rattle.cx_table.specs.Runs.{reads_of}
 use Rattle.cx_table.proofs.Runs.{shown_within, taught_nothing, taught_on}
 use Rattle.cx_table.proofs.shared.Shared.read_each.Goals as goal

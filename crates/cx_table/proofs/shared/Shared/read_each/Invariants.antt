@@ -1,8 +1,8 @@
 use Rattle.std.proofs.Common.{◌≡◌, ◌<◌, ◌∷◌, [], ℕ, length, take}
 use Rattle.cx_core.specs.Events.{Guard}
 use Rattle.cx_core.specs.declared.kinds.Kind.TheVariants.{ReadCell}
-use Rattle.cx_rule.specs.Running.{instance_at}
-use Rattle.cx_rule.specs.Seats.{known_of, unseen}
+use Rattle.table_invariant.specs.Running.{instance_at}
+use Rattle.table_invariant.specs.Seats.{known_of, unseen}
 use Rattle.cx_table.specs.Runs.{TeachesRun, reads_of}
 use Rattle.cx_table.proofs.shared.Shared.read_each.Given as goal
 

@@ -4,9 +4,9 @@ use Rattle.atomic_table.specs.Table.{Me}
 use Rattle.cx_core.specs.Events.{Guard}
 use Rattle.cx_core.specs.declared.kinds.Kind.TheVariants.{ReadSet}
 use Rattle.cx_core.specs.Layout.{set_at, word_count}
-use Rattle.cx_rule.specs.declared.rule.Known.{Known}
-use Rattle.cx_rule.specs.Running.{IsRunning, Running, instance_at}
-use Rattle.cx_rule.specs.Seats.{known_of, unseen}
+use Rattle.table_invariant.specs.declared.rule.Known.{Known}
+use Rattle.table_invariant.specs.Running.{IsRunning, Running, instance_at}
+use Rattle.table_invariant.specs.Seats.{known_of, unseen}
 use Rattle.cx_table.specs.Runs.{set_reads_from}
 use Rattle.cx_table.proofs.Runs.{set_within, shown_cell, taught_nothing, taught_on}
 use Rattle.cx_table.proofs.shared.Shared.read_set_each.Goals as goal

@@ -1,7 +1,7 @@
 use Rattle.std.proofs.Common.{◌<◌, refl, subst, sym}
-use Rattle.cx_rule.specs.Fitting.{AgreeTo}
-use Rattle.cx_rule.specs.Running.{instance_at}
-use Rattle.cx_rule.proofs.Copying.{learns_copied}
+use Rattle.table_invariant.specs.Fitting.{AgreeTo}
+use Rattle.table_invariant.specs.Running.{instance_at}
+use Rattle.table_invariant.proofs.Copying.{learns_copied}
 use Rattle.cx_table.proofs.shared.Shared.release_copied.Goals as goal
 
 pub release_moved-requires-clause-moved : goal.release_moved-requires-clause-moved

@@ -1,6 +1,6 @@
 use Rattle.std.proofs.Common.{refl}
-use Rattle.cx_rule.specs.Running.{instance_at}
-use Rattle.cx_rule.proofs.Listing.{learns_listed}
+use Rattle.table_invariant.specs.Running.{instance_at}
+use Rattle.table_invariant.proofs.Listing.{learns_listed}
 use Rattle.cx_table.proofs.GapSteps.{listed_copies}
 use Rattle.cx_table.proofs.shared.Shared.release_listed.Goals as goal
 

@@ -2,14 +2,14 @@ use Rattle.std.proofs.Common.{inl, refl, subst, sym}
 use Rattle.cx_core.specs.declared.kinds.Kind.TheVariants.{BackOff}
 use Rattle.cx_core.specs.Layout.{lock_at}
 use Rattle.cx_core.specs.LockEvents.{CanBackOff}
-use Rattle.cx_rule.specs.Running.{instance_at}
-use Rattle.cx_rule.specs.Seats.{Seated, known_of}
-use Rattle.cx_rule.specs.Steps.{IsCopyLearned, StepsCopied}
-use Rattle.cx_rule.proofs.Keeps.{allows_copied}
+use Rattle.table_invariant.specs.Running.{instance_at}
+use Rattle.table_invariant.specs.Seats.{Seated, known_of}
+use Rattle.table_invariant.specs.Steps.{MayReleaseKnowing, StepsCopied}
+use Rattle.table_invariant.proofs.Keeps.{allows_copied}
 use Rattle.cx_table.specs.Words.{put_by}
 use Rattle.cx_table.specs.declared.events.Instruction.TheVariants.{Subtract}
-use Rattle.seat_memory.proofs.Copying.{copied_fits, moved_made, region_some}
-use Rattle.seat_memory.proofs.SummaryLaws.{IsSeat, seated}
+use Rattle.caller_cache.proofs.Copying.{copied_fits, moved_made, region_some}
+use Rattle.caller_cache.proofs.SummaryLaws.{IsSeat, seated}
 use Rattle.cx_table.proofs.Handing.{laws_at, still_held}
 use Rattle.cx_table.proofs.shared.Shared.release_moved.Goals as goal
 
@@ -22,7 +22,7 @@ give_back-requires-clause-allows g c = λ learn.
     let instance = instance_at t g.O.Object.step g.O.Object.only_reads in
     let r = c.args.source.replica in
     allows_copied instance (BackOff r) (known_of c.seat.inside.seat.me.0) _ _ _ _ (put_by (Subtract 1)) c.seat.invariant.0.one learn
-    (subst (λ (s : Seated). IsCopyLearned instance (BackOff r) s.known (lock_at t.callers r) (put_by (Subtract 1))) (sym c.seat.view_is) c.requires.moved.learned)
+    (subst (λ (s : Seated). MayReleaseKnowing instance (BackOff r) s.known (lock_at t.callers r) (put_by (Subtract 1))) (sym c.seat.view_is) c.requires.moved.learned)
 
 -- what the release makes
 released : (g : _) (c : goal.After-give_back g) →

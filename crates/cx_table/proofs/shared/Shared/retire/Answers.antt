@@ -3,7 +3,7 @@ use Rattle.cx_base.specs.Codes.{root_replica_of}
 use Rattle.cx_core.specs.declared.local.WonCode.{WonCode}
 use Rattle.cx_core.specs.Layout.{lock_at}
 use Rattle.cx_core.specs.RootEvents.{before_in}
-use Rattle.cx_rule.specs.Running.{Running}
+use Rattle.table_invariant.specs.Running.{Running}
 use Rattle.cx_table.specs.Right.{WonRight}
 use Rattle.cx_table.proofs.shared.Shared.retire.Goals as goal
 

@@ -2,7 +2,7 @@ use Rattle.std.proofs.Common.{◌∷◌, ◌++◌, [], List, map, sym, ap, ◌�
 use Rattle.std.proofs.lemmas.List.FromFn.{map-range_with_len_more}
 use Rattle.std.specs.List.{range_with_len}
 use Rattle.cx_table.specs.Remains.{opening_seat}
-use Rattle.cx_rule.specs.Seats.{Seated}
+use Rattle.table_invariant.specs.Seats.{Seated}
 use Rattle.cx_table.proofs.shared.Shared.seated.Goals as goal
 
 pub loop-number-preserved : goal.loop-number-preserved

@@ -1,7 +1,7 @@
 use Rattle.std.proofs.Common.{◌≡◌, ◌≤◌, [], drop, map, vec_capacity, vec_len}
 use Rattle.std.specs.List.{range_with_len}
 use Rattle.cx_table.specs.Remains.{opening_seat}
-use Rattle.cx_rule.specs.Seats.{opening_view}
+use Rattle.table_invariant.specs.Seats.{opening_view}
 use Rattle.cx_table.proofs.shared.Shared.seated.Given as goal
 
 -- the first callers have their seats, and the first seat has the others

@@ -1,4 +1,4 @@
-use Rattle.cx_rule.proofs.Giving.{allows_learned_store}
+use Rattle.table_invariant.proofs.Giving.{allows_learned_store}
 use Rattle.cx_table.proofs.shared.Shared.store_learned.Goals as goal
 
 pub store_as-requires-clause-allows : goal.store_as-requires-clause-allows

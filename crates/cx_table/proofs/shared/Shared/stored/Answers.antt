@@ -1,4 +1,4 @@
-use Rattle.cx_rule.specs.Running.{instance_at}
+use Rattle.table_invariant.specs.Running.{instance_at}
 use Rattle.cx_table.proofs.MadeSteps.{learns_made, shown_found}
 use Rattle.cx_table.proofs.shared.Shared.stored.Goals as goal
 

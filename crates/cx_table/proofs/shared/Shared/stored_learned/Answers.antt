@@ -1,17 +1,17 @@
 use Rattle.std.proofs.Common.{◌∙◌, ◌≤◌, ap, subst, sym}
 use Rattle.cx_core.specs.declared.kinds.Kind.{Kind}
-use Rattle.cx_rule.specs.Running.{IsRunning, Running, instance_at}
-use Rattle.cx_rule.specs.Seats.{Seated, SeenGuard, known_of}
-use Rattle.cx_rule.specs.Steps.{IsBlind, IsLearned, Steps, Teaches}
+use Rattle.table_invariant.specs.Running.{IsRunning, Running, instance_at}
+use Rattle.table_invariant.specs.Seats.{Seated, SeenGuard, known_of}
+use Rattle.table_invariant.specs.Steps.{IsBlind, MayStepKnowing, Steps, KnowledgeAfter}
 use Rattle.cx_table.proofs.Handing.{laws_at, step_fits}
-use Rattle.seat_memory.specs.Following.{CanFollow, IsFollowed}
-use Rattle.seat_memory.proofs.FollowedSteps.{can_follow, step_made}
-use Rattle.seat_memory.proofs.SummaryLaws.{IsSeat, seated}
+use Rattle.caller_cache.specs.Following.{CanFollow, IsFollowed}
+use Rattle.caller_cache.proofs.FollowedSteps.{can_follow, step_made}
+use Rattle.caller_cache.proofs.SummaryLaws.{IsSeat, seated}
 use Rattle.cx_table.proofs.shared.Shared.stored_learned.Goals as goal
 
 pub store_learned-requires-clause-learns : goal.store_learned-requires-clause-learns
 store_learned-requires-clause-learns g c =
-    subst (λ (s : Seated). IsLearned (instance_at c.args.self.now g.O.Object.step g.O.Object.only_reads) c.args.kind.now s.known c.args.word (λ _. c.args.new)) (sym c.seat.view_is) c.requires.learns
+    subst (λ (s : Seated). MayStepKnowing (instance_at c.args.self.now g.O.Object.step g.O.Object.only_reads) c.args.kind.now s.known c.args.word (λ _. c.args.new)) (sym c.seat.view_is) c.requires.learns
 
 pub store_learned-requires-clause-blind : goal.store_learned-requires-clause-blind
 store_learned-requires-clause-blind g c =
@@ -33,7 +33,7 @@ made : (g : _) (c : goal.After-follow g) → IsSeat c.store_learned.new.seat.me 
 made g c =
     let t = c.args.self.now in
     let instance = instance_at t g.O.Object.step g.O.Object.only_reads in
-    let taught = subst (λ (k : Kind). Teaches instance k (known_of c.seat.inside.seat.me.0) 0 c.store_learned.new.seat.me) (sym (c.requires.plain (known_of c.seat.inside.seat.me.0).local 0)) c.store_learned.ensures.taught in
+    let taught = subst (λ (k : Kind). KnowledgeAfter instance k (known_of c.seat.inside.seat.me.0) 0 c.store_learned.new.seat.me) (sym (c.requires.plain (known_of c.seat.inside.seat.me.0).local 0)) c.store_learned.ensures.taught in
     subst (λ (k : Kind). IsSeat c.store_learned.new.seat.me c.follow.new.summary c.seat.inside.before c.follow.new.copy × Steps t g.O.Object.step g.O.Object.only_reads k 0 c.args.seat.now (seated c.store_learned.new.seat.table_id c.store_learned.new.seat.me c.seat.inside.before c.follow.new.copy))
     (c.requires.plain c.args.seat.now.known.local 0)
     (step_made t g.O.Object.step g.O.Object.only_reads c.args.kind.now 0 _ _ _ _ _ _ _ _ _ _ _ c.seat.invariant c.seat.view_is c.in_ok-check.ensures c.requires.may.seat c.requires.may.guard

@@ -1,5 +1,5 @@
 use Rattle.std.proofs.Common.{sym, ap, ◌∙◌, arith}
-use Rattle.cx_rule.proofs.Moves.{joins}
+use Rattle.table_invariant.proofs.Moves.{joins}
 use Rattle.cx_table.proofs.shared.Shared.take_in.Goals as goal
 
 pub join_seat-requires : goal.join_seat-requires

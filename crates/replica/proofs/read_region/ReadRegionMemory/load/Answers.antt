@@ -1,5 +1,5 @@
 use Rattle.std.proofs.Common.{ℕ, Ok, IfOk, OnErr, subst, sym}
-use Rattle.cx_rule.specs.Steps.{Halts}
+use Rattle.table_invariant.specs.Steps.{Halts}
 use Rattle.replica.specs.Held.{IsHeldShared, LoadsShared}
 use Rattle.replica.proofs.RegionLaws.{shared_after, shared_since, stands_read}
 use Rattle.replica.proofs.read_region.ReadRegionMemory.load.Goals as goal

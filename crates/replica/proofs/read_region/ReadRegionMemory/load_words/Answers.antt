@@ -1,5 +1,5 @@
 use Rattle.std.proofs.Common.{◌==◌, take, refl, ap}
-use Rattle.cx_rule.specs.Seats.{Seated}
+use Rattle.table_invariant.specs.Seats.{Seated}
 use Rattle.replica.proofs.RegionLaws.{rest_shared_run, run_then, shared_run, since_shared_run, some_run, stands_shared_run, still_limited}
 use Rattle.replica.proofs.read_region.ReadRegionMemory.load_words.Goals as goal
 

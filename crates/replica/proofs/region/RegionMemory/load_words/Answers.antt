@@ -1,5 +1,5 @@
 use Rattle.std.proofs.Common.{take, refl, ap}
-use Rattle.cx_rule.specs.Seats.{Seated}
+use Rattle.table_invariant.specs.Seats.{Seated}
 use Rattle.replica.proofs.RegionLaws.{held_run, rest_run, run_then, since_run, some_run, stands_run, still_limited}
 use Rattle.replica.proofs.region.RegionMemory.load_words.Goals as goal
 

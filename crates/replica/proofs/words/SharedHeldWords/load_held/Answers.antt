@@ -1,6 +1,6 @@
 use Rattle.std.proofs.Common.{ℕ, Ok, false, subst}
 use Rattle.cx_core.specs.declared.kinds.Kind.TheVariants.{LoadWord}
-use Rattle.cx_rule.specs.Steps.{Steps}
+use Rattle.table_invariant.specs.Steps.{Steps}
 use Rattle.replica.proofs.Access.{load_guard, made_by_load}
 use Rattle.replica.proofs.words.SharedHeldWords.load_held.Goals as goal
 

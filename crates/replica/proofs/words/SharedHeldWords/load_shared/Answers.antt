@@ -1,6 +1,6 @@
 use Rattle.std.proofs.Common.{ℕ, Ok, IfOk, false, subst}
 use Rattle.cx_core.specs.declared.kinds.Kind.TheVariants.{LoadWord}
-use Rattle.cx_rule.specs.Steps.{Steps}
+use Rattle.table_invariant.specs.Steps.{Steps}
 use Rattle.replica.proofs.Access.{made_by_shared_load, shared_guard}
 use Rattle.replica.proofs.words.SharedHeldWords.load_shared.Goals as goal
 

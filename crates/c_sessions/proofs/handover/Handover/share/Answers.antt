@@ -1,7 +1,0 @@
-use Rattle.std.proofs.Common.{ap}
-use Rattle.c_sessions.specs.declared.rule.Knows.{Knows}
-use Rattle.c_sessions.proofs.Gatherings.{parts}
-use Rattle.c_sessions.proofs.handover.Handover.share.Goals as goal
-
-pub another-requires-clause-rule : goal.another-requires-clause-rule
-another-requires-clause-rule g c = parts _ c.args.service.now _ (ap (λ (v : Knows _). v.home) c.requires.is)

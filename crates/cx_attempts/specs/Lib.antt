@@ -1,0 +1,9 @@
+pub mod Attempts
+pub mod Bringing
+pub mod Taking
+pub mod Replaying
+pub mod Keeping
+pub mod Preparing
+pub mod Reads
+pub mod Answering
+pub mod Checkpointing

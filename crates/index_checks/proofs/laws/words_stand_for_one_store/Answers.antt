@@ -1,5 +1,0 @@
-use Rattle.index_checks.proofs.LawfulWords.{one_store}
-use Rattle.index_checks.proofs.laws.words_stand_for_one_store.Goals as goal
-
-pub returns : goal.returns
-returns c = one_store

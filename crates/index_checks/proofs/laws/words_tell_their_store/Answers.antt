@@ -1,5 +1,0 @@
-use Rattle.index_checks.proofs.LawfulWords.{store_is}
-use Rattle.index_checks.proofs.laws.words_tell_their_store.Goals as goal
-
-pub returns : goal.returns
-returns c = store_is

@@ -1,4 +1,0 @@
-use Rattle.replica_sets.proofs.noted_region.apply_telling.Given as goal
-
-abbrev pub ghosts-step_noting : goal.ghosts-step_noting
-ghosts-step_noting g a = record { known = a.seat.now.known }

@@ -1,0 +1,11 @@
+use Rattle.cx_core.specs.State.{Instance}
+use Rattle.table_invariant.proofs.Having.{fits_there}
+use Rattle.table_invariant.proofs.laws.what_is_there_fits.Goals as goal
+
+pub returns : goal.returns
+returns g c = λ callers s seat i view known l.
+    let o = c.args.object.now in
+    let instance : Instance = record { callers = callers; base = c.args.base.now; step = g.O.Object.step o; reads = g.O.Object.only_reads o } in
+    fits_there (g.O.Object.line_count o) (g.O.Object.lawful o) instance
+    (record { keeps = g.met.O.Object.keeps o; shape = λ image law. (g.met.O.Object.shape o image law).0; replies = g.met.O.Object.replies o })
+    c.requires s seat i view known l
