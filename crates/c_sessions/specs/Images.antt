@@ -4,7 +4,7 @@ use Rattle.cx_base.specs.declared.object.Object.{Ghosts}
 use Rattle.table_invariant.specs.Running.{Running}
 use Rattle.table_invariant.specs.Seats.{Seated}
 use Rattle.cx_service.specs.Checkpoints.{Checkpoints}
-use Rattle.cx_service.specs.declared.checkpoint.Checkpointed.TheVariants.{SessionCheckpoint as ImageTaken, Pending as ImagePending, Halted as ImageHalted}
+use Rattle.cx_service.specs.declared.checkpoint.Checkpointed.TheVariants.{Taken as ImageTaken, Pending as ImagePending, Halted as ImageHalted}
 use Rattle.cx_service.specs.declared.close.Handed.{Handed}
 use Rattle.cx_service.specs.declared.close.Handed.TheVariants.{Idle, Stopped}
 use Rattle.c_sessions.specs.declared.checkpoint.SessionCheckpoint.{SessionCheckpoint}

@@ -48,10 +48,7 @@ pub(crate) fn take_image<O: Object>(
 {
     match handed {
         Handed::Idle(caller) => match service.checkpoint(caller, into, tries.count) {
-            Checkpointed::SessionCheckpoint(back, place) => (
-                Handed::Idle(back),
-                SessionCheckpoint::At(place),
-            ),
+            Checkpointed::Taken(back, place) => (Handed::Idle(back), SessionCheckpoint::At(place)),
             Checkpointed::Pending(back) => (Handed::Idle(back), SessionCheckpoint::Again),
             Checkpointed::Halted(stopped) => (Handed::Stopped(stopped), SessionCheckpoint::Stopped),
         },

@@ -22,7 +22,7 @@ use Rattle.client_pool.specs.declared.call.Call.{Call}
 use Rattle.client_pool.specs.declared.call.Call.TheVariants.{Entry, Look}
 use Rattle.client_pool.specs.declared.client.Client.{Client}
 use Rattle.client_pool.specs.declared.pool.PooledCatchUp.{PooledCatchUp}
-use Rattle.client_pool.specs.declared.pool.PooledCatchUp.TheVariants.{FloorOutcome, Behind, Stopped as StoppedCatchUp}
+use Rattle.client_pool.specs.declared.pool.PooledCatchUp.TheVariants.{Caught, Behind, Stopped as StoppedCatchUp}
 use Rattle.client_pool.specs.declared.pool.Pooled.{Pooled}
 use Rattle.client_pool.specs.declared.pool.Pooled.TheVariants.{Done, Full, Worn, Stopped, Memory}
 use Rattle.client_pool.specs.declared.pool.PooledRead.{PooledRead}
@@ -195,6 +195,6 @@ ReadsForClient r table op reply before after MemoryRead = HasNoMore r table befo
 
 -- the result of catching up with a place
 abbrev pub ClientCatchesUp : {O : Type 0} → Running O → TableId → ℕ → Client → Client → PooledCatchUp → Type 0
-ClientCatchesUp r table place before after FloorOutcome = HasCaughtUp r table place before after
+ClientCatchesUp r table place before after Caught = HasCaughtUp r table place before after
 ClientCatchesUp r table place before after (Behind found) = IsClientBehind r table place found before after
 ClientCatchesUp r table place before after StoppedCatchUp = HasNoMore r table before after × KeepsStopped r table (CatchUpHalted r) before.lent after.lent None

@@ -24,9 +24,9 @@ use Rattle.seat_pool.specs.declared.hand.LenderPass.{LenderPass}
 use Rattle.seat_pool.specs.declared.lent.Lent.{Lent}
 use Rattle.client_pool.specs.declared.pool.Pool.{Pool}
 use Rattle.client_pool.specs.declared.pool.PooledCatchUp.{PooledCatchUp}
-use Rattle.client_pool.specs.declared.pool.PooledCatchUp.TheVariants.{FloorOutcome as PlaceSeen, Behind as PlaceBehind, Stopped as PlaceStopped}
-use Rattle.client_pool.specs.declared.lend.FloorOutcome.{FloorOutcome}
-use Rattle.client_pool.specs.declared.lend.FloorOutcome.TheVariants.{Up, Ended}
+use Rattle.client_pool.specs.declared.pool.PooledCatchUp.TheVariants.{Caught as PlaceSeen, Behind as PlaceBehind, Stopped as PlaceStopped}
+use Rattle.client_pool.specs.declared.lend.Caught.{Caught}
+use Rattle.client_pool.specs.declared.lend.Caught.TheVariants.{Up, Ended}
 use Rattle.client_pool.specs.declared.read_beside.LookupOutcome.{LookupOutcome}
 use Rattle.client_pool.specs.declared.read_beside.LookupOutcome.TheVariants.{Found, Entered}
 use Rattle.client_pool.specs.declared.lend.EntryOutcome.{EntryOutcome}
@@ -134,7 +134,7 @@ pub record HaltsLater {O : Type 0} (r : Running O) (before : Seated) (stopped : 
   pub halts : HaltsBesideQueue r asked stopped
 
 -- the result of having a caller see all that is below a floor
-abbrev pub CatchesUpToFloor : {O : Type 0} → Running O → ℕ → Seated → FloorOutcome → Type 0
+abbrev pub CatchesUpToFloor : {O : Type 0} → Running O → ℕ → Seated → Caught → Type 0
 CatchesUpToFloor r floor before (Up after) = ComesFrom r before after × (floor ≤ after.known.local.front)
 CatchesUpToFloor r floor before (Ended stopped) = HaltsLater r before stopped
 

@@ -25,9 +25,9 @@ fn catch_up_lent<O: Object, R: Wait>(
 {
     let caller = take_for(rt, &pool.service, &pool.line, lent);
     match pool.service.catch_up(caller, place) {
-        CaughtUp::FloorOutcome(back) => {
+        CaughtUp::Caught(back) => {
             give(rt, &pool.service, &pool.line, &mut lent.pass, back);
-            PooledCatchUp::FloorOutcome
+            PooledCatchUp::Caught
         }
         CaughtUp::Behind(back, found) => {
             give(rt, &pool.service, &pool.line, &mut lent.pass, back);
@@ -42,7 +42,7 @@ fn catch_up_lent<O: Object, R: Wait>(
 
 impl<O: Object> Pool<O> {
     /// Has a client that was not told `Stopped` see a place that another one told, in whatever way: `Client::place` of another client, or of a
-    /// caller's answers the ticket plus 1 of an update and the place of a read. From `FloorOutcome` on no answer to the client holds below the place, by
+    /// caller's answers the ticket plus 1 of an update and the place of a read. From `Caught` on no answer to the client holds below the place, by
     /// whichever caller it is made. `Behind` comes only where the current place was found below it, which is where nobody was answered at it;
     /// nothing is changed then. It waits for a caller. `Stopped` comes only where the caller's step limit was reached: the client keeps it,
     /// and makes no further call.
@@ -52,9 +52,9 @@ impl<O: Object> Pool<O> {
         ensures { ClientCatchesUp self.now.service self.now.line.table.shared.table_id place client.old client.new result }
     {
         match catch_up_lent(rt, self, &mut client.lent, place) {
-            PooledCatchUp::FloorOutcome => {
+            PooledCatchUp::Caught => {
                 client.caught_up = client.caught_up.max(place);
-                PooledCatchUp::FloorOutcome
+                PooledCatchUp::Caught
             }
             PooledCatchUp::Behind(found) => PooledCatchUp::Behind(found),
             PooledCatchUp::Stopped => PooledCatchUp::Stopped,

@@ -21,7 +21,7 @@ const TURNS: u64 = 8;
 
 /// The result of having a caller see all below a floor.
 #[derive(Drop)]
-pub(crate) enum FloorOutcome {
+pub(crate) enum Caught {
     /// Its front is not below the floor.
     Up(Caller),
     /// Its step limit was reached.
@@ -89,7 +89,7 @@ fn catch_up<O: Object, R: Wait>(
     caller: Caller,
     floor: u64,
     buffer: &mut OpWords,
-) -> FloorOutcome
+) -> Caught
     requires caller { IsCallerOf service.now caller }
     requires probe { IsTrue (O.only_reads service.now.object probe.now) }
     ensures { CatchesUpToFloor service.now floor caller result }
@@ -97,7 +97,7 @@ fn catch_up<O: Object, R: Wait>(
     let mut caller = caller;
     for _ in rt.forever() {
         if caller.front() >= floor {
-            return FloorOutcome::Up(caller);
+            return Caught::Up(caller);
         }
         match service.try_read(caller, probe, buffer, TURNS) {
             ReadTried::Read(back, _) => caller = back,
@@ -105,7 +105,7 @@ fn catch_up<O: Object, R: Wait>(
                 thread::yield_now();
                 caller = back;
             }
-            ReadTried::Halted(stopped) => return FloorOutcome::Ended(stopped),
+            ReadTried::Halted(stopped) => return Caught::Ended(stopped),
         }
     }
     unreachable!()
@@ -136,8 +136,8 @@ pub(crate) fn begin<O: Object, R: Wait>(
 {
     let caller = take_for(rt, &pool.service, &pool.line, lent);
     match catch_up(rt, &pool.service, &pool.probe, caller, floor, buffer) {
-        FloorOutcome::Up(caller) => Ok(caller),
-        FloorOutcome::Ended(stopped) => Err(keep_stopped(lent, stopped)),
+        Caught::Up(caller) => Ok(caller),
+        Caught::Ended(stopped) => Err(keep_stopped(lent, stopped)),
     }
 }
 

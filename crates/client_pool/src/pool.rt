@@ -49,7 +49,7 @@ pub enum Pooled {
 #[derive(Clone, Copy, Debug, PartialEq, Eq, Drop)]
 pub enum PooledCatchUp {
     /// The client has seen the place.
-    FloorOutcome,
+    Caught,
     /// The current place is below it: this one.
     Behind(u64),
     /// The caller's step limit was reached. The client keeps it, and makes no further call.

@@ -3,7 +3,7 @@ use Rattle.std.proofs.Common.{◌≡◌, ◌≢◌, ◌+◌, ◌%◌, ◌<◌, �
 use Rattle.std.proofs.Math.Nat.{mod-add-mod, mod-eq_of_lt, mod-lt}
 use Rattle.std.proofs.lemmas.Bool.{eq-eqb, ne_eqb}
 use Rattle.std.proofs.lemmas.Option.{same_Some, none-some, slice_get_within}
-use Rattle.atomic_table.proofs.Lists.{one_attempt}
+use Rattle.atomic_table.proofs.Lists.{one_turn}
 use Rattle.fifo_object.specs.Queue.{Queue}
 use Rattle.fifo_object.specs.Ring.{IsQueueInRing, put_at}
 
@@ -19,7 +19,7 @@ last_or (x ∷ queue) text (suc i) t at = elim (last_or queue text i t at) [
 
 -- the place behind the last item is no item's
 pub apart : (places head count i : ℕ) → i < count → count < places → (head + i) % places ≢ (head + count) % places
-apart places head count i less room same = (let one = one_attempt (head + i) (head + count) places (omega (arith, less)) (omega (arith, room)) same in omega (arith, one, less))
+apart places head count i less room same = (let one = one_turn (head + i) (head + count) places (omega (arith, less)) (omega (arith, room)) same in omega (arith, one, less))
 
 module _ (places head count : ℕ) (at : ℕ → List ℕ) (queue : Queue) (r : IsQueueInRing places head count at queue) where
   pub ring_pushed : (text : List ℕ) → count < places → IsQueueInRing places head (count + 1) (put_at ((head + count) % places) text at) (queue ++ text ∷ [])

@@ -3,7 +3,7 @@ use Rattle.std.proofs.Common.{◌≡◌, ◌≢◌, ◌+◌, ◌-◌, ◌%◌, �
 use Rattle.std.proofs.lemmas.Bool.{cases_eq, cases_lt, eq-eqb, ne_eqb}
 use Rattle.std.proofs.lemmas.List.{append-nil}
 use Rattle.std.proofs.Math.Nat.{add-mod_right}
-use Rattle.atomic_table.proofs.Lists.{one_attempt}
+use Rattle.atomic_table.proofs.Lists.{one_turn}
 use Rattle.cx_base.specs.Codes.{link_ticket_of, root_place_of}
 use Rattle.cx_core.specs.declared.kinds.Kind.TheVariants.{Link, Look}
 use Rattle.cx_core.specs.declared.local.Local.{Local}
@@ -36,7 +36,7 @@ raised_least callers front found =
 
 -- two tickets of one slot, the lower one by less than a round
 same_slot : (a b q : ℕ) → a % q ≡ b % q → b < a + q → a < b → ⊥
-same_slot a b q mods near below = let e = one_attempt a b q (omega arith) near mods in omega arith
+same_slot a b q mods near below = let e = one_turn a b q (omega arith) near mods in omega arith
 
 -- the ticket a round before has the same slot
 round_before : (t q : ℕ) → q ≤ t → (t - q) % q ≡ t % q

@@ -6,15 +6,15 @@ use Rattle.client_pool.proofs.catch_up.catch_up_lent.Goals as goal
 
 pub give-requires-clause-caller : goal.give-requires-clause-caller
 give-requires-clause-caller g c =
-    let caught = c.in-FloorOutcome.ensures in
-    idle_back c.args.pool.now.service c.args.pool.now.line.table.shared.table_id c.take_for-caller.new.lent c.take_for-caller.result c.in-FloorOutcome.back c.take_for-caller.ensures.out caught.caller caught.keeps
+    let caught = c.in-Caught.ensures in
+    idle_back c.args.pool.now.service c.args.pool.now.line.table.shared.table_id c.take_for-caller.new.lent c.take_for-caller.result c.in-Caught.back c.take_for-caller.ensures.out caught.caller caught.keeps
 
-pub returns-in-FloorOutcome : goal.returns-in-FloorOutcome
-returns-in-FloorOutcome g c =
+pub returns-in-Caught : goal.returns-in-Caught
+returns-in-Caught g c =
     let out = c.take_for-caller.ensures in
     let x = c.take_for-caller.result in
-    let y = c.in-FloorOutcome.back in
-    let caught = c.in-FloorOutcome.ensures in
+    let y = c.in-Caught.back in
+    let caught = c.in-Caught.ensures in
     record {
       given = caught_given c.args.pool.now.service c.args.pool.now.line.table.shared.table_id c.args.lent.now c.take_for-caller.new.lent _ out.same x y out.out caught.caller caught.keeps refl c.give.ensures.0 c.give.ensures.1;
       asked = x;

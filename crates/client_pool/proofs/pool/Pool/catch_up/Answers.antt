@@ -3,9 +3,9 @@ use Rattle.cx_service.specs.CatchUps.{CatchUpHalted}
 use Rattle.client_pool.proofs.Calling.{given_more, stopped_more}
 use Rattle.client_pool.proofs.pool.Pool.catch_up.Goals as goal
 
-pub returns-in-FloorOutcome : goal.returns-in-FloorOutcome
-returns-in-FloorOutcome g c =
-    let sees = c.in-FloorOutcome.ensures in
+pub returns-in-Caught : goal.returns-in-Caught
+returns-in-Caught g c =
+    let sees = c.in-Caught.ensures in
     record {
       made = given_more c.args.self.now.service c.args.self.now.line.table.shared.table_id c.args.client.now _ refl sees.given;
       seen = c.max-client.ensures;
