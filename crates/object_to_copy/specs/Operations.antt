@@ -1,5 +1,5 @@
 -- Operations and replies as 144 words each: a kind, and what the kind uses, with zeros behind it.
-use Rattle.std.specs.Prelude.{◌==◌, ℕ, List, ◌∷◌, replicate, slice_index, if◌then◌else◌}
+use Rattle.std.specs.Prelude.{◌≡◌, ◌==◌, ℕ, List, ◌∷◌, replicate, slice_index, if◌then◌else◌, refl}
 use Rattle.object_to_copy.specs.declared.operations.Op.{Op}
 use Rattle.object_to_copy.specs.declared.operations.Op.TheVariants.{Raise, Read, Other}
 use Rattle.object_to_copy.specs.declared.operations.Reply.{Reply}
@@ -28,3 +28,15 @@ reply_words NoOperation = words_with 0 0 0
 
 abbrev pub reply_in : List ℕ → Reply
 reply_in words = if slice_index words 0 == 1 then Value (slice_index words 1) else NoOperation
+
+-- both are read back
+pub op_is_read : (op : Op) → op_in (op_words op) ≡ op
+unfolding words_with
+op_is_read (Raise to) = refl
+op_is_read Read = refl
+op_is_read Other = refl
+
+pub reply_is_read : (reply : Reply) → reply_in (reply_words reply) ≡ reply
+unfolding words_with
+reply_is_read (Value number) = refl
+reply_is_read NoOperation = refl

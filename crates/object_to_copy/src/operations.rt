@@ -83,7 +83,7 @@ impl Reply {
 }
 
 /// Operations and replies are read back from their words.
-#[tactic(auto, using(crate::proofs::ReadBack::op_is_read, crate::proofs::ReadBack::reply_is_read))]
+#[tactic(auto, using(crate::specs::Operations::op_is_read, crate::specs::Operations::reply_is_read))]
 pub fn words_are_read()
     ensures operations { (op : Op) → spec.op_in (spec.op_words op) ≡ op }
     ensures replies { (reply : Reply) → spec.reply_in (spec.reply_words reply) ≡ reply }
