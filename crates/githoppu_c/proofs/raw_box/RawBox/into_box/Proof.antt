@@ -16,7 +16,7 @@ use types.Part.{whole, sub}
 use types.Run.{stop, fld, no_more, and_then, of_opd, returns, enter, first, blocks, exec}
 use types.ByLocal.{alloc_all, pass_all, free_all, look_at, get, get_in, sets, lands_last, env}
 use denote.RattleType.{RattleType}
-use denote.ClosingState.{no}
+use denote.Exit.{no}
 use denote.RawPtr.{block_ptr}
 use denote.Signature.{plain}
 use denote.Steps.{heard, nothing, only}
