@@ -139,14 +139,14 @@ fn ruled(words: &[u64], at: usize, instruction: Instruction) -> Result<Instructi
     Ok(instruction)
 }
 
-/// Whether a register may be read: R0 to R10.
+/// Whether a register may be read: those numbered 0 to 10.
 fn is_known(register: Register) -> bool
     ensures { result ≡ spec.is_known register }
 {
     register.number <= 10
 }
 
-/// Whether a register may be written: R0 to R9.
+/// Whether a register may be written: those numbered 0 to 9.
 fn is_writable(register: Register) -> bool
     ensures { result ≡ spec.is_writable register }
 {
