@@ -11,7 +11,7 @@ A page is wrong where it is over its length, a line where it has over 160 charac
 in italics where theorems are stated (README.md, docs/THEOREMS.md) that docs/GLOSSARY.md has not, a table that stands twice, a page that no other names,
 and a definition in docs/THEOREMS.md that is not as in its source. A fenced block in a doc comment of crates/*/src is an example: the line before it ends in the
 name of a file, From `crates/NAME/src/FILE.rt`:, of a crate of crates.txt, and its 2 to 8 lines stand there one after another, so the gate compiles them.
-Each function with a contract has a doc comment, but in crates of tests and in three at the bottom (OLD_COMMENTS).
+Each function with a contract has a doc comment, but in crates of tests.
 The rules are in page_rules.py. It takes 3 seconds.
 
 Example: python3 tools/check_documents.py
@@ -38,9 +38,6 @@ PATH = re.compile(rf"[\w.*-]+(?:/[\w.*-]+)+/?|[\w-]+\.(?:{'|'.join(ENDINGS)})")
 PLACE = re.compile(r"\b[A-Z]{2,}\b")
 # the toolchain's own line and a command of it, and a form of JSON
 FOREIGN = {"kit", "logic", "dac8208d650f15bf", "lemma", "plant", "u00xx"}
-
-# a comment changed in these has every crate above them proved anew: their private functions get doc comments with their next change
-OLD_COMMENTS = ("cx_base", "line_lanes", "pmem_model")
 
 
 def paths_of(root):
@@ -119,8 +116,8 @@ def examples_astray(root):
 
 
 def bare_contracts(root):
-    """Each function with a contract and without a doc comment, but in crates of tests and in those of OLD_COMMENTS."""
-    crates = (crate for crate in sorted(root.glob("crates/*")) if not crate.name.endswith("_tests") and crate.name not in OLD_COMMENTS)
+    """Each function with a contract and without a doc comment, but in crates of tests."""
+    crates = (crate for crate in sorted(root.glob("crates/*")) if not crate.name.endswith("_tests"))
     paths = (path for crate in crates for path in sorted(crate.glob("src/**/*.rt")))
     return list(page_rules.bare_contracts({str(path.relative_to(root)): path.read_text(encoding="utf-8") for path in paths}))
 

@@ -24,6 +24,7 @@ impl Model for SureSource {
 }
 
 impl SureSource {
+    /// A source that gives these bytes from their first on.
     pub fn new(bytes: Vec<u8>) -> Self
         ensures { result ≡ bytes.items }
     {

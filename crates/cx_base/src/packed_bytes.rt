@@ -64,6 +64,7 @@ fn first_word(bytes: &[u8]) -> u64
     }
 }
 
+/// The first eight bytes as a word, the first byte lowest.
 fn whole_word(bytes: &[u8]) -> u64
     requires { 8 ≤ length bytes.now }
     ensures { result ≡ packed_at bytes.now 0 }
@@ -73,6 +74,7 @@ fn whole_word(bytes: &[u8]) -> u64
     ])
 }
 
+/// The first eight bytes as a word, where fewer may stand: what lacks is 0.
 fn short_word(bytes: &[u8]) -> u64
     ensures { result ≡ packed_at bytes.now 0 }
 {
@@ -95,6 +97,7 @@ fn behind_first_word(bytes: &[u8]) -> &[u8]
     &bytes[8usize.min(bytes.len())..]
 }
 
+/// The byte at a place, 0 behind the end.
 fn byte_or_zero(bytes: &[u8], place: usize) -> u8
     ensures { result ≡ slice_index bytes.now place }
 {

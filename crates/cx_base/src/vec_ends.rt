@@ -6,7 +6,7 @@ ghost use Rattle.cx_base.specs.Outside.{IsSourceRead, IsWritten, TellsCall, next
 use crate::outside::{Failed, Sink, Source};
 use std::marker::Model;
 
-// The calls of a source or a sink: how many were made, and which of them fail. The counts stay at 2^64 - 1 once there.
+/// The calls of a source or a sink: how many were made, and which of them fail. The counts stay at 2^64 - 1 once there.
 #[derive(Drop)]
 struct Calls {
     fails: Vec<u64>,
@@ -15,7 +15,7 @@ struct Calls {
 }
 
 impl Calls {
-    // Before the first call.
+    /// Before the first call.
     fn new(fails: Vec<u64>) -> Self
         ensures fails { result.fails ≡ fails }
         ensures made { result.made ≡ 0 }
@@ -28,7 +28,7 @@ impl Calls {
         }
     }
 
-    // Counts a call, and answers whether it is one that fails.
+    /// Counts a call, and answers whether it is one that fails.
     fn begin(&mut self) -> bool
         ensures fails { self.new.fails ≡ self.old.fails }
         ensures made { self.new.made ≡ next_call self.old.made }
@@ -39,7 +39,7 @@ impl Calls {
         self.fails.contains(&self.made)
     }
 
-    // Counts a failure.
+    /// Counts a failure.
     fn fail(&mut self) -> Failed
         ensures fails { self.new.fails ≡ self.old.fails }
         ensures made { self.new.made ≡ self.old.made }

@@ -44,7 +44,7 @@ pub fn first_apart(a: &[u64], b: &[u64], from: usize) -> usize
     a.len()
 }
 
-// A place up to which two lists of words are the same from one on, sixteen words at a time.
+/// A place up to which two lists of words are the same from one on, sixteen words at a time.
 #[inline(always)]
 fn same_sixteens(a: &[u64], b: &[u64], from: usize) -> usize
     requires long { length a.now ≡ length b.now }
@@ -64,7 +64,7 @@ fn same_sixteens(a: &[u64], b: &[u64], from: usize) -> usize
     at
 }
 
-// Whether sixteen words differ, as two lines do.
+/// Whether sixteen words differ, as two lines do.
 #[inline(always)]
 fn differ_in_sixteen(a: u64x16, b: u64x16) -> bool
     ensures { IsTrue result ↔ DifferSomewhere a b }
@@ -73,8 +73,8 @@ fn differ_in_sixteen(a: u64x16, b: u64x16) -> bool
     apart.reduce_or() != 0
 }
 
-// Whether two lines differ: the words' differences, gathered into one word, are not 0. On x86-64 with SSE4.1 that is four
-// `pxor`, three `por` and one `ptest`.
+/// Whether two lines differ: the words' differences, gathered into one word, are not 0. On x86-64 with SSE4.1 that is four
+/// `pxor`, three `por` and one `ptest`.
 #[inline(always)]
 fn differ(a: u64x8, b: u64x8) -> bool
     ensures { IsTrue result ↔ DifferSomewhere a b }
@@ -105,7 +105,7 @@ pub fn add_touched(addresses: &[u64], out: &mut [bool])
     mark_left(&addresses[8 * whole..], out);
 }
 
-// Marks the lines of eight addresses, which four `psrlq` find.
+/// Marks the lines of eight addresses, which four `psrlq` find.
 #[inline(always)]
 fn mark_eight(addresses: u64x8, out: &mut [bool])
     requires { All (λ address. address < 8 * length out.old) addresses }
@@ -114,7 +114,7 @@ fn mark_eight(addresses: u64x8, out: &mut [bool])
     mark_lines(&(addresses >> 3).to_array(), out);
 }
 
-// Marks these lines.
+/// Marks the lines with these numbers.
 #[inline(always)]
 fn mark_lines(lines: &[u64], out: &mut [bool])
     requires { All (λ line. line < length out.old) lines.now }
@@ -125,7 +125,7 @@ fn mark_lines(lines: &[u64], out: &mut [bool])
     }
 }
 
-// Marks the lines of the addresses that fill no vector.
+/// Marks the lines of the addresses that fill no vector.
 fn mark_left(addresses: &[u64], out: &mut [bool])
     requires { All (λ address. address < 8 * length out.old) addresses.now }
     ensures { AddsMarks (is_touched addresses.now) out.old out.new }

@@ -40,6 +40,7 @@ impl Word {
         }
     }
 
+    /// Stores to the word: it is dirty then, also where it was pending.
     fn store(&mut self, v: u64)
         ensures { self.new ≡ word_stored self.old v }
     {
@@ -47,6 +48,7 @@ impl Word {
         self.mark = Mark::Dirty;
     }
 
+    /// Begins to write the word back: a dirty one is pending then.
     fn write_back(&mut self)
         ensures { self.new ≡ written_back self.old }
     {
@@ -55,6 +57,7 @@ impl Word {
         }
     }
 
+    /// Waits for the word's write-back: a pending one is durable then.
     fn fence(&mut self)
         ensures { self.new ≡ fenced self.old }
     {
@@ -64,6 +67,7 @@ impl Word {
         }
     }
 
+    /// Whether the word was stored to since it was last durable.
     fn is_dirty(&self) -> bool
         ensures { IsTrue result ↔ IsDirtyMark self.now.mark }
     {
