@@ -2,7 +2,7 @@
 
 ghost use Rattle.std.specs.Prelude.{◌≡◌, ◌≢◌, ◌<◌, ℕ, All, Err, List, MatchResult, Some, slice_get};
 ghost use Rattle.cx_core.specs.Base.{LawfulBase};
-ghost use Rattle.table_invariant.specs.Running.{IsRunning, Running, instance_at};
+ghost use Rattle.table_invariant.specs.Running.{IsTableWithinLimits, Running, instance_at};
 ghost use Rattle.table_invariant.specs.Seats.{Seated};
 ghost use Rattle.cx_table.specs.Remains.{ClosingWitness};
 ghost use Rattle.recovery.specs.Crashes.{AreRemainsWhole};
@@ -64,9 +64,9 @@ pub fn written_images_keep_replies<O: Object>()
 /// Words that `write_base` wrote of a running service, of a lawful base at its place, have a head of that kind, and `base_of` refuses them only where
 /// memory runs out. What it takes up is that base.
 pub fn taken_images_are_taken_up<O: Object>()
-    ensures headed { (table : Running O) (kind place : ℕ) (region words : List ℕ) → IsKind kind → IsRunning O.line_count O.lawful table →
+    ensures headed { (table : Running O) (kind place : ℕ) (region words : List ℕ) → IsKind kind → IsTableWithinLimits O.line_count O.lawful table →
         IsWrittenOf kind table.callers table.lines place region words → IsHeaded words × (object_kind_in words ≡ kind) }
-    ensures taken_up { (table : Running O) (kind place : ℕ) (region words : List ℕ) (answer : _) → IsRunning O.line_count O.lawful table →
+    ensures taken_up { (table : Running O) (kind place : ℕ) (region words : List ℕ) (answer : _) → IsTableWithinLimits O.line_count O.lawful table →
         LawfulBase table.lines (O.lawful table.object) (base_at place region) → IsWrittenOf kind table.callers table.lines place region words →
         MatchResult answer
         (IsTakenUp (O.version_number table.object) (O.lawful table.object) (O.old_format table.object) words)

@@ -24,7 +24,7 @@ use Rattle.c_sessions.specs.Calls.{AsksBy, CallsFrom, DrivesTo, EntersNot, Enter
 use Rattle.c_sessions.specs.Handing.{IsExitOf}
 use Rattle.c_sessions.specs.Images.{TakesFrom, TakesTo, place_taken}
 use Rattle.c_sessions.specs.Places.{HasSeenPlace, CatchesUpFrom, SeesTo, place_seen}
-use Rattle.c_sessions.specs.Sessions.{IsSessionReady, SessionStands}
+use Rattle.c_sessions.specs.Sessions.{IsSessionOpen, SessionStands}
 use Rattle.c_sessions.specs.declared.session.Session.{Session}
 use Rattle.c_sessions.specs.declared.checkpoint.SessionCheckpoint.{SessionCheckpoint}
 use Rattle.c_sessions.specs.declared.checkpoint.SessionCheckpoint.TheVariants.{At, Again as TakenAgain, Stopped as TakenStopped, OutOfTurn as TakenOutOfTurn}
@@ -150,11 +150,11 @@ after s h place = record { service = s.service; exit = s.exit; handed = Some h; 
 
 -- it is ready, and the call came to this
 pub record Left {O : Type 0} (s : Session O) (h : Handed) (place told : ℕ) (come_to : Running O → Handed → Handed → Type 0) : Type 0 where
-  pub ready : IsSessionReady (after s h place)
+  pub ready : IsSessionOpen (after s h place)
   pub stands : SessionStands s (after s h place) told (come_to (arc_value s.service))
 
 -- so it is where what stands of the caller goes on to this, of what stood before the call and had seen the session's place
-pub left_by : {O : Type 0} (come_to : Running O → Handed → Handed → Type 0) (s : Session O) (b h : Handed) (service : Running O) (place told : ℕ) → service ≡ arc_value s.service → IsSessionReady s → s.handed ≡ Some b → place ≡ told
+pub left_by : {O : Type 0} (come_to : Running O → Handed → Handed → Type 0) (s : Session O) (b h : Handed) (service : Running O) (place told : ℕ) → service ≡ arc_value s.service → IsSessionOpen s → s.handed ≡ Some b → place ≡ told
     → IsHandedOf service h → come_to service b h → (IsHandedOf service b → HasSeenPlace service s.place b → Goes service (handed_number b) s.place told h) → Left s h place told come_to
 left_by come_to s b h service place told same ready at is of came going =
     let r = arc_value s.service in

@@ -14,7 +14,7 @@ use Rattle.cx_service.specs.ClosedOrder.{IsLinearizedBy}
 use Rattle.seat_pool.specs.Gathering.{AreSame, kept_list}
 use Rattle.seat_pool.specs.Pooling.{total_weight}
 use Rattle.c_sessions.specs.Handing.{IsCallerMissing, IsSessionRestOf}
-use Rattle.c_sessions.specs.Sessions.{IsSessionReady}
+use Rattle.c_sessions.specs.Sessions.{IsSessionOpen}
 use Rattle.c_sessions.specs.declared.close.Closing.{Closing}
 use Rattle.c_sessions.specs.declared.close.Closing.TheVariants.{Others, Again, Closed, Kept as ClosingKept, Missing, Shared}
 use Rattle.c_sessions.specs.declared.exit.Account.{Account}
@@ -66,5 +66,5 @@ module _ {O : Type 0} (line_count : O → ℕ) (lawful : O → List ℕ → Type
 
   -- closing a session has this result; it is as it was where others were in the way
   abbrev pub Closes : Session O → Closing O → Type 0
-  Closes s (Again session) = IsSessionReady session × (arc_value session.service ≡ arc_value s.service) × (session.handed ≡ s.handed) × (session.place ≡ s.place)
+  Closes s (Again session) = IsSessionOpen session × (arc_value session.service ≡ arc_value s.service) × (session.handed ≡ s.handed) × (session.place ≡ s.place)
   Closes s closing = ClosesTo (arc_value s.service) (arc_value s.exit.handover) (kept_list s.handed) closing

@@ -25,7 +25,7 @@ use Rattle.c_sessions.specs.declared.checkpoint.SessionCheckpoint.{SessionCheckp
 use Rattle.c_sessions.specs.Handing.{IsExitOf}
 
 -- something stands of the session's caller, which has seen the session's place, and the session can be closed
-pub record IsSessionReady {O : Type 0} (s : Session O) : Type 0 where
+pub record IsSessionOpen {O : Type 0} (s : Session O) : Type 0 where
   pub handed : Handed
   pub is : s.handed ≡ Some handed
   pub of : IsHandedOf (arc_value s.service) handed
@@ -33,9 +33,9 @@ pub record IsSessionReady {O : Type 0} (s : Session O) : Type 0 where
   pub exit : IsExitOf (arc_value s.service) (handed_number handed ∷ []) s.exit
 
 -- a session of this service, ready
-pub record IsReadyOf {O : Type 0} (r : Running O) (s : Session O) : Type 0 where
+pub record IsOpenSessionOf {O : Type 0} (r : Running O) (s : Session O) : Type 0 where
   pub same : arc_value s.service ≡ r
-  pub ready : IsSessionReady s
+  pub ready : IsSessionOpen s
 
 -- the number of a session's caller
 abbrev pub caller_number_in : {O : Type 0} → Session O → ℕ
@@ -43,7 +43,7 @@ caller_number_in s = option_map_or (λ h. (seat_of h).known.local.number) s.hand
 
 -- ready sessions of this service, for each of these callers one, in order
 pub record AreReadyOf {O : Type 0} (r : Running O) (callers : List Seated) (sessions : List (Session O)) : Type 0 where
-  pub each : All (IsReadyOf r) sessions
+  pub each : All (IsOpenSessionOf r) sessions
   pub numbers : map caller_number_in sessions ≡ map (λ (x : Seated). x.known.local.number) callers
 
 -- this many ready sessions of one service of an object in this many lines, which opens from this base, of caller 0 first
@@ -51,7 +51,7 @@ pub record AreReady {O : Type 0} (object : O) (lines count : ℕ) (base : Base) 
   pub all : length sessions ≡ count
   pub service : Running O
   pub is : service ≡ record { table = service.table; callers = count; lines = lines; base = base; object = object }
-  pub each : All (IsReadyOf service) sessions
+  pub each : All (IsOpenSessionOf service) sessions
   pub numbers : map caller_number_in sessions ≡ range_with_len 0 count
 
 -- the same of a service that opens from the object as it opens

@@ -8,7 +8,7 @@ ghost use Rattle.cx_service.specs.declared.close.Handed as handed_type;
 ghost use Rattle.cx_table.specs.Remains.{AreSeats};
 ghost use Rattle.c_sessions.specs.Closings.{AreAccounted, Closes, ClosesTo, IsClosedWith};
 ghost use Rattle.c_sessions.specs.Handing.{IsSessionRestOf};
-ghost use Rattle.c_sessions.specs.Sessions.{IsSessionReady};
+ghost use Rattle.c_sessions.specs.Sessions.{IsSessionOpen};
 ghost use Rattle.c_sessions.specs.declared.handover.ReturnQueue.{ReturnQueue};
 
 use crate::exit::{Account, ClosingState, Unclosed};
@@ -56,7 +56,7 @@ impl<O: Object> Session<O> {
     /// }
     /// ```
     pub fn close(self, alloc: Global) -> Closing<O>
-        requires { IsSessionReady self }
+        requires { IsSessionOpen self }
         ensures { Closes O.line_count O.lawful O.step O.only_reads self result }
     {
         let Session {

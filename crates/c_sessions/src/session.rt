@@ -2,10 +2,10 @@
 
 ghost use Rattle.std.specs.Prelude.{◌≡◌, ◌∷◌, [], Some, length};
 ghost use Rattle.std.specs.Arc.{arc_value};
-ghost use Rattle.table_invariant.specs.Running.{IsRunning};
+ghost use Rattle.table_invariant.specs.Running.{IsTableWithinLimits};
 ghost use Rattle.seat_pool.specs.Gathering.{IsHandedOf, handed_number};
 ghost use Rattle.c_sessions.specs.Handing.{IsExitOf};
-ghost use Rattle.c_sessions.specs.Sessions.{CallsIn, FinishesIn, IsSessionReady, SeesIn, TakesIn};
+ghost use Rattle.c_sessions.specs.Sessions.{CallsIn, FinishesIn, IsSessionOpen, SeesIn, TakesIn};
 
 use crate::catch_up::{SessionCatchUp, catch_up_idle};
 use crate::checkpoint::{SessionCheckpoint, take_image};
@@ -36,7 +36,7 @@ impl<O: Object> Session<O> {
     ) -> Session<O>
         requires handed { IsHandedOf (arc_value service) handed }
         requires exit { IsExitOf (arc_value service) (handed_number handed ∷ []) exit }
-        ensures ready { IsSessionReady result }
+        ensures ready { IsSessionOpen result }
         ensures of { (arc_value result.service ≡ arc_value service) × (result.handed ≡ Some handed) }
     {
         Session {
@@ -57,8 +57,8 @@ impl<O: Object> Session<O> {
     /// }
     /// ```
     pub fn call(&mut self, op: &OpWords, reply: &mut OpWords, tries: Tries) -> Called
-        requires ready { IsSessionReady self.old }
-        ensures ready { IsSessionReady self.new }
+        requires ready { IsSessionOpen self.old }
+        ensures ready { IsSessionOpen self.new }
         ensures calls { CallsIn O.only_reads op.now tries.count self.old result self.new reply.new }
     {
         let Some(handed) = self.handed.take() else {
@@ -72,8 +72,8 @@ impl<O: Object> Session<O> {
 
     /// Drives the linked entry to its answer, in at most the given number of attempts.
     pub fn finish(&mut self, reply: &mut OpWords, tries: Tries) -> Called
-        requires ready { IsSessionReady self.old }
-        ensures ready { IsSessionReady self.new }
+        requires ready { IsSessionOpen self.old }
+        ensures ready { IsSessionOpen self.new }
         ensures finishes { FinishesIn tries.count self.old result self.new reply.new }
     {
         let Some(handed) = self.handed.take() else {
@@ -96,8 +96,8 @@ impl<O: Object> Session<O> {
     /// Has the session see a place that another one of the service told, in whatever way. From `Caught` on what it is answered stands at or above
     /// the place. `Behind` comes only where the current place was found below it, which is where nobody was answered at it.
     pub fn catch_up(&mut self, place: u64) -> SessionCatchUp
-        requires ready { IsSessionReady self.old }
-        ensures ready { IsSessionReady self.new }
+        requires ready { IsSessionOpen self.old }
+        ensures ready { IsSessionOpen self.new }
         ensures sees { SeesIn place self.old result self.new }
     {
         let Some(handed) = self.handed.take() else {
@@ -112,9 +112,9 @@ impl<O: Object> Session<O> {
     /// Takes an image of the object, results included, while others go on, in at most the given number of tries. After `At` the words are a base from
     /// which a service may start, at this place, which is the session's then. Else nothing is told of them.
     pub fn checkpoint(&mut self, into: &mut [u64], tries: Tries) -> SessionCheckpoint
-        requires ready { IsSessionReady self.old }
+        requires ready { IsSessionOpen self.old }
         requires words { length into.old ≡ length (arc_value self.old.service).base.words }
-        ensures ready { IsSessionReady self.new }
+        ensures ready { IsSessionOpen self.new }
         ensures takes { TakesIn O.Object into.new tries.count self.old result self.new }
         ensures length { length into.new ≡ length into.old }
     {
@@ -130,14 +130,14 @@ impl<O: Object> Session<O> {
     /// The lines of the object. A running service is within its limits.
     pub fn lines(&self) -> u64
         ensures value { result ≡ (arc_value self.now.service).lines }
-        ensures running { IsRunning O.line_count O.lawful (arc_value self.now.service) }
+        ensures running { IsTableWithinLimits O.line_count O.lawful (arc_value self.now.service) }
     {
         self.service.lines()
     }
 
     /// How many callers the service has.
     pub fn callers(&self) -> u32
-        requires { IsSessionReady self.now }
+        requires { IsSessionOpen self.now }
         ensures { result ≡ (arc_value self.now.service).callers }
     {
         self.exit.handover.callers

@@ -15,7 +15,7 @@ use Rattle.table_invariant.specs.declared.rule.Known.{Known}
 use Rattle.cx_core.proofs.HistoryLemmas.{ObjectLaws}
 use Rattle.table_invariant.specs.Fitting.{AgreeTo, Fitting, TellsWord, loads_of, loaded_of}
 use Rattle.table_invariant.specs.Rule.{IsBehindNotes}
-use Rattle.table_invariant.specs.Running.{IsRunning, IsSeatOf, Running, instance_at}
+use Rattle.table_invariant.specs.Running.{IsTableWithinLimits, IsSeatOf, Running, instance_at}
 use Rattle.table_invariant.specs.Seats.{IsAtLimit, Seated, known_after, known_of}
 use Rattle.table_invariant.specs.Steps.{Steps, StepsCopied, KnowledgeAfterCopy, known_copied}
 use Rattle.table_invariant.proofs.Copying.{noted_place, noted_tells}
@@ -88,12 +88,12 @@ pub copied_same : {O : Type 0} {r : Running O} {step : O → List ℕ → List �
 copied_same {r = r} {step = step} {reads = reads} {found = found} {before = before} {after = after} same steps = subst (λ (n : ℕ). StepsCopied r step reads n found before after) same steps
 
 -- a region has words
-pub region_some : {O : Type 0} {line_count : O → ℕ} {lawful : O → List ℕ → Type 0} {r : Running O} → IsRunning line_count lawful r → 0 < length r.base.words
+pub region_some : {O : Type 0} {line_count : O → ℕ} {lawful : O → List ℕ → Type 0} {r : Running O} → IsTableWithinLimits line_count lawful r → 0 < length r.base.words
 region_some running = (let long = running.base.size.long in omega arith)
 
 -- what really is there fits what was noted
 pub copied_fits : {O : Type 0} (line_count : O → ℕ) (lawful : O → List ℕ → Type 0) (step : O → List ℕ → List ℕ → List ℕ × List ℕ) (reads : O → List ℕ → Bool) (r : Running O) (kind : Kind) (known : Known) (found : ℕ) (me' : Me ℕ (List Known)) →
-    IsRunning line_count lawful r → ObjectLaws r.lines (lawful r.object) (step r.object) → KnowledgeAfterCopy (instance_at r step reads) kind known found me' → Fitting r.lines (lawful r.object) r.base (step r.object) (known_of me'.0)
+    IsTableWithinLimits line_count lawful r → ObjectLaws r.lines (lawful r.object) (step r.object) → KnowledgeAfterCopy (instance_at r step reads) kind known found me' → Fitting r.lines (lawful r.object) r.base (step r.object) (known_of me'.0)
 copied_fits line_count lawful step reads r kind known found me' running laws taught =
     subst (Fitting r.lines (lawful r.object) r.base (step r.object)) (sym (ap (λ (m : Me ℕ (List Known)). known_of m.0) taught.knows))
     (fitting r.lines (lawful r.object) (instance_at r step reads) laws running.base (known_copied (instance_at r step reads) kind known found) taught.behind)

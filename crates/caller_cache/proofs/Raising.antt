@@ -19,7 +19,7 @@ use Rattle.cx_core.proofs.HistoryLemmas.{ObjectLaws}
 use Rattle.table_invariant.specs.declared.rule.Known.{Known}
 use Rattle.table_invariant.specs.Fitting.{Fitting}
 use Rattle.table_invariant.specs.Raises.{AnswersOf, IsRaiseLearned, Raises, TeachesRaised, TellsAnswers, TellsReads, answered_local, known_answered, read_op_in, read_at}
-use Rattle.table_invariant.specs.Running.{IsRunning, IsSeatOf, Running, instance_at}
+use Rattle.table_invariant.specs.Running.{IsTableWithinLimits, IsSeatOf, Running, instance_at}
 use Rattle.table_invariant.specs.Seats.{IsAtLimit, Seated, known_of, unanswered_ticket}
 use Rattle.table_invariant.proofs.Fitting.{fitting}
 use Rattle.table_invariant.proofs.Raising.{learns_raise}
@@ -123,12 +123,12 @@ module _ {O : Type 0} (r : Running O) (step : O → List ℕ → List ℕ → Li
       (numbers ∙ ap (λ n. raised_summary n code (is_some read) summary) same))
 
 -- DUR is a word of the table
-pub dur_within : {O : Type 0} {line_count : O → ℕ} {lawful : O → List ℕ → Type 0} {r : Running O} → IsRunning line_count lawful r → dur_at < r.table.words
+pub dur_within : {O : Type 0} {line_count : O → ℕ} {lawful : O → List ℕ → Type 0} {r : Running O} → IsTableWithinLimits line_count lawful r → dur_at < r.table.words
 dur_within running = (let words = running.words in omega (arith, words))
 
 -- a raise is learned by what the seat's caller noted
 pub raise_learned : {O : Type 0} (line_count : O → ℕ) (lawful : O → List ℕ → Type 0) (step : O → List ℕ → List ℕ → List ℕ × List ℕ) (reads : O → List ℕ → Bool) (r : Running O) (code : ℕ) (read : Option (List ℕ × List ℕ)) (known : Known) (old : Seated) →
-    IsRunning line_count lawful r → ObjectLaws r.lines (lawful r.object) (step r.object) → known ≡ old.known → CanRaise (instance_at r step reads) code (read_op_in read) old.known.local → TellsReads r.lines (lawful r.object) r.base (step r.object) old.known read →
+    IsTableWithinLimits line_count lawful r → ObjectLaws r.lines (lawful r.object) (step r.object) → known ≡ old.known → CanRaise (instance_at r step reads) code (read_op_in read) old.known.local → TellsReads r.lines (lawful r.object) r.base (step r.object) old.known read →
     (answers : List Answer) → TellsAnswers r.lines (lawful r.object) r.base (step r.object) old.known (root_place_of r.callers code) answers → IsRaiseLearned (instance_at r step reads) code answers read known dur_at
 raise_learned line_count lawful step reads r code read known old running laws same guard told answers tells =
     subst (λ (k : Known). IsRaiseLearned (instance_at r step reads) code answers read k dur_at) (sym same)
@@ -136,7 +136,7 @@ raise_learned line_count lawful step reads r code read known old running laws sa
 
 -- what really is there fits what was noted
 pub raised_fits : {O : Type 0} (line_count : O → ℕ) (lawful : O → List ℕ → Type 0) (step : O → List ℕ → List ℕ → List ℕ × List ℕ) (reads : O → List ℕ → Bool) (r : Running O) (code : ℕ) (answers : List Answer) (read : Option (List ℕ × List ℕ)) (known : Known) (me' : Me ℕ (List Known)) →
-    IsRunning line_count lawful r → ObjectLaws r.lines (lawful r.object) (step r.object) → TeachesRaised (instance_at r step reads) code answers read known me' → Fitting r.lines (lawful r.object) r.base (step r.object) (known_of me'.0)
+    IsTableWithinLimits line_count lawful r → ObjectLaws r.lines (lawful r.object) (step r.object) → TeachesRaised (instance_at r step reads) code answers read known me' → Fitting r.lines (lawful r.object) r.base (step r.object) (known_of me'.0)
 raised_fits line_count lawful step reads r code answers read known me' running laws taught =
     subst (Fitting r.lines (lawful r.object) r.base (step r.object)) (sym (ap (λ (m : Me ℕ (List Known)). known_of m.0) taught.knows))
     (fitting r.lines (lawful r.object) (instance_at r step reads) laws running.base (known_answered (instance_at r step reads) code answers read known) taught.behind)

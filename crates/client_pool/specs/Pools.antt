@@ -51,7 +51,7 @@ pub record HaveRoom (callers clients : â„•) (rooms : Rooms) : Type 0 where
   pub made : IsRoomFor clients rooms.clients
   pub lents : IsRoomFor clients rooms.lents
   pub former : IsRoomFor clients rooms.former
-  pub gathered : IsRoomFor callers rooms.gathered
+  pub handed_room : IsRoomFor callers rooms.handed_room
   pub out : IsRoomFor callers rooms.out
 
 -- a client that has made no call, of a service whose callers have these limits
@@ -68,7 +68,7 @@ pub record IsClosing {O : Type 0} (r : Running O) (table : TableId) (clients : â
   pub rest : IsRestOf r (view closing.rest) clients
   pub lents : IsRoomFor clients closing.lents
   pub former : IsRoomFor clients closing.former
-  pub gathered : IsRoomFor r.callers closing.gathered
+  pub handed_room : IsRoomFor r.callers closing.handed_room
   pub out : IsRoomFor r.callers closing.out
 
 -- the last of clients has it

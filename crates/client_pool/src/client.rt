@@ -27,7 +27,7 @@ pub(crate) struct Closing {
     pub(crate) rest: Pass<Caller, LenderPass>,
     pub(crate) lents: Vec<Lent>,
     pub(crate) former: Vec<FormerClient>,
-    pub(crate) gathered: Vec<Handed>,
+    pub(crate) handed_room: Vec<Handed>,
     pub(crate) out: Vec<Handed>,
 }
 

@@ -79,7 +79,7 @@ impl<O: Object> Pool<O> {
                 rest,
                 lents,
                 former,
-                gathered,
+                handed_room,
                 out,
             },
         ) = closing
@@ -96,7 +96,7 @@ impl<O: Object> Pool<O> {
         // a running table is within its limits, by which what it leaves is a linearizable object's
         let _lines = service.lines();
         closed_tables_are_linearizable::<O>();
-        match seat_pool::close(rt, alloc, service, line, rest, lents, gathered, out) {
+        match seat_pool::close(rt, alloc, service, line, rest, lents, handed_room, out) {
             Ok(remains) => Ok(remains),
             Err(Kept { service, callers }) => Err(PoolKept {
                 service,

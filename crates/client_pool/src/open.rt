@@ -28,7 +28,7 @@ pub(crate) struct Rooms {
     pub(crate) clients: Vec<Client>,
     pub(crate) lents: Vec<Lent>,
     pub(crate) former: Vec<FormerClient>,
-    pub(crate) gathered: Vec<Handed>,
+    pub(crate) handed_room: Vec<Handed>,
     pub(crate) out: Vec<Handed>,
 }
 
@@ -40,7 +40,7 @@ fn rooms_for(alloc: Global, callers: usize, clients: usize) -> Result<Rooms, All
         clients: Vec::with_capacity(alloc, clients)?,
         lents: Vec::with_capacity(alloc, clients)?,
         former: Vec::with_capacity(alloc, clients)?,
-        gathered: Vec::with_capacity(alloc, callers)?,
+        handed_room: Vec::with_capacity(alloc, callers)?,
         out: Vec::with_capacity(alloc, callers)?,
     })
 }
@@ -110,7 +110,7 @@ fn new_clients<O: Object>(
         mut clients,
         lents,
         former,
-        gathered,
+        handed_room,
         out,
     } = rooms;
     for number in 0..count - 1 {
@@ -122,7 +122,7 @@ fn new_clients<O: Object>(
         rest: pass,
         lents,
         former,
-        gathered,
+        handed_room,
         out,
     });
     clients.push_reserved(last);

@@ -5,7 +5,7 @@ use Rattle.cx_core.specs.declared.local.Local.{Local}
 use Rattle.cx_core.specs.LockEvents.{refused_by, taken}
 use Rattle.cx_core.specs.Region.{region_words}
 use Rattle.table_invariant.specs.Fitting.{Fitting}
-use Rattle.table_invariant.specs.Running.{IsRunning, Running, instance_at}
+use Rattle.table_invariant.specs.Running.{IsTableWithinLimits, Running, instance_at}
 use Rattle.table_invariant.specs.Seats.{Seated, unseen}
 use Rattle.cx_table.specs.Right.{Right}
 use Rattle.cx_attempts.specs.Taking.{TakesOne}
@@ -17,7 +17,7 @@ use Rattle.strong_trylock.specs.Held.{AllRights, all_rights, no_rights}
 use Rattle.strong_trylock.specs.Tries.{AnswersExclusive, TriesExclusive}
 
 -- a running table is within the limits of its object
-pub sized_running : {O : Type 0} (line_count : O → ℕ) (lawful : O → List ℕ → Type 0) (r : Running O) → IsRunning line_count lawful r → IsSized (line_count r.object) r
+pub sized_running : {O : Type 0} (line_count : O → ℕ) (lawful : O → List ℕ → Type 0) (r : Running O) → IsTableWithinLimits line_count lawful r → IsSized (line_count r.object) r
 sized_running line_count lawful r running = record {
   lines_are = running.lines;
   small = subst (λ n. n ≤ 16384) running.lines running.small;
@@ -25,7 +25,7 @@ sized_running line_count lawful r running = record {
 }
 
 pub took_one : {O : Type 0} (o : Ghosts O) (r : Running O) (q : ℕ) (before after : Seated) (tried : ExclusiveTried) (held : Right) →
-    IsRunning o.line_count o.lawful r → all_rights before ≡ no_rights → TriesExclusive r o.step o.only_reads q before after tried → tried ≡ Got held → Fitting r.lines (o.lawful r.object) r.base (o.step r.object) after.known → TakesOne o r before after held
+    IsTableWithinLimits o.line_count o.lawful r → all_rights before ≡ no_rights → TriesExclusive r o.step o.only_reads q before after tried → tried ≡ Got held → Fitting r.lines (o.lawful r.object) r.base (o.step r.object) after.known → TakesOne o r before after held
 took_one o r q before after tried held running free tries is fits =
     let a = subst (AnswersExclusive r.callers q tries.found before after) is tries.answer in
     let l = before.known.local in

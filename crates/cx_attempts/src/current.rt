@@ -92,7 +92,7 @@ pub fn read_current<O: Object>(
     }
 }
 
-/// The same once the replica is held shared at the code's place.
+/// Reads the reply from the replica that was just taken, held shared at the place of CUR's code, and hands the hold on.
 fn read_taken<O: Object>(
     shared: &Shared<O>,
     seat: &mut CallerSeat,

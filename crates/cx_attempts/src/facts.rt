@@ -2,7 +2,7 @@
 //! a value by a call alone.
 
 ghost use Rattle.std.specs.Prelude.{◌^◌, ◌<◌, ◌≤◌};
-ghost use Rattle.table_invariant.specs.Running.{IsRunning};
+ghost use Rattle.table_invariant.specs.Running.{IsTableWithinLimits};
 
 use cx_base::Object;
 use cx_table::{CallerSeat, Shared};
@@ -10,7 +10,7 @@ use cx_table::{CallerSeat, Shared};
 /// A running table is within its limits.
 #[inline(always)]
 pub(crate) fn table_is_running<O: Object>(shared: &Shared<O>)
-    ensures { IsRunning O.line_count O.lawful shared.now }
+    ensures { IsTableWithinLimits O.line_count O.lawful shared.now }
 {
     let _lines = shared.lines();
 }

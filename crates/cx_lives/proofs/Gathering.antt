@@ -18,12 +18,12 @@ use Rattle.cx_table.specs.Remains.{AreSeats, locals_of}
 use Rattle.life_records.specs.Works.{AreWorks, IsWork}
 use Rattle.life_records.specs.Records.{FullLine, JournalLine, Life, Meaning, ReadLine, StopLine}
 use Rattle.cx_lives.specs.declared.progress.End.{End}
-use Rattle.cx_lives.specs.declared.progress.End.TheVariants.{Whole, Stopped, Full, Never}
+use Rattle.cx_lives.specs.declared.progress.End.TheVariants.{Whole, Stopped, Full, Impossible}
 use Rattle.cx_lives.specs.declared.progress.Work.{Work}
 use Rattle.cx_lives.specs.declared.gather.GatheredWork.{GatheredWork}
 use Rattle.cx_lives.specs.Ends.{CannotBe, IsEndOf, IsWorkOf, full_in, stop_in}
 use Rattle.cx_lives.specs.Works.{AreResultsFrom, AreResultsOf}
-use Rattle.cx_lives.specs.Gathering.{AddsWork, AreGathered, HasNever, IsLocalIn, is_never}
+use Rattle.cx_lives.specs.Gathering.{AddsWork, AreGathered, HasImpossibleEnd, IsLocalIn, is_impossible}
 
 abbrev number : Seated → ℕ
 number s = s.known.local.number
@@ -53,22 +53,22 @@ locals_long [] = refl
 locals_long (x ∷ xs) = ap suc (locals_long xs)
 
 module _ {Op Reply Store : Type 0} (m : Meaning Op Reply Store) (life : Life Op) (ls : List Local) (l : Local) where
-  never_stays : HasNever m life ls → HasNever m life (ls ++ l ∷ [])
-  never_stays h = record { client = h.client; local = h.local; of_client = slice_get-append_left ls (l ∷ []) h.client h.local h.of_client; is = h.is }
+  impossible_stays : HasImpossibleEnd m life ls → HasImpossibleEnd m life (ls ++ l ∷ [])
+  impossible_stays h = record { client = h.client; local = h.local; of_client = slice_get-append_left ls (l ∷ []) h.client h.local h.of_client; is = h.is }
 
-  never_now : CannotBe m life (length ls) l → HasNever m life (ls ++ l ∷ [])
-  never_now is = record { client = length ls; local = l; of_client = slice_get-last ls l; is = is }
+  impossible_now : CannotBe m life (length ls) l → HasImpossibleEnd m life (ls ++ l ∷ [])
+  impossible_now is = record { client = length ls; local = l; of_client = slice_get-last ls l; is = is }
 
   module _ (es es' : List (JournalLine Reply)) (rs rs' : List (ReadLine Reply)) (ss : List StopLine) (fs : List FullLine)
       (go_on : (stop : Option StopLine) (full : Option FullLine) → AreWorks m.encoding life ls es rs ss fs → IsWork m.encoding life (length ls) l es' rs' stop full
       → AreWorks m.encoding life (ls ++ l ∷ []) (es ++ es') (rs ++ rs') (ss ++ option_to_list stop) (fs ++ option_to_list full)) where
-    works_more : (b : Bool) (end_ : End) → MatchBool b (HasNever m life ls) (AreWorks m.encoding life ls es rs ss fs) → IsEndOf m life (length ls) l es' rs' end_
-        → MatchBool (b || is_never end_) (HasNever m life (ls ++ l ∷ [])) (AreWorks m.encoding life (ls ++ l ∷ []) (es ++ es') (rs ++ rs') (ss ++ stop_in end_) (fs ++ full_in end_))
-    works_more true end_ w e = never_stays w
+    works_more : (b : Bool) (end_ : End) → MatchBool b (HasImpossibleEnd m life ls) (AreWorks m.encoding life ls es rs ss fs) → IsEndOf m life (length ls) l es' rs' end_
+        → MatchBool (b || is_impossible end_) (HasImpossibleEnd m life (ls ++ l ∷ [])) (AreWorks m.encoding life (ls ++ l ∷ []) (es ++ es') (rs ++ rs') (ss ++ stop_in end_) (fs ++ full_in end_))
+    works_more true end_ w e = impossible_stays w
     works_more false Whole w e = go_on None None w e
     works_more false (Stopped line) w e = go_on (Some line) None w e
     works_more false (Full line) w e = go_on None (Some line) w e
-    works_more false Never w e = never_now e
+    works_more false Impossible w e = impossible_now e
 
 -- what the laws of lines say of one client more
 module _ {Op Reply Store : Type 0} where
@@ -93,7 +93,7 @@ gathered_more m life r before after work go_on g adds w =
     let own : IsLocalIn life n l = record { limit = w.caller.limit; few = w.caller.few } in
     let at_long = subst (λ k. IsEndOf m life k l work.lines.entries.items work.lines.reads.items work.end) (sym long) w.ends in
     let more = works_more m life ls l before.lines.entries.items work.lines.entries.items before.lines.reads.items work.lines.reads.items before.ends.stops.items before.ends.fulls.items
-    (λ stop full. go_on ls l before.lines.entries.items work.lines.entries.items before.lines.reads.items work.lines.reads.items before.ends.stops.items stop before.ends.fulls.items full) before.ends.never work.end g.works at_long in
+    (λ stop full. go_on ls l before.lines.entries.items work.lines.entries.items before.lines.reads.items work.lines.reads.items before.ends.stops.items stop before.ends.fulls.items full) before.ends.impossible work.end g.works at_long in
     record {
       of = rw seats (All-push (IsSeatOf r) (seats_of hs) s g.of w.caller.of);
       numbers = numbers_more number (seats_of hs) s (seats_of after.handed.items) n seats g.numbers w.caller.by ∙ ap (range_with_len 0) (sym longer);
@@ -101,7 +101,7 @@ gathered_more m life r before after work go_on g adds w =
         | inl there ↦ g.each i x there
         | inr new ↦ subst (IsLocalIn life i) new.1 (subst (λ k. IsLocalIn life k l) (sym (new.0 ∙ long)) own)
       ];
-      works = rw (locals, adds.entries, adds.reads, adds.stops, adds.fulls, adds.never) more;
+      works = rw (locals, adds.entries, adds.reads, adds.stops, adds.fulls, adds.impossible) more;
     }
 
 -- the results of workers from one on, by their numbers

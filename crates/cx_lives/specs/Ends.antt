@@ -14,7 +14,7 @@ use Rattle.life_records.specs.Works.{IsWork}
 use Rattle.life_records.specs.Scripts.{limit_in, own_ops}
 use Rattle.life_records.specs.Records.{AreOfNoReply, FullLine, OpHasWords, JournalLine, Life, Meaning, ReadLine, StopLine}
 use Rattle.cx_lives.specs.declared.progress.End.{End}
-use Rattle.cx_lives.specs.declared.progress.End.TheVariants.{Whole, Stopped, Full, Never}
+use Rattle.cx_lives.specs.declared.progress.End.TheVariants.{Whole, Stopped, Full, Impossible}
 use Rattle.cx_lives.specs.declared.progress.Progress.{Progress}
 use Rattle.cx_lives.specs.declared.progress.CommandOutcome.{CommandOutcome}
 use Rattle.cx_lives.specs.declared.progress.CommandOutcome.TheVariants.{Next, Over, Full as FullTurn}
@@ -54,7 +54,7 @@ abbrev pub IsEndOf : {Op Reply Store : Type 0} → (m : Meaning Op Reply Store) 
 IsEndOf m life client l entries reads Whole = IsWork m.encoding life client l entries reads None None
 IsEndOf m life client l entries reads (Stopped line) = IsWork m.encoding life client l entries reads (Some line) None
 IsEndOf m life client l entries reads (Full line) = IsWork m.encoding life client l entries reads None (Some line)
-IsEndOf m life client l entries reads Never = CannotBe m life client l
+IsEndOf m life client l entries reads Impossible = CannotBe m life client l
 
 -- what is known of a client's caller however it ended: at most one entry for each command, and the limit of the client's cut
 pub record IsCallerIn {O Op : Type 0} (life : Life Op) (r : Running O) (client : ℕ) (seat : Seated) : Type 0 where

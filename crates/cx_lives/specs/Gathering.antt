@@ -11,13 +11,13 @@ use Rattle.life_records.specs.Works.{AreWorks}
 use Rattle.life_records.specs.Scripts.{limit_in, own_ops}
 use Rattle.life_records.specs.Records.{Life, Meaning}
 use Rattle.cx_lives.specs.declared.progress.End.{End}
-use Rattle.cx_lives.specs.declared.progress.End.TheVariants.{Never}
+use Rattle.cx_lives.specs.declared.progress.End.TheVariants.{Impossible}
 use Rattle.cx_lives.specs.declared.progress.Work.{Work}
 use Rattle.cx_lives.specs.declared.gather.GatheredWork.{GatheredWork}
 use Rattle.cx_lives.specs.Ends.{CannotBe, full_in, stop_in}
 
 -- some caller has what none can have
-pub record HasNever {Op Reply Store : Type 0} (m : Meaning Op Reply Store) (life : Life Op) (locals : List Local) : Type 0 where
+pub record HasImpossibleEnd {Op Reply Store : Type 0} (m : Meaning Op Reply Store) (life : Life Op) (locals : List Local) : Type 0 where
   pub client : ℕ
   pub local : Local
   pub of_client : slice_get locals client ≡ Some local
@@ -34,12 +34,12 @@ pub record AreGathered {O Op Reply Store : Type 0} (m : Meaning Op Reply Store) 
   pub of : All (IsSeatOf r) (seats_of g.handed.items)
   pub numbers : map (λ (s : Seated). s.known.local.number) (seats_of g.handed.items) ≡ range_with_len 0 (length g.handed.items)
   pub each : EachLocal (locals_of (seats_of g.handed.items)) (IsLocalIn life)
-  pub works : MatchBool g.ends.never (HasNever m life (locals_of (seats_of g.handed.items)))
+  pub works : MatchBool g.ends.impossible (HasImpossibleEnd m life (locals_of (seats_of g.handed.items)))
       (AreWorks m.encoding life (locals_of (seats_of g.handed.items)) g.lines.entries.items g.lines.reads.items g.ends.stops.items g.ends.fulls.items)
 
-abbrev pub is_never : End → Bool
-is_never Never = true
-is_never _ = false
+abbrev pub is_impossible : End → Bool
+is_impossible Impossible = true
+is_impossible _ = false
 
 -- one client's work more
 pub record AddsWork {Reply : Type 0} (before after : GatheredWork Reply) (work : Work Reply) : Type 0 where
@@ -48,4 +48,4 @@ pub record AddsWork {Reply : Type 0} (before after : GatheredWork Reply) (work :
   pub reads : after.lines.reads.items ≡ before.lines.reads.items ++ work.lines.reads.items
   pub stops : after.ends.stops.items ≡ before.ends.stops.items ++ stop_in work.end
   pub fulls : after.ends.fulls.items ≡ before.ends.fulls.items ++ full_in work.end
-  pub never : after.ends.never ≡ (before.ends.never || is_never work.end)
+  pub impossible : after.ends.impossible ≡ (before.ends.impossible || is_impossible work.end)

@@ -5,7 +5,7 @@ use Rattle.cx_service.specs.declared.close.Handed.TheVariants.{Idle, Stopped as 
 use Rattle.life_records.specs.Records.{JournalLine, StopLine}
 use Rattle.cx_lives.specs.declared.progress.Progress.{Progress}
 use Rattle.cx_lives.specs.declared.progress.End.{End}
-use Rattle.cx_lives.specs.declared.progress.End.TheVariants.{Stopped, Never}
+use Rattle.cx_lives.specs.declared.progress.End.TheVariants.{Stopped, Impossible}
 use Rattle.cx_lives.specs.declared.lines.Lines.{Lines}
 use Rattle.cx_lives.specs.declared.progress.CommandOutcome.{CommandOutcome}
 use Rattle.cx_lives.specs.declared.progress.CommandOutcome.TheVariants.{Next, Over}
@@ -18,7 +18,7 @@ ended progress end_ = record { handed = Idle progress.caller; lines = progress.l
 -- a client after its answer, by whether the words of that are a reply's
 abbrev pub attempt_after : {Reply : Type 0} → Progress Reply → Bool → CommandOutcome Reply
 attempt_after progress true = Next progress
-attempt_after progress false = Over (ended progress Never)
+attempt_after progress false = Over (ended progress Impossible)
 
 -- the stop line of a client that is stopped in its command of this number
 abbrev pub stop_line : ℕ → ℕ → StoppedSeat → StopLine

@@ -4,7 +4,7 @@ ghost use Rattle.std.specs.Prelude.{◌≡◌, ◌<◌, ◌∷◌, ◌++◌, ◌
 ghost use Rattle.life_records.specs.Limits.{IsLifeInLimits};
 ghost use Rattle.life_records.specs.Lives.{is_stopped};
 ghost use Rattle.cx_lives.specs.Ends.{IsWorkOf, full_in, stop_in};
-ghost use Rattle.cx_lives.specs.Gathering.{AddsWork, AreGathered, is_never};
+ghost use Rattle.cx_lives.specs.Gathering.{AddsWork, AreGathered, is_impossible};
 ghost use Rattle.cx_lives.specs.Works.{AreResultsFrom, ServedOf, stop_told, stops_left};
 
 use crate::lines::Lines;
@@ -31,7 +31,7 @@ pub(crate) struct GatheredWork<Reply> {
 pub(crate) struct Ends {
     pub(crate) stops: Vec<StopLine>,
     pub(crate) fulls: Vec<FullLine>,
-    pub(crate) never: bool,
+    pub(crate) impossible: bool,
 }
 
 impl<Reply: Drop> GatheredWork<Reply> {
@@ -57,21 +57,21 @@ impl<Reply: Drop> GatheredWork<Reply> {
 fn with_end(before: Ends, end: End) -> Result<Ends, AllocError>
     ensures stops { IfOk result (λ r. r.stops.items ≡ before.stops.items ++ stop_in end) }
     ensures fulls { IfOk result (λ r. r.fulls.items ≡ before.fulls.items ++ full_in end) }
-    ensures never { IfOk result (λ r. r.never ≡ (before.never || is_never end)) }
+    ensures impossible { IfOk result (λ r. r.impossible ≡ (before.impossible || is_impossible end)) }
 {
     let mut ends = before;
     match end {
         End::Whole => {}
         End::Stopped(line) => ends.stops.push(line)?,
         End::Full(line) => ends.fulls.push(line)?,
-        End::Never => ends.never = true,
+        End::Impossible => ends.impossible = true,
     }
     Ok(ends)
 }
 
 /// Puts the works of all clients together, in the order of the clients. One that was left goes on when it is its turn, and ends Full only
 /// where the client that keeps its cells was stopped. `Err` means out of memory, in a worker or here.
-pub(crate) fn gather<O: TypedObject, R: Wait, G: Gate>(
+pub(crate) fn finish_and_gather<O: TypedObject, R: Wait, G: Gate>(
     rt: &R,
     alloc: Global,
     service: &Service<O>,
@@ -90,7 +90,7 @@ pub(crate) fn gather<O: TypedObject, R: Wait, G: Gate>(
     let ends = Ends {
         stops: Vec::new(alloc),
         fulls: Vec::new(alloc),
-        never: false,
+        impossible: false,
     };
     let mut all = GatheredWork {
         handed: Vec::new(alloc),

@@ -4,7 +4,7 @@ ghost use Rattle.std.specs.Prelude.{IfOk};
 ghost use Rattle.cx_lives.specs.Life.{CanRun, HasRun};
 ghost use Rattle.life_records.specs.Meanings.{IsMeant};
 
-use crate::gather::{Ends, GatheredWork, gather};
+use crate::gather::{Ends, GatheredWork, finish_and_gather};
 use crate::lines::Lines;
 use crate::workers::run_workers;
 use cx_base::{Gate, Items};
@@ -50,12 +50,12 @@ pub fn run_life<O: TypedObject + Sync, R: Threads + Wait + Sync, G: Gate + Sync>
         handed,
         lines,
         ends,
-    } = gather(rt, alloc, &service, life, gate, works)?;
+    } = finish_and_gather(rt, alloc, &service, life, gate, works)?;
     let Lines { mut entries, reads } = lines;
     let Ends {
         stops,
         fulls,
-        never,
+        impossible,
     } = ends;
     entries.sort_unstable_by_key(|line| line.ticket);
     journals_are_told::<O::Op, O::Reply>();
@@ -65,7 +65,7 @@ pub fn run_life<O: TypedObject + Sync, R: Threads + Wait + Sync, G: Gate + Sync>
     let Ok(remains) = service.close(alloc, handed) else {
         return Err(AllocError);
     };
-    if never {
+    if impossible {
         unreachable!()
     }
     let clients = life.clients();

@@ -27,7 +27,7 @@ pub(crate) enum End {
     /// The client ended Full: another that was stopped keeps its cells.
     Full(FullLine),
     /// What cannot be: there was no further ticket, or a reply whose words are of none.
-    Never,
+    Impossible,
 }
 
 /// What a worker hands in: its caller, and the lines of its client.
@@ -90,7 +90,7 @@ pub(crate) fn make<O: TypedObject, R: Wait>(
         ReadDone::Full(caller, note) => Ok(CommandOutcome::Full(Progress { caller, lines }, note)),
         ReadDone::Worn(caller) => Ok(CommandOutcome::Over(over(
             Progress { caller, lines },
-            End::Never,
+            End::Impossible,
         ))),
         ReadDone::Halted(stopped) => {
             let work = stopped_in(client, number, stopped, lines)?;
@@ -116,7 +116,7 @@ fn after_answer<Reply: Drop>(progress: Progress<Reply>, is_reply: bool) -> Comma
     if is_reply {
         CommandOutcome::Next(progress)
     } else {
-        CommandOutcome::Over(over(progress, End::Never))
+        CommandOutcome::Over(over(progress, End::Impossible))
     }
 }
 

@@ -224,7 +224,7 @@ fn tells_stop<Reply>(served: &Result<WorkerOutcome<Reply>, AllocError>, client: 
     match served {
         Ok(WorkerOutcome::Done(work)) => match &work.end {
             End::Stopped(line) => line.client == client,
-            End::Whole | End::Full(_) | End::Never => false,
+            End::Whole | End::Full(_) | End::Impossible => false,
         },
         Ok(WorkerOutcome::Full(..)) | Err(AllocError) => false,
     }

@@ -1,7 +1,7 @@
 //! What a closed table tells of the order of its callers' operations.
 
 ghost use Rattle.std.specs.Prelude.{List};
-ghost use Rattle.table_invariant.specs.Running.{IsRunning, Running, instance_at};
+ghost use Rattle.table_invariant.specs.Running.{IsTableWithinLimits, Running, instance_at};
 ghost use Rattle.table_invariant.specs.Seats.{Seated};
 ghost use Rattle.cx_table.specs.Remains.{ClosingWitness};
 ghost use Rattle.cx_table.specs.declared.remains.Remains.{Remains};
@@ -16,7 +16,7 @@ use cx_base::Object;
 /// of the caller's steps: the operation was answered when the caller had made the one number of steps, and had not begun when it had made the other.
 /// Where by these counts, in the order of all steps, one operation ended before another one began, it stands before it in the history (`KeepsCalls`).
 pub fn closed_tables_are_linearizable<O: Object>()
-    ensures { (table : Running O) (seats : List Seated) (r : Remains) → IsRunning O.line_count O.lawful table →
+    ensures { (table : Running O) (seats : List Seated) (r : Remains) → IsTableWithinLimits O.line_count O.lawful table →
         (leaves : ClosingWitness table (instance_at table O.step O.only_reads) seats r) → IsLinearizedBy leaves }
 {
     runs_have_one_order::<O>();

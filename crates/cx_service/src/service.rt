@@ -1,7 +1,7 @@
 //! A service of an object.
 
 ghost use Rattle.std.specs.Prelude.{◌≡◌};
-ghost use Rattle.table_invariant.specs.Running.{IsRunning};
+ghost use Rattle.table_invariant.specs.Running.{IsTableWithinLimits};
 
 use cx_base::Object;
 use cx_table::Shared;
@@ -31,7 +31,7 @@ impl<O: Object> Service<O> {
     /// The lines of the object. A running service is within its limits.
     pub fn lines(&self) -> u64
         ensures value { result ≡ self.now.lines }
-        ensures running { IsRunning O.line_count O.lawful self.now }
+        ensures running { IsTableWithinLimits O.line_count O.lawful self.now }
     {
         self.shared.lines()
     }

@@ -10,7 +10,7 @@ use Rattle.cx_core.specs.State.{one_more}
 use Rattle.cx_core.proofs.HistoryLemmas.{ObjectLaws}
 use Rattle.table_invariant.specs.declared.rule.Known.{Known}
 use Rattle.table_invariant.specs.Fitting.{Fitting}
-use Rattle.table_invariant.specs.Running.{IsRunning, Running, instance_at}
+use Rattle.table_invariant.specs.Running.{IsTableWithinLimits, Running, instance_at}
 use Rattle.table_invariant.specs.Seats.{Seated, known_after, known_of}
 use Rattle.table_invariant.specs.Steps.{StepsCopied, KnowledgeAfter}
 use Rattle.table_invariant.proofs.Fitting.{fitting}
@@ -20,7 +20,7 @@ use Rattle.cx_table.specs.declared.tokens.SharedRight.TheVariants.{Hold, Passer,
 use Rattle.cx_table.specs.Tokens.{IsExclusiveOf, IsRightOf, replica_of}
 
 -- the laws of an object that full images rest on
-pub laws_at : {O : Type 0} (line_count : O → ℕ) (lawful : O → List ℕ → Type 0) (step : O → List ℕ → List ℕ → List ℕ × List ℕ) (r : Running O) → IsRunning line_count lawful r →
+pub laws_at : {O : Type 0} (line_count : O → ℕ) (lawful : O → List ℕ → Type 0) (step : O → List ℕ → List ℕ → List ℕ × List ℕ) (r : Running O) → IsTableWithinLimits line_count lawful r →
     ((o : O) (image op : List ℕ) → lawful o image → Words 144 op → lawful o (step o image op).0) → ((o : O) (image : List ℕ) → lawful o image → Words (8 * line_count o) image) →
     ((o : O) (image op : List ℕ) → lawful o image → Words 144 op → Words 144 (step o image op).1) → ObjectLaws r.lines (lawful r.object) (step r.object)
 laws_at line_count lawful step r running keeps shape replies =
@@ -28,7 +28,7 @@ laws_at line_count lawful step r running keeps shape replies =
 
 -- what really is there after a step fits what was noted
 pub step_fits : {O : Type 0} (line_count : O → ℕ) (lawful : O → List ℕ → Type 0) (step : O → List ℕ → List ℕ → List ℕ × List ℕ) (reads : O → List ℕ → Bool) (r : Running O) (kind : Kind) (known : Known) (found : ℕ) (me' : Me ℕ (List Known)) →
-    IsRunning line_count lawful r → ObjectLaws r.lines (lawful r.object) (step r.object) → KnowledgeAfter (instance_at r step reads) kind known found me' → Fitting r.lines (lawful r.object) r.base (step r.object) (known_of me'.0)
+    IsTableWithinLimits line_count lawful r → ObjectLaws r.lines (lawful r.object) (step r.object) → KnowledgeAfter (instance_at r step reads) kind known found me' → Fitting r.lines (lawful r.object) r.base (step r.object) (known_of me'.0)
 step_fits line_count lawful step reads r kind known found me' running laws taught =
     let after = known_after (instance_at r step reads) kind known found in
     subst (Fitting r.lines (lawful r.object) r.base (step r.object)) (sym (ap (λ (m : Me ℕ (List Known)). known_of m.0) taught.knows)) (fitting r.lines (lawful r.object) (instance_at r step reads) laws running.base after taught.behind)

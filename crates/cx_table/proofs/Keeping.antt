@@ -9,7 +9,7 @@ use Rattle.table_invariant.specs.declared.rule.KeptSet.{KeptSet}
 use Rattle.table_invariant.specs.declared.rule.Known.{Known}
 use Rattle.table_invariant.specs.Fitting.{Fitting, IsSetWithin}
 use Rattle.table_invariant.specs.Offers.{TellsSet}
-use Rattle.table_invariant.specs.Running.{IsRunning, IsSeatOf, Running, instance_at}
+use Rattle.table_invariant.specs.Running.{IsTableWithinLimits, IsSeatOf, Running, instance_at}
 use Rattle.table_invariant.specs.Seats.{Seated, known_kept, known_of}
 use Rattle.table_invariant.specs.Steps.{KeepsSet, TeachesKept}
 use Rattle.table_invariant.proofs.Fitting.{fitting}
@@ -60,7 +60,7 @@ module _ {O : Type 0} (r : Running O) (step : O → List ℕ → List ℕ → Li
 
 -- what really is there fits what the caller then knows
 pub kept_fits : {O : Type 0} (line_count : O → ℕ) (lawful : O → List ℕ → Type 0) (step : O → List ℕ → List ℕ → List ℕ × List ℕ) (reads : O → List ℕ → Bool) (r : Running O) (ticket : ℕ) (pairs : List ℕ) (known : Known) (me' : Me ℕ (List Known)) →
-    IsRunning line_count lawful r → ObjectLaws r.lines (lawful r.object) (step r.object) → TeachesKept (instance_at r step reads) ticket pairs known me' → Fitting r.lines (lawful r.object) r.base (step r.object) (known_of me'.0)
+    IsTableWithinLimits line_count lawful r → ObjectLaws r.lines (lawful r.object) (step r.object) → TeachesKept (instance_at r step reads) ticket pairs known me' → Fitting r.lines (lawful r.object) r.base (step r.object) (known_of me'.0)
 kept_fits line_count lawful step reads r ticket pairs known me' running laws taught =
     subst (Fitting r.lines (lawful r.object) r.base (step r.object)) (sym (ap (λ (m : Me ℕ (List Known)). known_of m.0) taught.knows))
     (fitting r.lines (lawful r.object) (instance_at r step reads) laws running.base (known_kept ticket pairs known) taught.behind)

@@ -18,7 +18,7 @@ use Rattle.cx_core.specs.Rights.{exclusive_on, is_at}
 use Rattle.cx_core.specs.State.{Instance, one_more}
 use Rattle.cx_core.proofs.HistoryLemmas.{ObjectLaws}
 use Rattle.table_invariant.specs.declared.rule.Known.{Known}
-use Rattle.table_invariant.specs.Running.{IsRunning, IsSeatOf, Running, instance_at}
+use Rattle.table_invariant.specs.Running.{IsTableWithinLimits, IsSeatOf, Running, instance_at}
 use Rattle.table_invariant.specs.Seats.{IsAtLimit, SeenGuard, Seated, known_after, known_local, known_of}
 use Rattle.table_invariant.specs.Steps.{KnowledgeAfter}
 use Rattle.caller_cache.specs.declared.summary.CachedLocal.{CachedLocal}
@@ -100,7 +100,7 @@ loaded_on instance replica from i n v begun words mid after more below was taugh
     }
 
 -- Steps of kinds that stay allowed, that change no number but the steps, and nothing that is kept of words.
-module _ {O : Type 0} (line_count : O → ℕ) (lawful : O → List ℕ → Type 0) (step : O → List ℕ → List ℕ → List ℕ × List ℕ) (reads : O → List ℕ → Bool) (r : Running O) (running : IsRunning line_count lawful r)
+module _ {O : Type 0} (line_count : O → ℕ) (lawful : O → List ℕ → Type 0) (step : O → List ℕ → List ℕ → List ℕ × List ℕ) (reads : O → List ℕ → Bool) (r : Running O) (running : IsTableWithinLimits line_count lawful r)
     (laws : ObjectLaws r.lines (lawful r.object) (step r.object)) (kinds : ℕ → Kind) (n : ℕ) (May : Known → Type 0) (guard : (k : Known) (i : ℕ) → i < n → May k → SeenGuard (instance_at r step reads) (kinds i) k.local)
     (stays : (k : Known) (i v : ℕ) → May k → May (known_after (instance_at r step reads) (kinds i) k v))
     (numbers : (k : Known) (i v : ℕ) → summary_of (known_local (instance_at r step reads) (kinds i) k v) ≡ record (summary_of k.local) { steps = one_more k.local.steps })

@@ -14,7 +14,7 @@ use Rattle.table_invariant.specs.declared.rule.Known.{Known}
 use Rattle.table_invariant.specs.Fitting.{IsOwnSet}
 use Rattle.table_invariant.specs.Learns.{LearnsBy}
 use Rattle.table_invariant.specs.Offers.{TellsOffer}
-use Rattle.table_invariant.specs.Running.{IsRunning, Running, instance_at}
+use Rattle.table_invariant.specs.Running.{IsTableWithinLimits, Running, instance_at}
 use Rattle.table_invariant.specs.Seats.{Seated, known_of}
 use Rattle.table_invariant.proofs.Offering.{learns_offer}
 use Rattle.cx_table.specs.OwnCells.{HasTicketAs}
@@ -59,7 +59,7 @@ no_cell_to_write l t None none = λ j can named.
 
 -- a set that is told is offered
 pub learns_offering : {O : Type 0} (line_count : O → ℕ) (lawful : O → List ℕ → Type 0) (step : O → List ℕ → List ℕ → List ℕ × List ℕ) (reads : O → List ℕ → Bool) (r : Running O) (j word new : ℕ) (me : Me ℕ (List Known)) (summary : CachedLocal) (before : ℕ) (old : Seated) →
-    IsRunning line_count lawful r → ObjectLaws r.lines (lawful r.object) (step r.object) → HasSummary me summary before → known_of me.0 ≡ old.known → CanWriteSet old.known.local j → TellsOffer r.lines (lawful r.object) r.base (step r.object) old.known j →
+    IsTableWithinLimits line_count lawful r → ObjectLaws r.lines (lawful r.object) (step r.object) → HasSummary me summary before → known_of me.0 ≡ old.known → CanWriteSet old.known.local j → TellsOffer r.lines (lawful r.object) r.base (step r.object) old.known j →
     word ≡ step_word (instance_at r step reads) (Offer j) old.known.local → new ≡ offer_of (slice_index_or summary.tickets j None) (slice_index summary.offers j) →
     LearnsBy (instance_at r step reads) (λ _. Offer j) old.known word (λ _. new)
 learns_offering line_count lawful step reads r j word new me summary before old running laws has same can tells at is =

@@ -11,7 +11,7 @@ use Rattle.cx_core.proofs.HistoryLemmas.{ObjectLaws}
 use Rattle.table_invariant.specs.declared.rule.Known.{Known}
 use Rattle.cx_core.specs.Base.{LawfulBase}
 use Rattle.table_invariant.specs.Fitting.{Fitting, base_of}
-use Rattle.table_invariant.specs.Running.{IsRunning, IsSeatOf, Running, instance_at}
+use Rattle.table_invariant.specs.Running.{IsTableWithinLimits, IsSeatOf, Running, instance_at}
 use Rattle.table_invariant.specs.Seats.{IsAtLimit, Seated, known_after, known_of}
 use Rattle.table_invariant.specs.Steps.{Steps, StepsTaking, TeachesImage, known_taken}
 use Rattle.table_invariant.proofs.Fitting.{fitting, image_base}
@@ -50,12 +50,12 @@ module _ {O : Type 0} (r : Running O) (step : O → List ℕ → List ℕ → Li
 
 -- what really is there fits what was noted
 pub taken_fits : {O : Type 0} (line_count : O → ℕ) (lawful : O → List ℕ → Type 0) (step : O → List ℕ → List ℕ → List ℕ × List ℕ) (reads : O → List ℕ → Bool) (r : Running O) (kind : Kind) (image : List ℕ) (known : Known) (found : ℕ) (me' : Me ℕ (List Known)) →
-    IsRunning line_count lawful r → ObjectLaws r.lines (lawful r.object) (step r.object) → TeachesImage (instance_at r step reads) kind image known found me' → Fitting r.lines (lawful r.object) r.base (step r.object) (known_of me'.0)
+    IsTableWithinLimits line_count lawful r → ObjectLaws r.lines (lawful r.object) (step r.object) → TeachesImage (instance_at r step reads) kind image known found me' → Fitting r.lines (lawful r.object) r.base (step r.object) (known_of me'.0)
 taken_fits line_count lawful step reads r kind image known found me' running laws taught =
     subst (Fitting r.lines (lawful r.object) r.base (step r.object)) (sym (ap (λ (m : Me ℕ (List Known)). known_of m.0) taught.knows))
     (fitting r.lines (lawful r.object) (instance_at r step reads) laws running.base (known_taken (instance_at r step reads) kind image known found) taught.behind)
 
 -- and the words taken are a lawful base
 pub taken_base : {O : Type 0} (line_count : O → ℕ) (lawful : O → List ℕ → Type 0) (step : O → List ℕ → List ℕ → List ℕ × List ℕ) (reads : O → List ℕ → Bool) (r : Running O) (kind : Kind) (image : List ℕ) (known : Known) (found : ℕ) (me' : Me ℕ (List Known)) →
-    IsRunning line_count lawful r → ObjectLaws r.lines (lawful r.object) (step r.object) → TeachesImage (instance_at r step reads) kind image known found me' → LawfulBase r.lines (lawful r.object) (base_of image)
+    IsTableWithinLimits line_count lawful r → ObjectLaws r.lines (lawful r.object) (step r.object) → TeachesImage (instance_at r step reads) kind image known found me' → LawfulBase r.lines (lawful r.object) (base_of image)
 taken_base line_count lawful step reads r kind image known found me' running laws taught = image_base r.lines (lawful r.object) (instance_at r step reads) laws running.base image taught.of_some

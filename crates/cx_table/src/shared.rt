@@ -1,7 +1,7 @@
 //! The running table of an object.
 
 ghost use Rattle.std.specs.Prelude.{◌≡◌, ◌≤◌};
-ghost use Rattle.table_invariant.specs.Running.{IsRunning};
+ghost use Rattle.table_invariant.specs.Running.{IsTableWithinLimits};
 
 use atomic_table::Table;
 use core_guards::callers::Callers;
@@ -24,13 +24,13 @@ pub struct Shared<O: Object> {
 
 impl<O: Object> Model for Shared<O> {
     ghost use Rattle.std.specs.Prelude.{◌≡◌};
-    ghost use Rattle.table_invariant.specs.Running.{Running, IsRunning};
+    ghost use Rattle.table_invariant.specs.Running.{Running, IsTableWithinLimits};
 
     ghost Value = { Running O };
 
     ghost view = { λ s. record { table = s.table.shared.table_id; callers = s.callers.number; lines = s.lines; base = s.base; object = s.object } };
 
-    ghost invariant = { λ s. IsRunning O.line_count O.lawful (record { table = s.table.shared.table_id; callers = s.callers.number; lines = s.lines; base = s.base; object = s.object }) × (s.table.shared.key.callers ≡ s.callers.number) × (s.table.shared.key.base.value ≡ s.base) × (s.table.shared.key.object.value ≡ s.object) };
+    ghost invariant = { λ s. IsTableWithinLimits O.line_count O.lawful (record { table = s.table.shared.table_id; callers = s.callers.number; lines = s.lines; base = s.base; object = s.object }) × (s.table.shared.key.callers ≡ s.callers.number) × (s.table.shared.key.base.value ≡ s.base) × (s.table.shared.key.object.value ≡ s.object) };
 }
 
 impl<O: Object> Shared<O> {
@@ -38,7 +38,7 @@ impl<O: Object> Shared<O> {
     /// what a type promises of a value only where a field is read, or by a contract.
     #[inline(always)]
     pub(crate) fn table_is_running(&self)
-        ensures { IsRunning O.line_count O.lawful self.now }
+        ensures { IsTableWithinLimits O.line_count O.lawful self.now }
     {
         let _table = &self.table;
     }
@@ -55,7 +55,7 @@ impl<O: Object> Shared<O> {
     /// The lines of the object. A running table is within its limits.
     pub fn lines(&self) -> u64
         ensures value { result ≡ self.now.lines }
-        ensures running { IsRunning O.line_count O.lawful self.now }
+        ensures running { IsTableWithinLimits O.line_count O.lawful self.now }
     {
         self.lines
     }

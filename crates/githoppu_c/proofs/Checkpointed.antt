@@ -11,7 +11,7 @@ use Rattle.table_invariant.specs.Running.{Running}
 use Rattle.cx_service.specs.declared.close.Handed.{Handed}
 use Rattle.cx_service.specs.declared.close.Handed.TheVariants.{Idle, Linked, Stopped}
 use Rattle.c_sessions.specs.Images.{TakesFrom}
-use Rattle.c_sessions.specs.Sessions.{IsSessionReady, TakesIn}
+use Rattle.c_sessions.specs.Sessions.{IsSessionOpen, TakesIn}
 use Rattle.c_sessions.specs.declared.session.Session.{Session}
 use Rattle.c_sessions.specs.declared.checkpoint.SessionCheckpoint.{SessionCheckpoint}
 use Rattle.c_sessions.specs.declared.checkpoint.SessionCheckpoint.TheVariants.{At, Again, Stopped as TakenStopped, OutOfTurn}
@@ -33,7 +33,7 @@ module _ {O : Type 0} (o : Ghosts O) (words : List ℕ) (tries place : ℕ) wher
   base_from r (Linked u) after told = absurd (in_turn place told.0)
   base_from r (Stopped u) after told = absurd (in_turn place told.0)
 
-  pub taken_base : (before after : Session O) → IsSessionReady before → IsSessionReady after → TakesIn o words tries before (At place) after → is_base (arc_value before.service)
+  pub taken_base : (before after : Session O) → IsSessionOpen before → IsSessionOpen after → TakesIn o words tries before (At place) after → is_base (arc_value before.service)
   taken_base before after ready then takes =
       let r = arc_value before.service in
       let told = subst (λ (x : Option Handed). IfSome x (λ b. IfSome after.handed (λ a. TakesFrom o r words tries b (At place) a))) ready.is takes.told in
@@ -55,7 +55,7 @@ written_of kind callers lines place rc rl n before part post words c l long size
 
 -- ---- where an image was taken, its region is in the words
 
-module _ {O : Type 0} (o : Ghosts O) (kind : ℕ) (before after : Session O) (words : List ℕ) (ready : IsSessionReady before) (then : IsSessionReady after) where
+module _ {O : Type 0} (o : Ghosts O) (kind : ℕ) (before after : Session O) (words : List ℕ) (ready : IsSessionOpen before) (then : IsSessionOpen after) where
   of_taken : (region : List ℕ) (taken : SessionCheckpoint) → TakesIn o region 16 before taken after → IsWrittenAs kind (arc_value before.service) region taken words → pos 0 ≡ taken_code taken
       → IsRegionIn o kind (arc_value before.service) words
   of_taken region (At place) takes written done = record { place = place; region = region; base = taken_base o region 16 place before after ready then takes; written = written }

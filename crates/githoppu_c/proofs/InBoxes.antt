@@ -5,7 +5,7 @@ use Rattle.std.proofs.lemmas.List.Elements.{All-cons, All-head, All-tail}
 use Rattle.std.specs.Global.{Global}
 use Rattle.std_alloc.specs.declared.boxed.Box.{Box}
 use Rattle.table_invariant.specs.Running.{Running}
-use Rattle.c_sessions.specs.Sessions.{IsReadyOf}
+use Rattle.c_sessions.specs.Sessions.{IsOpenSessionOf}
 use Rattle.c_sessions.specs.declared.session.Session.{Session}
 use Rattle.githoppu_c.specs.Contents.{AreBoxes, IsCallable, IsSessionIn}
 use Rattle.githoppu_c.specs.declared.content.AnyHandleState.{AnyHandleState}
@@ -40,9 +40,9 @@ module _ {S : Type 0} (any : S → AnyHandleState) (from : S → Type 0) (to : A
       All-cons (λ (x : Boxed). to x.value) b boxes (subst to (sym first) (goes s (All-head from s sessions all))) (each_box boxes sessions others (All-tail from s sessions all))
 
 -- boxes of sessions of one service, which C may call
-pub as_boxes : {O : Type 0} (any : Session O → AnyHandleState) (r : Running O) (count : ℕ) (callable : (s : Session O) → IsReadyOf r s → IsCallable (any s)) (boxes : List Boxed) (sessions : List (Session O))
-    → map value_of boxes ≡ map any sessions → length sessions ≡ count → All (IsReadyOf r) sessions → AreBoxes (IsSessionIn any r) count boxes
+pub as_boxes : {O : Type 0} (any : Session O → AnyHandleState) (r : Running O) (count : ℕ) (callable : (s : Session O) → IsOpenSessionOf r s → IsCallable (any s)) (boxes : List Boxed) (sessions : List (Session O))
+    → map value_of boxes ≡ map any sessions → length sessions ≡ count → All (IsOpenSessionOf r) sessions → AreBoxes (IsSessionIn any r) count boxes
 as_boxes any r count callable boxes sessions same many ready = record {
   all = sym (length-map boxes value_of) ∙ ap length same ∙ length-map sessions any ∙ many;
-  each = each_box any (IsReadyOf r) (λ content. IsSessionIn any r content × IsCallable content) (λ s of. (record { session = s; of = of; is = refl }, callable s of)) boxes sessions same ready;
+  each = each_box any (IsOpenSessionOf r) (λ content. IsSessionIn any r content × IsCallable content) (λ s of. (record { session = s; of = of; is = refl }, callable s of)) boxes sessions same ready;
 }

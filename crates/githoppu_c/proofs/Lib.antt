@@ -10,4 +10,4 @@ pub mod Refused
 pub mod Replies
 pub mod SameLines
 pub mod TakenUp
-pub mod ToldBases
+pub mod BasesForKinds

@@ -7,7 +7,7 @@ use Rattle.table_invariant.specs.Running.{Running}
 use Rattle.c_images.specs.Replies.{HoldsReplies, IsReplyOfKind}
 use Rattle.c_images.specs.declared.reader.WordsFault.{WordsFault}
 use Rattle.c_images.specs.declared.replies.ReplyKind.{ReplyKind}
-use Rattle.c_sessions.specs.Sessions.{IsReadyOf}
+use Rattle.c_sessions.specs.Sessions.{IsOpenSessionOf}
 use Rattle.c_sessions.specs.declared.session.Session.{Session}
 use Rattle.c_sessions.specs.declared.start.OpenFault.{OpenFault}
 use Rattle.c_sessions.specs.declared.start.OpenFault.TheVariants.{Start, InTheWay}
@@ -20,7 +20,7 @@ use Rattle.githoppu_c.specs.declared.content.HandleState.TheVariants.{Session as
 use Rattle.githoppu_c.proofs.InBoxes.{Boxed, as_boxes, value_of}
 
 -- sessions of an object that is what C may call by this
-module _ {O : Type 0} (any : Session O → AnyHandleState) (replies : ReplyKind) (callable : (r : Running O) (s : Session O) → KeepsReplies replies r → IsReadyOf r s → IsCallable (any s))
+module _ {O : Type 0} (any : Session O → AnyHandleState) (replies : ReplyKind) (callable : (r : Running O) (s : Session O) → KeepsReplies replies r → IsOpenSessionOf r s → IsCallable (any s))
     (object : O) (lines count : ℕ) (base : Base → Type 0) (keeps : (b : Base) → base b → HoldsReplies (IsReplyOfKind replies) b.words) (sessions : List (Session O)) (of : AreSessionsOf object lines count base sessions) where
   abbrev pub are_opened : (wanted : ℕ) → lines ≡ wanted → MayOpen wanted count → (boxes : List Boxed) → map value_of boxes ≡ map any sessions → AreOpened any wanted count boxes
   are_opened wanted same may boxes made = record {
@@ -60,7 +60,7 @@ opening_code (Start fault) code is = inl is
 opening_code InTheWay code is = inr is
 
 -- what is ready may be called
-pub ready_callable : {O : Type 0} (o : Ghosts O) (replies : ReplyKind) (r : Running O) (s : Session O) → KeepsReplies replies r → IsReadyOf r s → IsContentCallable o replies (ContentSession s)
+pub ready_callable : {O : Type 0} (o : Ghosts O) (replies : ReplyKind) (r : Running O) (s : Session O) → KeepsReplies replies r → IsOpenSessionOf r s → IsContentCallable o replies (ContentSession s)
 ready_callable o replies r s keeps of = (of.ready, subst (KeepsReplies replies) (sym of.same) keeps)
 
 -- why sessions were not recovered from words with a head

@@ -3,7 +3,7 @@ use Rattle.std.proofs.Common.{◌≡◌, List, Option, Result, Err, Ok, true, �
 use Rattle.std.specs.Prelude.{MatchResult}
 use Rattle.cx_core.specs.State.{Instance}
 use Rattle.cx_core.specs.declared.entry.Base.{Base}
-use Rattle.table_invariant.specs.Running.{IsRunning, Running}
+use Rattle.table_invariant.specs.Running.{IsTableWithinLimits, Running}
 use Rattle.table_invariant.specs.Seats.{Seated}
 use Rattle.cx_table.specs.Remains.{ClosingWitness}
 use Rattle.cx_table.specs.declared.remains.Remains.{Remains}
@@ -53,7 +53,7 @@ module _ (before : Option ℕ) (r : Running ProgramObject) (other : is_other bef
   pub opened_with : IsOpened program_ghosts.line_count program_ghosts.lawful r → IsOpened program_ghosts.line_count program_ghosts.lawful with_before
   opened_with is = record { lines = is.lines; enough = is.enough; small = is.small; base = is.base }
 
-  pub running_with : IsRunning program_ghosts.line_count program_ghosts.lawful r → IsRunning program_ghosts.line_count program_ghosts.lawful with_before
+  pub running_with : IsTableWithinLimits program_ghosts.line_count program_ghosts.lawful r → IsTableWithinLimits program_ghosts.line_count program_ghosts.lawful with_before
   running_with is = record { some = is.some; few = is.few; lines = is.lines; enough = is.enough; small = is.small; base = is.base; words = is.words; slots = is.slots }
 
   module _ (seats : List Seated) (left : Remains) (choice : ℕ) where

@@ -6,7 +6,7 @@ use Rattle.cx_base.specs.OldFormat.{OldFormat, no_old_format}
 use Rattle.cx_base.specs.declared.object.Object.{Ghosts}
 use Rattle.cx_core.specs.declared.entry.Base.{Base}
 use Rattle.cx_core.specs.Base.{LawfulBase}
-use Rattle.table_invariant.specs.Running.{IsRunning, Running, instance_at}
+use Rattle.table_invariant.specs.Running.{IsTableWithinLimits, Running, instance_at}
 use Rattle.table_invariant.specs.Seats.{Seated}
 use Rattle.cx_table.specs.Remains.{ClosingWitness}
 use Rattle.cx_table.specs.declared.remains.Remains.{Remains}
@@ -266,7 +266,7 @@ module _ (words : List ℕ) where
   -- what is taken up of the image that a session took of any running service of a program's object
   abbrev pub TakenIsTakenUp : Type 0
   TakenIsTakenUp =
-      (table : Running ProgramObject) (place : ℕ) (region : List ℕ) (answer : Result Base WordsFault) → IsRunning program_ghosts.line_count program_ghosts.lawful table
+      (table : Running ProgramObject) (place : ℕ) (region : List ℕ) (answer : Result Base WordsFault) → IsTableWithinLimits program_ghosts.line_count program_ghosts.lawful table
       → LawfulBase table.lines (program_ghosts.lawful table.object) (base_at place region) → IsWrittenOf 3 table.callers table.lines place region words
       → MatchResult answer (IsTakenUp (program_ghosts.version_number table.object) (program_ghosts.lawful table.object) (program_ghosts.old_format table.object) words)
       (IsWordsFault (program_ghosts.version_number table.object) (program_ghosts.lawful table.object) (program_ghosts.old_format table.object) words)

@@ -5,7 +5,7 @@ use Rattle.std.specs.Arc.{arc_value}
 use Rattle.cx_base.specs.declared.object.Object.{Ghosts}
 use Rattle.cx_core.specs.Base.{LawfulBase}
 use Rattle.cx_core.specs.declared.entry.Base.{Base}
-use Rattle.table_invariant.specs.Running.{IsRunning, Running}
+use Rattle.table_invariant.specs.Running.{IsTableWithinLimits, Running}
 use Rattle.table_invariant.specs.Seats.{Seated}
 use Rattle.cx_table.specs.declared.remains.Remains.{Remains}
 use Rattle.recovery.specs.Kept.{IsKeptBy}
@@ -152,7 +152,7 @@ ContentComesBack o kind replies choice words code content = Unit {0}
 
 -- and so is the one that a session took of a running one
 pub record IsTakenImage {O : Type 0} (o : Ghosts O) (kind : ℕ) (words : List ℕ) (r : Running O) : Type 0 where
-  pub running : IsRunning o.line_count o.lawful r
+  pub running : IsTableWithinLimits o.line_count o.lawful r
   pub has : IsRegionIn o kind r words
   pub of : IsOfKind kind (o.line_count r.object) words
   pub up : IsAnsweredBy o r.object words (λ base. base ≡ base_at has.place has.region)

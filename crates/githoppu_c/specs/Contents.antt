@@ -20,7 +20,7 @@ use Rattle.c_images.specs.declared.replies.ReplyKind.{ReplyKind}
 use Rattle.c_images.specs.declared.replies.ReplyKind.TheVariants.{Document, Queue as QueueReplies, Program as ProgramReplies}
 use Rattle.c_sessions.specs.Closings.{IsClosedOf}
 use Rattle.c_sessions.specs.Handing.{IsSessionRestOf}
-use Rattle.c_sessions.specs.Sessions.{CallsIn, FinishesIn, IsSessionReady, IsReadyOf}
+use Rattle.c_sessions.specs.Sessions.{CallsIn, FinishesIn, IsSessionOpen, IsOpenSessionOf}
 use Rattle.c_sessions.specs.declared.session.Session.{Session as SessionOf}
 use Rattle.c_sessions.specs.declared.steps.Called.{Called}
 use Rattle.c_sessions.specs.declared.steps.Called.TheVariants.{OutOfTurn}
@@ -51,7 +51,7 @@ KeepsReplies replies r = HoldsReplies (IsReplyOfKind replies) r.base.words
 -- What C may call: a session that is ready, a service with all its callers that is still to be closed, or with those that the last session found, and what a
 -- closed one left. The service was opened with results that keep replies.
 abbrev pub IsContentCallable : {O : Type 0} → Ghosts O → ReplyKind → HandleState O → Type 0
-IsContentCallable o replies (Session session) = IsSessionReady session × KeepsReplies replies (arc_value session.service)
+IsContentCallable o replies (Session session) = IsSessionOpen session × KeepsReplies replies (arc_value session.service)
 IsContentCallable o replies (Kept kept) = AreSeats kept.service (seats_of kept.callers.items) × KeepsReplies replies kept.service
 IsContentCallable {O = O} o replies (Unclosed rest) = (r : Running O) × (given : List Handed) × IsSessionRestOf r given rest × KeepsReplies replies r
 IsContentCallable {O = O} o replies (Closed remains) = (r : Running O) × IsClosedOf o.line_count o.lawful o.step o.only_reads r remains × KeepsReplies replies r
@@ -73,7 +73,7 @@ program_session session = Program (Session session)
 -- a session of this service, of which C has this
 pub record IsSessionIn {O : Type 0} (any : SessionOf O → AnyHandleState) (r : Running O) (content : AnyHandleState) : Type 0 where
   pub session : SessionOf O
-  pub of : IsReadyOf r session
+  pub of : IsOpenSessionOf r session
   pub is : content ≡ any session
 
 -- this many boxes, with this in each, which C may call
@@ -89,7 +89,7 @@ pub record AreSessionsOf {O : Type 0} (object : O) (lines count : ℕ) (base : B
   pub lines_are : service.lines ≡ lines
   pub said : base service.base
   pub all : length sessions ≡ count
-  pub each : All (IsReadyOf service) sessions
+  pub each : All (IsOpenSessionOf service) sessions
 
 -- what may be opened: an object of 64 to 16,384 lines, with 1 to 8 sessions
 pub record MayOpen (lines count : ℕ) : Type 0 where

@@ -2,8 +2,8 @@
 
 ghost use Rattle.std.specs.Prelude.{◌≡◌};
 ghost use Rattle.std.specs.Arc.{arc_value};
-ghost use Rattle.table_invariant.specs.Running.{IsRunning};
-ghost use Rattle.c_sessions.specs.Sessions.{IsSessionReady};
+ghost use Rattle.table_invariant.specs.Running.{IsTableWithinLimits};
+ghost use Rattle.c_sessions.specs.Sessions.{IsSessionOpen};
 ghost use Rattle.githoppu_c.specs.Checkpoints.{TakesAs};
 
 use crate::codes::{AGAIN, BAD_SIZE, DONE, OUT_OF_TURN, STOPPED};
@@ -19,10 +19,10 @@ pub fn take_to<O: Object>(
     words: &mut [u64],
     needed: &mut u64,
 ) -> i32
-    requires ready { IsSessionReady session.old }
-    ensures ready { IsSessionReady session.new }
+    requires ready { IsSessionOpen session.old }
+    ensures ready { IsSessionOpen session.new }
     ensures same { arc_value session.new.service ≡ arc_value session.old.service }
-    ensures running { IsRunning O.line_count O.lawful (arc_value session.old.service) }
+    ensures running { IsTableWithinLimits O.line_count O.lawful (arc_value session.old.service) }
     ensures takes { TakesAs O.Object kind session.old session.new words.old words.new needed.new result }
 {
     let lines = session.lines();

@@ -24,7 +24,7 @@ use Rattle.life_records.specs.Works.{AreWorks, IsReadLine, IsWork}
 use Rattle.pool_lives.proofs.Ghosts.{locals_long, locals_more}
 use Rattle.pool_lives.proofs.Making.{few_calls}
 use Rattle.pool_lives.specs.Asking.{MayAsk}
-use Rattle.pool_lives.specs.Gathering.{AddsServed, AreClientsGathered, ClientHasNever, HaveLines, IsLineAt}
+use Rattle.pool_lives.specs.Gathering.{AddsServed, AreClientsGathered, ClientHasImpossibleEnd, HaveLines, IsLineAt}
 use Rattle.pool_lives.specs.Ghosts.{IsCallAt, local_of, locals_from}
 use Rattle.pool_lives.specs.Working.{CannotBeLeft, HasClosing, HasMadeCalls, IsAtWork, IsCalling, IsOver, ClientServedOf}
 use Rattle.pool_lives.specs.declared.gather.GatheredClients.{GatheredClients}
@@ -62,8 +62,8 @@ module _ {Op Reply Store : Type 0} (m : Meaning Op Reply Store) (life : Life Op)
       }
 
   module _ (clients : List Client) (client : Client) (long : length clients ≡ length calls) where
-    never_stays : ClientHasNever m life clients calls → ClientHasNever m life (clients ++ client ∷ []) (calls ++ own ∷ [])
-    never_stays h = record {
+    impossible_stays : ClientHasImpossibleEnd m life clients calls → ClientHasImpossibleEnd m life (clients ++ client ∷ []) (calls ++ own ∷ [])
+    impossible_stays h = record {
       number = h.number;
       client = h.client;
       there = slice_get-append_left clients (client ∷ []) h.number h.client h.there;
@@ -72,8 +72,8 @@ module _ {Op Reply Store : Type 0} (m : Meaning Op Reply Store) (life : Life Op)
       cannot = h.cannot;
     }
 
-    never_now : CannotBeLeft m life (length calls) client own → ClientHasNever m life (clients ++ client ∷ []) (calls ++ own ∷ [])
-    never_now cannot = record {
+    impossible_now : CannotBeLeft m life (length calls) client own → ClientHasImpossibleEnd m life (clients ++ client ∷ []) (calls ++ own ∷ [])
+    impossible_now cannot = record {
       number = length calls;
       client = client;
       there = ap (slice_get (clients ++ client ∷ [])) (sym long) ∙ slice_get-last clients client;
@@ -82,11 +82,11 @@ module _ {Op Reply Store : Type 0} (m : Meaning Op Reply Store) (life : Life Op)
       cannot = cannot;
     }
 
-    works_more : (es es' : List (JournalLine Reply)) (rs rs' : List (ReadLine Reply)) → GoesOn m life → (b c : Bool) → MatchBool b (ClientHasNever m life clients calls) (HaveLines m life calls es rs)
+    works_more : (es es' : List (JournalLine Reply)) (rs rs' : List (ReadLine Reply)) → GoesOn m life → (b c : Bool) → MatchBool b (ClientHasImpossibleEnd m life clients calls) (HaveLines m life calls es rs)
         → MatchBool c (CannotBeLeft m life (length calls) client own) (HasMadeCalls m life (length calls) (length (own_ops (length calls) life.commands)) own es' rs')
-        → MatchBool (b || c) (ClientHasNever m life (clients ++ client ∷ []) (calls ++ own ∷ [])) (HaveLines m life (calls ++ own ∷ []) (es ++ es') (rs ++ rs'))
-    works_more es es' rs rs' go_on true c all one = never_stays all
-    works_more es es' rs rs' go_on false true all one = never_now one
+        → MatchBool (b || c) (ClientHasImpossibleEnd m life (clients ++ client ∷ []) (calls ++ own ∷ [])) (HaveLines m life (calls ++ own ∷ []) (es ++ es') (rs ++ rs'))
+    works_more es es' rs rs' go_on true c all one = impossible_stays all
+    works_more es es' rs rs' go_on false true all one = impossible_now one
     works_more es es' rs rs' go_on false false all one = lines_more es es' rs rs' go_on all one
 
 -- a client's calls, however its worker ended
@@ -94,9 +94,9 @@ module _ {O Op Reply Store : Type 0} (m : Meaning Op Reply Store) (life : Life O
   record Ended (k : ℕ) (served : ServedClient Reply) : Type 0 where
     who : IsCalling r table life.clients k served.client
     few : length (entries_called who.calls) ≤ length (own_ops k life.commands)
-    end_is : MatchBool served.never (CannotBeLeft m life k served.client who.calls) (HasMadeCalls m life k (length (own_ops k life.commands)) who.calls served.lines.entries.items served.lines.reads.items)
+    end_is : MatchBool served.impossible (CannotBeLeft m life k served.client who.calls) (HasMadeCalls m life k (length (own_ops k life.commands)) who.calls served.lines.entries.items served.lines.reads.items)
 
-  ended : (k : ℕ) (served : ServedClient Reply) (b : Bool) → served.never ≡ b → MatchBool b (IsOver m life r table life.clients k served.client) (IsAtWork m life r table life.clients k (length (own_ops k life.commands)) served.client served.lines) → Ended k served
+  ended : (k : ℕ) (served : ServedClient Reply) (b : Bool) → served.impossible ≡ b → MatchBool b (IsOver m life r table life.clients k served.client) (IsAtWork m life r table life.clients k (length (own_ops k life.commands)) served.client served.lines) → Ended k served
   ended k served true is o = record { who = o.who; few = o.few; end_is = rw is o.cannot }
   ended k served false is w = record {
     who = w.who;
@@ -108,7 +108,7 @@ module _ {O Op Reply Store : Type 0} (m : Meaning Op Reply Store) (life : Life O
   gathered_more before after served go_on g adds s =
       let cs = before.clients.items in
       let n = length cs in
-      let e = ended n served served.never refl s in
+      let e = ended n served served.impossible refl s in
       let own = e.who.calls in
       let long : length cs ≡ length g.calls = sym (AllZip-long (HasCalls r) cs g.calls g.has) in
       let longer : length after.clients.items ≡ suc n = omega (arith, ap length adds.client, length-append cs (served.client ∷ [])) in
@@ -122,15 +122,15 @@ module _ {O Op Reply Store : Type 0} (m : Meaning Op Reply Store) (life : Life O
           | inl there ↦ g.few k c there
           | inr new ↦ subst (λ (xs : List Call). length (entries_called xs) ≤ length (own_ops k life.commands)) new.1 (subst (λ i. length (entries_called own) ≤ length (own_ops i life.commands)) (long ∙ sym new.0) e.few)
         ];
-        works = rw (adds.client, adds.entries, adds.reads, adds.never_is)
-            (works_more m life g.calls own cs served.client long before.lines.entries.items served.lines.entries.items before.lines.reads.items served.lines.reads.items go_on before.never served.never g.works
-            (subst (λ k. MatchBool served.never (CannotBeLeft m life k served.client own) (HasMadeCalls m life k (length (own_ops k life.commands)) own served.lines.entries.items served.lines.reads.items)) long e.end_is));
+        works = rw (adds.client, adds.entries, adds.reads, adds.impossible_is)
+            (works_more m life g.calls own cs served.client long before.lines.entries.items served.lines.entries.items before.lines.reads.items served.lines.reads.items go_on before.impossible served.impossible g.works
+            (subst (λ k. MatchBool served.impossible (CannotBeLeft m life k served.client own) (HasMadeCalls m life k (length (own_ops k life.commands)) own served.lines.entries.items served.lines.reads.items)) long e.end_is));
       }
 
 -- with no clients there is nothing
-pub gathered_none : {O Op Reply Store : Type 0} (m : Meaning Op Reply Store) (life : Life Op) (r : Running O) (table : TableId) (g : GatheredClients Reply) → AreWorks m.encoding life [] [] [] [] [] → g.clients.items ≡ [] → g.lines.entries.items ≡ [] → g.lines.reads.items ≡ [] → g.never ≡ false
+pub gathered_none : {O Op Reply Store : Type 0} (m : Meaning Op Reply Store) (life : Life Op) (r : Running O) (table : TableId) (g : GatheredClients Reply) → AreWorks m.encoding life [] [] [] [] [] → g.clients.items ≡ [] → g.lines.entries.items ≡ [] → g.lines.reads.items ≡ [] → g.impossible ≡ false
     → AreClientsGathered m life r table g
-gathered_none {Reply = Reply} m life r table g works clients entries reads never = record {
+gathered_none {Reply = Reply} m life r table g works clients entries reads impossible = record {
   each = rw clients (All-nil (MayAsk r table));
   numbers = rw clients refl;
   closing = rw clients (All-nil (HasClosing r table life.clients));
@@ -138,7 +138,7 @@ gathered_none {Reply = Reply} m life r table g works clients entries reads never
   has = rw clients tt;
   few = λ k own at. absurd (none-some own at);
   works =
-      subst (λ b. MatchBool b (ClientHasNever m life g.clients.items []) (HaveLines m life [] g.lines.entries.items g.lines.reads.items)) (sym never)
+      subst (λ b. MatchBool b (ClientHasImpossibleEnd m life g.clients.items []) (HaveLines m life [] g.lines.entries.items g.lines.reads.items)) (sym impossible)
       (subst (λ es. HaveLines m life [] es g.lines.reads.items) (sym entries)
       (subst (λ rs. HaveLines m life [] [] rs) (sym reads)
       (record {

@@ -9,6 +9,6 @@ pub mod Legal
 pub mod Lines
 mod Living
 mod Making
-mod Never
+mod Impossible
 mod Opening
 mod Recording

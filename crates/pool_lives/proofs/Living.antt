@@ -22,10 +22,10 @@ use Rattle.life_records.specs.Records.{Life, LifeRecord, Meaning, ReadLine}
 use Rattle.life_records.specs.Works.{AreWorks}
 use Rattle.pool_lives.specs.Recorded.{AreAnswersInTurn}
 use Rattle.pool_lives.proofs.Ghosts.{locals_long}
-use Rattle.pool_lives.proofs.Never.{fewer_in_all, no_bad_call}
+use Rattle.pool_lives.proofs.Impossible.{fewer_in_all, no_bad_call}
 use Rattle.pool_lives.proofs.Recording.{callers_are, entries_long, has_tickets, in_turn}
 use Rattle.pool_lives.specs.Asking.{MayAsk}
-use Rattle.pool_lives.specs.Gathering.{AreClientsGathered, ClientHasNever, HaveLines}
+use Rattle.pool_lives.specs.Gathering.{AreClientsGathered, ClientHasImpossibleEnd, HaveLines}
 use Rattle.pool_lives.specs.Ghosts.{locals_from}
 use Rattle.pool_lives.specs.Running.{HasMet}
 use Rattle.pool_lives.specs.declared.gather.GatheredClients.{GatheredClients}
@@ -73,8 +73,8 @@ module _ {O Op Reply Store : Type 0} (m : Meaning Op Reply Store) (steps : O →
 -- and no client met what cannot be
 module _ {O Op Reply Store : Type 0} (t : TypedSteps Op Reply Store) (steps : O → List ℕ → List ℕ → List ℕ × List ℕ) (readings : O → List ℕ → Bool) (life : Life Op) (r : Running O) (table : TableId) (g : GatheredClients Reply) (gathered : AreClientsGathered t.meaning life r table g) (remains : Remains)
     (closed : IsClosed r (instance_at r steps readings) g.clients.items remains) (step_is : steps r.object ≡ t.step) (base : LawfulBase t.lines t.lawful r.base) (tickets : r.base.place + length life.commands ≤ 2 ^ 40) where
-  pub never : ClientHasNever t.meaning life g.clients.items gathered.calls → ⊥
-  never h =
+  pub impossible : ClientHasImpossibleEnd t.meaning life g.clients.items gathered.calls → ⊥
+  impossible h =
       let inst = instance_at r steps readings in
       let all = answered t.meaning steps readings life r table g gathered remains closed in
       let leaves = closed.leaves in

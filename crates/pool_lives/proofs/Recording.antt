@@ -20,7 +20,7 @@ use Rattle.life_records.specs.Records.{JournalLine, Life, Meaning, ReadLine}
 use Rattle.life_records.specs.Works.{IsLineOf, by_entry}
 use Rattle.pool_lives.proofs.InTurn.{line_behind}
 use Rattle.pool_lives.specs.Recorded.{AreAnswersInTurn, AreOfCallers, HaveTickets, IsCallersAnswer, IsEntryOfSomeCaller, IsReadOfSomeCaller}
-use Rattle.pool_lives.proofs.Never.{all_long, local_back, local_there}
+use Rattle.pool_lives.proofs.Impossible.{all_long, local_back, local_there}
 use Rattle.pool_lives.specs.Gathering.{HaveLines, IsLineAt}
 use Rattle.pool_lives.specs.Ghosts.{answer_of, as_own, local_of, locals_from, seen_from}
 use Rattle.seat_pool.specs.Gathering.{one_at}

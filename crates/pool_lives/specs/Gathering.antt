@@ -28,7 +28,7 @@ pub record HaveLines {Op Reply Store : Type 0} (m : Meaning Op Reply Store) (lif
   pub reads_at : All (λ (line : ReadLine Reply). IsLineAt calls line.client line.command line.place line.place) reads
 
 -- some client has what none can have
-pub record ClientHasNever {Op Reply Store : Type 0} (m : Meaning Op Reply Store) (life : Life Op) (clients : List Client) (calls : List (List Call)) : Type 0 where
+pub record ClientHasImpossibleEnd {Op Reply Store : Type 0} (m : Meaning Op Reply Store) (life : Life Op) (clients : List Client) (calls : List (List Call)) : Type 0 where
   pub number : ℕ
   pub client : Client
   pub there : slice_get clients number ≡ Some client
@@ -44,11 +44,11 @@ pub record AreClientsGathered {O Op Reply Store : Type 0} (m : Meaning Op Reply 
   pub calls : List (List Call)
   pub has : AllZip (HasCalls r) g.clients.items calls
   pub few : (number : ℕ) (own : List Call) → slice_get calls number ≡ Some own → length (entries_called own) ≤ length (own_ops number life.commands)
-  pub works : MatchBool g.never (ClientHasNever m life g.clients.items calls) (HaveLines m life calls g.lines.entries.items g.lines.reads.items)
+  pub works : MatchBool g.impossible (ClientHasImpossibleEnd m life g.clients.items calls) (HaveLines m life calls g.lines.entries.items g.lines.reads.items)
 
 -- one client's more
 pub record AddsServed {Reply : Type 0} (before after : GatheredClients Reply) (served : ServedClient Reply) : Type 0 where
   pub client : after.clients.items ≡ before.clients.items ++ served.client ∷ []
   pub entries : after.lines.entries.items ≡ before.lines.entries.items ++ served.lines.entries.items
   pub reads : after.lines.reads.items ≡ before.lines.reads.items ++ served.lines.reads.items
-  pub never_is : after.never ≡ (before.never || served.never)
+  pub impossible_is : after.impossible ≡ (before.impossible || served.impossible)

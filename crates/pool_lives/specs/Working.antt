@@ -94,5 +94,5 @@ MakesCommand m life r table clients client number now lines false = IsOver m lif
 
 -- the result of a worker
 abbrev pub ClientServedOf : {O Op Reply Store : Type 0} → Meaning Op Reply Store → Life Op → Running O → TableId → ℕ → ℕ → ServedClient Reply → Type 0
-ClientServedOf m life r table clients client served = MatchBool served.never (IsOver m life r table clients client served.client)
+ClientServedOf m life r table clients client served = MatchBool served.impossible (IsOver m life r table clients client served.client)
     (IsAtWork m life r table clients client (length (own_ops client life.commands)) served.client served.lines)

@@ -18,7 +18,7 @@ use typed_object::TypedObject;
 pub(crate) struct GatheredClients<Reply> {
     pub(crate) clients: Vec<Client>,
     pub(crate) lines: Lines<Reply>,
-    pub(crate) never: bool,
+    pub(crate) impossible: bool,
 }
 
 impl<Reply: Drop> GatheredClients<Reply> {
@@ -29,13 +29,13 @@ impl<Reply: Drop> GatheredClients<Reply> {
         let GatheredClients {
             mut clients,
             lines,
-            never,
+            impossible,
         } = self;
         clients.push(served.client)?;
         Ok(GatheredClients {
             clients,
             lines: lines.joined(served.lines)?,
-            never: never || served.never,
+            impossible: impossible || served.impossible,
         })
     }
 }
@@ -62,7 +62,7 @@ pub(crate) fn gather<O: TypedObject>(
     let mut all = GatheredClients {
         clients,
         lines,
-        never: false,
+        impossible: false,
     };
     let mut works = works;
     while !works.is_empty() {

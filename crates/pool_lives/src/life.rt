@@ -45,7 +45,7 @@ pub(crate) fn live<O: TypedObject + Sync, R: Threads + Wait + Sync, G: Gate + Sy
     let GatheredClients {
         clients,
         lines,
-        never,
+        impossible,
     } = gather(alloc, object, &pool, life, works)?;
     let Lines { mut entries, reads } = lines;
     entries.sort_unstable_by_key(|line| line.ticket);
@@ -53,7 +53,7 @@ pub(crate) fn live<O: TypedObject + Sync, R: Threads + Wait + Sync, G: Gate + Sy
     let Ok(remains) = pool.close(rt, alloc, clients) else {
         return Err(AllocError);
     };
-    if never {
+    if impossible {
         unreachable!()
     }
     let journal = Items::of(entries);

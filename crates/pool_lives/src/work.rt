@@ -17,7 +17,7 @@ use typed_object::TypedObject;
 pub(crate) struct ServedClient<Reply> {
     pub(crate) client: Client,
     pub(crate) lines: Lines<Reply>,
-    pub(crate) never: bool,
+    pub(crate) impossible: bool,
 }
 
 /// Makes a client's commands in order, and passes the gate before each and after it. `Err` means out of memory.
@@ -62,7 +62,7 @@ pub(crate) fn serve<O: TypedObject, R: Wait, G: Gate>(
                 return Ok(ServedClient {
                     client,
                     lines,
-                    never: true,
+                    impossible: true,
                 });
             }
         }
@@ -70,6 +70,6 @@ pub(crate) fn serve<O: TypedObject, R: Wait, G: Gate>(
     Ok(ServedClient {
         client,
         lines,
-        never: false,
+        impossible: false,
     })
 }

@@ -40,6 +40,7 @@ fn open_for<O: Object, K: Known>(
 {
     let _ = service;
     let (line, mut pass) = LenderQueue::ruled(alloc, callers.len())?;
+    // the rule's event `Opens`: the pass knows its service from here on, and the right to open is used up
     let _spent = line.another::<Opens<K>>(&mut pass);
     Ok((line, pass))
 }
@@ -111,6 +112,7 @@ pub fn share<O: Object>(
     ensures new { IsPassOf line.now result × (view result ≡ cut_right (view pass.old)) }
 {
     let _ = service;
+    // the rule's event `Parted`: one part of the pass becomes a pass of its own
     line.another::<Parted>(pass)
 }
 

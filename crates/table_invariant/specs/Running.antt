@@ -28,7 +28,7 @@ pub record IsSeatOf {O : Type 0} (r : Running O) (seat : Seated) : Type 0 where
   pub region : seat.region ≡ length r.base.words
 
 -- a running table is within the limits: 1 to 8 callers, 64 to 16,384 lines, a lawful base, and all words of the table
-pub record IsRunning {O : Type 0} (line_count : O → ℕ) (lawful : O → List ℕ → Type 0) (r : Running O) : Type 0 where
+pub record IsTableWithinLimits {O : Type 0} (line_count : O → ℕ) (lawful : O → List ℕ → Type 0) (r : Running O) : Type 0 where
   pub some : 1 ≤ r.callers
   pub few : r.callers ≤ 8
   pub lines : r.lines ≡ line_count r.object

@@ -6,7 +6,7 @@ use Rattle.cx_core.specs.declared.local.HeldShared.{HeldShared}
 use Rattle.cx_core.specs.Region.{region_words}
 use Rattle.cx_core.specs.Rights.{shared_on}
 use Rattle.table_invariant.specs.Fitting.{Fitting}
-use Rattle.table_invariant.specs.Running.{IsRunning, Running}
+use Rattle.table_invariant.specs.Running.{IsTableWithinLimits, Running}
 use Rattle.table_invariant.specs.Seats.{Seated}
 use Rattle.cx_table.specs.Right.{Right}
 use Rattle.cx_attempts.specs.Replaying.{unchanged_by_replay, except_shared_loads}
@@ -35,7 +35,7 @@ pub access_rights : (r : ℕ) (before after : Seated) → unchanged_by_access r 
 access_rights r before after same = sym (held_rights r after) ∙ ap all_rights same ∙ held_rights r before
 
 pub took_it : {O : Type 0} (line_count : O → ℕ) (lawful : O → List ℕ → Type 0) (r : Running O) (step : O → List ℕ → List ℕ → List ℕ × List ℕ) (reads : O → List ℕ → Bool) (q : ℕ) (before after : Seated) (tried : ExclusiveTried) (held : Right) →
-    IsRunning line_count lawful r → all_rights before ≡ no_rights → TriesExclusive r step reads q before after tried → tried ≡ Got held → Fitting r.lines (lawful r.object) r.base (step r.object) after.known → TakesIt (line_count r.object) r (lawful r.object) (step r.object) after held
+    IsTableWithinLimits line_count lawful r → all_rights before ≡ no_rights → TriesExclusive r step reads q before after tried → tried ≡ Got held → Fitting r.lines (lawful r.object) r.base (step r.object) after.known → TakesIt (line_count r.object) r (lawful r.object) (step r.object) after held
 took_it line_count lawful r step reads q before after tried held running free tries is fits =
     let a = subst (AnswersExclusive r.callers q tries.found before after) is tries.answer in
     record {

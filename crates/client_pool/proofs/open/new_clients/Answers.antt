@@ -37,7 +37,7 @@ returns g c =
     let m = c.new_client-last.result in
     let made = c.new_client-last.ensures in
     let rooms = c.args.rooms in
-    let closing : Closing = record { rest = c.new_client-last.new.pass; lents = rooms.lents; former = rooms.former; gathered = rooms.gathered; out = rooms.out } in
+    let closing : Closing = record { rest = c.new_client-last.new.pass; lents = rooms.lents; former = rooms.former; handed_room = rooms.handed_room; out = rooms.out } in
     let last : Client = record { number = m.number; floor = m.floor; caught_up = m.caught_up; answers = m.answers; lent = m.lent; closing = Some closing } in
     let items = c.push_reserved-2.new.self.items in
     let short : count - 1 < 1024 = (let most = c.requires.count.1 in omega (arith, most)) in
@@ -46,4 +46,4 @@ returns g c =
     let limits = limits_at (view c.args.pass).home in
     all_made r table limits count c.loop-number.clients.items items last closing c.push_reserved-2.ensures.items refl
     (subst (λ k. AreMade r table limits k items) more (made_more r table limits (limits_at (view c.loop-number.pass).home) (count - 1) c.loop-number.clients.items items last m (subst (λ k. AreMade r table limits k c.loop-number.clients.items) n i.made) c.push_reserved-2.ensures.items made.client i.limits refl refl refl refl))
-    (record { pass = made.pass.0; rest = rest; lents = c.requires.rooms.lents; former = c.requires.rooms.former; gathered = c.requires.rooms.gathered; out = c.requires.rooms.out })
+    (record { pass = made.pass.0; rest = rest; lents = c.requires.rooms.lents; former = c.requires.rooms.former; handed_room = c.requires.rooms.handed_room; out = c.requires.rooms.out })

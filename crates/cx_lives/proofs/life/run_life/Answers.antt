@@ -11,15 +11,15 @@ use Rattle.life_records.specs.Told.{IsTold}
 use Rattle.life_records.specs.Works.{AreWorks}
 use Rattle.life_records.proofs.TypedSteps.{typed_steps}
 use Rattle.life_records.specs.Records.{JournalLine, LifeRecord}
-use Rattle.cx_lives.specs.Gathering.{HasNever}
+use Rattle.cx_lives.specs.Gathering.{HasImpossibleEnd}
 use Rattle.cx_lives.specs.Works.{ServedOf}
 use Rattle.cx_lives.proofs.Gathering.{gathered_seats, locals_in, locals_long, numbered, seats_long}
 use Rattle.cx_core.specs.Base.{LawfulBase}
-use Rattle.cx_lives.proofs.Never.{never}
+use Rattle.cx_lives.proofs.Impossible.{impossible}
 use Rattle.cx_lives.proofs.life.run_life.Goals as goal
 
-pub gather-requires-clause-works : goal.gather-requires-clause-works
-gather-requires-clause-works g c = λ κs lives.
+pub finish_and_gather-requires-clause-works : goal.gather-requires-clause-works
+finish_and_gather-requires-clause-works g c = λ κs lives.
     let callers = c.args.callers in
     let works = c.in_ok-works.works in
     let few = seats_long c.args.service callers.items c.requires.seats in
@@ -40,11 +40,11 @@ unreachable-requires g c =
     let gathered = c.in_ok-handed.ensures.gathered in
     let left = c.in-Ok.ensures.remains.leaves in
     let base = c.lines-lines.ensures.running.base in
-    let has : HasNever (g.O.TypedObject.meaning c.args.service.object) life ls = subst (λ b. MatchBool b (HasNever (g.O.TypedObject.meaning c.args.service.object) life ls) (AreWorks (g.O.TypedObject.meaning c.args.service.object).encoding life ls f.lines.entries.items f.lines.reads.items f.ends.stops.items f.ends.fulls.items)) c.if-never.true gathered.works in
+    let has : HasImpossibleEnd (g.O.TypedObject.meaning c.args.service.object) life ls = subst (λ b. MatchBool b (HasImpossibleEnd (g.O.TypedObject.meaning c.args.service.object) life ls) (AreWorks (g.O.TypedObject.meaning c.args.service.object).encoding life ls f.lines.entries.items f.lines.reads.items f.ends.stops.items f.ends.fulls.items)) c.if-impossible.true gathered.works in
     let o = r.object in
     let t = typed_steps _ _ (g.O.Object.opening o) _ (g.O.Object.only_reads o) (g.O.TypedObject.meaning o) c.object_is_meant.ensures.object c.object_is_meant.ensures.means in
     let at_lines = subst (λ n. LawfulBase n (g.O.Object.lawful o) r.base) c.lines-lines.ensures.running.lines base in
-    never t life (instance_at r g.O.Object.step g.O.Object.only_reads) refl at_lines left.words left.whole left.state ls left.shows gathered.each c.requires.tickets has
+    impossible t life (instance_at r g.O.Object.step g.O.Object.only_reads) refl at_lines left.words left.whole left.state ls left.shows gathered.each c.requires.tickets has
 
 pub returns : goal.returns
 returns g c =
@@ -58,7 +58,7 @@ returns g c =
     let history = c.in-Ok.remains.trail.history in
     let journal = c.sort_unstable_by_key.new.self.items in
     let works : AreWorks (g.O.TypedObject.meaning c.args.service.object).encoding life ls f.lines.entries.items f.lines.reads.items f.ends.stops.items f.ends.fulls.items =
-    subst (λ b. MatchBool b (HasNever (g.O.TypedObject.meaning c.args.service.object) life ls) (AreWorks (g.O.TypedObject.meaning c.args.service.object).encoding life ls f.lines.entries.items f.lines.reads.items f.ends.stops.items f.ends.fulls.items)) c.if-never.false gathered.works in
+    subst (λ b. MatchBool b (HasImpossibleEnd (g.O.TypedObject.meaning c.args.service.object) life ls) (AreWorks (g.O.TypedObject.meaning c.args.service.object).encoding life ls f.lines.entries.items f.lines.reads.items f.ends.stops.items f.ends.fulls.items)) c.if-impossible.false gathered.works in
     let sorted : IsByTicket f.lines.entries.items journal = record {
       moved = c.sort_unstable_by_key.ensures.permutation;
       up = IsNonDecreasingBy-from_sort_by_key (λ (l : JournalLine g.row.O-Reply.Denot). l.ticket) journal c.sort_unstable_by_key.ensures.sorted (λ a r q k. search rules);

@@ -16,7 +16,7 @@ loop-works-init g c =
     let table = c.args.pool.now.line.table.shared.table_id in
     let none = c.new-clients.ensures.items in
     record {
-      gathered = gathered_none m life r table (record { clients = c.new-clients.result; lines = c.new-lines.result; never = false }) (c.works_begin.ensures m.encoding life) none c.new-lines.ensures.entries c.new-lines.ensures.reads refl;
+      gathered = gathered_none m life r table (record { clients = c.new-clients.result; lines = c.new-lines.result; impossible = false }) (c.works_begin.ensures m.encoding life) none c.new-lines.ensures.entries c.new-lines.ensures.reads refl;
       rest = subst (λ (cs : List Client). AreResultsFrom (ClientServedOf m life r table life.clients) (length cs) c.args.works.items) (sym none) c.requires;
       count = omega (arith, ap length none, c.args.works.ok.0);
     }

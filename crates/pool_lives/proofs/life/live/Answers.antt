@@ -10,9 +10,9 @@ use Rattle.life_records.proofs.TypedSteps.{typed_steps}
 use Rattle.life_records.specs.Journal.{IsByTicket}
 use Rattle.life_records.specs.Records.{JournalLine, LifeRecord}
 use Rattle.cx_lives.proofs.Gathering.{numbered}
-use Rattle.pool_lives.proofs.Living.{met, never}
+use Rattle.pool_lives.proofs.Living.{met, impossible}
 use Rattle.pool_lives.proofs.Opening.{all_clients, all_new}
-use Rattle.pool_lives.specs.Gathering.{ClientHasNever, HaveLines}
+use Rattle.pool_lives.specs.Gathering.{ClientHasImpossibleEnd, HaveLines}
 use Rattle.pool_lives.specs.Running.{HasMet}
 use Rattle.pool_lives.specs.Working.{ClientServedOf, IsUncalledIn}
 use Rattle.pool_lives.proofs.life.live.Goals as goal
@@ -62,9 +62,9 @@ unreachable-requires g c =
     (subst (λ n. LawfulBase n (g.O.Object.lawful c.args.service.object) c.args.service.base) running.lines running.base)) in
     let step_is = ap g.O.Object.step (ap (λ (x : Running g.row.O.Denot). x.object) same ∙ object_is) in
     let tickets : r.base.place + length life.commands ≤ 2 ^ 40 = subst (λ (x : Running g.row.O.Denot). x.base.place + length life.commands ≤ 2 ^ 40) (sym same) c.requires.life.1 in
-    let has : ClientHasNever (g.O.TypedObject.meaning o) life f.clients.items gathered.calls =
-    subst (λ b. MatchBool b (ClientHasNever (g.O.TypedObject.meaning o) life f.clients.items gathered.calls) (HaveLines (g.O.TypedObject.meaning o) life gathered.calls f.lines.entries.items f.lines.reads.items)) c.if-never.true gathered.works in
-    never t g.O.Object.step g.O.Object.only_reads life r c.in-Ok.pool.line.table.shared.table_id f gathered c.in-Ok-close.remains c.in-Ok-close.ensures.remains step_is base tickets has
+    let has : ClientHasImpossibleEnd (g.O.TypedObject.meaning o) life f.clients.items gathered.calls =
+    subst (λ b. MatchBool b (ClientHasImpossibleEnd (g.O.TypedObject.meaning o) life f.clients.items gathered.calls) (HaveLines (g.O.TypedObject.meaning o) life gathered.calls f.lines.entries.items f.lines.reads.items)) c.if-impossible.true gathered.works in
+    impossible t g.O.Object.step g.O.Object.only_reads life r c.in-Ok.pool.line.table.shared.table_id f gathered c.in-Ok-close.remains c.in-Ok-close.ensures.remains step_is base tickets has
 
 pub returns : goal.returns
 returns g c =
@@ -79,7 +79,7 @@ returns g c =
     let journal = c.sort_unstable_by_key.new.self.items in
     let closed = c.in-Ok-close.ensures.remains in
     let lines : HaveLines m life gathered.calls es f.lines.reads.items =
-    subst (λ b. MatchBool b (ClientHasNever m life f.clients.items gathered.calls) (HaveLines m life gathered.calls es f.lines.reads.items)) c.if-never.false gathered.works in
+    subst (λ b. MatchBool b (ClientHasImpossibleEnd m life f.clients.items gathered.calls) (HaveLines m life gathered.calls es f.lines.reads.items)) c.if-impossible.false gathered.works in
     let sorted : IsByTicket es journal = record {
       moved = c.sort_unstable_by_key.ensures.permutation;
       up = IsNonDecreasingBy-from_sort_by_key (λ (l : JournalLine g.row.O-Reply.Denot). l.ticket) journal c.sort_unstable_by_key.ensures.sorted (λ a x q k. search rules);

@@ -3,7 +3,7 @@ use Rattle.std.proofs.lemmas.List.{length-set}
 use Rattle.atomic_table.specs.Table.{Me}
 use Rattle.cx_core.specs.Layout.{gap_at, word_count}
 use Rattle.table_invariant.specs.declared.rule.Known.{Known}
-use Rattle.table_invariant.specs.Running.{IsRunning, Running, instance_at}
+use Rattle.table_invariant.specs.Running.{IsTableWithinLimits, Running, instance_at}
 use Rattle.table_invariant.specs.Seats.{known_of}
 use Rattle.cx_table.specs.Gaps.{gaps_from}
 use Rattle.cx_table.proofs.GapSteps.{gap_within}
@@ -31,7 +31,7 @@ event-requires-clause-event g c =
       fits = tt;
       guard = (c.requires.slot, below);
       place = place;
-      within = (let run = subst (IsRunning g.O.Object.line_count g.O.Object.lawful) c.self.view_is c.self.invariant.0 in
+      within = (let run = subst (IsTableWithinLimits g.O.Object.line_count g.O.Object.lawful) c.self.view_is c.self.invariant.0 in
           subst (λ n. c.gap_at-word.result < n) (sym run.words)
           (subst (λ n. n < word_count t.callers (length t.base.words)) (sym place) (gap_within t.callers (length t.base.words) c.args.s at c.requires.slot below)));
     }

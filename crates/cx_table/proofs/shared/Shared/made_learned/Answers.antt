@@ -1,5 +1,5 @@
 use Rattle.std.proofs.Common.{◌∙◌, ◌≤◌, ap, subst, sym}
-use Rattle.table_invariant.specs.Running.{IsRunning, Running, instance_at}
+use Rattle.table_invariant.specs.Running.{IsTableWithinLimits, Running, instance_at}
 use Rattle.table_invariant.specs.Seats.{Seated, SeenGuard, kind_found}
 use Rattle.table_invariant.specs.Steps.{MayStepKnowing, Steps}
 use Rattle.cx_table.specs.Words.{put_by}
@@ -36,7 +36,7 @@ invariant_of-seat g c = (made g c).0
 
 pub returns : goal.returns
 returns g c =
-    let running = subst (IsRunning g.O.Object.line_count g.O.Object.lawful) c.self.view_is c.self.invariant.0 in
+    let running = subst (IsTableWithinLimits g.O.Object.line_count g.O.Object.lawful) c.self.view_is c.self.invariant.0 in
     record {
       made = (made g c).1;
       fits = step_fits g.O.Object.line_count g.O.Object.lawful g.O.Object.step g.O.Object.only_reads c.args.self.now _ _ c.learned-found.result _ running

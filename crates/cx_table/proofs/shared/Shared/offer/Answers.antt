@@ -1,6 +1,6 @@
 use Rattle.std.proofs.Common.{◌*◌, ◌+◌, ap, subst, ◌∙◌}
 use Rattle.cx_core.specs.Layout.{offer_at}
-use Rattle.table_invariant.specs.Running.{IsRunning, Running}
+use Rattle.table_invariant.specs.Running.{IsTableWithinLimits, Running}
 use Rattle.table_invariant.specs.Seats.{Seated}
 use Rattle.cx_table.proofs.Handing.{laws_at}
 use Rattle.cx_table.proofs.SetOffers.{learns_offering}
@@ -11,7 +11,7 @@ use Rattle.cx_table.proofs.shared.Shared.offer.Goals as goal
 pub stored_learned-requires-clause-learns : goal.stored_learned-requires-clause-learns
 stored_learned-requires-clause-learns g c =
     let t = c.args.self.now in
-    let running = subst (IsRunning g.O.Object.line_count g.O.Object.lawful) c.self.view_is c.self.invariant.0 in
+    let running = subst (IsTableWithinLimits g.O.Object.line_count g.O.Object.lawful) c.self.view_is c.self.invariant.0 in
     let laws = laws_at g.O.Object.line_count g.O.Object.lawful g.O.Object.step t running g.met.O.Object.keeps (λ o image law. (g.met.O.Object.shape o image law).0) g.met.O.Object.replies in
     learns_offering g.O.Object.line_count g.O.Object.lawful g.O.Object.step g.O.Object.only_reads t c.args.j c.offer_at-word.result c.offering_word-offering.result c.seat.inside.seat.me c.seat.inside.summary c.seat.inside.before c.args.seat.now running laws
     c.seat.invariant.0 (ap (λ (s : Seated). s.known) c.seat.view_is) c.requires.may.guard c.requires.told

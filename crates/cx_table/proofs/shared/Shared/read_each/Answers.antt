@@ -5,7 +5,7 @@ use Rattle.cx_core.specs.Events.{Guard}
 use Rattle.cx_core.specs.declared.kinds.Kind.TheVariants.{ReadCell}
 use Rattle.cx_core.specs.Layout.{cell_at, word_count}
 use Rattle.table_invariant.specs.declared.rule.Known.{Known}
-use Rattle.table_invariant.specs.Running.{IsRunning, Running, instance_at}
+use Rattle.table_invariant.specs.Running.{IsTableWithinLimits, Running, instance_at}
 use Rattle.table_invariant.specs.Seats.{known_of, unseen}
 use Rattle.cx_table.specs.Runs.{reads_of}
 use Rattle.cx_table.proofs.Runs.{shown_within, taught_nothing, taught_on}
@@ -32,7 +32,7 @@ event-requires-clause-event g c =
       fits = tt;
       guard = may;
       place = place;
-      within = (let run = subst (IsRunning g.O.Object.line_count g.O.Object.lawful) c.self.view_is c.self.invariant.0 in
+      within = (let run = subst (IsTableWithinLimits g.O.Object.line_count g.O.Object.lawful) c.self.view_is c.self.invariant.0 in
           subst (λ n. c.cell_at-word.result < n) (sym run.words)
           (subst (λ n. n < word_count t.callers (length t.base.words)) (sym place) (shown_within t.callers (length t.base.words) c.loop-i.i (known_of c.loop-i.seat.me.0).local.seen_slot c.args.t c.args.k run.some c.loop-i-test.true may.2)));
     }

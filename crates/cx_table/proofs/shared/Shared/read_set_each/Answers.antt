@@ -5,7 +5,7 @@ use Rattle.cx_core.specs.Events.{Guard}
 use Rattle.cx_core.specs.declared.kinds.Kind.TheVariants.{ReadSet}
 use Rattle.cx_core.specs.Layout.{set_at, word_count}
 use Rattle.table_invariant.specs.declared.rule.Known.{Known}
-use Rattle.table_invariant.specs.Running.{IsRunning, Running, instance_at}
+use Rattle.table_invariant.specs.Running.{IsTableWithinLimits, Running, instance_at}
 use Rattle.table_invariant.specs.Seats.{known_of, unseen}
 use Rattle.cx_table.specs.Runs.{set_reads_from}
 use Rattle.cx_table.proofs.Runs.{set_within, shown_cell, taught_nothing, taught_on}
@@ -34,7 +34,7 @@ event-requires-clause-event g c =
       fits = tt;
       guard = may;
       place = place;
-      within = (let run = subst (IsRunning g.O.Object.line_count g.O.Object.lawful) c.self.view_is c.self.invariant.0 in
+      within = (let run = subst (IsTableWithinLimits g.O.Object.line_count g.O.Object.lawful) c.self.view_is c.self.invariant.0 in
           subst (λ n. c.set_at-word.result < n) (sym run.words)
           (subst (λ n. n < word_count t.callers (length t.base.words)) (sym place) (set_within t.callers (length t.base.words) c.args.k at below (shown_cell t.callers (known_of c.loop-i.seat.me.0).local.seen_slot c.args.t c.args.k run.some may.2))));
     }

@@ -1,6 +1,6 @@
 use Rattle.std.proofs.Common.{◌∙◌, ◌≤◌, ap, subst, sym}
 use Rattle.cx_core.specs.declared.kinds.Kind.{Kind}
-use Rattle.table_invariant.specs.Running.{IsRunning, Running, instance_at}
+use Rattle.table_invariant.specs.Running.{IsTableWithinLimits, Running, instance_at}
 use Rattle.table_invariant.specs.Seats.{Seated, SeenGuard, known_of}
 use Rattle.table_invariant.specs.Steps.{IsBlind, MayStepKnowing, Steps, KnowledgeAfter}
 use Rattle.cx_table.proofs.Handing.{laws_at, step_fits}
@@ -44,7 +44,7 @@ invariant_of-seat g c = (made g c).0
 
 pub returns : goal.returns
 returns g c =
-    let running = subst (IsRunning g.O.Object.line_count g.O.Object.lawful) c.self.view_is c.self.invariant.0 in
+    let running = subst (IsTableWithinLimits g.O.Object.line_count g.O.Object.lawful) c.self.view_is c.self.invariant.0 in
     record {
       made = (made g c).1;
       fits = step_fits g.O.Object.line_count g.O.Object.lawful g.O.Object.step g.O.Object.only_reads c.args.self.now c.args.kind.now _ 0 _ running

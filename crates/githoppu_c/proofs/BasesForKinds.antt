@@ -1,4 +1,4 @@
--- What is taken up of words of a kind, or is not, is the base that the words say, or is not.
+-- An answer that is right for the object of the kind that the words name is right for the words.
 use Rattle.std.proofs.Common.{inr, ℤ, List, Result, Ok, Err, ℕ}
 use Rattle.std.specs.Prelude.{MatchResult}
 use Rattle.cx_core.specs.declared.entry.Base.{Base}
@@ -7,7 +7,7 @@ use Rattle.c_images.specs.declared.reader.WordsFault.{WordsFault}
 use Rattle.githoppu_c.specs.Outcomes.{IsBaseIn, IsBaseOfKind, IsFaultOfKind, RefusesBase}
 use Rattle.githoppu_c.specs.Recoveries.{IsRefusal}
 
-pub told_base : (words : List ℕ) (taken : Base → Type 0) (faulty : WordsFault → Type 0) (answer : Result Base ℤ) → IsHeaded words → ((b : Base) → taken b → IsBaseOfKind (object_kind_in words) words b)
+pub base_for_kind : (words : List ℕ) (taken : Base → Type 0) (faulty : WordsFault → Type 0) (answer : Result Base ℤ) → IsHeaded words → ((b : Base) → taken b → IsBaseOfKind (object_kind_in words) words b)
     → ((f : WordsFault) → faulty f → IsFaultOfKind (object_kind_in words) words f) → MatchResult answer taken (IsRefusal faulty) → MatchResult answer (IsBaseIn words) (RefusesBase words)
-told_base words taken faulty (Ok base) headed goes fails told = (headed, goes base told)
-told_base words taken faulty (Err code) headed goes fails told = (told.0, inr (headed, fails told.0 told.1), told.2)
+base_for_kind words taken faulty (Ok base) headed goes fails told = (headed, goes base told)
+base_for_kind words taken faulty (Err code) headed goes fails told = (told.0, inr (headed, fails told.0 told.1), told.2)

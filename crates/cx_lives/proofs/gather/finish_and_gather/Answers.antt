@@ -10,7 +10,7 @@ use Rattle.cx_lives.specs.Ends.{IsWorkOf, full_in, stop_in}
 use Rattle.cx_lives.specs.Works.{ServedOf, stop_told, stops_left}
 use Rattle.cx_lives.proofs.Gathering.{first_result, gathered_more}
 use Rattle.cx_lives.proofs.Leaving.{HoldersStopped, holders_more}
-use Rattle.cx_lives.proofs.gather.gather.Goals as goal
+use Rattle.cx_lives.proofs.gather.finish_and_gather.Goals as goal
 
 pub at_end-requires-clause-served : goal.at_end-requires-clause-served
 at_end-requires-clause-served g c = λ κs lives. (

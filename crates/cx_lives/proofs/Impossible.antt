@@ -15,7 +15,7 @@ use Rattle.life_records.proofs.TypedSteps.{TypedSteps}
 use Rattle.life_records.specs.Records.{AreOfNoReply, Life}
 use Rattle.life_records.specs.Scripts.{own_ops}
 use Rattle.cx_lives.specs.Ends.{CannotBe, IsBadAnswer, IsBadRead, IsCallerWorn}
-use Rattle.cx_lives.specs.Gathering.{HasNever, IsLocalIn}
+use Rattle.cx_lives.specs.Gathering.{HasImpossibleEnd, IsLocalIn}
 use Rattle.cx_lives.proofs.Images.{image_at, reply_at_is}
 use Rattle.cx_lives.proofs.Totals.{entries_fewer}
 
@@ -53,8 +53,8 @@ module _ {Op Reply Store : Type 0} (t : TypedSteps Op Reply Store) (life : Life 
         reply_at_is t instance step_is base s law (b.read.place - instance.base.place) b.read.op b.op b.is (subst (AreOfNoReply t.meaning) is.reply b.bad)
 
   -- so none has what none can have
-  pub never : (locals : List Local) → map shown whole ≡ locals → EachLocal locals (IsLocalIn life) → instance.base.place + length life.commands ≤ 2 ^ 40 → HasNever t.meaning life locals → ⊥
-  never locals shows each tickets h =
+  pub impossible : (locals : List Local) → map shown whole ≡ locals → EachLocal locals (IsLocalIn life) → instance.base.place + length life.commands ≤ 2 ^ 40 → HasImpossibleEnd t.meaning life locals → ⊥
+  impossible locals shows each tickets h =
       let at = map_item shown whole h.client h.local (ap (λ ls. slice_get ls h.client) shows ∙ h.of_client) in
       let w = at.0 in
       let cannot : CannotBe t.meaning life h.client (shown w) = subst (CannotBe t.meaning life h.client) (sym at.2) h.is in

@@ -3,7 +3,7 @@ use Rattle.std.specs.Prelude.{vec_len}
 use Rattle.cx_lives.specs.Gathering.{AreGathered}
 use Rattle.cx_lives.specs.Works.{AreResultsFrom, ServedOf, stops_left}
 use Rattle.cx_lives.proofs.Leaving.{HoldersStopped}
-use Rattle.cx_lives.proofs.gather.gather.Given as goal
+use Rattle.cx_lives.proofs.gather.finish_and_gather.Given as goal
 
 -- the first clients are put together, and the others are left
 abbrev pub invariant-loop-alloc : goal.invariant-loop-alloc
