@@ -89,7 +89,7 @@ RaisesNode nodes sides depth node left right nodes_now sides_now depth_now rest 
     (order : ℕ → Ordering) (t : Tree ℕ) → IsThere before nodes sides order depth node t → word_of before node 0 ≡ left → word_of before node 1 ≡ right →
     IsNodeOut before now nodes_now sides_now depth_now depth rest (spot order [] t).0 (spot order [] t).1
 
--- so far down
+-- a walk that is at this depth of a tree, at this node, on its way to where a node hangs
 pub record IsDescending (words nodes sides : List ℕ) (depth node : ℕ) (way : List (Turn ℕ)) (c : Tree ℕ) (z : ℕ) (d : Tree ℕ) : Type 0 where
   pub passed : List (Turn ℕ)
   pub left : Tree ℕ

@@ -29,7 +29,7 @@ pub record IsLoadable {Memory : Type 0} (m : Ghosts Memory) (memory : Memory) (P
   pub sized : IsPartLength (m.size memory)
   pub all : Always (m.stands memory) P
 
--- the same of one that may be stored to
+-- a memory of such a length that may be loaded and stored to, and P holds of all words that may be in it
 pub record IsStorable {Memory : Type 0} (m : Ghosts Memory) (memory : Memory) (P : List ℕ → Type 0) : Type 0 where
   pub sized : IsPartLength (m.size memory)
   pub writable : IsTrue (m.writable memory)

@@ -55,7 +55,7 @@ pub record IsTreeMade (before now : List ℕ) (old new : Tree ℕ) (node : ℕ) 
   pub root_is : root new ≡ node
   pub but : SameExcept before now old
 
--- so high
+-- a tree of the same lines stands now, of this height
 pub record IsHigh (before now : List ℕ) (old new : Tree ℕ) (node high : ℕ) : Type 0 where
   pub made : IsTreeMade before now old new node
   pub high_is : height new ≡ high

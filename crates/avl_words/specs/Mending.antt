@@ -97,7 +97,7 @@ abbrev pub Mends : List ℕ → List ℕ → ℕ → ℕ → ℕ → ℕ → ℕ
 Mends nodes sides depth settled node high top before now =
     (way : List (Turn ℕ)) (t : Tree ℕ) → IsHung before nodes sides depth way t node → high_of node before ≡ high → Settled before settled way → IsTreeMade before now (whole way t) (mended way t) top
 
--- so far up
+-- the tree is balanced from the bottom of a way up to this depth: what is above is not mended yet
 pub record IsMending (before now nodes sides : List ℕ) (depth settled : ℕ) (way : List (Turn ℕ)) (t : Tree ℕ) (top high : ℕ) : Type 0 where
   pub rest : List (Turn ℕ)
   pub tree : Tree ℕ

@@ -40,7 +40,7 @@ IsWayNoted nodes sides [] = Unit {0}
 IsWayNoted nodes sides (turn ∷ way) =
     (slice_index nodes (length way) ≡ turn.item) × (slice_index sides (length way) ≡ turn.side) × (turn.side < 2) × IsWayNoted nodes sides way
 
--- so far down a tree, on the way to where a walk ends
+-- a walk is at this depth of a tree, at this node, on the way to where it ends
 pub record IsOnWay (nodes sides : List ℕ) (order : ℕ → Ordering) (depth node : ℕ) (t : Tree ℕ) : Type 0 where
   pub way : List (Turn ℕ)
   pub here : Tree ℕ

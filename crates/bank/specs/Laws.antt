@@ -41,7 +41,7 @@ module _ (count : ℕ) (image : List ℕ) (long : count < length image) where
       let one : account + 1 ≡ 1 + account = omega arith in
       ap (λ (k : ℕ). take count (drop 1 (slice_set image k amount))) one ∙ ap (take count) (drop-set-add 1 image account amount) ∙ take-set-lt count (drop 1 image) account amount there
 
-  -- so it changes the sum by as much
+  -- to put an amount changes the sum by what the account gains
   pub sum_put : (account amount : ℕ) → account < count → sum (accounts_in count (with_amount image account amount)) + amount_of image account ≡ sum (accounts_in count image) + amount
   sum_put account amount there =
       let within : account < length (accounts_in count image) = omega (arith, accounts_long) in
@@ -108,7 +108,7 @@ long_of lines count total fits image i = omega (arith, fits.few, i.words.long)
 amount_small : (lines count total : ℕ) → FitsAccounts lines count total → (image : List ℕ) → IsBank lines count total image → (account : ℕ) → account < count → Small (amount_of image account)
 amount_small lines count total fits image i account there = omega (arith, fits.small, i.sum_is, account_within count image (long_of lines count total fits image i) account there)
 
--- so a transfer leaves words of 64 bits: the sum is as it was
+-- a transfer leaves words of 64 bits, since the sum is as it was
 given_words : (lines count total : ℕ) → FitsAccounts lines count total → (image : List ℕ) → IsBank lines count total image → (from to amount : ℕ) → IsAmountCovered count image from to amount → Words (8 * lines) (given (withdrawn image from amount) to amount)
 given_words lines count total fits image i from to amount c =
     let long = long_of lines count total fits image i in

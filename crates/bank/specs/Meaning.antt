@@ -29,7 +29,7 @@ pub record HoldsBank {Memory : Type 0} (m : Ghosts Memory) (lines count total : 
   pub size : m.size mem ≡ 8 * lines
   pub lawful : Always (m.stands mem) (IsBank lines count total)
 
--- the same, and it may be stored to
+-- a memory that may be stored to, whose words stand for such an image
 pub record MayChangeBank {Memory : Type 0} (m : Ghosts Memory) (lines count total : ℕ) (mem : Memory) : Type 0 where
   pub holds : HoldsBank m lines count total mem
   pub writable : IsTrue (m.writable mem)

@@ -49,7 +49,7 @@ pub record HoldsCounters {Memory : Type 0} (m : Ghosts Memory) (lines bound : �
   pub size : m.size mem ≡ 8 * lines
   pub lawful : Always (m.stands mem) (IsCounters lines bound)
 
--- the same, and it may be stored to
+-- a memory that may be stored to, whose words stand for such an image
 pub record MayChangeCounters {Memory : Type 0} (m : Ghosts Memory) (lines bound : ℕ) (mem : Memory) : Type 0 where
   pub holds : HoldsCounters m lines bound mem
   pub writable : IsTrue (m.writable mem)

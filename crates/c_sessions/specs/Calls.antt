@@ -59,7 +59,7 @@ AsksBy false r op tries before called after reply = EntersTo r op tries before c
 abbrev pub Calls : {O : Type 0} → (O → List ℕ → Bool) → Running O → List ℕ → ℕ → Seated → Called → Handed → List ℕ → Type 0
 Calls reads r op tries before called after reply = AsksBy (reads r.object op) r op tries before called after reply
 
--- so in any state: out of turn where an entry is linked or the caller is stopped, and then nothing is changed
+-- a call of a caller in any state: out of turn where an entry is linked or the caller is stopped, and then nothing is changed
 abbrev pub CallsFrom : {O : Type 0} → (O → List ℕ → Bool) → Running O → List ℕ → ℕ → Handed → Called → Handed → List ℕ → Type 0
 CallsFrom reads r op tries (Idle before) called after reply = Calls reads r op tries before called after reply
 CallsFrom reads r op tries before called after reply = (called ≡ OutOfTurn) × (after ≡ before)

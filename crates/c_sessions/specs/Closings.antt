@@ -42,7 +42,7 @@ module _ {O : Type 0} (line_count : O → ℕ) (lawful : O → List ℕ → Type
     pub leaves : ClosingWitness r (instance_at r step reads) seats remains
     pub order : IsLinearizedBy leaves
 
-  -- the same with whichever seats
+  -- the service is closed with some list of seats
   pub record IsClosedOf (r : Running O) (remains : Remains) : Type 0 where
     pub seats : List Seated
     pub is : IsClosedWith r seats remains

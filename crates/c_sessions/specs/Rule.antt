@@ -89,7 +89,7 @@ pub record IsOpening {O : Type 0} (items : List (HandedIn O)) (views : List (Kno
 abbrev pub IsNewQueue : {O : Type 0} → List (HandedIn O) → List (Knows O) → Type 0
 IsNewQueue items views = ((items ≡ []) × (views ≡ new_pass ∷ [])) ⊎ IsOpening items views
 
--- so it is, or it is opened
+-- the rule's accounts hold of the queue, or it is new
 abbrev pub KeepsOrIsNew : {O : Type 0} → List (HandedIn O) → List (Knows O) → Type 0
 KeepsOrIsNew items views = IsNewQueue items views ⊎ KeepsSessions items views
 
@@ -102,7 +102,7 @@ pub record TellsCallers {O : Type 0} (v : Knows O) (items : List (HandedIn O)) :
   pub callers : (h : ℕ → ℕ) → pass_weighs h v + callers_weigh (by_number h) items + (total_weight h due + total_weight (by_number h) taken) ≡ total_weight h (range_with_len 0 (callers_known v.home))
   pub accounts : (f : Handed → ℕ) → total_weight f v.given + total_weight f given ≡ total_weight f v.taken + total_weight f taken + callers_weigh f items
 
--- the same, where those that lie in the queue count among those that the pass did not take out
+-- what a pass knows of all callers, where those that lie in the queue count among those that it did not take out
 pub record TellsAll {O : Type 0} (v : Knows O) : Type 0 where
   pub due : List ℕ
   pub given : List Handed

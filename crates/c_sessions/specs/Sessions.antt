@@ -54,7 +54,7 @@ pub record AreReady {O : Type 0} (object : O) (lines count : ℕ) (base : Base) 
   pub each : All (IsOpenSessionOf service) sessions
   pub numbers : map caller_number_in sessions ≡ range_with_len 0 count
 
--- the same of a service that opens from the object as it opens
+-- this many ready sessions of one service of an object in this many lines, which opens from the object's first image
 pub record AreFirst {O : Type 0} (object : O) (lines count : ℕ) (opening : List ℕ) (sessions : List (Session O)) : Type 0 where
   pub base : Base
   pub fresh : base ≡ record { place = 0; words = fresh_region opening }
@@ -78,7 +78,7 @@ pub record SessionStands {O : Type 0} (before after : Session O) (place : ℕ) (
 abbrev pub CallsIn : {O : Type 0} → (O → List ℕ → Bool) → List ℕ → ℕ → Session O → Called → Session O → List ℕ → Type 0
 CallsIn reads op tries before called after reply = SessionStands before after (place_after called before.place) (λ b a. CallsFrom reads (arc_value before.service) op tries b called a reply)
 
--- the same of finishing, in this many attempts
+-- finishing the linked entry, in this many attempts, had this result
 abbrev pub FinishesIn : {O : Type 0} → ℕ → Session O → Called → Session O → List ℕ → Type 0
 FinishesIn tries before called after reply = SessionStands before after (place_after called before.place) (λ b a. FinishesFrom (arc_value before.service) tries b called a reply)
 
@@ -86,6 +86,6 @@ FinishesIn tries before called after reply = SessionStands before after (place_a
 abbrev pub SeesIn : {O : Type 0} → ℕ → Session O → SessionCatchUp → Session O → Type 0
 SeesIn place before sight after = SessionStands before after (place_seen sight place before.place) (λ b a. CatchesUpFrom (arc_value before.service) place b sight a)
 
--- The same of taking an image, in this many tries, with these words where it is taken. Its place is the session's then, so it is not below the place before.
+-- Taking an image, in this many tries, had this result, with these words where it is taken. Its place is the session's then, so it is not below the place before.
 abbrev pub TakesIn : {O : Type 0} → Ghosts O → List ℕ → ℕ → Session O → SessionCheckpoint → Session O → Type 0
 TakesIn o words tries before taken after = SessionStands before after (place_taken taken before.place) (λ b a. TakesFrom o (arc_value before.service) words tries b taken a)

@@ -218,7 +218,7 @@ pub record MayGive {O : Type 0} (r : Running O) (lent : Lent) (back : Seated) : 
   pub limit : HasLimit (limits_of lent) back
   pub first : IsFirstOf (view lent.pass).held back
 
--- so it may once its operation is answered
+-- the caller may be given back to the queue once its operation is answered
 abbrev pub MaySettle : {O : Type 0} → Running O → Lent → Updated → Type 0
 MaySettle r lent (UpdatedDone back ticket) = MayGive r lent back
 MaySettle r lent (UpdatedFull back note) = Unit {0}

@@ -77,7 +77,7 @@ abbrev pub IsUpdateAttempt : ℕ → List ℕ → Seated → Seated → Bool →
 IsUpdateAttempt ticket reply before after true = AnswersEntry 1 ticket reply before after
 IsUpdateAttempt ticket reply before after false = AttemptRefused before after
 
--- the same of one that did not halt: the limit allowed a step
+-- the result of an attempt for an entry with a ticket that did not halt: the limit allowed a step
 pub record AttemptsUpdate (ticket : ℕ) (reply : List ℕ) (before after : Seated) (answered : Bool) : Type 0 where
   pub allowed : ¬ IsAtLimit before.known.local
   pub attempted : IsUpdateAttempt ticket reply before after answered

@@ -91,21 +91,21 @@ pub record KeepsSeat {O : Type 0} (r : Running O) (untouched : Seated → Seated
   pub since : StepsOn before after
   pub rest : untouched after ≡ untouched before
 
--- the same of a call that makes at most this many steps
+-- what a call of at most this many steps leaves of its caller: the seat but for what it may touch
 pub record KeepsSeatIn {O : Type 0} (r : Running O) (untouched : Seated → Seated) (n : ℕ) (before after : Seated) : Type 0 where
   pub seat : IsSeatOf r after
   pub since : StepsOn before after
   pub rest : untouched after ≡ untouched before
   pub steps : StepsBy n before after
 
--- the same of a call that may raise the front
+-- what a call that may raise the front leaves of its caller
 pub record RaisesFront {O : Type 0} (r : Running O) (untouched : Seated → Seated) (before after : Seated) : Type 0 where
   pub seat : IsSeatOf r after
   pub since : StepsOn before after
   pub rest : untouched after ≡ untouched before
   pub front : before.known.local.front ≤ after.known.local.front
 
--- the same of a call that may raise the front, by at most this many steps
+-- what a call of at most this many steps that may raise the front leaves of its caller
 pub record RaisesFrontIn {O : Type 0} (r : Running O) (untouched : Seated → Seated) (n : ℕ) (before after : Seated) : Type 0 where
   pub seat : IsSeatOf r after
   pub since : StepsOn before after
@@ -113,12 +113,12 @@ pub record RaisesFrontIn {O : Type 0} (r : Running O) (untouched : Seated → Se
   pub front : before.known.local.front ≤ after.known.local.front
   pub steps : StepsBy n before after
 
--- the same of a call that may raise the front and loads CUR: the code that was seen of it does not fall
+-- what a call that may raise the front and loads CUR leaves of its caller: the code that was seen of CUR does not fall
 pub record RaisesCur {O : Type 0} (r : Running O) (untouched : Seated → Seated) (before after : Seated) : Type 0 where
   pub attempts : RaisesFront r untouched before after
   pub rises : before.known.local.seen_cur ≤ after.known.local.seen_cur
 
--- the same of a call that may raise the front and does not load CUR: the code that was seen of it stays
+-- what a call that may raise the front and does not load CUR leaves of its caller: the code that was seen of CUR stays
 pub record KeepsCur {O : Type 0} (r : Running O) (untouched : Seated → Seated) (before after : Seated) : Type 0 where
   pub attempts : RaisesFront r untouched before after
   pub same : after.known.local.seen_cur ≡ before.known.local.seen_cur
@@ -135,7 +135,7 @@ pub record HaltsAttempt (before after : Seated) : Type 0 where
   pub most : after.known.local.met ≤ before.known.local.met + 1
   pub due : all_rights after ≡ no_rights → after.known.local.met ≡ before.known.local.met
 
--- the same while a replica is held exclusively, which is still to be released
+-- what a halt leaves of an attempt that holds a replica exclusively: it is still to be released
 pub record HaltsHolding (replica : ℕ) (before after : Seated) : Type 0 where
   pub limit : IsAtLimit after.known.local
   pub counted : before.known.local.met ≤ after.known.local.met

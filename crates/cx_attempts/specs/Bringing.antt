@@ -32,12 +32,12 @@ abbrev pub BringsIn : {X : Type 0} → Seated → Seated → Option X → Type 0
 BringsIn before after (Some x) = BringsEntries before after
 BringsIn before after None = after.known.sets ≡ before.known.sets
 
--- beside that they stay counted
+-- an attempt that may give nothing, of whose counts that stands, and which keeps count of the sets that it took
 pub record CountsIn {X : Type 0} (taken : ℕ) (before : Seated) (now : ℕ) (after : Seated) (given : Option X) : Type 0 where
   pub counted : KeepsCount taken before now after
   pub by_sets : BringsIn before after given
 
--- the same of an attempt that says whether it gave something
+-- what an attempt that says whether it gave something reads: where it gives nothing, no word of a set
 abbrev pub BringsInAttempt : Seated → Seated → Bool → Type 0
 BringsInAttempt before after true = BringsEntries before after
 BringsInAttempt before after false = after.known.sets ≡ before.known.sets

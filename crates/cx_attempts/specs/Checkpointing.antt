@@ -48,7 +48,7 @@ abbrev pub IsCheckpointAttempt : {O : Type 0} → Ghosts O → Running O → Lis
 IsCheckpointAttempt o r image before after (Some place) = TakesCheckpoint o r before.known.local.steps image place before after
 IsCheckpointAttempt o r image before after None = AttemptRefused before after × StepsBy 4 before after × StepsOn before after × TakesNone before after
 
--- the same of one that did not halt: the limit allowed a step
+-- the result of an attempt that takes an image and did not halt: the limit allowed a step
 pub record AttemptsCheckpoint {O : Type 0} (o : Ghosts O) (r : Running O) (image : List ℕ) (before after : Seated) (place : Option ℕ) : Type 0 where
   pub allowed : ¬ IsAtLimit before.known.local
   pub attempted : IsCheckpointAttempt o r image before after place

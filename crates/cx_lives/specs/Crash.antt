@@ -54,7 +54,7 @@ pub record HasCrashed {O : Type 0} (o : Ghosts O) (object : O) (base : Base) (ch
   pub place : next.place ≡ root_place_of remains.callers (slice_index remains.trail.chain (choice % length remains.trail.chain))
   pub keeps : KeepsState (object_instance (o.step object) (o.only_reads object) remains.callers base) remains next
 
--- the same with the number of entries that the base keeps, and of the items of the store that it stands for
+-- a life ends in a crash with this image and base, with the number of entries that the base keeps, and of the items of the store that it stands for
 pub record EndsInCrash {O Op Reply Store : Type 0} (o : Ghosts O) (m : Meaning Op Reply Store) (object : O) (base : Base) (choice : ℕ) (remains : Remains) (crashed : Crashed) : Type 0 where
   pub crash : HasCrashed o object base choice remains crashed.image crashed.next
   pub kept_is : crashed.kept ≡ crashed.next.place - base.place

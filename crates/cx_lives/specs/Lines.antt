@@ -19,7 +19,7 @@ pub record NotesRead {Op Reply Store : Type 0} (m : Meaning Op Reply Store) (cli
   pub entries_are : after.entries.items ≡ before.entries.items
   pub reads_are : after.reads.items ≡ before.reads.items ++ record { client = client; command = number; place = seen.place; reply = reply } ∷ []
 
--- so it is where the words are a reply's; else the lines are as they were
+-- one entry's line more where the words are a reply's; else the lines are as they were
 abbrev pub AddsClientEntry : {Op Reply Store : Type 0} → Meaning Op Reply Store → ℕ → ℕ → Answer → Lines Reply → Lines Reply → Bool → Type 0
 AddsClientEntry m client number answer before after true = NotesEntryLine m client number answer before after
 AddsClientEntry m client number answer before after false = (after ≡ before) × AreOfNoReply m answer.reply

@@ -69,7 +69,7 @@ pub record CanBegin {Op Reply Store : Type 0} (m : Meaning Op Reply Store) (line
   pub lawful : LawfulBase lines is_lawful base
   pub tickets : base.place + length life.commands ≤ 2 ^ 40
 
--- the same over an object, whose lines and lawful words they are
+-- a life that may be run over this object, whose lines and lawful words are meant
 abbrev pub CanBeginOver : {O Op Reply Store : Type 0} → Ghosts O → O → Meaning Op Reply Store → Life Op → Base → Type 0
 CanBeginOver o object m = CanBegin m (o.line_count object) (o.lawful object)
 
@@ -131,7 +131,7 @@ pub record HasLived {Op Reply Store : Type 0} (m : Meaning Op Reply Store) (line
   pub next : BeginsLife m lines is_lawful (begun_after m begun life ran.told.journal ran.told.kept) ran.next
   pub few : ran.next.place ≤ base.place + length life.commands
 
--- the same over an object, whose lines, version, lawful words and steps they are
+-- a life has been run over this object, whose lines, version, lawful words and steps are meant
 abbrev pub HasLivedOver : {O Op Reply Store : Type 0} → Ghosts O → O → Meaning Op Reply Store → Life Op → Begun Store → Base → Ran Reply → Type 0
 HasLivedOver o object m = HasLived m (o.line_count object) (o.version_number object) (o.lawful object) (o.step object) (o.only_reads object)
 
@@ -212,6 +212,6 @@ pub record HaveLived {Op Reply Store : Type 0} (m : Meaning Op Reply Store) (lin
   pub base_is : lived.base ≡ last_next None told.ends
   pub ends : HaveEnded m lines version is_lawful (begun_by m (nothing_begun m) lives lived.records) lives lived.image lived.base
 
--- the same over an object, whose lines, version, lawful words and steps they are
+-- the lives of a script have been run over this object, whose lines, version, lawful words and steps are meant
 abbrev pub HaveLivedOver : {O Op Reply Store : Type 0} → Ghosts O → O → Meaning Op Reply Store → List (Life Op) → Lived Reply → Type 0
 HaveLivedOver o object m = HaveLived m (o.line_count object) (o.version_number object) (o.lawful object) (o.step object) (o.only_reads object)

@@ -36,7 +36,7 @@ pub record HasServed {Op Reply Store : Type 0} (m : Meaning Op Reply Store) (lif
   pub reads_done : All (λ (line : ReadLine Reply). (1 ≤ line.command) × (line.command ≤ number)) reads
   pub count : length entries + length reads ≡ number
 
--- the same of a worker whose caller is in no call
+-- what a worker has served so far, while its caller is in no call
 pub record IsServed {O Op Reply Store : Type 0} (m : Meaning Op Reply Store) (life : Life Op) (r : Running O) (client number : ℕ) (progress : Progress Reply) : Type 0 where
   pub caller : IsCallerOf r progress.caller
   pub lists : HasServed m life client number progress.caller.known.local progress.lines.entries.items progress.lines.reads.items

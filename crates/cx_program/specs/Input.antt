@@ -26,7 +26,7 @@ pub record Moves (n : ℕ) (rest bytes longer : List ℕ) (after : Option (List 
   pub left : after ≡ Some (drop n rest)
   pub end : n ≡ 0 → rest ≡ []
 
--- the same, where the source tells its bytes
+-- a piece moved from the front of what was left behind the bytes read so far, where the source says which bytes it has left
 abbrev pub Moved : ℕ → Option (List ℕ) → List ℕ → List ℕ → Option (List ℕ) → Type 0
 Moved n before bytes longer after = IfSome before (λ rest. Moves n rest bytes longer after)
 

@@ -100,7 +100,7 @@ UpdateSees callers place (UpdatedFull after note) = HasSeen callers place after.
 UpdateSees callers place (UpdatedWorn after) = HasSeen callers place after.known.local
 UpdateSees callers place (UpdatedHalted after) = Unit {0}
 
--- The same of a read, whether it is answered beside the queue or as an entry of it.
+-- A read stands at or above a place and leaves its caller with the place seen, whether it is answered beside the queue or as an entry of it.
 abbrev pub ReadSees : ℕ → ℕ → ReadDone → Type 0
 ReadSees callers place (Read after read) = (place ≤ read) × HasSeen callers place after.known.local
 ReadSees callers place (Queued after ticket) = (place ≤ ticket) × HasSeen callers place after.known.local

@@ -69,7 +69,7 @@ pub fn updates_keep_what_was_seen<O: Object>()
     ensures { (r : Running O) (op reply : List ℕ) (place : ℕ) (before : Seated) (updated : Updated) → IsCallerOf r before → HasSeen r.callers place before.known.local → Updates r op reply before updated → UpdateSees r.callers place updated }
 {}
 
-/// The same of a read, which may have entered the queue.
+/// A read, which may have entered the queue, leaves its caller with what it had seen before.
 pub fn queued_reads_keep_what_was_seen<O: Object>()
     ensures { (r : Running O) (op reply : List ℕ) (place : ℕ) (before : Seated) (done : ReadDone) → IsCallerOf r before → HasSeen r.callers place before.known.local → ReadOutcome r op reply before done → ReadSees r.callers place done }
 {}

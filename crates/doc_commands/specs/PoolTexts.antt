@@ -30,11 +30,11 @@ AreOfPool m lines is_lawful step reads seats (life ∷ []) (told ∷ []) (trail 
     IsPoolLife m life told × IsPoolTold m lines is_lawful step reads life seats trail told × IsBaseOf m trail.base (nothing_begun m)
 AreOfPool m lines is_lawful step reads seats lives records trails = ⊥
 
--- the same over the document store in this many lines
+-- the records and logs are those of a pool script over the document store in this many lines
 abbrev pub AreOfDocumentPool : ℕ → ℕ → List (Life Op) → List (LifeRecord Reply) → List Ending → Type 0
 AreOfDocumentPool lines = AreOfPool (document_meaning lines) lines (IsImageOfStore lines) (store_step lines) reads_in
 
--- so it is of the record of a script's one life, and of what its service left
+-- the record is that of a pool script's one life, and these are what its service left
 pub record RunsPool (seats : ℕ) (script : Script Op) (told : LifeRecord Reply) (remains : Remains) : Type 0 where
   pub are : AreOfDocumentPool script.lines seats script.lives (told ∷ []) (remains.trail ∷ [])
   pub callers : remains.callers ≡ seats

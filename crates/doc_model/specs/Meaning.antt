@@ -92,7 +92,7 @@ abbrev pub store_after_sum : ℕ → RevisedStore → List ℕ → ℤ → Revis
 store_after_sum lines store key sum =
     if is_i64 sum then store_after_put lines store key (signed_decimal sum) else store
 
--- the same of an addition to what stands there
+-- the reply to an addition to what stands there
 abbrev pub add_reply : ℕ → Store → List ℕ → ℤ → Option ℤ → Reply
 add_reply lines store key amount None = NotNumber
 add_reply lines store key amount (Some before) = sum_reply lines store key (before +ℤ amount)

@@ -33,7 +33,7 @@ ReadsValue depth tokens rest m = (d : Data) × (converted of_json (value depth t
 abbrev pub HasNoValue : ℕ → List Token → Type 0
 HasNoValue depth tokens = converted of_json (value depth tokens) ≡ None
 
--- the same of the items of an array, to its end
+-- at the front of these tokens stand the items of an array, to its end, with this measure, and the rest is left; or they do not
 abbrev pub ReadsItems : ℕ → List Token → List Token → Measure → Type 0
 ReadsItems depth tokens rest m = (ds : Items) × (converted of_items (items (value depth) (length tokens) tokens) ≡ Some (ds, rest)) × IsMeasure m (array ds)
 

@@ -73,7 +73,7 @@ impl CommandReader for Documents {
     ghost reads = { reads_commands };
 }
 
-/// The same commands in a script of a pool, which has one life at the most, of 64 clients, without cut lines.
+/// The commands of the document store in a script of a pool, which has one life at the most, of 64 clients, without cut lines.
 #[derive(Drop)]
 pub(crate) struct PoolDocuments;
 

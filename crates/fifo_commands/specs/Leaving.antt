@@ -8,6 +8,6 @@ use Rattle.fifo_commands.specs.declared.record.FifoRecord.{FifoRecord}
 abbrev pub without_cuts : LifeRecord FifoReply → FifoRecord
 without_cuts told = record { clients = told.clients; from = told.from; journal = told.journal; reads = told.reads; choice = told.choice; kept = told.kept; items = told.items }
 
--- the same record, in which no client was stopped or ran out of free cells
+-- a record with what cuts have left empty: no client was stopped or ran out of free cells
 abbrev pub with_no_stops : FifoRecord → LifeRecord FifoReply
 with_no_stops told = record { clients = told.clients; from = told.from; journal = told.journal; reads = told.reads; stops = []; fulls = []; choice = told.choice; kept = told.kept; items = told.items }

@@ -31,7 +31,7 @@ pub fn read_fifo_script(alloc: Global, bytes: &[u8]) -> Result<FifoScript, FifoT
     Ok(without_cuts(alloc, script)?)
 }
 
-/// The same script, which has no cuts. `Err` means out of memory.
+/// A script of the queue from one that was read and has no cut. `Err` means out of memory.
 fn without_cuts(alloc: Global, script: Script<FifoOp>) -> Result<FifoScript, AllocError>
     requires { All (λ life. life.cuts ≡ []) script.lives }
     ensures { IfOk result (λ left. uncut_script left ≡ script) }

@@ -37,7 +37,7 @@ module _ (places head count : ℕ) (at : ℕ → List ℕ) (queue : Queue) (r : 
     ];
   }
 
-  -- the same with what stands at each place told otherwise
+  -- a queue in a ring stays one where head, count and what stands at each place are given by equal terms
   pub ring_same : (head' count' : ℕ) (at' : ℕ → List ℕ) → head' ≡ head → count' ≡ count → ((p : ℕ) → at' p ≡ at p) → IsQueueInRing places head' count' at' queue
   ring_same head' count' at' h c same = record {
     long = r.long ∙ sym c;

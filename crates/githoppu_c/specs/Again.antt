@@ -42,7 +42,7 @@ pub record IsTakenUpAgain (kind : ℕ) (taken : Base → Type 0) (faulty : Words
       WritesOutcome words session number_before number reply_before reply code → (code ≡ pos 0) ⊎ (code ≡ pos 8)
   pub keeps : (base : Base) → taken base → kept base
 
--- the same of recovering alone
+-- words are recovered again, or refused: recovery alone, before a service opens
 pub record IsRecoveredAgain (kind : ℕ) (taken : Base → Type 0) (faulty : WordsFault → Type 0) (kept : Base → Type 0) (words : List ℕ) : Type 0 where
   pub recovers : (count : ℕ) (code : ℤ) → AreFew count → Recovers kind taken faulty words count code → (code ≡ pos 0) ⊎ IsOpenCode code
   pub keeps : (base : Base) → taken base → kept base
@@ -82,7 +82,7 @@ pub record IsProgramAgain (r : Remains) (choice : ℕ) (words : List ℕ) : Type
   pub closed : IsClosedOf program_ghosts.line_count program_ghosts.lawful program_ghosts.step program_ghosts.only_reads table r
   pub again : IsAgainWithAny (IsKeptOfClosed program_ghosts table closed.seats r choice) words table
 
--- so it is where it was written
+-- where an image was written it is taken up again
 abbrev pub ComesBack : AnyHandleState → ℕ → List ℕ → ℤ → Type 0
 ComesBack (Documents (Closed r)) choice words code = code ≡ pos 0 → IsStoreAgain r choice words
 ComesBack (Queue (Closed r)) choice words code = code ≡ pos 0 → IsQueueAgain r choice words
@@ -114,14 +114,14 @@ pub record IsTakenProgramAgain (r : Running ProgramObject) (words : List ℕ) : 
   pub has : IsRegionIn program_ghosts 3 r words
   pub again : IsAgainWithAny (λ base. base ≡ base_at has.place has.region) words r
 
--- so it is where an image was taken
+-- where an image was taken it is taken up again
 abbrev pub TakenComesBack : AnyHandleState → List ℕ → ℤ → Type 0
 TakenComesBack (Documents (Session session)) words code = code ≡ pos 0 → IsTakenStoreAgain (arc_value session.service) words
 TakenComesBack (Queue (Session session)) words code = code ≡ pos 0 → IsTakenQueueAgain (arc_value session.service) words
 TakenComesBack (Program (Session session)) words code = code ≡ pos 0 → IsTakenProgramAgain (arc_value session.service) words
 TakenComesBack content words code = Unit {0}
 
--- ---- the same of any object, in its own words
+-- ---- of any object, in its own words
 
 -- Whatever is answered for these words of an object, they are refused only where memory runs out, and what is taken up is kept.
 abbrev pub IsAnsweredBy : {O : Type 0} → Ghosts O → O → List ℕ → (Base → Type 0) → Type 0

@@ -129,7 +129,7 @@ CallHasResult op tries before called after reply =
     OfBoth (ContentCalls store_ghosts op tries called reply) (ContentCalls queue_ghosts op tries called reply)
     (ContentCalls program_ghosts op tries called reply) before after
 
--- the same of finishing, in this many turns
+-- finishing the linked entry, in this many attempts, had this result
 abbrev pub ContentFinishes : {O : Type 0} → ℕ → Called → List ℕ → HandleState O → HandleState O → Type 0
 ContentFinishes tries called reply (Session before) (Session after) = FinishesIn tries before called after reply
 ContentFinishes tries called reply (Session before) after = ⊥

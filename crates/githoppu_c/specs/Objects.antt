@@ -59,7 +59,7 @@ IsProgramFault version old words =
 abbrev pub old_in_lines : ProgramObject → Option ℕ → ℕ → OldFormat
 old_in_lines o before lines = old_of (instructions_of o.program) (program_words o.program) lines o.fuel o.version before
 
--- the same of any object, which may have other lines than the words say
+-- the base is what the words say for an object that may have other lines than they say
 abbrev pub IsObjectIn : {O : Type 0} → Ghosts O → ReplyKind → O → List ℕ → Base → Type 0
 IsObjectIn o replies object words = IsBaseWith (IsReplyOfKind replies) (IsTakenUp (o.version_number object) (o.lawful object) (o.old_format object) words)
 

@@ -23,7 +23,7 @@ ContentTellsPlace place code content = (place ≡ 0) × (code ≡ pos 6)
 abbrev pub TellsPlace : AnyHandleState → ℕ → ℤ → Type 0
 TellsPlace content place code = OfAny (ContentTellsPlace place code) (ContentTellsPlace place code) (ContentTellsPlace place code) content
 
--- so it is there, or there is none
+-- a session that has this place, or there is none
 abbrev pub ContentMayHavePlace : {O : Type 0} → HandleState O → Option ℕ → Type 0
 ContentMayHavePlace content (Some place) = ContentTellsPlace place (pos 0) content
 ContentMayHavePlace content None = ContentTellsPlace 0 (pos 6) content

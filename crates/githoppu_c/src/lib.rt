@@ -59,7 +59,7 @@ const MOST: u64 = 1 << 20;
 /// The version of the library: a million times the first number, a thousand times the second, and the third. Here 0.5.0.
 const VERSION: u64 = 5000;
 
-/// As many tries as are asked for, but at least one and not too many.
+/// How many tries a call makes that asks for this many: at least one and not too many.
 fn tries_of(asked: u64) -> Tries
     ensures { IsTriesFor asked result.count }
 {

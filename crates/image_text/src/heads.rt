@@ -25,7 +25,7 @@ pub(crate) fn read_head(line: &[u8]) -> Option<ImageHead>
     read_head_behind(numbers?)
 }
 
-/// The same, from the number of callers on.
+/// Reads the head of an image from the number of callers on.
 #[tactic(auto, unfolding(crate::specs::Reading::image_head_behind))]
 fn read_head_behind(text: &[u8]) -> Option<ImageHead>
     ensures { result ≡ image_head_behind text.now }

@@ -17,13 +17,13 @@ pub record IsEnded {Op Reply : Type 0} (life : Life Op) (told : LifeRecord Reply
   pub stops : All (IsLegalStop life) told.stops
   pub fulls : All (IsLegalFull life told) told.fulls
 
--- the same stop, maybe with another kept flag
+-- a stop as the other one but for its kept flag
 pub record IsSameStop (a b : StopLine) : Type 0 where
   pub client : b.client ≡ a.client
   pub command : b.command ≡ a.command
   pub steps : b.steps ≡ a.steps
 
--- the same record, maybe with other kept flags, numbers of entries kept and of items, and another choice
+-- a record as the other one but for the kept flags, the numbers of entries kept and of items, and the choice
 pub record IsSameButKept {Reply : Type 0} (told flagged : LifeRecord Reply) : Type 0 where
   pub clients : flagged.clients ≡ told.clients
   pub from : flagged.from ≡ told.from
@@ -36,7 +36,7 @@ pub record IsSameButKept {Reply : Type 0} (told flagged : LifeRecord Reply) : Ty
 abbrev pub IsFlagged : {Reply : Type 0} → ℕ → ℕ → List (JournalLine Reply) → StopLine → Type 0
 IsFlagged place kept journal line = (line.kept ≡ true) ↔ IsKeptStop place kept journal line
 
--- the same stops, each with its kept flag
+-- stops as the others, each with its kept flag
 pub record AreFlagged {Reply : Type 0} (place kept : ℕ) (journal : List (JournalLine Reply)) (before after : List StopLine) : Type 0 where
   pub same : AllZip IsSameStop before after
   pub flags : All (IsFlagged place kept journal) after

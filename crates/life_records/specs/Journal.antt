@@ -4,7 +4,7 @@ use Rattle.std.specs.List.Sorted.{IsNonDecreasingBy}
 use Rattle.cx_core.specs.declared.local.Local.{Local}
 use Rattle.life_records.specs.Records.{FullLine, JournalLine, LifeRecord, ReadLine, StopLine}
 
--- the same lines, by ticket
+-- the journal has the lines of the entries, ordered by ticket
 pub record IsByTicket {Reply : Type 0} (entries journal : List (JournalLine Reply)) : Type 0 where
   pub moved : IsPermutation entries journal
   pub up : IsNonDecreasingBy (λ (line : JournalLine Reply). line.ticket) journal

@@ -7,6 +7,6 @@ pub record HasReplyValues {Op Reply Store : Type 0} (m : Meaning Op Reply Store)
   pub journal : All (λ line. IfSome line.reply m.is_reply_value) told.journal
   pub reads : All (λ line. m.is_reply_value line.reply) told.reads
 
--- so are the operations of a life
+-- the operations of a life are values of their type
 abbrev pub HasOpValues : {Op Reply Store : Type 0} → Meaning Op Reply Store → Life Op → Type 0
 HasOpValues m life = All (λ c. m.is_op_value c.op) life.commands

@@ -70,7 +70,7 @@ impl<'a, Op> BorrowedLife<'a, Op> {
 }
 
 impl<Op> Life<Op> {
-    /// The same life, lent.
+    /// Lends the life.
     pub fn lent(&self) -> BorrowedLife<'_, Op>
         ensures { result ≡ self.now }
     {

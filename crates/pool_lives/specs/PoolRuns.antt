@@ -26,6 +26,6 @@ pub record HasPooled {Op Reply Store : Type 0} (m : Meaning Op Reply Store) (lin
   pub callers : remains.callers ≡ seats
   pub began : IsBaseOf m remains.trail.base (nothing_begun m)
 
--- the same over an object, whose lines, lawful words and steps they are
+-- the record is one of a pool life over this object, whose lines, lawful words and steps are meant
 abbrev pub HasPooledOver : {O Op Reply Store : Type 0} → Ghosts O → O → Meaning Op Reply Store → Life Op → ℕ → LifeRecord Reply → Remains → Type 0
 HasPooledOver o object m = HasPooled m (o.line_count object) (o.lawful object) (o.step object) (o.only_reads object)

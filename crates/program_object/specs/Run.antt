@@ -118,7 +118,7 @@ pub record RunsToEnd (p : Setting) (fuel : ℕ) (m : Machine) (u : Undo) (before
   pub back : undone p.words u'.count u'.places u'.words now ≡ undone p.words u.count u.places u.words before
   pub still : IsFalse p.writes → now ≡ before
 
--- so far: what is left of the run is what the whole run is
+-- a run so far: what is left of it ends as the whole run does
 pub record RunsOn (p : Setting) (fuel left : ℕ) (m : Machine) (u : Undo) (before : List ℕ) (m' : Machine) (u' : Undo) (now : List ℕ) : Type 0 where
   pub does : run fuel p (state m u before) ≡ run left p (state m' u' now)
   pub back : undone p.words u'.count u'.places u'.words now ≡ undone p.words u.count u.places u.words before

@@ -57,7 +57,7 @@ pub fn crash_images_are_left<O: Object>()
         IsCrashImage (instance_at table O.step O.only_reads) (record { words = leaves.words; locals = leaves.whole }) (crash_of image) }
 {}
 
-/// So recovery answers no refusal, and what it gives holds each answer: it is the full image of the history after the root's place.
+/// Of a closed table's image recovery answers no refusal, and what it gives holds each answer: it is the full image of the history after the root's place.
 pub fn closed_tables_recover<O: Object>()
     ensures { (table : Running O) (seats : List Seated) (r : _) (choice : ℕ) (image : _) (answer : _) →
         IsOpened O.line_count O.lawful table → ClosingWitness table (instance_at table O.step O.only_reads) seats r → IsLeftOf r choice image →

@@ -51,7 +51,7 @@ pub fn full_images_tell_outcomes<O: Object>(object: &O, base: &Base)
         TellsOutcome (O.step object.now) base.now history (record { place = place; words = full_image (O.step object.now) base.now history place }) caller }
 {}
 
-/// So does what is recovered by choice after a crash of a closed table.
+/// The base that is recovered by choice after a crash of a closed table tells each outcome as well.
 pub fn kept_bases_tell_outcomes<O: Object>()
     ensures { (table : Running O) (seats : List Seated) (r : _) (choice caller : ℕ) (base : _) → IsOpened O.line_count O.lawful table →
         ClosingWitness table (instance_at table O.step O.only_reads) seats r → IsKeptBy O.line_count O.lawful O.step table seats r choice base →

@@ -25,12 +25,12 @@ pub mapped_some : {A B : Type 0} (f : A → B) (o : Option A) (y : B) → option
 mapped_some f None y e = absurd cc
 mapped_some f (Some x) y e = (x, refl, cc)
 
--- the same of a step that may fail
+-- what a step that may fail was given where it gave a value
 pub step_some : {A B : Type 0} (f : A → Option B) (o : Option A) (y : B) → option_and_then f o ≡ Some y → (x : A) × (o ≡ Some x) × (f x ≡ Some y)
 step_some f None y e = absurd cc
 step_some f (Some x) y e = (x, refl, e)
 
--- the same of what was read, and of a value or an error in its place
+-- what was read where a function of it is a value
 pub then_some : {A B E : Type 0} (f : A → B) (r : Result A E) (y : B) → then_ok f r ≡ Ok y → (x : A) × (r ≡ Ok x) × (f x ≡ y)
 then_some f (Ok x) y e = (x, refl, cc)
 then_some f (Err reason) y e = absurd cc

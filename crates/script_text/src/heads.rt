@@ -49,7 +49,7 @@ pub(crate) fn read_life(most: u32, line: &[u8]) -> Option<(u32, u64)>
     read_life_behind(most, text?)
 }
 
-/// The same, from the number of clients on.
+/// Reads the head of a life from the number of clients on.
 #[tactic(auto, unfolding(crate::specs::Heads::life_behind))]
 fn read_life_behind(most: u32, text: &[u8]) -> Option<(u32, u64)>
     ensures { result ≡ life_behind most text.now }

@@ -125,7 +125,7 @@ impl<C: CommandReader> Draft<C> {
         self.read_below(alloc, line)
     }
 
-    /// The same of a line behind the header.
+    /// Reads a line behind the header.
     fn read_below(
         &self,
         alloc: Global,

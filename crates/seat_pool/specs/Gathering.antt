@@ -81,7 +81,7 @@ lent_shown h lent = total_weight h (view lent.pass).shown
 abbrev pub lent_kept : (Handed → ℕ) → Lent → ℕ
 lent_kept f lent = total_weight f (kept_list lent.kept)
 
--- the same callers, in whatever order
+-- two lists have the same callers, in whatever order
 abbrev pub AreSame : List Handed → List Handed → Type 0
 AreSame xs ys = (f : Handed → ℕ) → total_weight f xs ≡ total_weight f ys
 

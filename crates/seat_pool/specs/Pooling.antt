@@ -28,7 +28,7 @@ HasLimit limits x = slice_get limits x.known.local.number ≡ Some x.known.local
 abbrev pub IsLentBy : Shown → Seated → Type 0
 IsLentBy service x = IsCallerOf service x × HasLimit service.object x
 
--- the same table, number of callers and base
+-- two running tables have one table, number of callers and base
 pub record IsSameTable {O P : Type 0} (q : Running O) (r : Running P) : Type 0 where
   pub table : q.table ≡ r.table
   pub callers : q.callers ≡ r.callers
@@ -148,7 +148,7 @@ pub record KeepsCallers (items : List Seated) (views : List LenderPass) : Type 0
   pub calls : (h : AnsweredCall → ℕ) → total_weight (λ (v : LenderPass). total_weight h v.told) views ≡ total_weight (λ (v : LenderPass). calls_weigh h v.held) views + calls_weigh h items
   pub reads : (h : SeenRead → ℕ) → total_weight (λ (v : LenderPass). total_weight h v.shown) views ≤ total_weight (λ (v : LenderPass). reads_weigh h v.held) views + reads_weigh h items
 
--- so it is, or the queue is new
+-- the callers are kept, or the queue is new
 abbrev pub Pools : List Seated → List LenderPass → Type 0
 Pools items views = ((items ≡ []) × (views ≡ fresh ∷ [])) ⊎ KeepsCallers items views
 

@@ -40,7 +40,7 @@ pub fn idle_are_kept<O: Object>(service: &Service<O>)
     let _ = service;
 }
 
-/// So is a caller that an update stopped, or a read: of its answered calls at most one was told to nobody.
+/// A caller that an update or a read stopped is one that its client may keep until the closing: of its answered calls at most one was told to nobody.
 pub fn stopped_are_kept<O: Object>(service: &Service<O>)
     ensures { (op : List ℕ) (taken before : Seated) (stopped : StoppedSeat) → StaysIdle service.now taken before → UpdateHalted service.now op before stopped ⊎ ReadHalted service.now op before stopped →
         Gathers service.now (taken ∷ []) (handed_cases.Stopped stopped ∷ []) }

@@ -74,6 +74,6 @@ pub record HasFollowed {O : Type 0} (r : Running O) (place : ℕ) (before after 
   pub finds : FindsCurrent before after
   pub seen : HasSeen r.callers place after.known.local
 
--- so it is, or the caller is stopped at its limit of steps
+-- the caller is answered, or stopped at its limit of steps
 abbrev pub IsAnsweredOrStopped : {O : Type 0} → Running O → ℕ → Seated → Result Seated StoppedSeat → Type 0
 IsAnsweredOrStopped r place before result = MatchResult result (HasFollowed r place before) (IsStoppedIn r before)

@@ -9,12 +9,12 @@ use Rattle.cx_service.specs.declared.close.Handed.{Handed}
 use Rattle.cx_service.specs.declared.close.Handed.TheVariants.{Idle, Linked, Stopped}
 use Rattle.cx_table.specs.Remains.{AreSeats, opening_seat}
 
--- the same caller of a service, in no call
+-- a caller that comes back is the same caller of the service, in no call
 pub record IsBack {O : Type 0} (r : Running O) (before after : Seated) : Type 0 where
   pub caller : IsCallerOf r after
   pub number : after.known.local.number ≡ before.known.local.number
 
--- the same caller of a service, in whatever state it is
+-- two states are of the same caller of a service
 pub record IsSameCaller {O : Type 0} (r : Running O) (before after : Seated) : Type 0 where
   pub of : IsSeatOf r after
   pub number : after.known.local.number ≡ before.known.local.number
@@ -25,7 +25,7 @@ IsHanded r (Idle after) = IsCallerOf r after
 IsHanded r (Linked after) = IsSeatOf r after
 IsHanded r (Stopped after) = IsSeatOf r after.seat
 
--- so the same caller is handed back
+-- what is handed back is the same caller
 pub record IsHandedBy {O : Type 0} (r : Running O) (before : Seated) (handed : Handed) : Type 0 where
   pub same : IsSameCaller r before (seat_of handed)
   pub stands : IsHanded r handed

@@ -48,7 +48,7 @@ pub fn check_trace<O: Object>(
     walk_trace(alloc, object, base, trace)
 }
 
-/// The same, by lines that are good one after another.
+/// Checks a trace by lines that are good one after another.
 fn walk_trace<O: Object>(
     alloc: Global,
     object: &O,

@@ -18,7 +18,7 @@ pub(crate) fn read_reading(alloc: Global, text: &[u8]) -> Result<Option<Op>, All
     read_by_verb(alloc, verb, rest)
 }
 
-/// The same, by its verb and what stands behind it.
+/// Reads an operation by its verb and what stands behind it.
 #[tactic(auto, unfolding(crate::specs::Commands::reading_by))]
 fn read_by_verb(alloc: Global, verb: &[u8], rest: Option<&[u8]>) -> Result<Option<Op>, AllocError>
     ensures { IfOk result (IsCommandRead (reading_by verb.now (option_copied rest.entry))) }

@@ -29,7 +29,7 @@ pub(crate) fn read_what(
     read_what_behind(alloc, callers, word, text)
 }
 
-/// The same, by its first word and what stands behind it.
+/// Reads a line by its first word and what stands behind it.
 #[tactic(auto, unfolding(crate::specs::Reading::what_behind))]
 fn read_what_behind(
     alloc: Global,
@@ -91,7 +91,7 @@ fn read_kind(alloc: Global, text: &[u8]) -> Result<Option<Kind>, AllocError>
     read_kind_behind(alloc, name, rest)
 }
 
-/// The same, by its name and what stands behind it.
+/// Reads a step's kind by its name and what stands behind it.
 #[tactic(auto, unfolding(crate::specs::Reading::kind_by))]
 fn read_kind_behind(
     alloc: Global,
@@ -119,7 +119,7 @@ fn read_load(rest: Option<&[u8]>) -> Option<Kind>
     read_load_behind(r, word)
 }
 
-/// The same, from the address on.
+/// Reads the load of a word from the address on.
 #[tactic(auto, unfolding(crate::specs::Reading::load_behind))]
 fn read_load_behind(r: u64, rest: Option<&[u8]>) -> Option<Kind>
     ensures { result ≡ load_behind r (option_copied rest.entry) }
@@ -163,7 +163,7 @@ fn read_raise(alloc: Global, rest: Option<&[u8]>) -> Result<Option<Kind>, AllocE
     read_raise_behind(alloc, code, rest)
 }
 
-/// The same, from behind the code on.
+/// Reads a raise from behind its code on.
 #[tactic(auto, unfolding(crate::specs::Reading::raise_behind))]
 fn read_raise_behind(
     alloc: Global,

@@ -25,7 +25,7 @@ pub(crate) fn read_head(line: &[u8]) -> Option<(u32, u64)>
     read_head_behind(numbers?)
 }
 
-/// The same, from the number of callers on.
+/// Reads the head of a trace from the number of callers on.
 #[tactic(auto, unfolding(crate::specs::Reading::trace_head_behind))]
 fn read_head_behind(text: &[u8]) -> Option<(u32, u64)>
     ensures { result ≡ trace_head_behind text.now }

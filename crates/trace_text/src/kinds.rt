@@ -17,7 +17,7 @@ pub(crate) fn read_numbered(name: &[u8], rest: Option<&[u8]>) -> Option<Kind>
     }
 }
 
-/// The same, from its first number on.
+/// Reads a kind of step from its first number on.
 #[tactic(auto, unfolding(crate::specs::Kinds::with_first))]
 fn read_first(name: &[u8], text: &[u8]) -> Option<Kind>
     ensures { result ≡ with_first name.now text.now }
@@ -27,7 +27,7 @@ fn read_first(name: &[u8], text: &[u8]) -> Option<Kind>
     read_second(name, first, rest)
 }
 
-/// The same, from its second number on.
+/// Reads a kind of step from its second number on.
 #[tactic(auto, unfolding(crate::specs::Kinds::with_second))]
 fn read_second(name: &[u8], first: u64, rest: Option<&[u8]>) -> Option<Kind>
     ensures { result ≡ with_second name.now first (option_copied rest.entry) }
@@ -40,7 +40,7 @@ fn read_second(name: &[u8], first: u64, rest: Option<&[u8]>) -> Option<Kind>
     read_third(name, first, second, rest)
 }
 
-/// The same, from its third number on.
+/// Reads a kind of step from its third number on.
 #[tactic(auto, unfolding(crate::specs::Kinds::with_third))]
 fn read_third(name: &[u8], first: u64, second: u64, rest: Option<&[u8]>) -> Option<Kind>
     ensures { result ≡ with_third name.now first second (option_copied rest.entry) }

@@ -22,7 +22,7 @@ pub trait TypedObject: Object {
     /// What its operations mean.
     ghost meaning: { Self → Meaning Self.Op Self.Reply Store };
 
-    /// The same object, for a service of its own.
+    /// Makes an equal object, for a service of its own.
     fn duplicate(&self) -> Self
         ensures { result ≡ self.now };
 

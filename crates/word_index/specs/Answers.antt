@@ -42,7 +42,7 @@ IsFound words key found store =
     MatchOption found (document_at key store ≡ None)
     (λ node. (document : List ℕ) × (document_at key store ≡ Some document) × IsNodeOf words node (key, document))
 
--- the same for each store that the words stand for, and the node's word 7 is the key's revision
+-- a node of the pair with this key, for each store that the words stand for, and the node's word 7 is the key's revision
 pub record IsFoundIn (words key : List ℕ) (found : Option ℕ) : Type 0 where
   pub node : (version : ℕ) (store : Store) → StandsFor words version store → IsFound words key found store
   pub revision : revision_at key (revised_in words) ≡ option_map (λ at. word_of words at 7) found

@@ -29,17 +29,17 @@ pub record CanRewrite (words : List ℕ) (node : ℕ) (document : List ℕ) : Ty
   pub placed_front : Placed words front lower
   pub room : lines_of lower + pair_lines (pair.0, document) + lines_of after + 1 ≤ line_count words
 
--- the same, where the document needs as many blocks as the node's own
+-- the pair of a node, with room for a document that needs as many blocks as the node's own
 pub record CanRefit (words : List ℕ) (node : ℕ) (document : List ℕ) : Type 0 where
   pub can : CanRewrite words node document
   pub alike : document_blocks node words ≡ blocks document
 
--- the same, where it needs more or fewer
+-- the pair of a node, with room for a document that needs more or fewer blocks than the node's own
 pub record CanRenew (words : List ℕ) (node : ℕ) (document : List ℕ) : Type 0 where
   pub can : CanRewrite words node document
   pub unlike : document_blocks node words ≢ blocks document
 
--- the same, and whether it needs as many
+-- the pair of a node, with room for a document, and whether that needs as many blocks as the node's own
 pub record CanExchange (words : List ℕ) (node : ℕ) (alike : Bool) (document : List ℕ) : Type 0 where
   pub can : CanRewrite words node document
   pub told : IsTrue alike ↔ (document_blocks node words ≡ blocks document)

@@ -33,7 +33,7 @@ abbrev pub IsFirst : ℕ → List ℕ → Type 0
 IsFirst node [] = node ≡ 0
 IsFirst node (n ∷ nodes) = node ≡ n
 
--- so far down a tree; the last node at which the walk went left is the first behind it
+-- a walk is at this depth of a tree; the last node at which the walk went left is the first behind it
 pub record IsPassing (nodes sides : List ℕ) (order : ℕ → Ordering) (depth node above : ℕ) (t : Tree ℕ) : Type 0 where
   pub on : IsOnWay nodes sides order depth node t
   pub above_is : IsFirst above (behind on.way)
@@ -49,7 +49,7 @@ OnWay past key nodes sides depth node above words = (version : ℕ) (store : Sto
 abbrev pub AtSpot : Bool → List ℕ → List ℕ → List ℕ → ℕ → ℕ → ℕ → List ℕ → Type 0
 AtSpot past key nodes sides depth node above words = (version : ℕ) (store : Store) (s : StandsFor words version store) → IsWalkEnded nodes sides (walk_order past key words) depth node above s.tree
 
--- The same for a walk of which no way is kept: so far down some way, and at the end of some way.
+-- A walk of which no way is kept is at this depth of some way, or at the end of one.
 pub record OnSomeWay (past : Bool) (key : List ℕ) (depth node above : ℕ) (words : List ℕ) : Type 0 where
   pub nodes : List ℕ
   pub sides : List ℕ
@@ -72,7 +72,7 @@ pub record Walks {Memory T E : Type 0} (m : Ghosts Memory) (old new : Memory) (r
   pub finds : Finds m old new result Told
   pub visits : Always (m.stands new) (FewVisits count)
 
--- the same for words that may be there
+-- what a walk tells of words that may be there
 abbrev pub Walked : {Key : Type 0} → (Key → List ℕ → Type 0) → ℕ → Type 0
 Walked {Key = Key} stands visits = ∥ ((first : Key) × (now : List ℕ) × stands first now × FewVisits visits now) ∥₁
 

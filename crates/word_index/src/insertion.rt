@@ -108,7 +108,7 @@ fn put_pair<M: Memory>(
     Ok(())
 }
 
-/// The same over a write buffer. Its room covers each change in at most 16,384 lines, so that there each word that changes is stored once.
+/// Adds a pair over a write buffer. Its room covers each change in at most 16,384 lines, so that there each word that changes is stored once.
 fn add<M: Memory>(
     mem: &mut M,
     way: &Way,

@@ -39,7 +39,7 @@ fn cut_pair<M: Memory>(mem: &mut M, way: &mut Way, node: u64) -> Result<(), Halt
     Ok(())
 }
 
-/// The same over a write buffer. Its room covers each change in at most 16,384 lines, so that there each word that changes is stored once.
+/// Takes a pair out over a write buffer. Its room covers each change in at most 16,384 lines, so that there each word that changes is stored once.
 fn take_out<M: Memory>(mem: &mut M, way: &mut Way, node: u64) -> Result<(), Halt>
     requires { IsStorable M.Memory mem.old (λ ws. CanCut ws way.old.nodes way.old.sides way.old.depth node) }
     ensures { Changes M.Memory mem.old mem.new result (λ _. TakesOut way.old.nodes way.old.sides way.old.depth node) }
