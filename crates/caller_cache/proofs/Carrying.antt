@@ -1,8 +1,5 @@
 -- Marks that are carried over from one list to another.
-use Rattle.std.proofs.Common.{◌≡◌, ◌+◌, ◌<◌, inl, inr, ℕ, true, Bool, List, length, set, ap, sym, subst, ◌∙◌, arith, Some}
-use Rattle.std.proofs.lemmas.Bool.{cases_eq}
-use Rattle.std.specs.List.{slice_get}
-use Rattle.cx_core.proofs.ListLemmas.{slice_get-set_same, slice_get-set_other}
+use Rattle.std.proofs.Common.{◌<◌, inl, inr, ℕ, Bool, List, arith}
 use Rattle.caller_cache.specs.Marks.{MarksMore}
 
 -- none of no marks, and one mark more

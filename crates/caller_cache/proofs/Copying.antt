@@ -13,7 +13,7 @@ use Rattle.cx_core.specs.Rights.{held_dirty, is_at, shared_on}
 use Rattle.cx_core.specs.State.{Instance, one_more}
 use Rattle.table_invariant.specs.declared.rule.Known.{Known}
 use Rattle.cx_core.proofs.HistoryLemmas.{ObjectLaws}
-use Rattle.table_invariant.specs.Fitting.{AgreeTo, Fitting, TellsWord, loads_of, loaded_of}
+use Rattle.table_invariant.specs.Fitting.{Fitting, TellsWord, loads_of, loaded_of}
 use Rattle.table_invariant.specs.Rule.{IsBehindNotes}
 use Rattle.table_invariant.specs.Running.{IsRunning, IsSeatOf, Running, instance_at}
 use Rattle.table_invariant.specs.Seats.{IsAtLimit, Seated, known_after, known_of}

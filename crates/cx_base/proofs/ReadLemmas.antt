@@ -1,6 +1,6 @@
 -- What is known of the words of a memory over calls that only load.
-use Rattle.std.proofs.Common.{◌≡◌, ℕ, List, length, slice_index, Result, Ok, Err, IfOk, OnErr, refl, ◌∙◌}
-use Rattle.cx_base.specs.Memory.{Words, Same, Loaded, Becomes, Reads, Always}
+use Rattle.std.proofs.Common.{◌≡◌, ℕ, List, slice_index, Result, Ok, Err, IfOk, OnErr, refl, ◌∙◌}
+use Rattle.cx_base.specs.Memory.{Same, Loaded, Becomes, Reads, Always}
 
 module _ {Key : Type 0} where
   -- nothing loaded yet

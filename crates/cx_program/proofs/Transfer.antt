@@ -1,10 +1,10 @@
 -- What was read or written so far, piece by piece.
-use Rattle.std.proofs.Common.{◌≡◌, ◌∙◌, refl, sym, ap, subst, ℕ, true, ◌+◌, ◌<◌, ◌≤◌, List, [], ◌++◌, length, take, drop, arith, Option, Some, None, IfSome, append_assoc, append-nil}
-use Rattle.std.proofs.lemmas.List.{length-append, length-take-le, length-drop, take-append-drop}
+use Rattle.std.proofs.Common.{◌≡◌, ◌∙◌, sym, ap, subst, ℕ, ◌+◌, ◌≤◌, List, ◌++◌, length, take, drop, arith, Option, Some, None, IfSome, append_assoc}
+use Rattle.std.proofs.lemmas.List.{length-append, length-take-le, length-drop}
 use Rattle.std.proofs.Math.Seq.{take-add}
 use Rattle.std.proofs.lemmas.List.{drop-drop}
 use Rattle.cx_base.specs.Outside.{Gave, Took}
-use Rattle.cx_program.specs.Input.{IsInput, Moves, Moved, TakesBytes, TookAtMost}
+use Rattle.cx_program.specs.Input.{Moves, Moved}
 
 -- these bytes are the front of all, and the rest is left
 pub record IsFront (all : List ℕ) (left : Option (List ℕ)) (bytes : List ℕ) : Type 0 where

@@ -1,19 +1,15 @@
 -- What attempts by which an image is taken leave of their caller.
-use Rattle.std.proofs.Common.{◌≡◌, ◌<◌, ◌≤◌, inl, inr, ℕ, List, [], ◌∷◌, ◌++◌, refl, ap, subst, ◌∙◌, arith, None}
-use Rattle.std.specs.List.{slice_get}
+use Rattle.std.proofs.Common.{◌≡◌, ◌≤◌, ℕ, List, [], ap, ◌∙◌, arith}
 use Rattle.cx_base.specs.declared.object.Object.{Ghosts}
-use Rattle.cx_core.specs.declared.local.Answer.{Answer}
-use Rattle.cx_core.specs.declared.local.SeenRead.{SeenRead}
 use Rattle.cx_core.specs.Layout.{max_word}
-use Rattle.table_invariant.specs.declared.rule.ImageTimes.{ImageTimes}
 use Rattle.table_invariant.specs.Running.{IsSeatOf, Running}
 use Rattle.table_invariant.specs.Seats.{IsAtLimit, Seated, StepsBy}
 use Rattle.cx_service.specs.Callers.{IsCallerOf, StoppedSeat}
 use Rattle.cx_service.specs.Checkpoints.{CheckpointHalted, CheckpointKeeps, CheckpointTaken}
 use Rattle.cx_service.specs.Drives.{MeetsFewer}
-use Rattle.cx_service.specs.Lookups.{ReadDue, ReadPending}
-use Rattle.cx_service.proofs.Attempting.{LooksOn, unchanged_by_look, look_keeps, look_rests, looks_met, meets_one, most_one, read_keeps_then, rises_one}
-use Rattle.cx_attempts.specs.Checkpointing.{HaltsImage, TakesCheckpoint, TakesNone, unchanged_by_checkpoint}
+use Rattle.cx_service.specs.Lookups.{ReadPending}
+use Rattle.cx_service.proofs.Attempting.{unchanged_by_look, look_keeps, look_rests, meets_one, most_one, read_keeps_then, rises_one}
+use Rattle.cx_attempts.specs.Checkpointing.{TakesCheckpoint, TakesNone, unchanged_by_checkpoint}
 use Rattle.cx_attempts.specs.Attempts.{IsAtRest, StepsOn, AttemptRefused}
 
 -- one attempt

@@ -1,11 +1,10 @@
 -- Bytes in a chain of blocks, read word by word.
-use Rattle.std.proofs.Common.{◌≡◌, ◌≢◌, ◌+◌, ◌*◌, ◌/◌, ◌%◌, ◌<◌, ◌≤◌, ℕ, zero, suc, List, [], ◌∷◌, length, get_or, set, refl, sym, ap, subst, add-one, ◌∙◌, ◌⊎◌, inl, inr, below_more, arith}
+use Rattle.std.proofs.Common.{◌≡◌, ◌≢◌, ◌+◌, ◌*◌, ◌/◌, ◌%◌, ◌<◌, ◌≤◌, ℕ, zero, suc, List, [], ◌∷◌, length, get_or, set, refl, sym, ap, add-one, ◌∙◌, ◌⊎◌, inl, inr, below_more, arith}
 use Rattle.std.proofs.lemmas.Bool.{cases_eq, cases_lt}
 use Rattle.std.proofs.lemmas.List.{get_or_past, get_or-set_same, get_or-set_other}
 use Rattle.std.proofs.lemmas.List.FromFn.{fill_by_all}
 use Rattle.cx_base.specs.Packing.{packed_at, packed}
-use Rattle.avl_words.specs.Lines.{IsWithin, word_of}
-use Rattle.index_validation.specs.Blocks.{HasChainWords}
+use Rattle.avl_words.specs.Lines.{word_of}
 use Rattle.index_validation.specs.Layout.{IsChain, Holds}
 
 -- the lines of a chain, place by place

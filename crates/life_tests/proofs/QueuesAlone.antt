@@ -1,5 +1,5 @@
 -- Lives of a queue in which a client is alone keep the limits.
-use Rattle.std.proofs.Common.{◌≡◌, ℕ, ◌<◌, ◌≤◌, ◌^◌, List, [], length, All, arith}
+use Rattle.std.proofs.Common.{◌≡◌, ℕ, ◌<◌, ◌^◌, List, [], All, arith}
 use Rattle.std.proofs.lemmas.List.Elements.{All-nil, All-weaker}
 use Rattle.fifo_object.specs.Queue.{IsOp}
 use Rattle.fifo_object.specs.declared.operations.FifoOp.{FifoOp}

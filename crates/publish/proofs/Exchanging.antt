@@ -16,7 +16,7 @@ use Rattle.cx_table.specs.Tokens.{TriedPublish}
 use Rattle.strong_trylock.specs.Ends.{except_downgraded}
 use Rattle.strong_trylock.specs.Held.{AllRights, all_rights}
 use Rattle.publish.proofs.Options.{none_of}
-use Rattle.publish.specs.Publishing.{Exchanges, KeepsMet, KeepsRest, MeetsOne, PassedBy, unchanged_by_publish, place_in}
+use Rattle.publish.specs.Publishing.{Exchanges, KeepsMet, KeepsRest, PassedBy, unchanged_by_publish, place_in}
 
 -- what is downgraded at a place above a code may be published
 pub may_publish : (callers code : ℕ) (o : Option HeldDowngraded) → root_place_of callers code < place_in o → IsAbove callers code o

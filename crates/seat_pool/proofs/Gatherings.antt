@@ -11,10 +11,9 @@ use Rattle.cx_service.specs.declared.close.Handed.TheVariants.{Idle}
 use Rattle.crossbeam_queue.specs.Fifo.{Held}
 use Rattle.crossbeam_queue.specs.Passes.{view}
 use Rattle.atomic_table.specs.Seated.{TableId}
-use Rattle.std.specs.List.{range_with_len}
 use Rattle.std.specs.Option.{option_to_list}
 use Rattle.seat_pool.specs.declared.lent.Lent.{Lent}
-use Rattle.seat_pool.specs.Gathering.{AreSame, AreCallsTold, Gathers, IsGathering, IsHandedOf, IsLentOf, IsRestOf, IsTakingIn, handed_calls, handed_reads, if_stopped, kept_list, lent_kept, lent_shown, lent_told, handed_number}
+use Rattle.seat_pool.specs.Gathering.{AreSame, AreCallsTold, Gathers, IsGathering, IsHandedOf, IsLentOf, IsTakingIn, handed_calls, handed_reads, if_stopped, kept_list, lent_kept, lent_shown, lent_told, handed_number}
 use Rattle.seat_pool.specs.Pooling.{IsPassWhole, TellsRoom, all_parts, both, calls_of, total_weight, with_taken}
 use Rattle.seat_pool.specs.declared.hand.LenderPass.{LenderPass}
 use Rattle.seat_pool.specs.declared.hand.AnsweredCall.{AnsweredCall}

@@ -10,9 +10,8 @@ use Rattle.cx_service.specs.CatchUps.{HasSeen}
 use Rattle.cx_service.specs.Drives.{answer_with}
 use Rattle.cx_service.specs.Lookups.{ReadAnswered, ReadPending}
 use Rattle.cx_service.specs.Submits.{next_entry}
-use Rattle.cx_core.specs.declared.local.FullNote.{FullNote}
-use Rattle.cx_service.specs.Updates.{KeepsLists, ReadQueues, UpdateDone, UpdateFull, UpdateWorn}
-use Rattle.cx_service.specs.declared.update.Updated.TheVariants.{Done, Full, Worn}
+use Rattle.cx_service.specs.Updates.{KeepsLists, ReadQueues, UpdateDone, UpdateWorn}
+use Rattle.cx_service.specs.declared.update.Updated.TheVariants.{Done, Worn}
 use Rattle.cx_service.proofs.Seeing.{lists_seen, queued_sees, read_behind, update_behind}
 use Rattle.cx_attempts.specs.declared.lookup.Seen.{Seen}
 use Rattle.cx_attempts.specs.Answering.{reads_with, with_answer}

@@ -1,5 +1,5 @@
 -- Each step has the number of its line.
-use Rattle.std.proofs.Common.{◌≡◌, ◌+◌, ◌<◌, ◌⊎◌, inl, inr, ℕ, zero, suc, List, [], ◌∷◌, ◌++◌, length, Some, refl, sym, ap, subst, ◌∙◌, arith}
+use Rattle.std.proofs.Common.{◌≡◌, ◌⊎◌, inl, inr, ℕ, zero, suc, List, [], ◌∷◌, ◌++◌, length, Some, refl, sym, subst, arith}
 use Rattle.std.proofs.lemmas.Option.{none-some, same_Some}
 use Rattle.std.specs.List.{slice_get}
 use Rattle.plain_text.specs.LineGrammar.{AddsAll, AreLinesOf}
@@ -7,10 +7,8 @@ use Rattle.trace_text.specs.Judging.{trace_head_is}
 use Rattle.trace_text.specs.Reading.{trace_head_of, with_head, with_step}
 use Rattle.trace_text.specs.Traces.{IsTraceWithin, trace_grammar}
 use Rattle.trace_text.specs.declared.trace.Trace.{Trace}
-use Rattle.trace_text.specs.declared.trace.TraceLine.{TraceLine}
 use Rattle.trace_text.specs.declared.trace.TraceLines.{TraceLines}
 use Rattle.trace_text.specs.declared.trace.TraceLines.TheVariants.{Nothing, Begun}
-use Rattle.trace_text.specs.declared.trace.TraceWhat.{TraceWhat}
 
 pub head_kept : (line : List ℕ) (head : ℕ × ℕ) → trace_head_of line ≡ Some head → IsTraceWithin (with_head head)
 head_kept line head e =
