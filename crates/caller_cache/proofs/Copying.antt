@@ -82,11 +82,6 @@ module _ {O : Type 0} (r : Running O) (step : O → List ℕ → List ℕ → Li
         record { event = subst (λ (s : Seated). Steps r step reads (BackOff replica) found old s) made.1.made made.1; made = whole; seat = stands },
       )
 
--- a step of a replica that is another way to say the same
-pub copied_same : {O : Type 0} {r : Running O} {step : O → List ℕ → List ℕ → List ℕ × List ℕ} {reads : O → List ℕ → Bool} {replica replica' found : ℕ} {before after : Seated} → replica ≡ replica' → StepsCopied r step reads replica found before after →
-    StepsCopied r step reads replica' found before after
-copied_same {r = r} {step = step} {reads = reads} {found = found} {before = before} {after = after} same steps = subst (λ (n : ℕ). StepsCopied r step reads n found before after) same steps
-
 -- a region has words
 pub region_some : {O : Type 0} {line_count : O → ℕ} {lawful : O → List ℕ → Type 0} {r : Running O} → IsRunning line_count lawful r → 0 < length r.base.words
 region_some running = (let long = running.base.size.long in omega arith)

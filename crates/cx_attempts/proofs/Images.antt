@@ -8,9 +8,7 @@ use Rattle.cx_base.specs.Codes.{root_place_of}
 use Rattle.cx_base.specs.declared.object.Object.{Ghosts}
 use Rattle.cx_base.specs.Noted.{Note}
 use Rattle.cx_core.specs.Base.{LawfulBase}
-use Rattle.cx_core.specs.declared.local.Answer.{Answer}
 use Rattle.cx_core.specs.declared.local.Local.{Local}
-use Rattle.cx_core.specs.declared.local.SeenRead.{SeenRead}
 use Rattle.cx_core.specs.LockEvents.{backed_off}
 use Rattle.cx_core.specs.Rights.{is_at, shared_on}
 use Rattle.cx_core.specs.State.{one_more}
@@ -23,7 +21,7 @@ use Rattle.table_invariant.specs.Steps.{StepsTaking, image_times}
 use Rattle.table_invariant.proofs.Copying.{here_or, or_there}
 use Rattle.table_invariant.proofs.Stepping.{on_one, on_same}
 use Rattle.cx_table.specs.Right.{Right}
-use Rattle.cx_attempts.specs.Checkpointing.{IsAtCurrent, LoadsImage, LoadsSome, RaisesCurrent, TakesCheckpoint, unchanged_by_checkpoint}
+use Rattle.cx_attempts.specs.Checkpointing.{IsAtCurrent, LoadsImage, LoadsSome, RaisesCurrent, TakesCheckpoint}
 use Rattle.cx_attempts.specs.Attempts.{IsAtRest}
 use Rattle.replica.specs.Held.{IsHeldShared, LoadsRun, LoadsShared, no_load, one_more_load, unchanged_by_shared_access}
 use Rattle.replica.proofs.Access.{at_itself}
@@ -141,20 +139,7 @@ none_loaded o r hold first last held same = record {
 -- ---- the raise, and the right given back
 
 module _ {O : Type 0} (o : Ghosts O) (r : Running O) (hold : Right) (first s : Seated) (loads : LoadsSome o r hold first s) where
-  -- what loads leave as it was
-  loads_rest : unchanged_by_checkpoint s ≡ unchanged_by_checkpoint first
-  loads_rest = ap unchanged_by_checkpoint loads.rest
-
   module _ (code : ℕ) (u : Seated) (raise : RaisesCurrent o r code s u) where
-    abbrev put : List Answer → List SeenRead → List ℕ → List (ℕ × ℕ) → Seated
-    put answered seen times reads = (let b = unchanged_by_checkpoint s in record b { known = record b.known { local = record b.known.local { answered = answered; seen_reads = seen }; times = record b.known.times { answered = times; reads = reads } } })
-
-    raised_rest : unchanged_by_checkpoint u ≡ unchanged_by_checkpoint first
-    raised_rest =
-        ap unchanged_by_checkpoint raise.made
-        ∙ (λ i. put (append-nil s.known.local.answered i) (append-nil s.known.local.seen_reads i) (append-nil s.known.times.answered i) (append-nil s.known.times.reads i))
-        ∙ loads_rest
-
     raised_front : u.known.local.front ≡ first.known.local.front
     raised_front = ap (λ (x : Seated). x.known.local.front) raise.made ∙ ap (λ (x : Seated). x.known.local.front) loads.rest
 

@@ -114,10 +114,6 @@ module _ (lines : ℕ) (region image reply : List ℕ) (caller number place : �
       get_or-take 144 (drop (slot_start caller + 1) stepped) k 0 small ∙ get_or-drop (slot_start caller + 1) stepped k 0
       ∙ in_slot (suc k) (slot_start caller + 1 + k) (omega arith) (omega arith)))
 
-  -- the slot of another caller
-  apart_from : (c : ℕ) → (c < caller) ⊎ (caller < c) → (k : ℕ) → k < 145 → (slot_start c + k < slot_start caller) ⊎ (slot_start caller + 145 ≤ slot_start c + k)
-  apart_from c other k below = ⊎_elim (λ l. inl (omega arith)) (λ r. inr (omega arith)) other
-
   other_number : (c : ℕ) → c < 8 → (c < caller) ⊎ (caller < c) → slot_number c stepped ≡ slot_number c region
   other_number c small other =
       in_front (slot_start c) (omega arith) (omega arith) (⊎_elim (λ l. inl (omega arith)) (λ r. inr (omega arith)) other)

@@ -39,10 +39,6 @@ word_within i count bytes lines l c e = omega arith
 pub line_within : (i lines : ℕ) → i < 7 * lines → i / 7 < lines
 line_within i lines l = omega arith
 
--- nothing read
-pub read_none : (ws : List ℕ) (first count : ℕ) (into : List ℕ) → ReadSoFar first count 0 first into ws
-read_none ws first count into lines bytes h c = record { at = chain_first ws lines first h.chain; front = λ k l. absurd (omega arith) }
-
 -- the place of the next word, on the same line or on the next
 pub next_line : (ws lines : List ℕ) (first i line next : ℕ) → IsChain ws first lines → i < 7 * length lines → line ≡ get_or lines (i / 7) 0 →
     (i % 7 ≡ 6 → word_of ws line 0 ≡ next) → (i % 7 ≢ 6 → next ≡ line) → (i % 7 ≡ 6) ⊎ (i % 7 ≢ 6) → next ≡ get_or lines ((i + 1) / 7) 0
