@@ -1,7 +1,7 @@
 """What nobody uses: names that a file imports and does not name, and definitions and lemmas that nothing leads to.
 
-An import is unused where the name that a plain `use` line of specs/ or proofs/ brings, or its alias, stands nowhere else in the file;
-of a name with `◌` one part has to stand there. Such a line does nothing but give names: a tactic takes lemmas from the list that
+An import is unused where the name that a plain `use` line of specs/ or proofs/ brings, or a `ghost use` item of a source, stands nowhere else in the file;
+under `as` it is the alias; of a name with `◌` one part has to stand there. Such a line does nothing but give names: a tactic takes lemmas from the list that
 it is called with, a field is found by its record's type, and a constructor that no pattern names is matched as any other. What `pub use` hands on is left
 alone. A name counts as used where a variable or another line has it too: this finds too few rather than too many.
 
@@ -90,6 +90,9 @@ class File:
             self.parts.append(Part(at + 1, None if asked and public else first, names, inner))
         self.declared = {name: part for part in self.parts for name in part.names}
 
+    def words(self):
+        return set(WORD.findall(self.body))
+
 
 def module_of(name):
     """The whole name of a file's module."""
@@ -101,11 +104,17 @@ class Source:
     """A source: what its `ghost use` items bring for its contracts."""
 
     def __init__(self, name, text):
-        self.name, self.brought = name, []
+        self.name, self.brought, self.plain = name, [], []
         text = re.sub(r"^ *//[^\n]*", "", text, flags=re.M)
         for found in GHOST_USE.finditer(text):
-            self.brought += brought_by(*found.groups())
+            brought = brought_by(*found.groups())
+            self.brought += brought
+            line = text.count("\n", 0, found.start()) + 1
+            self.plain += [(line, name) for name, _ in brought]
         self.body = GHOST_USE.sub("", text)
+
+    def words(self):
+        return {*WORD.findall(self.body), *re.findall(r"\w+", self.body)}
 
 
 class Files:
@@ -126,8 +135,8 @@ class Files:
     def unused_imports(self):
         """The imports that nothing in their file names."""
         found = []
-        for file in self.files.values():
-            words = set(WORD.findall(file.body))
+        for file in [*self.files.values(), *self.sources]:
+            words = file.words()
             found += [f"{file.name}:{line}: {name}" for line, name in file.plain if not any(part in words for part in parts_of(name))]
         return found
 

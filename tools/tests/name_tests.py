@@ -168,6 +168,10 @@ class Names(unittest.TestCase):
             with tempfile.TemporaryDirectory() as folder:
                 files = Files(laid_out(folder, {"one/specs/Laws.antt": text}))
                 self.assertEqual([f"crates/one/specs/Laws.antt:{name}" for name in want], files.unused_imports(), text)
+        source = "ghost use A.{law, ◌≤◌, two};\nghost use A.B as own;\n// by two\nfn one(n: u8)\n    requires { n ≤ own.few }\n{}\n"
+        with tempfile.TemporaryDirectory() as folder:
+            files = Files(laid_out(folder, {"one/src/lib.rt": source}))
+            self.assertEqual([f"crates/one/src/lib.rt:1: {name}" for name in ("law", "two")], files.unused_imports())
 
     def test_lists_are_made_anew_where_nothing_rises(self):
         with tempfile.TemporaryDirectory() as folder:
