@@ -7,10 +7,10 @@ A fault is
 - a public function that answers a `Result` and is not in that list, whose comment does not say when it fails: it has no `Err`, `Halt`, `None`, fails,
   refuses, fault, error, out of memory, and not the name of its error;
 - more phrases of the list of idioms (page_rules.py) in the comments of a file of src/ or specs/ than that list has for it;
-- a lemma of proofs/ that nothing cites (cited_lemmas.py).
+- a name that a file imports and nothing in it names, a definition or lemma of specs/ or proofs/ that nothing leads to (unused.py).
 Crates of tests are left out, but of the last. The counts are printed, and a line for each that may be lowered in the lists.
 
-With --write the lists are made anew, also where files or crates got other names; it is refused where a count over all crates would rise. It takes 8 seconds.
+With --write the lists are made anew, also where files or crates got other names; it is refused where a count over all crates would rise. It takes 10 seconds.
 
 Example: python3 tools/check_names.py
 Status 0 where nothing is wrong, 1 where something is or a list may not be written, 2 where the words are others.
@@ -21,9 +21,9 @@ from collections import Counter
 from pathlib import Path
 
 import page_rules
-from cited_lemmas import uncited
 from commands import asked_words
 from source_text import COMMENT, Sources, tokens_of
+from unused import Files
 
 NAMES, COUNTS = "tools/shared_names.txt", "tools/kept_counts.txt"
 NUMBERS = ("144", "145", "513", "1024", "1168")
@@ -212,6 +212,13 @@ def faults_of(root):
     return faults, lower, found
 
 
+def unused_in(root):
+    """Imports that nothing names, and definitions and lemmas that nothing leads to."""
+    files = Files(root)
+    unnamed = [f"{name}: an import that nothing in the file names" for name in files.unused_imports()]
+    return unnamed + [f"{name}: a definition or lemma that nothing leads to" for name in files.uncited()]
+
+
 def write(root):
     """Makes the lists anew where no count over all crates rises; what would rise."""
     found, kept = Found(root), Kept(root)
@@ -243,7 +250,7 @@ def main(words):
         faults = write(root)
     else:
         faults, lower, found = faults_of(root)
-        faults += [f"{lemma}: a lemma that nothing cites" for lemma in uncited(root)]
+        faults += unused_in(root)
         print("\n".join(counted(found) + [f"may be lowered: {line}" for line in lower]))
     print("\n".join(faults), end="\n" if faults else "", file=sys.stderr)
     return 1 if faults else 0

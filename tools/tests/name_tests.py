@@ -6,8 +6,8 @@ import unittest
 from pathlib import Path
 
 import check_names
-from cited_lemmas import uncited
 from source_text import Sources
+from unused import Files
 
 ROOT = Path(__file__).resolve().parent.parent.parent
 
@@ -46,7 +46,7 @@ class Names(unittest.TestCase):
         faults, _, found = check_names.faults_of(ROOT)
         self.assertEqual([], faults)
         self.assertGreater(sum(found.totals().values()), 0)
-        self.assertEqual([], uncited(ROOT))
+        self.assertEqual([], check_names.unused_in(ROOT))
 
     def test_a_name_in_two_crates(self):
         private, law = "double : ℕ\ndouble = 2\n", "pub double : (n : ℕ) → n ≡ n\ndouble n = refl\n"
@@ -112,22 +112,66 @@ class Names(unittest.TestCase):
         self.assertEqual([], self.found({"two/src/lib.rt": 'fn two() -> &str {\n    "so many"\n}\n'})[0])
         self.assertEqual(1, len(self.found({"two/src/lib.rt": "/// Gives up.\nfn two() {}\n"})[0]))
 
-    def test_a_lemma_that_nothing_cites(self):
-        law = "use Rattle.one.specs.Words.{double}\n\n-- a law\npub law : (n : ℕ) → n ≡ n\nlaw n = refl\n\n"
+    def test_a_lemma_that_nothing_leads_to(self):
+        law, cites = "-- a law\npub law : (n : ℕ) → n ≡ n\nlaw n = refl\n\n", "\n\npub two : goal.two\ntwo c = law 2\n"
+        imported, first = "use Rattle.one.proofs.Laws.{law}", "crates/one/proofs/Laws.antt:2: law"
+        other = {"one/proofs/Others.antt": "pub law : ℕ\nlaw = 2\n"}
         rows = [
-            (law, "", ["crates/one/proofs/Laws.antt:4: law"]),
-            (law, "use Rattle.one.proofs.Laws.{law}\n", ["crates/one/proofs/Laws.antt:4: law"]),
-            (law, "two c = law 2\n", []),
-            (law, "-- by law\n", ["crates/one/proofs/Laws.antt:4: law"]),
-            (law + "next : (n : ℕ) → n ≡ n\nnext n = law n\n", "", ["crates/one/proofs/Laws.antt:4: law", "crates/one/proofs/Laws.antt:7: next"]),
-            (law + "next : (n : ℕ) → n ≡ n\nnext n = law n\n", "two c = next 2\n", []),
-            (law + "mutual\n", "", []),
-            ("pub ◌by◌ : ℕ → ℕ → ℕ\na by b = a\n", "", []),
-            ("module _ (n : ℕ) where\n  pub law : n ≡ n\n  law = refl\n", "", ["crates/one/proofs/Laws.antt:2: law"]),
+            (law, "", {}, [first]),
+            (law, imported, {}, [first]),
+            (law, imported + cites, {}, []),
+            (law, cites, {}, [first]),
+            (law, "use Rattle.one.proofs.Others.{law}" + cites, other, [first]),
+            (law, imported + cites, other, ["crates/one/proofs/Others.antt:1: law"]),
+            (law, "use Rattle.one.proofs.Laws.{law as same}" + cites, {}, [first]),
+            (law, "use Rattle.one.proofs.Laws.{law as same}" + cites.replace("law", "same"), {}, []),
+            (law, "use Rattle.one.proofs.Laws" + cites.replace("law", "Laws.law"), {}, []),
+            (law, "use Rattle.one.proofs.Laws as laws" + cites.replace("law", "laws.law"), {}, []),
+            (law, cites.replace("law", "Rattle.one.proofs.Laws.law"), {}, []),
+            (law, "use Rattle.two.specs.Laws.{law}" + cites, {"two/specs/Lib.antt": "pub use Rattle.one.proofs.Laws\n"}, []),
+            (law, "use Rattle.two.specs.Own.{same}" + cites.replace("law", "same"), {"two/specs/Own.antt": "pub use Rattle.one.proofs.Laws.{law as same}\n"}, []),
+            (law, "two : ℕ\ntwo = 2\n", {}, [first, "crates/one/proofs/two/Answers.antt:1: two"]),
+            (law, "-- by law\n", {}, [first]),
+            (law, "", {"two/src/lib.rt": "ghost use Rattle.one.proofs.Laws.{law};\n"}, []),
+            (law, "", {"two/src/lib.rt": "#[tactic(auto, using(one::proofs::Laws::law))]\n"}, []),
+            (law, "", {"one/src/lib.rt": "#[tactic(auto, using(crate::proofs::Laws::law))]\n"}, []),
+            (law, "", {"one/src/lib.rt": "fn law() {}\n"}, [first]),
+            (law + "next : (n : ℕ) → n ≡ n\nnext n = law n\n", "", {}, [first, "crates/one/proofs/Laws.antt:5: next"]),
+            (law + "mutual\n  a : ℕ\n  a = b\n\n  b : ℕ\n  b = law a\n", "", {}, [first, *(f"crates/one/proofs/Laws.antt:{at}" for at in ("6: a", "9: b"))]),
+            (law + "ruleset laws = (law, refl)\n", "", {}, [first, "crates/one/proofs/Laws.antt:5: laws"]),
+            ("pub ◌by◌ : ℕ → ℕ → ℕ\na by b = a\n", "", {}, ["crates/one/proofs/Laws.antt:1: ◌by◌"]),
+            ("pub ◌by◌ : ℕ → ℕ → ℕ\na by b = a\n", "use Rattle.one.proofs.Laws.{◌by◌}" + cites.replace("law 2", "c by c"), {}, []),
+            ("module _ (n : ℕ) where\n  pub law : n ≡ n\n  law = refl\n", "", {}, [first]),
+            ("pub data Way : Type 0 where\n  left : Way\n  law : Way\n", "use Rattle.one.proofs.Laws.Way.{law}" + cites, {}, []),
+            ("pub record Way : Type 0 where\n  pub law : ℕ\n", cites, {}, ["crates/one/proofs/Laws.antt:1: Way"]),
         ]
-        for laws, answers, want in rows:
+        for laws, answers, more, want in rows:
             with tempfile.TemporaryDirectory() as folder:
-                self.assertEqual(want, uncited(laid_out(folder, {"one/proofs/Laws.antt": laws, "one/proofs/two/Answers.antt": answers})), laws)
+                files = Files(laid_out(folder, {"one/proofs/Laws.antt": laws, "one/proofs/two/Answers.antt": answers, **more}))
+                self.assertEqual(want, files.uncited(), (laws, answers, more))
+
+    def test_an_import_that_nothing_names(self):
+        rows = [
+            ("use A.{law}\n\na = law\n", []),
+            ("use A.{law, other}\n\na = law\n", ["1: other"]),
+            ("use A.{law}\nuse A.{other}\n\n-- by other\na = law\n", ["2: other"]),
+            ("use A.{law as own}\n\na = law\n", ["1: own"]),
+            ("use A.{law as own}\n\na = own\n", []),
+            ("use A.B\n\na = B.law\n", []),
+            ("use A.B as C\n\na = B.law\n", ["1: C"]),
+            ("use A.{◌by◌, ◌+◌, []}\n\na = n by n\n", ["1: ◌+◌", "1: []"]),
+            ("use A.{if◌then◌else◌, []}\n\na = f[] then\n", []),
+            ("use A.{Way.left}\n\na = left\n", []),
+            ("pub use A.{law}\npub use A.B\nunfoldable pub use A.{two}\n", []),
+        ]
+        for text, want in rows:
+            with tempfile.TemporaryDirectory() as folder:
+                files = Files(laid_out(folder, {"one/specs/Laws.antt": text}))
+                self.assertEqual([f"crates/one/specs/Laws.antt:{name}" for name in want], files.unused_imports(), text)
+        source = "ghost use A.{law, ◌≤◌, two};\nghost use A.B as own;\n// by two\nfn one(n: u8)\n    requires { n ≤ own.few }\n{}\n"
+        with tempfile.TemporaryDirectory() as folder:
+            files = Files(laid_out(folder, {"one/src/lib.rt": source}))
+            self.assertEqual([f"crates/one/src/lib.rt:1: {name}" for name in ("law", "two")], files.unused_imports())
 
     def test_lists_are_made_anew_where_nothing_rises(self):
         with tempfile.TemporaryDirectory() as folder:
@@ -142,7 +186,8 @@ class Names(unittest.TestCase):
             with contextlib.redirect_stdout(io.StringIO()) as told, contextlib.redirect_stderr(io.StringIO()) as wrong:
                 self.assertEqual(1, check_names.main([folder]))
             self.assertIn("0 names in two crates or more\n2 bare numbers of the layout\n", told.getvalue())
-            self.assertEqual("crates/two/src/a.rt: 144: bare numbers 1, 0 allowed\n", wrong.getvalue())
+            uncited = "crates/two/specs/Words.antt:2: double: a definition or lemma that nothing leads to\n"
+            self.assertEqual("crates/two/src/a.rt: 144: bare numbers 1, 0 allowed\n" + uncited, wrong.getvalue())
 
 
 INNER = """pub struct Kept(pub u64);

@@ -1,13 +1,12 @@
 -- A new node at the place where a walk ends makes the tree with the new line.
-use Rattle.std.proofs.Common.{◌≡◌, ◌≢◌, ◌^◌, ◌+◌, ◌-◌, ◌*◌, ◌<◌, ◌≤◌, inl, inr, ℕ, zero, suc, cond, eqb, List, [], ◌∷◌, ◌++◌, length, refl, sym, ap, subst, ◌∙◌, get_or-set_same, get_or-set_other, length-append, arith, lit≤}
+use Rattle.std.proofs.Common.{◌≡◌, ◌^◌, ◌+◌, ◌-◌, ◌≤◌, inl, inr, ℕ, zero, suc, cond, eqb, List, [], ◌∷◌, refl, sym, ap, subst, ◌∙◌, arith, lit≤}
 use Rattle.std.specs.declared.cmp.Ordering.{Ordering}
-use Rattle.std.proofs.Math.ListN.{length-set}
 use Rattle.std.proofs.lemmas.Bool.{cases_eq}
-use Rattle.avl_words.specs.Tree.{Tree, Empty, Node, height, items, size, IsLevel, Balanced, node_on}
-use Rattle.avl_words.specs.Ways.{Turn, under, whole, before, behind, spot, with_new}
+use Rattle.avl_words.specs.Tree.{Tree, Empty, Node, height, IsLevel, Balanced, node_on}
+use Rattle.avl_words.specs.Ways.{Turn, under, whole, spot, with_new}
 use Rattle.avl_words.proofs.Trees.{height_on, balanced_at, mended_balanced}
 use Rattle.avl_words.proofs.Depth.{depth_bound, height_at}
-use Rattle.avl_words.proofs.Spots.{spot_whole, spot_items, new_items, new_balanced, size_is}
+use Rattle.avl_words.proofs.Spots.{spot_whole}
 use Rattle.avl_words.specs.Lines.{word_of, IsWithin, with_word}
 use Rattle.avl_words.specs.Words.{root, times, IsNode, RepresentsTree, IsTree, IsSpot}
 use Rattle.avl_words.specs.Links.{IsTreeMade}
@@ -15,7 +14,7 @@ use Rattle.avl_words.specs.Changes.{CanPut, PutsNode}
 use Rattle.avl_words.specs.Mending.{Spine, IsLow, IsHung, Settled, CanMend, Mends}
 use Rattle.avl_words.specs.Exact.{with_tree}
 use Rattle.avl_words.proofs.Walks.{stands_at}
-use Rattle.avl_words.proofs.Frames.{times_most, times_other, stands_same, except_more, high_is}
+use Rattle.avl_words.proofs.Frames.{times_most, times_other, except_more, high_is}
 use Rattle.avl_words.proofs.Relinking.{settled_of}
 use Rattle.avl_words.proofs.ExactWords.{only_words}
 use Rattle.avl_words.proofs.Hanging.{whole_times, mended_times}

@@ -1,5 +1,5 @@
 -- Nodes of a way that stand as they did: they go on standing for a tree as high at the end of the way.
-use Rattle.std.proofs.Common.{◌≡◌, ◌+◌, ◌-◌, ◌*◌, ◌<◌, ◌≤◌, inl, max, ℕ, zero, suc, List, [], ◌∷◌, ◌++◌, length, get_or, refl, sym, ap, subst, ◌∙◌, get_or-set_same, get_or-set_other, length-append, arith}
+use Rattle.std.proofs.Common.{◌≡◌, ◌+◌, ◌-◌, ◌*◌, ◌<◌, ◌≤◌, inl, max, ℕ, zero, suc, List, [], ◌∷◌, ◌++◌, length, get_or, sym, ap, subst, ◌∙◌, get_or-set_same, get_or-set_other, length-append, arith}
 use Rattle.avl_words.specs.Tree.{Tree, Empty, Node, height, Balanced, node_on}
 use Rattle.avl_words.specs.Ways.{Turn, whole}
 use Rattle.avl_words.proofs.Trees.{height_on}

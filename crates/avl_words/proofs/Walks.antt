@@ -5,10 +5,10 @@ use Rattle.std.specs.declared.cmp.Ordering.TheVariants.{Less, Equal, Greater}
 use Rattle.std.proofs.Math.Pow.{pow_mono}
 use Rattle.avl_words.specs.Tree.{Tree, Empty, Node, height, items, size, node_on}
 use Rattle.avl_words.specs.Ways.{Turn, whole, behind, spot}
-use Rattle.avl_words.specs.Lines.{word_of, IsWithin}
+use Rattle.avl_words.specs.Lines.{word_of}
 use Rattle.avl_words.specs.Words.{root, RepresentsTree, IsTree, IsWayNoted, IsOnWay, IsSpot}
 use Rattle.avl_words.proofs.Depth.{depth_law, depth_bound, height_at}
-use Rattle.avl_words.proofs.Spots.{spot_right, spot_here, spot_left, spot_whole}
+use Rattle.avl_words.proofs.Spots.{spot_right, spot_here, spot_left}
 
 -- what stands at a place
 parts_stand : (ws : List ℕ) (side : ℕ) (t : Tree ℕ) (x : ℕ) (s : Tree ℕ) → RepresentsTree ws (node_on side t x s) → RepresentsTree ws t

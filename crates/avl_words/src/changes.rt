@@ -1,10 +1,7 @@
 //! A node is put where a walk ended, or the node there is taken out.
 
-ghost use Rattle.std.specs.Prelude.{◌≢◌, ◌≡◌, ℕ, List};
-ghost use Rattle.std.specs.declared.cmp.Ordering.{Ordering};
+ghost use Rattle.std.specs.Prelude.{◌≢◌};
 ghost use Rattle.cx_base.specs.Calls.{Changes, Finds};
-ghost use Rattle.avl_words.specs.Removal.{gone_way, gone_rest};
-ghost use Rattle.avl_words.specs.Tree.{Tree};
 ghost use Rattle.avl_words.specs.Changes.{CanPut, PutsNode, CanTakeNode, TakesNode, HasTwo, CanDescend, Descends, RaisesNode};
 ghost use Rattle.avl_words.specs.Lines.{IsLoadable, IsStorable};
 

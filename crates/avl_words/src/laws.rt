@@ -2,7 +2,7 @@
 
 ghost use Rattle.std.specs.Prelude.{◌≡◌, ◌≤◌, ◌^◌, ◌+◌, ◌*◌, ◌++◌, ◌∷◌, [], ℕ, List};
 ghost use Rattle.std.specs.declared.cmp.Ordering.{Ordering};
-ghost use Rattle.avl_words.specs.Removal.{with_out, without};
+ghost use Rattle.avl_words.specs.Removal.{with_out};
 ghost use Rattle.avl_words.specs.Tree.{Tree, Empty, Node, height, items, size, Balanced};
 ghost use Rattle.avl_words.specs.Ways.{Turn, before, behind, spot, whole, with_new};
 

@@ -1,6 +1,6 @@
 //! Links and heights of nodes, and how a node is balanced.
 
-ghost use Rattle.std.specs.Prelude.{◌≡◌, ◌≢◌, ◌+◌, ◌*◌, ◌<◌, ◌≤◌, max, IfOk};
+ghost use Rattle.std.specs.Prelude.{◌≡◌, ◌≢◌, ◌+◌, ◌<◌, max, IfOk};
 ghost use Rattle.cx_base.specs.Calls.{Changes, Finds};
 ghost use Rattle.avl_words.specs.Lines.{IsLoadable, IsStorable, IsWithin};
 ghost use Rattle.avl_words.specs.Links.{high_of, with_node, CanSet, HasLink, IsSubtree, CanRotate, Rotates, CanJoin, Joins};

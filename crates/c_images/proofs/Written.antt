@@ -49,12 +49,6 @@ left_of kind choice r words image is says =
       };
     }
 
--- a fault of recovery is one of words that say the image
-pub refused : (version : ℕ) (lawful : List ℕ → Type 0) (old : OldFormat) (words : List ℕ) (image : Image) (fault : ImageFault) → SaysImage words image → IsFaultOf version lawful old image fault
-    → IsWordsFault version lawful old words (ImageRefused fault)
-refused version lawful old words image Memory says is = tt
-refused version lawful old words image fault says is = record { image = image; says = says; is = is }
-
 -- what recovery gives is taken up where its numbers are within the place, and refused where they are not
 pub within : (version : ℕ) (lawful : List ℕ → Type 0) (old : OldFormat) (words : List ℕ) (image : Image) (base : Base) (answer : Result Base WordsFault) → SaysImage words image → IsRecovered version lawful old image base
     → MatchResult answer (λ same. (same ≡ base) × NumbersWithin base) (λ fault. (fault ≡ Numbers) × (¬ NumbersWithin base))

@@ -13,7 +13,7 @@ use Rattle.cx_core.specs.Rights.{held_dirty, is_at, shared_on}
 use Rattle.cx_core.specs.State.{Instance, one_more}
 use Rattle.table_invariant.specs.declared.rule.Known.{Known}
 use Rattle.cx_core.proofs.HistoryLemmas.{ObjectLaws}
-use Rattle.table_invariant.specs.Fitting.{AgreeTo, Fitting, TellsWord, loads_of, loaded_of}
+use Rattle.table_invariant.specs.Fitting.{Fitting, TellsWord, loads_of, loaded_of}
 use Rattle.table_invariant.specs.Rule.{IsBehindNotes}
 use Rattle.table_invariant.specs.Running.{IsTableWithinLimits, IsSeatOf, Running, instance_at}
 use Rattle.table_invariant.specs.Seats.{IsAtLimit, Seated, known_after, known_of}
@@ -81,11 +81,6 @@ module _ {O : Type 0} (r : Running O) (step : O → List ℕ → List ℕ → Li
         (summarised, copied),
         record { event = subst (λ (s : Seated). Steps r step reads (BackOff replica) found old s) made.1.made made.1; made = whole; seat = stands },
       )
-
--- a step of a replica that is another way to say the same
-pub copied_same : {O : Type 0} {r : Running O} {step : O → List ℕ → List ℕ → List ℕ × List ℕ} {reads : O → List ℕ → Bool} {replica replica' found : ℕ} {before after : Seated} → replica ≡ replica' → StepsCopied r step reads replica found before after →
-    StepsCopied r step reads replica' found before after
-copied_same {r = r} {step = step} {reads = reads} {found = found} {before = before} {after = after} same steps = subst (λ (n : ℕ). StepsCopied r step reads n found before after) same steps
 
 -- a region has words
 pub region_some : {O : Type 0} {line_count : O → ℕ} {lawful : O → List ℕ → Type 0} {r : Running O} → IsTableWithinLimits line_count lawful r → 0 < length r.base.words

@@ -9,5 +9,4 @@ pub mod Copying
 pub mod Raising
 pub mod Covering
 pub mod OpeningSeats
-mod Carrying
 pub mod Chaining

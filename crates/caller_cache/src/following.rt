@@ -1,6 +1,5 @@
 //! What a seat keeps in plain memory follows each step of its caller, by the kind of the step.
 
-ghost use Rattle.std.specs.Prelude.{◌≡◌, ℕ};
 ghost use Rattle.caller_cache.specs.Following.{CanFollow, CopiesFollow, FollowsAt};
 
 use crate::copies::Copies;

@@ -1,6 +1,6 @@
 //! Room for the write set of one own entry, which its caller keeps and offers to nobody.
 
-ghost use Rattle.std.specs.Prelude.{◌≡◌, ◌≤◌, ◌⊎◌, IfOk, IsTrue, None, Some, length, slice_index};
+ghost use Rattle.std.specs.Prelude.{◌≡◌, ◌⊎◌, IfOk, IsTrue, None, Some};
 ghost use Rattle.caller_cache.specs.Copies.{IsSetList};
 
 use cx_base::SET_WORDS;

@@ -4,7 +4,7 @@ ghost use Rattle.std.specs.Prelude.{◌≡◌, ◌^◌, ◌<◌, ℕ, Some, None
 ghost use Rattle.cx_core.specs.SetEvents.{offer_of};
 ghost use Rattle.cx_core.specs.declared.kinds.Kind.TheVariants.{Offer};
 ghost use Rattle.cx_core.specs.State.{one_more};
-ghost use Rattle.caller_cache.specs.Summaries.{Follows, summary_of};
+ghost use Rattle.caller_cache.specs.Summaries.{Follows};
 
 use crate::summary::CachedLocal;
 use cx_core::SeenOffer;

@@ -1,7 +1,7 @@
 -- A caller that is out with a client.
 use Rattle.std.proofs.Common.{◌≡◌, ◌<◌, ◌≤◌, ◌^◌, ◌⊎◌, inl, inr, ⊎_elim, ℕ, List, [], ◌∷◌, ◌++◌, append_assoc, drop, length, sym, refl, ap, ◌∙◌, subst, arith, Option, Some, None, slice_get}
 use Rattle.std.proofs.lemmas.List.{append-nil}
-use Rattle.std.proofs.lemmas.Option.{none-some, same_Some}
+use Rattle.std.proofs.lemmas.Option.{same_Some}
 use Rattle.atomic_table.specs.Seated.{TableId}
 use Rattle.crossbeam_queue.specs.Passes.{view}
 use Rattle.cx_core.proofs.Locals.{slice_get-last}
@@ -22,7 +22,7 @@ use Rattle.cx_service.specs.declared.update.Updated.{Updated}
 use Rattle.cx_service.specs.declared.update.Updated.TheVariants.{Done as UpdatedDone, Full as UpdatedFull, Worn as UpdatedWorn, Halted as UpdatedHalted}
 use Rattle.cx_attempts.specs.declared.lookup.Seen.{Seen}
 use Rattle.seat_pool.specs.Gathering.{Gathers, StaysIdle}
-use Rattle.seat_pool.specs.Pooling.{HasLimit, IsFirstOf, IsHomeOf, given_from, limits_at, told_with, total_weight, with_given, with_taken}
+use Rattle.seat_pool.specs.Pooling.{HasLimit, IsFirstOf, IsHomeOf, given_from, limits_at, told_with, total_weight, with_given}
 use Rattle.seat_pool.specs.declared.hand.LenderPass.{LenderPass}
 use Rattle.seat_pool.specs.declared.hand.Returned.{Returned}
 use Rattle.seat_pool.specs.declared.hand.AnsweredCall.{AnsweredCall}
@@ -30,7 +30,7 @@ use Rattle.seat_pool.specs.declared.lent.Lent.{Lent}
 use Rattle.seat_pool.proofs.Poolings.{total_both}
 use Rattle.seat_pool.proofs.Telling.{are_kept, are_shown, are_told, same_calls}
 use Rattle.client_pool.specs.Clients.{HaltsClientUpdate, HaltsClientRead, IsClientAnswered}
-use Rattle.client_pool.specs.Lending.{ComesFrom, EntersRead, GivesBack, HaltsLater, HaltsBesideQueue, HoldsIdle, HoldsKept, IsBegun, IsFirstCaller, IsGivenBack, IsKeptCaller, IsLentTo, IsOut, IsPart, IsReadRefused, KeepsFull, KeepsStopped, KeepsWorn, LooksOn, MayGive, MaySettle, Returns, ReturnsFirst, Settles, ShowsRead, TellsSame, limits_of}
+use Rattle.client_pool.specs.Lending.{ComesFrom, EntersRead, GivesBack, HaltsLater, HaltsBesideQueue, HoldsIdle, HoldsKept, IsBegun, IsFirstCaller, IsGivenBack, IsLentTo, IsOut, IsPart, IsReadRefused, KeepsFull, KeepsStopped, KeepsWorn, LooksOn, MayGive, MaySettle, Returns, ReturnsFirst, Settles, ShowsRead, TellsSame, limits_of}
 use Rattle.client_pool.specs.declared.lend.EntryOutcome.TheVariants.{Done, Full, Worn, Halted}
 
 -- The call is answered as an entry of this caller, which was so when it entered the queue: it was told with its answer, whose ticket is not below the floor. The
@@ -197,23 +197,6 @@ module _ {O : Type 0} (r : Running O) where
       parts = ap (λ (u : LenderPass). u.parts) is ∙ parts ∙ part.parts;
       placed = ap (λ (u : LenderPass). u.placed) is ∙ placed ∙ part.placed;
     }
-
-    pub taken_out : (before after : Lent) (x : Seated) → IsLentTo r table before → before.kept ≡ None → after.kept ≡ None → (after.pass.table_id ≡ table) × (after.pass.me.1 ≡ []) → view after.pass ≡ with_taken (view before.pass) x
-        → IsCallerOf r x → HasLimit (limits_at (view before.pass).home) x → IsOut r table after x × TellsSame before after
-    taken_out before after x lent none none_ pass is caller limit =
-        let held : (view before.pass).held ≡ [] = subst (HoldsKept r (view before.pass)) none lent.kept in (
-          record {
-            part = part_like before after (with_taken (view before.pass) x) lent.part pass is refl refl refl;
-            none = none_;
-            holds = record {
-              taken = x;
-              held = ap (λ (u : LenderPass). u.held) is ∙ ap (λ (l : List Seated). x ∷ l) held;
-              limit = subst (λ (u : LenderPass). HasLimit (limits_at u.home) x) (sym is) limit;
-              idle = stays x caller;
-            };
-          },
-          record { limits = ap (λ (u : LenderPass). limits_at u.home) is; told = ap (λ (u : LenderPass). u.told) is; shown = ap (λ (u : LenderPass). u.shown) is; returned = ap (λ (u : LenderPass). u.returned) is },
-        )
 
     pub out_on : (lent : Lent) (x y : Seated) → IsOut r table lent x → StaysIdle r x y → IsOut r table lent y
     out_on lent x y out idle = record { part = out.part; none = out.none; holds = holds_on (view lent.pass) x y out.holds idle }

@@ -1,6 +1,6 @@
 //! A pool is opened.
 
-ghost use Rattle.std.specs.Prelude.{◌≡◌, ◌<◌, ◌≤◌, [], IfErr, IfOk, IsTrue, map};
+ghost use Rattle.std.specs.Prelude.{◌≡◌, ◌<◌, ◌≤◌, IfErr, IfOk, IsTrue, map};
 ghost use Rattle.crossbeam_queue.specs.Passes.{view, IsPassOf, ruled_capacity};
 ghost use Rattle.seat_pool.specs.Pooling.{IsHomeOf, IsPassOpened, cut_left, limits_at};
 ghost use Rattle.client_pool.specs.Lending.{IsPool};

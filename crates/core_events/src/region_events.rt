@@ -1,6 +1,6 @@
 //! The steps on the words of replicas: words are loaded, stored and persisted.
 
-ghost use Rattle.std.specs.Prelude.{◌≡◌, ◌*◌, ◌<◌, length, ◌==◌, true, false};
+ghost use Rattle.std.specs.Prelude.{◌≡◌, length, ◌==◌, true, false};
 ghost use Rattle.cx_core.specs.declared.kinds.Kind.TheVariants.{LoadWord, StoreWord, Persist};
 ghost use Rattle.core_events.specs.Tries.{TriesEvent};
 ghost use Rattle.cx_core.specs.Events.{Did};

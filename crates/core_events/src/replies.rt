@@ -1,6 +1,6 @@
 //! What a raise answers: whether its guard holds, and the replies, for which the object is run along the history.
 
-ghost use Rattle.std.specs.Prelude.{◌≡◌, ◌+◌, ◌<◌, ◌↔◌, ℕ, Bool, List, None, length, IsTrue, IfOk};
+ghost use Rattle.std.specs.Prelude.{◌≡◌, ◌+◌, ◌↔◌, ℕ, Bool, List, None, length, IsTrue, IfOk};
 ghost use Rattle.std.specs.Option.{option_to_list};
 ghost use Rattle.core_events.specs.Told.{TellsRaise};
 ghost use Rattle.cx_base.specs.VecMemory.{words_of};

@@ -1,6 +1,6 @@
 //! The steps on the ring: what a caller needs is stated, confirmed and released, and tickets are closed, scanned and opened.
 
-ghost use Rattle.std.specs.Prelude.{◌≡◌, ◌<◌, ◌≤◌, length};
+ghost use Rattle.std.specs.Prelude.{◌≡◌, ◌≤◌, length};
 ghost use Rattle.core_events.specs.Tables.{HasCaller, HasTableWords};
 ghost use Rattle.cx_core.specs.declared.kinds.Kind.TheVariants.{Protect, Confirm, Unprotect, CloseLow, Scan, OpenFree};
 ghost use Rattle.cx_core.specs.Events.{Did};

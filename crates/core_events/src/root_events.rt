@@ -1,6 +1,6 @@
 //! The steps on the root: CUR is loaded and replaced, DUR is raised, and a win is retired.
 
-ghost use Rattle.std.specs.Prelude.{◌≡◌, ◌+◌, ◌*◌, ◌<◌, ◌∷◌, ◌++◌, [], ℕ, List, Option, Some, max};
+ghost use Rattle.std.specs.Prelude.{◌≡◌, ◌∷◌, ◌++◌, [], ℕ, List, Option, Some, max};
 ghost use Rattle.std.specs.Option.{option_to_list};
 ghost use Rattle.core_events.specs.Tables.{HasTableWords};
 ghost use Rattle.core_events.specs.Codes.{HasCode};

@@ -1,6 +1,5 @@
 //! The steps on write sets: a set is written and offered, and its offer word and its words are loaded.
 
-ghost use Rattle.std.specs.Prelude.{◌<◌};
 ghost use Rattle.core_events.specs.Tables.{HasCaller, HasTableWords};
 ghost use Rattle.core_events.specs.Told.{TellsOfferWord};
 ghost use Rattle.cx_core.specs.declared.kinds.Kind.TheVariants.{WriteSet, Offer, LoadOffer, ReadSet};

@@ -1,6 +1,6 @@
 //! What guards on locks ask of a caller's local state, and of a lock's word.
 
-ghost use Rattle.std.specs.Prelude.{◌≡◌, ◌+◌, ◌-◌, ◌<◌, ◌↔◌, [], IsTrue, ◌==◌};
+ghost use Rattle.std.specs.Prelude.{◌≡◌, ◌+◌, ◌<◌, ◌↔◌, [], IsTrue, ◌==◌};
 ghost use Rattle.cx_core.specs.LockEvents.{CanBackOff, CanTryExclusive, CanTryShared, IsClean, has_all, is_fresh_on};
 ghost use Rattle.cx_core.specs.Region.{place_of};
 ghost use Rattle.cx_core.specs.Rights.{downgraded_on, exclusive_on, held_dirty, held_words, is_at, rights, rights_on, shared_on, won_on};

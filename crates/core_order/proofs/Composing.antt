@@ -1,19 +1,16 @@
 -- Lives one after another are one object's.
-use Rattle.std.proofs.Common.{◌≡◌, ◌+◌, ◌-◌, ◌*◌, ◌^◌, ◌<◌, ◌≤◌, ℕ, zero, suc, Bool, List, [], ◌∷◌, ◌++◌, Some, length, length-append, length-take, append_assoc, append-nil, take, refl, ap, sym, subst, ◌∙◌, arith}
+use Rattle.std.proofs.Common.{◌≡◌, ◌+◌, ◌-◌, ◌^◌, ◌<◌, ◌≤◌, ℕ, zero, suc, Bool, List, [], ◌∷◌, ◌++◌, Some, length, length-append, length-take, append_assoc, take, refl, ap, sym, subst, ◌∙◌, arith}
 use Rattle.std.proofs.lemmas.List.{take-append-le, take-take, take_more}
 use Rattle.std.proofs.lemmas.Option.{get_or_from_slice_get, slice_get_within}
 use Rattle.std.specs.List.{slice_get}
-use Rattle.cx_base.specs.Memory.{Words}
 use Rattle.cx_core.specs.declared.entry.Base.{Base}
 use Rattle.cx_core.specs.declared.entry.Entry.{Entry}
-use Rattle.cx_core.specs.declared.local.Answer.{Answer}
-use Rattle.cx_core.specs.declared.local.SeenRead.{SeenRead}
 use Rattle.cx_core.specs.Base.{LawfulBase}
 use Rattle.cx_core.specs.Crash.{IsKept}
 use Rattle.cx_core.specs.History.{AreLawful, full_image, image_after}
 use Rattle.cx_core.specs.Lawful.{Lawful}
 use Rattle.cx_core.specs.Merge.{IsLinked, history_of}
-use Rattle.cx_core.specs.Region.{object_part, place_of}
+use Rattle.cx_core.specs.Region.{object_part}
 use Rattle.cx_core.specs.State.{Instance}
 use Rattle.cx_core.proofs.HistoryLemmas.{ObjectLaws, begins, full_lawful, full_next}
 use Rattle.cx_core.proofs.KeepLemmas.{region_kept}
@@ -23,7 +20,7 @@ use Rattle.core_replica.proofs.BaseLaws.{kept_lawful}
 use Rattle.core_replica.proofs.ReplyLaws.{reply_own}
 use Rattle.core_runs.proofs.Keeps.{run_kept}
 use Rattle.core_runs.proofs.WholeLaws.{crash_kept, entries_of}
-use Rattle.core_order.specs.CrashedLives.{AllStand, AnswersStand, AreCrashedLives, EndsAs, IsCrashedLife, LifeRun, instance_from, kept_history, last_base, next_base}
+use Rattle.core_order.specs.CrashedLives.{AllStand, AnswersStand, AreCrashedLives, EndsAs, IsCrashedLife, LifeRun, instance_from, kept_history, next_base}
 
 image_on : (step : List ℕ → List ℕ → List ℕ × List ℕ) (image : List ℕ) (xs ys : List Entry) → image_after step image (xs ++ ys) ≡ image_after step (image_after step image xs) ys
 image_on step image [] ys = refl

@@ -1,5 +1,5 @@
 -- What an image that a caller takes rests on.
-use Rattle.std.proofs.Common.{◌≡◌, ◌<◌, ◌≤◌, ℕ, List, [], ◌∷◌, Some, ap, sym, subst, slice_index, arith}
+use Rattle.std.proofs.Common.{◌≡◌, ◌<◌, ◌≤◌, ℕ, List, [], ◌∷◌, Some, ap, slice_index, arith}
 use Rattle.std.specs.List.{slice_get}
 use Rattle.cx_base.specs.Codes.{root_place_of}
 use Rattle.cx_core.specs.declared.kinds.Event.{Event}

@@ -1,5 +1,5 @@
 -- The operations of a run in one order, layer by layer: the reads at a place, in the order of their answers, and then the update whose ticket it is.
-use Rattle.std.proofs.Common.{◌≡◌, ◌≢◌, ◌+◌, ◌-◌, ◌*◌, ◌<◌, ◌≤◌, ◌⊎◌, inl, inr, ℕ, zero, suc, Bool, IsTrue, List, [], ◌∷◌, ◌++◌, Option, None, Some, length, take, fold, get_or, map, refl, ap, sym, subst, ◌∙◌, arith}
+use Rattle.std.proofs.Common.{◌≡◌, ◌+◌, ◌-◌, ◌*◌, ◌<◌, ◌≤◌, inl, inr, ℕ, zero, suc, Bool, IsTrue, List, [], ◌∷◌, ◌++◌, Option, None, Some, length, take, map, refl, ap, sym, subst, ◌∙◌, arith}
 use Rattle.std.proofs.lemmas.Bool.{cases_eq, cases_lt}
 use Rattle.std.proofs.lemmas.List.{take_more}
 use Rattle.std.proofs.lemmas.Option.{get_or_from_slice_get, none-some, same_Some, slice_get_within}
@@ -8,7 +8,6 @@ use Rattle.cx_base.specs.Memory.{Words}
 use Rattle.cx_core.specs.declared.entry.Base.{Base}
 use Rattle.cx_core.specs.declared.entry.Entry.{Entry}
 use Rattle.cx_core.specs.declared.kinds.Event.{Event}
-use Rattle.cx_core.specs.declared.local.Answer.{Answer}
 use Rattle.cx_core.specs.declared.local.Linked.{Linked}
 use Rattle.cx_core.specs.declared.local.Local.{Local}
 use Rattle.cx_core.specs.declared.local.SeenRead.{SeenRead}
@@ -27,8 +26,8 @@ use Rattle.core_replica.proofs.ReplyLaws.{reply_own}
 use Rattle.core_runs.specs.RealTime.{IsAhead, IsAnswered, IsBefore, IsPointOf, Operation, Point}
 use Rattle.core_runs.specs.RealTime.Operation.{Update, Read}
 use Rattle.core_runs.specs.RealTime.Point.{At, Behind}
-use Rattle.core_order.specs.TotalOrder.{HasOp, IsRepliedWith, IsIn, TookEffect, IsUnmade, MayBe, Replays, RunsHaveOrder, StandsBefore}
-use Rattle.core_order.proofs.Appearing.{Appears, appear, runs_on, still_made}
+use Rattle.core_order.specs.TotalOrder.{IsIn, TookEffect, IsUnmade, Replays, RunsHaveOrder, StandsBefore}
+use Rattle.core_order.proofs.Appearing.{appear, runs_on, still_made}
 use Rattle.core_runs.proofs.Keeps.{bounds_of, run_kept}
 use Rattle.core_order.proofs.Layers.{in_layers, in_only, layers, layers_before, layers_once, of_layers, of_only, one_alone, only_at, only_before}
 use Rattle.core_runs.proofs.Ordering.{in_order}

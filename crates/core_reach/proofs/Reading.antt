@@ -50,9 +50,6 @@ module _ (instance : Instance) (s : State) (caller : ℕ) (l : Local) (op : List
   abbrev callers : ℕ
   callers = instance.callers
 
-  abbrev region : ℕ
-  region = length instance.base.words
-
   abbrev cur : ℕ
   cur = slice_index s.words cur_at
 

@@ -1,5 +1,5 @@
 -- The part on gaps: the opening state has it, and each kind of step keeps it.
-use Rattle.std.proofs.Common.{◌≡◌, ◌≢◌, ◌+◌, ◌*◌, ◌<◌, ◌≤◌, ◌⊎◌, inl, inr, ℕ, List, ◌++◌, length, set, slice_index, refl, ap, sym, subst, ◌∙◌, arith, length-append, Some}
+use Rattle.std.proofs.Common.{◌≡◌, ◌≢◌, ◌+◌, ◌*◌, ◌<◌, ◌≤◌, ◌⊎◌, inl, inr, ℕ, List, length, set, slice_index, ap, sym, subst, ◌∙◌, arith, length-append, Some}
 use Rattle.std.proofs.lemmas.Bool.{cases_eq}
 use Rattle.std.proofs.lemmas.List.{get_or-set_other, get_or-set_same, set-get_or}
 use Rattle.std.proofs.lemmas.Nat.{mod_below}
@@ -13,7 +13,7 @@ use Rattle.cx_core.specs.Frames.{Continues}
 use Rattle.cx_core.specs.Gaps.{CanNoteGap, Gap, Gaps, IsGap, gap_of, images}
 use Rattle.cx_core.specs.History.{full_image}
 use Rattle.cx_core.specs.Lawful.{Shape}
-use Rattle.cx_core.specs.Layout.{cell_count, gap_at, gap_slots, gaps_at, replicas_at}
+use Rattle.cx_core.specs.Layout.{cell_count, gap_at, gaps_at, replicas_at}
 use Rattle.cx_core.specs.RootEvents.{before_in}
 use Rattle.cx_core.specs.State.{Instance, Scene}
 use Rattle.cx_core.proofs.HistoryLemmas.{full_stays}

@@ -2,7 +2,7 @@
 
 ghost use Rattle.std.specs.Prelude.{◌≡◌, ◌+◌, ◌^◌, ◌≤◌, ℕ, length};
 ghost use Rattle.cx_core.specs.Base.{LawfulBase};
-ghost use Rattle.cx_core.specs.Crash.{IsKept, recovered};
+ghost use Rattle.cx_core.specs.Crash.{IsKept};
 ghost use Rattle.cx_core.specs.History.{AreLawful, full_image};
 ghost use Rattle.cx_core.specs.State.{State};
 

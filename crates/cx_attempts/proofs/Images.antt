@@ -1,5 +1,5 @@
 -- What an attempt by which an image is taken does to the seat.
-use Rattle.std.proofs.Common.{◌≡◌, ◌+◌, ◌-◌, ◌==◌, ◌<◌, ◌≤◌, inl, inr, ℕ, Bool, IsTrue, true, false, cond, List, [], ◌∷◌, ◌++◌, append-nil, length, length-append, slice_index, refl, ap, sym, subst, ◌∙◌, arith, Some, None, drop, set, suc, take}
+use Rattle.std.proofs.Common.{◌≡◌, ◌+◌, ◌-◌, ◌==◌, ◌<◌, ◌≤◌, inl, inr, ℕ, Bool, true, false, cond, List, [], ◌∷◌, ◌++◌, append-nil, length, length-append, slice_index, refl, ap, sym, subst, ◌∙◌, arith, Some, None, drop, set, suc, take}
 use Rattle.std.proofs.lemmas.Bool.{cases_eq}
 use Rattle.std.proofs.lemmas.List.{drop_all, get_or_append_left, get_or_push, length-drop, length-set, length-take}
 use Rattle.std.proofs.lemmas.List.Elements.{Contains-append_left}
@@ -8,10 +8,7 @@ use Rattle.cx_base.specs.Codes.{root_place_of}
 use Rattle.cx_base.specs.declared.object.Object.{Ghosts}
 use Rattle.cx_base.specs.Noted.{Note}
 use Rattle.cx_core.specs.Base.{LawfulBase}
-use Rattle.cx_core.specs.declared.kinds.Kind.TheVariants.{LoadCur}
-use Rattle.cx_core.specs.declared.local.Answer.{Answer}
 use Rattle.cx_core.specs.declared.local.Local.{Local}
-use Rattle.cx_core.specs.declared.local.SeenRead.{SeenRead}
 use Rattle.cx_core.specs.LockEvents.{backed_off}
 use Rattle.cx_core.specs.Rights.{is_at, shared_on}
 use Rattle.cx_core.specs.State.{one_more}
@@ -19,23 +16,18 @@ use Rattle.cx_core.proofs.RootCodes.{place_up}
 use Rattle.table_invariant.specs.declared.rule.ImageTimes.{ImageTimes}
 use Rattle.table_invariant.specs.Fitting.{TellsWords, base_of, loaded_of, loads_of, word_noted}
 use Rattle.table_invariant.specs.Running.{Running, instance_at}
-use Rattle.table_invariant.specs.Seats.{IsAtLimit, Seated, StepsOn, images_of, unanswered_ticket}
-use Rattle.table_invariant.specs.Steps.{Halts, Steps, StepsTaking, image_times}
+use Rattle.table_invariant.specs.Seats.{Seated, images_of}
+use Rattle.table_invariant.specs.Steps.{StepsTaking, image_times}
 use Rattle.table_invariant.proofs.Copying.{here_or, or_there}
-use Rattle.table_invariant.proofs.Stepping.{on_one, on_same, on_then, on_then_one}
+use Rattle.table_invariant.proofs.Stepping.{on_one, on_same}
 use Rattle.cx_table.specs.Right.{Right}
-use Rattle.cx_table.specs.Tokens.{IsTakenFrom}
-use Rattle.cx_attempts.specs.Answering.{MayLook}
-use Rattle.cx_attempts.specs.Checkpointing.{HaltsImage, IsAtCurrent, LoadsImage, LoadsSome, RaisesCurrent, TakesCheckpoint, unchanged_by_checkpoint}
-use Rattle.cx_attempts.specs.Keeping.{HoldsCurrent}
-use Rattle.cx_attempts.specs.Reads.{unchanged_by_read}
-use Rattle.cx_attempts.specs.Attempts.{IsAtRest, RaisesFront}
+use Rattle.cx_attempts.specs.Checkpointing.{IsAtCurrent, LoadsImage, LoadsSome, RaisesCurrent, TakesCheckpoint}
+use Rattle.cx_attempts.specs.Attempts.{IsAtRest}
 use Rattle.replica.specs.Held.{IsHeldShared, LoadsRun, LoadsShared, no_load, one_more_load, unchanged_by_shared_access}
 use Rattle.replica.proofs.Access.{at_itself}
 use Rattle.replica.proofs.LineLoads.{loads_more, noted_more}
 use Rattle.replica.proofs.RegionLaws.{since_shared_run}
 use Rattle.replica.proofs.Renewing.{loaded_once}
-use Rattle.strong_trylock.specs.Held.{AllRights, all_rights}
 
 -- ---- loads
 
@@ -147,20 +139,7 @@ none_loaded o r hold first last held same = record {
 -- ---- the raise, and the right given back
 
 module _ {O : Type 0} (o : Ghosts O) (r : Running O) (hold : Right) (first s : Seated) (loads : LoadsSome o r hold first s) where
-  -- what loads leave as it was
-  loads_rest : unchanged_by_checkpoint s ≡ unchanged_by_checkpoint first
-  loads_rest = ap unchanged_by_checkpoint loads.rest
-
   module _ (code : ℕ) (u : Seated) (raise : RaisesCurrent o r code s u) where
-    abbrev put : List Answer → List SeenRead → List ℕ → List (ℕ × ℕ) → Seated
-    put answered seen times reads = (let b = unchanged_by_checkpoint s in record b { known = record b.known { local = record b.known.local { answered = answered; seen_reads = seen }; times = record b.known.times { answered = times; reads = reads } } })
-
-    raised_rest : unchanged_by_checkpoint u ≡ unchanged_by_checkpoint first
-    raised_rest =
-        ap unchanged_by_checkpoint raise.made
-        ∙ (λ i. put (append-nil s.known.local.answered i) (append-nil s.known.local.seen_reads i) (append-nil s.known.times.answered i) (append-nil s.known.times.reads i))
-        ∙ loads_rest
-
     raised_front : u.known.local.front ≡ first.known.local.front
     raised_front = ap (λ (x : Seated). x.known.local.front) raise.made ∙ ap (λ (x : Seated). x.known.local.front) loads.rest
 

@@ -14,7 +14,6 @@ ghost use Rattle.mutation_queue.specs.Entries.{MayReplay};
 ghost use Rattle.replica.specs.Held.{IsHeldIn, unchanged_by_access, left_of};
 ghost use Rattle.replica.specs.Regions.{HasPlace};
 ghost use Rattle.replica.specs.Replays.{IsReady, ShowsReplyIn, noted_place};
-ghost use Rattle.caller_cache.specs.Summaries.{IsOwnEntry};
 
 use crate::facts::{callers_are_few, tickets_are_few};
 use crate::renewal::unguard;

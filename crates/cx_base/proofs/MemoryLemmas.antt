@@ -1,9 +1,9 @@
 -- How the pairs that stand go on from one access to the next.
-use Rattle.std.proofs.Common.{◌≡◌, ◌^◌, ◌<◌, ◌≤◌, ℕ, suc, Bool, List, length, slice_index, slice_set, Option, None, Some, is_some, Result, refl, subst, sym, ap, ◌∙◌}
+use Rattle.std.proofs.Common.{◌≡◌, ◌^◌, ◌<◌, ◌≤◌, ℕ, suc, Bool, List, slice_index, slice_set, Option, None, Some, is_some, Result, refl, subst, sym, ap, ◌∙◌}
 use Rattle.std.specs.List.{All}
 use Rattle.std.proofs.Math.Logic.{∥∥₁_elim}
 use Rattle.std.proofs.Math.Bridge.{le_prop}
-use Rattle.cx_base.specs.Memory.{Words, Accessed, Loaded, Stored, Becomes, Framed, Always, Known, one_less}
+use Rattle.cx_base.specs.Memory.{Accessed, Loaded, Stored, Becomes, Framed, Always, Known, one_less}
 
 module _ {Key : Type 0} where
   -- nothing done

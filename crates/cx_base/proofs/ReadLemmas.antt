@@ -1,6 +1,6 @@
 -- What is known of the words of a memory over calls that only load.
-use Rattle.std.proofs.Common.{◌≡◌, ℕ, List, length, slice_index, Result, Ok, Err, IfOk, OnErr, refl, ◌∙◌}
-use Rattle.cx_base.specs.Memory.{Words, Same, Loaded, Becomes, Reads, Always}
+use Rattle.std.proofs.Common.{◌≡◌, ℕ, List, slice_index, refl, ◌∙◌}
+use Rattle.cx_base.specs.Memory.{Loaded, Becomes, Reads, Always}
 
 module _ {Key : Type 0} where
   -- nothing loaded yet
@@ -50,8 +50,3 @@ module _ {Key : Type 0} where
   -- nothing stored, twice
   pub kept_then : {old mid new : Key → List ℕ → Type 0} → Becomes old mid ◌≡◌ → Becomes mid new ◌≡◌ → Becomes old new ◌≡◌
   kept_then b d = record { from = λ first now s. (let q = d.from first now s in let p = b.from first q.0 q.1 in (p.0, p.1, p.2 ∙ q.2)) }
-
-  -- a load, whether it halts or not
-  pub kept_loading : {E : Type 0} {old new : Key → List ℕ → Type 0} (r : Result ℕ E) (at : ℕ) → OnErr r (Same old new) → IfOk r (λ v. Loaded at v old new) → Becomes old new ◌≡◌
-  kept_loading (Ok v) at e l = record { from = λ first now s. (now, (l.back first now s).0, refl) }
-  kept_loading (Err x) at e l = record { from = λ first now s. (now, e.back first now s, refl) }

@@ -1,5 +1,5 @@
 -- What the loads and stores of a memory tell of its words.
-use Rattle.std.specs.Prelude.{◌≡◌, ◌^◌, ◌<◌, ℕ, Bool, true, false, List, [], ◌∷◌, ◌++◌, length, slice_index, slice_set, All, refl}
+use Rattle.std.specs.Prelude.{◌≡◌, ◌^◌, ◌<◌, ℕ, Bool, true, false, List, [], ◌∷◌, ◌++◌, length, slice_index, slice_set, refl}
 use Rattle.std.proofs.Common.{sym, subst, ap, ◌∙◌}
 use Rattle.std.proofs.Math.Logic.{∥∥₁_map}
 use Rattle.std.proofs.lemmas.List.{length-set}
@@ -73,9 +73,6 @@ IsToldByNotes notes words = ∥ ((first : List ℕ) × NotesShow (length words) 
 
 pub some_shown : (notes : List Note) (words : List ℕ) → IsToldByNotes notes words → ∥ ((first : List ℕ) × (now : List ℕ) × NotesShow (length words) notes first now) ∥₁
 some_shown notes words shown = ∥∥₁_map shown (λ p. (p.0, words, p.1))
-
-pub shown_at_first : (words : List ℕ) → All (λ x. x < 2 ^ 64) words → IsToldByNotes [] words
-shown_at_first words fit = ∣ (words, record { words = record { long = refl; fit = fit }; leads = refl }) ∣₁
 
 pub shown_after_load : (notes : List Note) (words : List ℕ) (at v : ℕ) → slice_index words at ≡ v → IsToldByNotes notes words → IsToldByNotes (notes ++ (false, at, v) ∷ []) words
 shown_after_load notes words at v e shown = ∥∥₁_map shown (λ p. (p.0, (shows_load (length words) notes at v).on p.0 words p.1 e))

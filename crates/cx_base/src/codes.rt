@@ -1,6 +1,6 @@
 //! The codes of the root and of a link: two numbers in one word.
 
-ghost use Rattle.std.specs.Prelude.{◌≡◌, ◌+◌, ◌*◌, ◌^◌, ◌<◌, ◌≤◌, ℕ};
+ghost use Rattle.std.specs.Prelude.{◌≡◌, ◌+◌, ◌*◌, ◌^◌, ◌<◌, ◌≤◌};
 ghost use Rattle.cx_base.specs.Codes.{root_code_of, root_place_of, root_replica_of, link_code_of, link_ticket_of, link_cell_of};
 
 /// The root code of a place and a replica, of 2 replicas for each caller.

@@ -1,6 +1,6 @@
 //! Memories of words, of which a caller may know only a part.
 
-ghost use Rattle.std.specs.Prelude.{◌≡◌, ◌+◌, ◌^◌, ◌<◌, ◌≤◌, ◌↔◌, ℕ, Bool, true, List, Option, Some, All, length, slice_index, slice_set, IsTrue, IsErr, OnErr, OnOk, IfOk};
+ghost use Rattle.std.specs.Prelude.{◌≡◌, ◌+◌, ◌^◌, ◌<◌, ◌≤◌, ◌↔◌, ℕ, Bool, true, List, Option, Some, All, length, IsTrue, IsErr, OnErr, OnOk, IfOk};
 ghost use Rattle.cx_base.specs.Memory.{Words, Accessed, Loaded, Stored, AreAt, Becomes, Reads, Framed, Known, one_less, words_from_known};
 
 /// A step that the step limit refused.

@@ -1,6 +1,6 @@
 //! Sequential objects: a deterministic step on an image of words.
 
-ghost use Rattle.std.specs.Prelude.{◌≡◌, ◌*◌, ◌↔◌, ℕ, Bool, List, length, slice_index, IsTrue, IfOk};
+ghost use Rattle.std.specs.Prelude.{◌≡◌, ◌*◌, ◌↔◌, ℕ, Bool, List, slice_index, IsTrue, IfOk};
 ghost use Rattle.cx_base.specs.Calls.{Changes, Finds};
 ghost use Rattle.cx_base.specs.Memory.{Words, Always};
 ghost use Rattle.cx_base.specs.OldFormat.{CanUpgrade, OldFormat, TakesOver};

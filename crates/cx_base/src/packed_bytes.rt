@@ -1,6 +1,6 @@
 //! Bytes packed into words, eight to a word.
 
-ghost use Rattle.std.specs.Prelude.{◌≡◌, ◌+◌, ◌*◌, ◌/◌, ◌%◌, ◌^◌, ◌<◌, ◌≤◌, ℕ, List, All, length, slice_index, drop};
+ghost use Rattle.std.specs.Prelude.{◌≡◌, ◌*◌, ◌/◌, ◌%◌, ◌^◌, ◌<◌, ◌≤◌, ℕ, All, length, slice_index, drop};
 ghost use Rattle.cx_base.specs.Packing.{byte_at, unpacked, packed_at, packed};
 
 /// Puts byte i into word i / 8 at bits 8 * (i mod 8), and fills the rest with 0.

@@ -1,7 +1,6 @@
 //! The object of the tests: a running sum.
 
-ghost use Rattle.std.specs.Prelude.{◌≡◌, ◌<◌, ◌^◌, ℕ, Bool, List, length, slice_index, IsTrue};
-ghost use Rattle.cx_base.specs.Memory.{Words};
+ghost use Rattle.std.specs.Prelude.{◌≡◌, ◌<◌, slice_index};
 ghost use Rattle.cx_base.specs.OldFormat.{no_old_format, takes_over_nothing};
 ghost use Rattle.cx_base.specs.Tally.{IsTally, tally_opening, tally_reads, tally_reply, tally_step};
 ghost use Rattle.cx_base.specs.TallyLaws.{tally_opens, tally_keeps, tally_shape, tally_replies, tally_leaves};

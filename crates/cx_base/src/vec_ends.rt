@@ -1,6 +1,6 @@
 //! A source and a sink in memory with a limit on the bytes of one call, which fail at chosen calls.
 
-ghost use Rattle.std.specs.Prelude.{◌≡◌, ◌↔◌, ◌⊎◌, ◌<◌, ◌≤◌, [], length, vec_capacity, Contains, IfOk, IsErr, IsTrue, Some};
+ghost use Rattle.std.specs.Prelude.{◌≡◌, ◌↔◌, ◌⊎◌, ◌<◌, ◌≤◌, length, vec_capacity, Contains, IfOk, IsErr, IsTrue, Some};
 ghost use Rattle.cx_base.specs.Outside.{IsSourceRead, IsWritten, TellsCall, next_call};
 
 use crate::outside::{Failed, Sink, Source};

@@ -1,9 +1,9 @@
 -- Full images along a history: folds over its front.
-use Rattle.std.proofs.Common.{◌≡◌, ◌+◌, ◌-◌, ◌*◌, ◌^◌, ◌≤◌, ℕ, zero, suc, List, [], ◌∷◌, ◌++◌, Option, Some, None, IfSome, drop, fold, length, take, slice_get, refl, ap, sym, subst, ◌∙◌, arith, length-append}
+use Rattle.std.proofs.Common.{◌≡◌, ◌+◌, ◌-◌, ◌*◌, ◌^◌, ◌≤◌, ℕ, zero, suc, List, [], ◌∷◌, ◌++◌, Option, Some, None, IfSome, drop, fold, length, take, slice_get, refl, ap, sym, subst, ◌∙◌, arith}
 use Rattle.std.proofs.lemmas.List.{take-append-le}
 use Rattle.cx_base.specs.Memory.{Words}
 use Rattle.cx_core.specs.Base.{LawfulBase}
-use Rattle.cx_core.specs.History.{AreLawful, IsFull, full_image, image_from}
+use Rattle.cx_core.specs.History.{AreLawful, full_image, image_from}
 use Rattle.cx_core.specs.Merge.{IsLinked}
 use Rattle.cx_core.specs.Region.{object_part, place_of}
 use Rattle.cx_core.specs.State.{Instance}

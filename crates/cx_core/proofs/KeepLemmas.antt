@@ -1,49 +1,20 @@
 -- What a full step leaves at each place of a region, and that it keeps a base lawful.
-use Rattle.std.proofs.Common.{◌≡◌, ◌≢◌, ◌+◌, ◌*◌, ◌^◌, ◌<◌, ◌≤◌, ◌⊎◌, inl, inr, ⊎_elim, ℕ, zero, suc, List, [], ◌∷◌, length, take, drop, slice_index, slice_set, refl, sym, ap, ◌∙◌, subst, arith, add-zero}
+use Rattle.std.proofs.Common.{◌≡◌, ◌+◌, ◌*◌, ◌^◌, ◌<◌, ◌≤◌, ◌⊎◌, inl, inr, ⊎_elim, ℕ, suc, List, [], ◌∷◌, length, take, drop, slice_index, refl, sym, ap, ◌∙◌, subst, arith, add-zero}
 use Rattle.std.specs.List.{All}
-use Rattle.std.proofs.lemmas.List.{length-set, length-drop, length-take-le, get_or-set_other, get_or-set_same, get_or-drop, get_or-take, ext_get_or}
-use Rattle.std.proofs.lemmas.List.Elements.{All-set, All-head, All-tail, All-cons, All-nil}
+use Rattle.std.proofs.lemmas.List.{length-drop, length-take-le, get_or-drop, get_or-take, ext_get_or}
+use Rattle.std.proofs.lemmas.List.Elements.{All-cons, All-nil}
 use Rattle.std.proofs.lemmas.Bool.{cases_order}
 use Rattle.cx_base.specs.Memory.{Words, overwritten}
+use Rattle.cx_base.proofs.WordLemmas.{Words-overwritten, length-overwritten, overwritten_before, overwritten_behind, overwritten_within}
 use Rattle.cx_core.specs.Region.{region_words, place_of, slot_start, slot_number, slot_reply, object_part, LawfulResults}
 use Rattle.cx_core.specs.Base.{Keeps, LawfulBase}
 use Rattle.cx_core.specs.Step.{full_step_of}
 use Rattle.cx_core.specs.declared.entry.Base.{Base}
 use Rattle.cx_core.specs.declared.entry.Entry.{Entry}
 
-overwritten_long : (vs ws : List ℕ) (at : ℕ) → length (overwritten at vs ws) ≡ length ws
-unfolding overwritten
-overwritten_long [] ws at = refl
-overwritten_long (v ∷ vs) ws at = overwritten_long vs (slice_set ws at v) (at + 1) ∙ length-set ws at v
-
-overwritten_fit : (vs ws : List ℕ) (at : ℕ) → All (λ x. x < 2 ^ 64) vs → All (λ x. x < 2 ^ 64) ws → All (λ x. x < 2 ^ 64) (overwritten at vs ws)
-unfolding overwritten
-overwritten_fit [] ws at f g = g
-overwritten_fit (v ∷ vs) ws at f g =
-    overwritten_fit vs (slice_set ws at v) (at + 1) (All-tail (λ x. x < 2 ^ 64) v vs f) (All-set (λ x. x < 2 ^ 64) ws at v (All-head (λ x. x < 2 ^ 64) v vs f) g)
-
-overwritten_before : (vs ws : List ℕ) (at i : ℕ) → i < at → slice_index (overwritten at vs ws) i ≡ slice_index ws i
-unfolding overwritten
-overwritten_before [] ws at i below = refl
-overwritten_before (v ∷ vs) ws at i below =
-    let apart : i ≢ at = λ e. omega (arith, e) in
-    overwritten_before vs (slice_set ws at v) (at + 1) i (omega arith) ∙ get_or-set_other ws at i v 0 apart
-
-overwritten_behind : (vs ws : List ℕ) (at i : ℕ) → at + length vs ≤ i → slice_index (overwritten at vs ws) i ≡ slice_index ws i
-unfolding overwritten
-overwritten_behind [] ws at i past = refl
-overwritten_behind (v ∷ vs) ws at i past =
-    let apart : i ≢ at = λ e. omega (arith, e) in
-    overwritten_behind vs (slice_set ws at v) (at + 1) i (omega arith) ∙ get_or-set_other ws at i v 0 apart
-
-overwritten_within : (vs ws : List ℕ) (at k i : ℕ) → k < length vs → i ≡ at + k → i < length ws → slice_index (overwritten at vs ws) i ≡ slice_index vs k
-unfolding overwritten
-overwritten_within [] ws at k i below e inside = absurd (omega arith)
-overwritten_within (v ∷ vs) ws at zero i below e inside =
-    let here : i ≡ at = omega (arith, e) in
-    overwritten_before vs (slice_set ws at v) (at + 1) i (omega (arith, e)) ∙ ap (λ n. slice_index (slice_set ws at v) n) here ∙ get_or-set_same ws at v 0 (omega (arith, e))
-overwritten_within (v ∷ vs) ws at (suc k) i below e inside =
-    overwritten_within vs (slice_set ws at v) (at + 1) k i (omega arith) (omega (arith, e)) (omega (arith, length-set ws at v))
+-- a word of those put, at a place that is said otherwise
+overwritten_at : (vs ws : List ℕ) (at k i : ℕ) → k < length vs → i ≡ at + k → i < length ws → slice_index (overwritten at vs ws) i ≡ slice_index vs k
+overwritten_at vs ws at k i below e inside = ap (λ n. slice_index (overwritten at vs ws) n) e ∙ overwritten_within vs ws at k below (omega (arith, e, inside))
 
 -- a region after its full step: image, number and reply are the ones put there
 module _ (lines : ℕ) (region image reply : List ℕ) (caller number place : ℕ) (few : caller < 8)
@@ -59,19 +30,19 @@ module _ (lines : ℕ) (region image reply : List ℕ) (caller number place : �
 
   stepped_long : length stepped ≡ region_words lines
   unfolding stepped with_slot with_object
-  stepped_long = overwritten_long (place ∷ []) with_slot 0 ∙ overwritten_long (number ∷ reply) with_object (slot_start caller) ∙ overwritten_long image region 1168 ∙ size
+  stepped_long = length-overwritten (place ∷ []) with_slot 0 ∙ length-overwritten (number ∷ reply) with_object (slot_start caller) ∙ length-overwritten image region 1168 ∙ size
 
   slot_long : length with_slot ≡ region_words lines
   unfolding with_slot with_object
-  slot_long = overwritten_long (number ∷ reply) with_object (slot_start caller) ∙ overwritten_long image region 1168 ∙ size
+  slot_long = length-overwritten (number ∷ reply) with_object (slot_start caller) ∙ length-overwritten image region 1168 ∙ size
 
   object_long : length with_object ≡ region_words lines
   unfolding with_object
-  object_long = overwritten_long image region 1168 ∙ size
+  object_long = length-overwritten image region 1168 ∙ size
 
   at_start : slice_index stepped 0 ≡ place
   unfolding stepped
-  at_start = overwritten_within (place ∷ []) with_slot 0 0 0 (omega arith) refl (omega (arith, slot_long))
+  at_start = overwritten_at (place ∷ []) with_slot 0 0 0 (omega arith) refl (omega (arith, slot_long))
 
   in_front : (i : ℕ) → 0 < i → i < 1168 → (i < slot_start caller) ⊎ (slot_start caller + 145 ≤ i) → slice_index stepped i ≡ slice_index region i
   unfolding stepped with_slot with_object
@@ -84,14 +55,14 @@ module _ (lines : ℕ) (region image reply : List ℕ) (caller number place : �
   unfolding stepped with_slot
   in_slot k i below e =
       overwritten_behind (place ∷ []) with_slot 0 i (omega (arith, e))
-      ∙ overwritten_within (number ∷ reply) with_object (slot_start caller) k i (omega (arith, reply_long)) e (omega (arith, e, object_long))
+      ∙ overwritten_at (number ∷ reply) with_object (slot_start caller) k i (omega (arith, reply_long)) e (omega (arith, e, object_long))
 
   in_object : (k i : ℕ) → k < length image → i ≡ 1168 + k → slice_index stepped i ≡ slice_index image k
   unfolding stepped with_slot with_object
   in_object k i below e =
       overwritten_behind (place ∷ []) with_slot 0 i (omega (arith, e))
       ∙ overwritten_behind (number ∷ reply) with_object (slot_start caller) i (omega (arith, e, reply_long))
-      ∙ overwritten_within image region 1168 k i below e (omega (arith, e, size, image_long))
+      ∙ overwritten_at image region 1168 k i below e (omega (arith, e, size, image_long))
 
   its_object : object_part stepped ≡ image
   unfolding object_part
@@ -113,10 +84,6 @@ module _ (lines : ℕ) (region image reply : List ℕ) (caller number place : �
       let small : k < 144 = omega (arith, below, reply_size caller few) in
       get_or-take 144 (drop (slot_start caller + 1) stepped) k 0 small ∙ get_or-drop (slot_start caller + 1) stepped k 0
       ∙ in_slot (suc k) (slot_start caller + 1 + k) (omega arith) (omega arith)))
-
-  -- the slot of another caller
-  apart_from : (c : ℕ) → (c < caller) ⊎ (caller < c) → (k : ℕ) → k < 145 → (slot_start c + k < slot_start caller) ⊎ (slot_start caller + 145 ≤ slot_start c + k)
-  apart_from c other k below = ⊎_elim (λ l. inl (omega arith)) (λ r. inr (omega arith)) other
 
   other_number : (c : ℕ) → c < 8 → (c < caller) ⊎ (caller < c) → slot_number c stepped ≡ slot_number c region
   other_number c small other =
@@ -149,11 +116,11 @@ module _ (lines : ℕ) (lawful : List ℕ → Type 0) (base : Base) (image reply
   next_fit : base.place < 2 ^ 40 → number < 2 ^ 64 → All (λ x. x < 2 ^ 64) next_words
   unfolding next_words stepped with_slot with_object
   next_fit below small =
-      overwritten_fit ((base.place + 1) ∷ []) (overwritten (slot_start caller) (number ∷ reply) (overwritten 1168 image base.words)) 0
+      (Words-overwritten (region_words lines) ((base.place + 1) ∷ []) (overwritten (slot_start caller) (number ∷ reply) (overwritten 1168 image base.words)) 0
       (All-cons (λ x. x < 2 ^ 64) (base.place + 1) [] (omega arith) (All-nil (λ x. x < 2 ^ 64)))
-      (overwritten_fit (number ∷ reply) (overwritten 1168 image base.words) (slot_start caller)
+      (Words-overwritten (region_words lines) (number ∷ reply) (overwritten 1168 image base.words) (slot_start caller)
       (All-cons (λ x. x < 2 ^ 64) number reply small reply_words.fit)
-      (overwritten_fit image base.words 1168 image_words.fit law.size.fit))
+      (Words-overwritten (region_words lines) image base.words 1168 image_words.fit law.size))).fit
 
   next_results : 0 < number → LawfulResults next_words
   unfolding next_words

@@ -1,6 +1,5 @@
 -- A region whose object part is upgraded.
 use Rattle.std.proofs.Common.{◌≡◌, ◌≢◌, ◌+◌, ◌*◌, ◌^◌, ◌<◌, ◌≤◌, ◌⊎◌, inl, inr, ℕ, Bool, true, false, cond, List, ◌++◌, Option, None, Some, length, take, drop, slice_index, nat_eq, refl, sym, ap, ◌∙◌, subst, arith, ne_eqb, eq-eqb}
-use Rattle.std.specs.List.{All}
 use Rattle.std.specs.Option.{option_eq}
 use Rattle.std.proofs.lemmas.List.{drop-append-le, drop_at, get_or_append_left, length-append, length-drop, length-take-le, take-append-drop, take-append-le}
 use Rattle.std.proofs.lemmas.List.Elements.{All-append, All-take}
@@ -17,9 +16,6 @@ other_version (Some n) found other = ne_eqb n found (λ same. other (ap Some sam
 
 same_version : (version : Option ℕ) (found : ℕ) → version ≡ Some found → option_eq nat_eq version (Some found) ≡ true
 same_version version found same = subst (λ (v : Option ℕ). option_eq nat_eq v (Some found) ≡ true) (sym same) (eq-eqb found found refl)
-
-some_same : (a b : ℕ) → ◌≡◌ {A = Option ℕ} (Some a) (Some b) → a ≡ b
-some_same a b same = cc
 
 -- words behind the front of a region
 module _ (front part : List ℕ) (long : length front ≡ 1168) where
@@ -90,10 +86,6 @@ module _ (lines version : ℕ) (lawful : List ℕ → Type 0) (old : OldFormat) 
   pub old_lawful : lawful (object_part region) ⊎ old.lawful (object_part region) → old.version ≡ Some (version_of region) → old.lawful (object_part region)
   old_lawful (inl own) is_old = absurd (takes.another (is_old ∙ ap Some (shape (object_part region) own).1))
   old_lawful (inr was) is_old = was
-
-  pub own_lawful : lawful (object_part region) ⊎ old.lawful (object_part region) → version_of region ≡ version → lawful (object_part region)
-  own_lawful (inl own) of_own = own
-  own_lawful (inr was) of_own = absurd (takes.another ((takes.shape (object_part region) was).1 ∙ ap Some of_own))
 
   -- what is recovered from such a region is a lawful base
   pub recovered_lawful : (place : ℕ) → Words (region_words lines) region → place_of region ≡ place → place ≤ 2 ^ 40 → LawfulResults region

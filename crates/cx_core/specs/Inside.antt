@@ -4,7 +4,7 @@ use Rattle.std.proofs.Common.{sym, ap, ◌∙◌, subst, arith, append_assoc}
 use Rattle.std.proofs.lemmas.List.{get_or_append_left, get_or-append-add, set-append_left, set-append_right, length-append, length-set, length-drop, take-append-drop, set-set, set-get_or, get_or-set_same, take_at, drop_at, length-take-le}
 use Rattle.std.proofs.lemmas.List.Elements.{All-same, All-drop, All-take}
 use Rattle.std.proofs.Math.Logic.{∥∥₁_map}
-use Rattle.cx_base.specs.Memory.{Words, Loaded, Stored}
+use Rattle.cx_base.specs.Memory.{Words, Stored}
 
 -- the part's words stand where they do between some words in front and some behind; the part's key keeps those
 pub record Inside {Key : Type 0} (stands : Key → List ℕ → Type 0) (from len : ℕ) (key : Key × List ℕ × List ℕ) (part : List ℕ) : Type 0 where
@@ -33,19 +33,6 @@ middle_set front part behind from at v f l =
     let far : from + at - from ≡ at = omega arith in
     set-append_left (front ++ part) behind (from + at) v (simp length-append (omega arith))
     ∙ ap (λ xs. xs ++ behind) (set-append_right front part from (from + at) v f (omega arith) ∙ ap (λ n. front ++ slice_set part n v) far)
-
-module _ {Key : Type 0} where
-  pub inside_load : {old new : Key → List ℕ → Type 0} (from len at v : ℕ) → at < len → Loaded (from + at) v old new → Loaded at v (Inside old from len) (Inside new from len)
-  inside_load from len at v below l = record {
-    back = λ key now s. (
-        let p = l.back key.0 (key.1 ++ now ++ key.2) s.whole in
-        (record { whole = p.0; front = s.front; long = s.long }, sym (middle_at key.1 now key.2 from at s.front (omega (arith, s.long))) ∙ p.1));
-    on = λ key now s e. record {
-      whole = l.on key.0 (key.1 ++ now ++ key.2) s.whole (middle_at key.1 now key.2 from at s.front (omega (arith, s.long)) ∙ e);
-      front = s.front;
-      long = s.long;
-    };
-  }
 
 -- the list before a word was put: the list after it, with the old word there
 put_back : (before now : List ℕ) (i v : ℕ) → now ≡ slice_set before i v → slice_set now i (slice_index before i) ≡ before

@@ -1,7 +1,7 @@
 -- The kinds of step of the ring, in which cells come round again: a caller states from which ticket on it needs cells, confirms
 -- that they are not closed yet, and releases the protection; and a caller closes tickets below a target, scans what the callers
 -- need, and opens what none of them needs.
-use Rattle.std.specs.Prelude.{◌≡◌, ◌+◌, ◌^◌, ◌≤◌, ◌&&◌, ℕ, max, min, nat_le, nat_lt, Bool, false, if◌then◌else◌, Option, Some, None, IsNone}
+use Rattle.std.specs.Prelude.{◌≡◌, ◌+◌, ◌≤◌, ◌&&◌, ℕ, max, min, nat_le, nat_lt, Bool, false, if◌then◌else◌, Option, Some, None, IsNone}
 use Rattle.cx_base.specs.Codes.{root_place_of}
 use Rattle.cx_core.specs.declared.local.Local.{Local}
 use Rattle.cx_core.specs.declared.local.Protection.{Protection}

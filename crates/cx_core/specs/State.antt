@@ -19,12 +19,6 @@ pub record Instance : Type 0 where
   -- whether an operation only reads
   pub reads : List ℕ → Bool
 
--- it holds of the instance with this number of callers and this base, whatever the object means
-abbrev pub EachInstance : ℕ → Base → (Instance → Type 0) → Type 0
-EachInstance callers base P =
-    (step : List ℕ → List ℕ → List ℕ × List ℕ) (reads : List ℕ → Bool) →
-    P (record { callers = callers; base = base; step = step; reads = reads })
-
 -- the shared words, and the local state of each caller
 pub record State : Type 0 where
   pub words : List ℕ

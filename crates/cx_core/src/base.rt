@@ -1,6 +1,6 @@
 //! The first base of an object.
 
-ghost use Rattle.std.specs.Prelude.{◌≡◌, ◌^◌, ◌<◌, ◌≤◌, IfOk, IfNone, IfSome};
+ghost use Rattle.std.specs.Prelude.{◌≡◌, ◌^◌, ◌≤◌, IfOk, IfNone, IfSome};
 ghost use Rattle.cx_core.specs.Base.{LawfulBase, fresh_region};
 ghost use Rattle.cx_core.specs.Region.{region_words};
 

@@ -1,6 +1,6 @@
 //! A part of a memory as a memory.
 
-ghost use Rattle.std.specs.Prelude.{◌≡◌, ◌+◌, ◌^◌, ◌<◌, ◌≤◌, ℕ, List};
+ghost use Rattle.std.specs.Prelude.{◌+◌, ◌^◌, ◌<◌, ◌≤◌, ℕ, List};
 ghost use Rattle.cx_core.specs.Inside.{Inside, PartFixed, inside_some, inside_words};
 
 use cx_base::{Halt, Memory};

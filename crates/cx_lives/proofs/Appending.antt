@@ -10,7 +10,7 @@ use Rattle.cx_core.specs.declared.entry.Image.{Image}
 use Rattle.core_order.proofs.Composing.{all_stand, ends_as}
 use Rattle.core_order.specs.CrashedLives.{AreCrashedLives, IsCrashedLife, next_base}
 use Rattle.table_invariant.specs.Ending.{Ending}
-use Rattle.life_records.specs.Begins.{Begun, IsBaseOf, begun_after, nothing_begun}
+use Rattle.life_records.specs.Begins.{Begun, begun_after, nothing_begun}
 use Rattle.life_records.specs.Lives.{AreLivesFrom, IsLegalLife}
 use Rattle.life_records.specs.Scripts.{command_count}
 use Rattle.life_records.specs.Records.{Life, LifeRecord, Meaning}

@@ -1,8 +1,6 @@
 -- The run of a life's service is a life over crashes, and from what its crash left the next life's base is recovered.
-use Rattle.std.proofs.Common.{◌≡◌, ◌∙◌, ◌<◌, ◌≤◌, ℕ, zero, suc, Bool, List, [], ◌∷◌, Some, slice_index, ap, arith, length, map, refl, subst, sym}
+use Rattle.std.proofs.Common.{◌≡◌, ◌∙◌, ◌<◌, ◌≤◌, ℕ, Bool, List, slice_index, ap, arith, length, refl, subst, sym}
 use Rattle.std.proofs.lemmas.List.{ext_get_or}
-use Rattle.std.proofs.lemmas.Option.{none-some, same_Some}
-use Rattle.std.specs.List.{range_with_len, slice_get}
 use Rattle.cx_base.specs.Codes.{root_place_of}
 use Rattle.cx_base.specs.OldFormat.{no_old_format}
 use Rattle.cx_core.specs.Base.{LawfulBase}
@@ -12,16 +10,13 @@ use Rattle.cx_core.specs.State.{Instance, State}
 use Rattle.cx_core.specs.declared.entry.Base.{Base}
 use Rattle.cx_core.specs.declared.entry.Entry.{Entry}
 use Rattle.cx_core.specs.declared.entry.Image.{Image}
-use Rattle.cx_core.specs.declared.local.Local.{Local}
 use Rattle.core_order.specs.CrashedLives.{IsCrashedLife}
-use Rattle.core_order.specs.TotalOrder.{IsUnmade}
 use Rattle.core_runs.proofs.WholeLaws.{crash_kept}
 use Rattle.table_invariant.proofs.Opening.{limited_lawful}
 use Rattle.table_invariant.specs.Ending.{Ending}
-use Rattle.table_invariant.specs.Rule.{opening_limited}
 use Rattle.table_invariant.specs.Running.{Running, instance_at}
-use Rattle.table_invariant.specs.Seats.{Seated, opening_known}
-use Rattle.table_invariant.specs.declared.rule.Known.{Known}
+use Rattle.table_invariant.specs.Seats.{Seated}
+use Rattle.cx_service.proofs.CallOrder.{none_linked}
 use Rattle.cx_service.specs.ClosedOrder.{IsClosedLinearizable, IsLinearizedBy}
 use Rattle.cx_table.specs.Remains.{ClosingWitness}
 use Rattle.cx_table.specs.declared.remains.Remains.{Remains}
@@ -32,19 +27,6 @@ use Rattle.recovery.specs.Kept.{IsOpened, crash_of}
 use Rattle.recovery.specs.Recovery.{IsRecovered}
 use Rattle.cx_lives.specs.Life.{IsServiceOf}
 use Rattle.cx_lives.specs.Lives.{IsLinearized, LeavesImage, life_run, table_of}
-
--- with whichever limits a table opens, no operation took effect
-module _ (instance : Instance) (limits : List ℕ) where
-  abbrev known : ℕ → Known
-  known = opening_known instance.callers instance.base.place limits
-
-  unmade_of : (callers : List ℕ) (c : ℕ) (l : Local) → slice_get (map (λ (k : Known). k.local) (map known callers)) c ≡ Some l → (l.own ≡ []) × (l.seen_reads ≡ [])
-  unmade_of [] c l at = absurd (none-some l at)
-  unmade_of (caller ∷ callers) zero l at = (let same = same_Some (known caller).local l at in (ap (λ (x : Local). x.own) (sym same), ap (λ (x : Local). x.seen_reads) (sym same)))
-  unmade_of (caller ∷ callers) (suc c) l at = unmade_of callers c l at
-
-  unmade : IsUnmade (opening_limited instance limits)
-  unmade c l at = unmade_of (range_with_len 0 instance.callers) c l at
 
 -- two bases that are kept of a history, with the same place, are one
 kept_same : (instance : Instance) (history : List Entry) (s t : State) (a b : Base) → IsKept instance history s a → IsKept instance history t b → a.place ≡ b.place → a ≡ b
@@ -119,7 +101,7 @@ module _ {Op Reply Store : Type 0} {m : Meaning Op Reply Store} {lines : ℕ} {i
       let below = law.tickets.below in
       record {
         law = limited_lawful inst leaves.reached.limits law.shape.some law.shape.few (omega (arith, below)) based.at_place;
-        new = unmade inst leaves.reached.limits;
+        new = none_linked inst leaves.reached.limits;
         ran = leaves.reached.ran;
         crashed = crash;
       }

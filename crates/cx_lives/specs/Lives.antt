@@ -1,5 +1,5 @@
 -- The result of one life.
-use Rattle.std.specs.Prelude.{◌≡◌, ◌+◌, ◌-◌, ◌%◌, ◌^◌, ◌<◌, ◌≤◌, ℕ, Bool, List, [], ◌∷◌, ◌++◌, length, slice_index, All, Option, None, Some}
+use Rattle.std.specs.Prelude.{◌≡◌, ◌+◌, ◌-◌, ◌%◌, ◌^◌, ◌<◌, ◌≤◌, ℕ, Bool, List, [], ◌∷◌, length, slice_index, All, Option, None, Some}
 use Rattle.cx_base.specs.Codes.{root_place_of}
 use Rattle.cx_base.specs.OldFormat.{no_old_format}
 use Rattle.cx_base.specs.declared.object.Object.{Ghosts}

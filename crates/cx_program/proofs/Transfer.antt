@@ -1,10 +1,10 @@
 -- What was read or written so far, piece by piece.
-use Rattle.std.proofs.Common.{◌≡◌, ◌∙◌, refl, sym, ap, subst, ℕ, true, ◌+◌, ◌<◌, ◌≤◌, List, [], ◌++◌, length, take, drop, arith, Option, Some, None, IfSome, append_assoc, append-nil}
-use Rattle.std.proofs.lemmas.List.{length-append, length-take-le, length-drop, take-append-drop}
+use Rattle.std.proofs.Common.{◌≡◌, ◌∙◌, sym, ap, subst, ℕ, ◌+◌, ◌≤◌, List, ◌++◌, length, take, drop, arith, Option, Some, None, IfSome, append_assoc}
+use Rattle.std.proofs.lemmas.List.{length-append, length-take-le, length-drop}
 use Rattle.std.proofs.Math.Seq.{take-add}
 use Rattle.std.proofs.lemmas.List.{drop-drop}
-use Rattle.cx_base.specs.Outside.{Gave, Took}
-use Rattle.cx_program.specs.Input.{IsInput, Moves, Moved, TakesBytes, TookAtMost}
+use Rattle.cx_base.specs.Outside.{Took}
+use Rattle.cx_program.specs.Input.{Moves, Moved}
 
 -- these bytes are the front of all, and the rest is left
 pub record IsFront (all : List ℕ) (left : Option (List ℕ)) (bytes : List ℕ) : Type 0 where
@@ -15,16 +15,6 @@ pub record IsFront (all : List ℕ) (left : Option (List ℕ)) (bytes : List ℕ
 -- the same, where the source told what it had
 abbrev pub HasRead : Option (List ℕ) → Option (List ℕ) → List ℕ → Type 0
 HasRead told left bytes = IfSome told (λ all. IsFront all left bytes)
-
--- what a read gave moved behind the bytes
-pub moved : (before after : Option (List ℕ)) (n : ℕ) (buffer bytes longer : List ℕ) → Gave n before buffer after → longer ≡ bytes ++ take n buffer → Moved n before bytes longer after
-moved None after n buffer bytes longer gave e = tt
-moved (Some rest) after n buffer bytes longer gave e = record {
-  enough = gave.enough;
-  read = e ∙ ap (λ (xs : List ℕ). bytes ++ xs) gave.read;
-  left = gave.left;
-  end = gave.end;
-}
 
 -- one more piece was read
 front-more : (all : List ℕ) (n : ℕ) (bytes longer : List ℕ) (left after : Option (List ℕ)) → IsFront all left bytes → Moves n (drop (length bytes) all) bytes longer after → IsFront all after longer

@@ -1,6 +1,6 @@
 //! Text written to a sink.
 
-ghost use Rattle.std.specs.Prelude.{◌≡◌, ◌≤◌, OnOk, OnErr};
+ghost use Rattle.std.specs.Prelude.{◌≤◌, OnOk, OnErr};
 ghost use Rattle.cx_base.specs.Outside.{Rose};
 ghost use Rattle.cx_program.specs.Output.{Appends, AppendsFront};
 

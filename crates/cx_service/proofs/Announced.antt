@@ -1,5 +1,5 @@
 -- What announcing an operation leaves of a caller that halts in it.
-use Rattle.std.proofs.Common.{◌≡◌, ◌+◌, ◌<◌, ◌≤◌, ℕ, Bool, List, [], ◌∷◌, length, drop, ap, inl, inr, arith, Result, Ok, Err, IfOk, OnErr}
+use Rattle.std.proofs.Common.{◌≡◌, ◌+◌, ◌<◌, ◌≤◌, ℕ, Bool, List, [], ◌∷◌, length, drop, ap, inl, inr, arith, Result, Ok, Err, IfOk}
 use Rattle.std.proofs.lemmas.Bool.{cases_eq, eq-eqb, ne_eqb}
 use Rattle.std.proofs.Common.{cond}
 use Rattle.cx_core.specs.QueueEvents.{cell_of, next_number}
@@ -35,11 +35,6 @@ halted_in r j most op s t caller room many long halted =
           halted.limit (let since = halted.since in omega (arith, since)),
       record { cell = j; within = room; idle = halted.idle; short = (let short : s.known.local.limit < (stale s).known.local.steps + writes (stale s).known.local j (next_number r.base (stale s).known.local ∷ op) = halted.short in omega (arith, limit, short)); others = halted.others },
     )
-
--- what holds in any case holds of an error
-pub if_any_err : {A E P : Type 0} (r : Result A E) → P → OnErr r P
-if_any_err (Ok a) p = tt
-if_any_err (Err e) p = p
 
 -- what holds in two ways of a value holds in both
 pub both_ok : {A E : Type 0} (r : Result A E) (P Q : A → Type 0) → IfOk r P → IfOk r Q → IfOk r (λ a. P a × Q a)

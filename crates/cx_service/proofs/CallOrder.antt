@@ -1,5 +1,5 @@
 -- The order of operations by the steps of their callers.
-use Rattle.std.proofs.Common.{◌≡◌, ◌+◌, ◌==◌, ◌<◌, ◌≤◌, ◌⊎◌, inl, inr, ℕ, zero, suc, min, Bool, cond, true, false, List, [], ◌∷◌, ◌++◌, Some, All, length, map, drop, set, append_assoc, refl, ap, sym, subst, ◌∙◌, arith}
+use Rattle.std.proofs.Common.{◌≡◌, ◌+◌, ◌==◌, ◌<◌, ◌≤◌, ◌⊎◌, inl, inr, ℕ, zero, suc, min, Bool, cond, true, false, List, [], ◌∷◌, ◌++◌, Some, All, length, map, drop, append_assoc, refl, ap, sym, subst, ◌∙◌, arith}
 use Rattle.std.proofs.lemmas.Bool.{cases_eq, eq-eqb, false≢true}
 use Rattle.std.proofs.lemmas.List.{append_cancel_left}
 use Rattle.std.proofs.lemmas.List.Elements.{All-contains}
@@ -10,7 +10,7 @@ use Rattle.cx_core.specs.declared.local.Linked.{Linked}
 use Rattle.cx_core.specs.declared.local.Local.{Local}
 use Rattle.cx_core.specs.declared.local.SeenRead.{SeenRead}
 use Rattle.cx_core.specs.Crash.{CrashImage, IsCrashImage, recovered}
-use Rattle.cx_core.specs.Events.{Makes, Run, local_after, words_after}
+use Rattle.cx_core.specs.Events.{Run, local_after}
 use Rattle.cx_core.specs.Lawful.{Lawful}
 use Rattle.cx_core.specs.Layout.{max_word}
 use Rattle.cx_core.specs.Merge.{scene_of}
@@ -26,6 +26,7 @@ use Rattle.core_runs.proofs.Counting.{counts_run}
 use Rattle.core_runs.proofs.Ordering.{keeps_real_time}
 use Rattle.core_runs.proofs.Keeps.{run_kept}
 use Rattle.core_runs.proofs.WholeLaws.{crash_kept}
+use Rattle.core_order.proofs.Appearing.{runs_on}
 use Rattle.core_order.proofs.Imaging.{durable_run}
 use Rattle.table_invariant.specs.declared.rule.ImageTimes.{ImageTimes}
 use Rattle.table_invariant.specs.declared.rule.Known.{Known}
@@ -58,20 +59,7 @@ one_begins (e ∷ x) x' (f ∷ y) y' is =
     ]
 
 module _ (instance : Instance) where
-  -- an event makes one state of a state
-  makes_one : (event : Event) (s t t' : State) → Makes instance event s t → Makes instance event s t' → t ≡ t'
-  makes_one event s t t' m m' =
-      let l : m.local ≡ m'.local = same_Some m.local m'.local (sym m.of_caller ∙ m'.of_caller) in
-      let words : t.words ≡ t'.words = m.words ∙ ap (λ x. words_after instance event.kind x s.words) l ∙ sym m'.words in
-      let locals : t.locals ≡ t'.locals = m.locals ∙ ap (λ x. set s.locals event.caller (local_after instance (scene_of instance s) event.kind x)) l ∙ sym m'.locals in
-      ap (λ ws. let u : State = record { words = ws; locals = t.locals } in u) words ∙ ap (λ ls. let u : State = record { words = t'.words; locals = ls } in u) locals
-
-  -- so a run goes on from the state that a prefix of it reaches, and there is one
-  goes_on : (x y : List Event) (from mid to : State) → Run instance from x mid → Run instance from (x ++ y) to → Run instance mid y to
-  goes_on [] y from mid to first whole = subst (λ (s : State). Run instance s y to) (sym first) whole
-  goes_on (e ∷ x) y from mid to first whole =
-      goes_on x y first.0 mid to first.2 (subst (λ (s : State). Run instance s (x ++ y) to) (makes_one e from whole.0 first.0 whole.1 first.1) whole.2)
-
+  -- each prefix of a run reaches a state
   comes_by : (x y : List Event) (from to : State) → Run instance from (x ++ y) to → (mid : State) × Run instance from x mid
   comes_by [] y from to run = (from, refl)
   comes_by (e ∷ x) y from to run =
@@ -131,9 +119,9 @@ module _ (instance : Instance) (from to : State) (events : List Event) (law : La
   -- what was answered at one moment was answered at each at which its caller has made as many steps, also at an earlier one
   answered_by : (x x' y y' : List Event) (s t : State) (a : Operation) → x ++ x' ≡ y ++ y' → Run instance from x s → Run instance from y t → steps_of (caller_of a) x ≤ steps_of (caller_of a) y → IsAnswered s a → IsAnswered t a
   answered_by x x' y y' s t a one at_x at_y made answered = elim (one_begins x x' y y' one) [
-    | inl begins ↦ still_answered instance s t begins.0 a (goes_on instance x begins.0 from s t at_x (subst (λ es. Run instance from es t) begins.1 at_y)) answered
+    | inl begins ↦ still_answered instance s t begins.0 a (runs_on instance x begins.0 from s t at_x (subst (λ es. Run instance from es t) begins.1 at_y)) answered
     | inr begins ↦ (
-        let between = goes_on instance y begins.0 from t s at_y (subst (λ es. Run instance from es s) begins.1 at_x) in
+        let between = runs_on instance y begins.0 from t s at_y (subst (λ es. Run instance from es s) begins.1 at_x) in
         let adds = ap (steps_of (caller_of a)) begins.1 ∙ steps_of-append (caller_of a) y begins.0 in
         same_answered s t a (sym (idle_run instance begins.0 t s (caller_of a) between (omega (arith, adds, made)))) answered)
   ]
@@ -145,7 +133,7 @@ module _ (instance : Instance) (from to : State) (events : List Event) (law : La
     moment = s;
     after = x';
     comes_by = at_x;
-    goes_on = goes_on instance x x' from s to at_x (subst (λ es. Run instance from es to) are run);
+    goes_on = runs_on instance x x' from s to at_x (subst (λ es. Run instance from es to) are run);
     answered = answered;
     ahead = ahead;
   })
@@ -168,7 +156,7 @@ module _ (instance : Instance) (from to : State) (events : List Event) (law : La
         | inr more ↦ (
             let here = comes_by instance by.before by.after from to (subst (λ es. Run instance from es to) by.are run) in
             let adds = ap (steps_of (caller_of b)) more.1 ∙ steps_of-append (caller_of b) begin.before more.0 in
-            let between = goes_on instance begin.before more.0 from begin.moment here.0 begin.run (subst (λ es. Run instance from es here.0) more.1 here.1) in
+            let between = runs_on instance begin.before more.0 from begin.moment here.0 begin.run (subst (λ es. Run instance from es here.0) more.1 here.1) in
             at_moment by.before by.after here.0 a b p q by.are here.1
             (answered_by end_.before end_.after by.before by.after end_.moment here.0 a (sym end_.are ∙ by.are) end_.run here.1 (omega (arith, m_is, small, made)) ends.answered)
             (same_ahead begin.moment here.0 b (idle_run instance more.0 begin.moment here.0 (caller_of b) between (omega (arith, n_is, not_more, adds))) begins.ahead))
@@ -240,7 +228,7 @@ module _ (instance : Instance) (from to : State) (events : List Event) (law : La
             omega (arith, by_made, same))
       ] in
       let answered = answered_by end_.before end_.after begin.before begin.after end_.moment begin.moment a (sym end_.are ∙ begin.are) end_.run begin.run (omega (arith, m_is, small, made)) ends.answered in
-      below_point begin.moment begin.after x.place a p (goes_on instance begin.before begin.after from begin.moment to begin.run (subst (λ es. Run instance from es to) begin.are run)) begins.below answered at
+      below_point begin.moment begin.after x.place a p (runs_on instance begin.before begin.after from begin.moment to begin.run (subst (λ es. Run instance from es to) begin.are run)) begins.below answered at
 
   -- and its place stays durable
   stays_durable : (c : ℕ) (x : ImageTimes) (before after : List Event) (s : State) (image : CrashImage) → DurableAt instance from events c x.durable x.ended → x.ended < max_word → events ≡ before ++ after → Run instance from before s →
@@ -262,7 +250,7 @@ module _ (instance : Instance) (from to : State) (events : List Event) (law : La
             let adds = ap (steps_of c) more.1 ∙ steps_of-append c front more.0 in
             let goes = begun more.0 rest (omega (arith, adds, count, own, is, small, made)) in
             let prefix : before ≡ by.before ++ goes.0 = more.1 ∙ ap (λ es. front ++ es) goes.1 ∙ sym (append_assoc front (event ∷ []) goes.0) ∙ ap (λ es. es ++ goes.0) (sym at.last.2) in
-            let on = goes_on instance by.before goes.0 from by.moment s by.run (subst (λ es. Run instance from es s) prefix come) in
+            let on = runs_on instance by.before goes.0 from by.moment s by.run (subst (λ es. Run instance from es s) prefix come) in
             let up = durable_run instance by.moment goes.0 s (run_kept instance from by.before by.moment law by.run) on in
             omega (arith, durable, up, kept))
       ]

@@ -1,19 +1,15 @@
 -- What attempts by which an image is taken leave of their caller.
-use Rattle.std.proofs.Common.{◌≡◌, ◌<◌, ◌≤◌, inl, inr, ℕ, List, [], ◌∷◌, ◌++◌, refl, ap, subst, ◌∙◌, arith, None}
-use Rattle.std.specs.List.{slice_get}
+use Rattle.std.proofs.Common.{◌≡◌, ◌≤◌, ℕ, List, [], ap, arith}
 use Rattle.cx_base.specs.declared.object.Object.{Ghosts}
-use Rattle.cx_core.specs.declared.local.Answer.{Answer}
-use Rattle.cx_core.specs.declared.local.SeenRead.{SeenRead}
 use Rattle.cx_core.specs.Layout.{max_word}
-use Rattle.table_invariant.specs.declared.rule.ImageTimes.{ImageTimes}
 use Rattle.table_invariant.specs.Running.{IsSeatOf, Running}
 use Rattle.table_invariant.specs.Seats.{IsAtLimit, Seated, StepsBy}
-use Rattle.cx_service.specs.Callers.{IsCallerOf, StoppedSeat}
-use Rattle.cx_service.specs.Checkpoints.{CheckpointHalted, CheckpointKeeps, CheckpointTaken}
+use Rattle.cx_service.specs.Callers.{IsCallerOf}
+use Rattle.cx_service.specs.Checkpoints.{CheckpointKeeps, CheckpointTaken}
 use Rattle.cx_service.specs.Drives.{MeetsFewer}
-use Rattle.cx_service.specs.Lookups.{ReadDue, ReadPending}
-use Rattle.cx_service.proofs.Attempting.{LooksOn, unchanged_by_look, look_keeps, look_rests, looks_met, meets_one, most_one, read_keeps_then, rises_one}
-use Rattle.cx_attempts.specs.Checkpointing.{HaltsImage, TakesCheckpoint, TakesNone, unchanged_by_checkpoint}
+use Rattle.cx_service.specs.Lookups.{ReadPending}
+use Rattle.cx_service.proofs.Attempting.{unchanged_by_look, look_keeps, look_rests, meets_one, most_one, rises_one}
+use Rattle.cx_attempts.specs.Checkpointing.{TakesCheckpoint, TakesNone, unchanged_by_checkpoint}
 use Rattle.cx_attempts.specs.Attempts.{IsAtRest, StepsOn, AttemptRefused}
 
 -- one attempt
@@ -62,11 +58,3 @@ module _ {O : Type 0} (o : Ghosts O) (r : Running O) (s v : Seated) (caller : Is
     times = refused.refusal.times.reads;
     images = none;
   }
-
--- an attempt behind others, in each of which a refusal was met
-module _ {O : Type 0} (r : Running O) (n : ℕ) (s u : Seated) (before : ReadPending r n s u) where
-  keeps_then : (v : Seated) → CheckpointKeeps u v → CheckpointKeeps s v
-  keeps_then v k = record { lists = read_keeps_then r [] n s u before v k.lists; reads = k.reads ∙ before.reads; times = k.times ∙ before.times }
-
-  halted_then : (v : StoppedSeat) → CheckpointHalted r u v → CheckpointHalted r s v
-  halted_then v h = record { caller = h.caller; linked = h.linked; keeps = keeps_then v.seat h.keeps; images = h.images ∙ before.images }

@@ -1,5 +1,5 @@
 pub mod Announced
-mod CallOrder
+pub mod CallOrder
 pub mod Cells
 pub mod Entering
 pub mod Imaging

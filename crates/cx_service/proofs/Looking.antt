@@ -276,10 +276,6 @@ free_ends r instance s t found made caller = record {
   since = (let e = ap (λ (x : Seated). x.known.local.steps) made in omega (arith, e));
 }
 
--- nothing was done
-pub none_looked : (most : ℕ) (s : Seated) → LooksForCell most s s
-none_looked most s = record { same = refl; steps = omega arith }
-
 pub none_ends : {O : Type 0} (r : Running O) (s : Seated) → IsCallerOf r s → EndsLooking s s
 none_ends r s caller = record { scan = caller.rest.scan; fresh = caller.rest.fresh; scans = omega arith; since = omega arith }
 

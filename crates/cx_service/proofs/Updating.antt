@@ -12,15 +12,12 @@ use Rattle.table_invariant.specs.Timing.{KeepsTimes}
 use Rattle.cx_core.specs.declared.local.FullNote.{FullNote}
 use Rattle.cx_service.specs.Callers.{StoppedSeat}
 use Rattle.cx_service.specs.Drives.{DriveDone, DriveHalted, answer_with}
-use Rattle.cx_service.specs.Submits.{SubmitAgain, SubmitFull, SubmitHalted, SubmitKeeps, SubmitLinked, SubmitWorn, next_entry}
-use Rattle.cx_service.specs.Lookups.{ReadPending}
+use Rattle.cx_service.specs.Submits.{SubmitAgain, SubmitFull, SubmitHalted, SubmitKeeps, SubmitLinked, next_entry}
 use Rattle.cx_service.specs.Submits.{Submits}
 use Rattle.cx_service.specs.declared.submit.Submitted.TheVariants.{Halted as SubmitHalts}
-use Rattle.cx_service.specs.declared.update.ReadDone.{ReadDone}
-use Rattle.cx_service.specs.declared.update.ReadDone.TheVariants.{Read, Queued, Full as FullRead, Worn as WornRead, Halted as HaltedRead}
 use Rattle.cx_service.specs.declared.update.Updated.{Updated}
 use Rattle.cx_service.specs.declared.update.Updated.TheVariants.{Done as UpdateIs, Full as FullUpdate, Worn as WornUpdate, Halted as HaltedUpdate}
-use Rattle.cx_service.specs.Updates.{FinishOutcome, KeepsLists, LinksEntry, QueuedReadOutcome, ReadOutcome, UpdateDone, UpdateFull, UpdateHalted, UpdateWorn, Updates}
+use Rattle.cx_service.specs.Updates.{FinishOutcome, KeepsLists, LinksEntry, UpdateDone, UpdateFull, UpdateHalted, Updates}
 use Rattle.cx_service.specs.Updates.{SubmitsAgain}
 use Rattle.cx_attempts.specs.Answering.{with_answer}
 use Rattle.cx_attempts.proofs.Bringing.{brings_around}
@@ -86,20 +83,6 @@ module _ {O : Type 0} (r : Running O) (op : List ℕ) (s u : Seated) (same : Kee
     sets = f.keeps.sets ∙ still;
     times = record { linked = f.linked ∙ times.linked; answered = f.keeps.times.answered ∙ times.answered; reads = f.keeps.times.reads ∙ times.reads };
     images = f.keeps.images ∙ images;
-  }
-
-  pub update_worn : (most : ℕ) (v : Seated) → u.known.sets ≡ s.known.sets → SubmitWorn r 2 most u v → UpdateWorn r s v
-  update_worn most v still w = record {
-    caller = w.caller;
-    allowed = allowed_first w.allowed;
-    keeps = keeps_on most v w.own w.keeps;
-    met = w.keeps.met ∙ met;
-    front = w.front;
-    steps = (let least = w.steps in omega (arith, least, since));
-    idle = w.idle;
-    sets = w.keeps.sets ∙ still;
-    times = record { linked = w.linked ∙ times.linked; answered = w.keeps.times.answered ∙ times.answered; reads = w.keeps.times.reads ∙ times.reads };
-    images = w.keeps.images ∙ images;
   }
 
   pub update_halted : (most : ℕ) (v : StoppedSeat) → SubmitHalted r most u v → SubmitsAgain r op s u → Submits r op 16 u (SubmitHalts v) → UpdateHalted r op s v
@@ -180,12 +163,3 @@ module _ {O : Type 0} (r : Running O) (op : List ℕ) (s u : Seated) (same : Kee
     finished reply (FullUpdate v note) still rise none = absurd none
     finished reply (WornUpdate v) still rise none = absurd none
     finished reply (HaltedUpdate v) still rise halted = drive_halted v halted
-
--- a read that was refused beside the queue, and entered it
-pub queued : {O : Type 0} (r : Running O) (op reply : List ℕ) (s u : Seated) (d : ReadDone) → ReadPending r 8 s u → QueuedReadOutcome r op reply u d → ReadOutcome r op reply s d
-queued r op reply s u (Read v place) refused entered = absurd entered
-queued r op reply s u (Queued v ticket) refused entered = record { refused = u; pending = refused; entered = entered }
-queued r op reply s u (FullRead v note) refused entered = record { refused = u; pending = refused; entered = entered }
-queued r op reply s u (WornRead v) refused entered = record { refused = u; pending = refused; entered = entered }
-queued r op reply s u (HaltedRead v) refused entered =
-    record { caller = entered.caller; number = entered.number ∙ refused.keeps.number; images = entered.images ∙ refused.images; lists = inr (record { refused = u; pending = refused; entered = entered }) }

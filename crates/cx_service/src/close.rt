@@ -1,6 +1,6 @@
 //! Closing a service.
 
-ghost use Rattle.std.specs.Prelude.{◌≡◌, ◌≤◌, [], IfErr, IfOk, map, vec_capacity, vec_len};
+ghost use Rattle.std.specs.Prelude.{◌≡◌, ◌≤◌, [], IfErr, IfOk, vec_capacity, vec_len};
 ghost use Rattle.table_invariant.specs.Running.{instance_at};
 ghost use Rattle.cx_table.specs.Remains.{AreSeats};
 ghost use Rattle.cx_service.specs.Closes.{seat_of, seats_of};

@@ -1,5 +1,5 @@
 -- The marks of dirty words that are handed out.
-use Rattle.std.proofs.Common.{◌≡◌, ◌+◌, ◌*◌, ◌<◌, ◌↔◌, inl, inr, ℕ, zero, suc, Bool, true, false, List, [], ◌∷◌, length, replicate, refl, ap, sym, subst, ◌∙◌, arith, Some}
+use Rattle.std.proofs.Common.{◌≡◌, ◌+◌, ◌*◌, ◌<◌, ◌↔◌, inl, inr, ℕ, zero, suc, Bool, true, List, [], ◌∷◌, length, refl, ap, sym, subst, ◌∙◌, arith, Some}
 use Rattle.std.proofs.lemmas.Bool.{cases_eq}
 use Rattle.std.proofs.lemmas.Option.{none-some, same_Some, slice_get_within}
 use Rattle.std.specs.List.{Contains, slice_get}
@@ -18,20 +18,6 @@ pub record DirtyTo (seats : List Seated) (n replicas region : ℕ) (marks : List
   pub long : length marks ≡ region * replicas
   pub is : (replica at : ℕ) → replica < replicas → at < region →
       (slice_get marks (region * replica + at) ≡ Some true) ↔ ((c : ℕ) × (c < n) × (s : Seated) × (slice_get seats c ≡ Some s) × (exclusive_on s.known.local ≡ Some replica) × Contains (held_dirty s.known.local.exclusive) at)
-
-unmarked : (n i : ℕ) → slice_get (replicate n false) i ≡ Some true → ⊥
-unmarked zero i at = none-some true at
-unmarked (suc n) zero at = cc
-unmarked (suc n) (suc i) at = unmarked n i at
-
-pub dirty_none : (seats : List Seated) (replicas region : ℕ) (marks : List Bool) → length marks ≡ region * replicas → marks ≡ replicate (region * replicas) false → DirtyTo seats 0 replicas region marks
-dirty_none seats replicas region marks long is = record {
-  long = long;
-  is = λ replica at small below. (
-    λ marked. absurd (unmarked (region * replicas) (region * replica + at) (ap (λ (bs : List Bool). slice_get bs (region * replica + at)) (sym is) ∙ marked)),
-    λ some. (let none = some.1 in absurd (omega arith)),
-  );
-}
 
 -- a seat that holds no replica, or none that there is
 pub dirty_off : (seats : List Seated) (n replicas region : ℕ) (marks : List Bool) (seat : Seated) → slice_get seats n ≡ Some seat → ((replica : ℕ) → replica < replicas → exclusive_on seat.known.local ≡ Some replica → ⊥) →

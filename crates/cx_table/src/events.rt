@@ -1,6 +1,6 @@
 //! An event of the core as one atomic step of the table: an atomic instruction on one word.
 
-ghost use Rattle.std.specs.Prelude.{◌≡◌, ◌<◌, ℕ, List};
+ghost use Rattle.std.specs.Prelude.{◌≡◌, ℕ, List};
 ghost use Rattle.atomic_table.specs.Table.{Allows};
 ghost use Rattle.cx_core.specs.declared.local.Answer.{Answer};
 ghost use Rattle.cx_core.specs.declared.local.Local.{Local};

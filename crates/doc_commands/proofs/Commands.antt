@@ -3,24 +3,12 @@ use Rattle.std.proofs.Common.{◌≡◌, ◌≢◌, ℕ, ◌+◌, ◌<◌, true,
 use Rattle.std.specs.List.{filter, range_with_len}
 use Rattle.std.proofs.lemmas.Bool.{cases_eq, lt-ltb}
 use Rattle.std.proofs.lemmas.List.{append-nil, map-append, map-id}
-use Rattle.std.proofs.lemmas.List.Elements.{All-nil, All-push, filter-append}
+use Rattle.std.proofs.lemmas.List.Elements.{All-push, filter-append}
 use Rattle.std.proofs.lemmas.List.FromFn.{map-range_with_len_more}
 use Rattle.cx_core.specs.Region.{slot_number, slot_reply}
-use Rattle.doc_model.specs.Words.{AreOfNoReply, HasWordNumber}
 use Rattle.doc_model.specs.declared.operations.Reply.{Reply}
-use Rattle.doc_model.specs.declared.operations.Reply.TheVariants.{Sum, Number, Set, Stale, Revision}
-use Rattle.doc_store.specs.DocumentMeaning.{IsReplyValue}
 use Rattle.doc_text.specs.declared.recovered.Applied.{Applied}
-use Rattle.doc_commands.specs.Outcomes.{HoldsStoreReplies, IsLastCommand, IsReplyOf, has_number}
-
--- the number of a reply has 64 bits as the type says
-pub number_fits : (reply : Reply) → IsReplyValue reply → HasWordNumber reply
-number_fits (Sum sum) is = is
-number_fits (Number number) is = is
-number_fits (Set revision) is = is
-number_fits (Stale revision) is = is
-number_fits (Revision revision) is = is
-number_fits reply is = tt
+use Rattle.doc_commands.specs.Outcomes.{IsLastCommand, IsReplyOf, has_number}
 
 -- what is told of the clients below one
 pub record IsToldBelow (region : List ℕ) (n : ℕ) (outcomes : List Applied) : Type 0 where

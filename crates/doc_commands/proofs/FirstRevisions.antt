@@ -1,5 +1,5 @@
 -- What is recovered of an image of version 1: its pairs, each with revision 1.
-use Rattle.std.proofs.Common.{◌≡◌, ◌∙◌, ◌≤◌, ℕ, List, ◌++◌, Some, length, sym, ap, take, arith}
+use Rattle.std.proofs.Common.{◌≡◌, ◌∙◌, ◌≤◌, ℕ, List, Some, length, sym, ap, arith}
 use Rattle.std.proofs.lemmas.List.FromFn.{length-map-range_with_len}
 use Rattle.cx_base.specs.Store.{Store}
 use Rattle.cx_core.specs.Recovered.{upgraded_region, version_of}

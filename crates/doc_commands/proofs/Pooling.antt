@@ -1,19 +1,18 @@
 -- The one life of a script that a pool runs.
-use Rattle.std.proofs.Common.{◌≡◌, ◌∙◌, ◌≤◌, ℕ, List, [], ◌∷◌, Some, ap, arith, length, refl, slice_get, subst, sym}
+use Rattle.std.proofs.Common.{◌≡◌, ◌≤◌, ℕ, List, [], ◌∷◌, Some, ap, arith, length, refl, slice_get, subst, sym}
 use Rattle.std.specs.Prelude.{All}
 use Rattle.std.proofs.lemmas.List.Elements.{All-head}
 use Rattle.std.proofs.lemmas.Option.{none-some, same_Some}
 use Rattle.table_invariant.specs.Ending.{Ending}
 use Rattle.cx_table.specs.declared.remains.Remains.{Remains}
 use Rattle.doc_model.specs.Meaning.{IsOp}
-use Rattle.doc_model.specs.Revisions.{RevisedStore}
 use Rattle.doc_model.specs.declared.operations.Op.{Op}
 use Rattle.doc_model.specs.declared.operations.Reply.{Reply}
 use Rattle.doc_store.specs.DocumentMeaning.{document_meaning}
 use Rattle.doc_store.specs.ExactStep.{IsImageOfStore, reads_in, store_step}
 use Rattle.life_records.specs.Limits.{IsLifeInLimits}
 use Rattle.life_records.specs.Lives.{NameCommands}
-use Rattle.life_records.specs.Records.{Life, LifeRecord, Meaning, Script}
+use Rattle.life_records.specs.Records.{Life, LifeRecord, Script}
 use Rattle.life_records.specs.Scripts.{command_count}
 use Rattle.life_records.proofs.Naming.{names_of_lives}
 use Rattle.pool_lives.specs.PoolRuns.{HasPooled, IsLifeOfPool}

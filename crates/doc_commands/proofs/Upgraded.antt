@@ -1,5 +1,5 @@
 -- What is recovered from a region, whose object part is upgraded or stays: an image of documents, and the replies that the region holds.
-use Rattle.std.proofs.Common.{◌≡◌, ◌≢◌, ◌∙◌, ◌⊎◌, ◌+◌, ◌≤◌, ◌<◌, inl, inr, ℕ, Bool, true, cond, List, ◌++◌, Option, Some, length, nat_eq, refl, sym, ap, subst, drop, take, arith, eq-eqb}
+use Rattle.std.proofs.Common.{◌≡◌, ◌∙◌, ◌⊎◌, ◌≤◌, ◌<◌, inl, inr, ℕ, Bool, true, cond, List, ◌++◌, Option, Some, length, nat_eq, refl, sym, ap, subst, take, arith, eq-eqb}
 use Rattle.std.specs.Option.{option_eq}
 use Rattle.std.proofs.lemmas.Bool.{cases_Bool}
 use Rattle.std.proofs.lemmas.List.{drop_at, length-append, length-take-le}

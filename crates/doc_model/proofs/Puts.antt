@@ -1,14 +1,14 @@
 -- A write at the place of a key, and what a put and a put on condition answer.
-use Rattle.std.proofs.Common.{◌≡◌, ◌≢◌, ℕ, ◌+◌, ◌<◌, ◌≤◌, eqb, Bool, true, false, cond, List, [], ◌∷◌, ◌++◌, length, get_or, set, take, drop, Result, Ok, refl, sym, ap, ◌∙◌, subst, add-one, is_some, arith}
+use Rattle.std.proofs.Common.{◌≡◌, ◌≢◌, ℕ, ◌+◌, eqb, Bool, true, false, cond, List, ◌∷◌, ◌++◌, set, take, drop, Result, Ok, refl, sym, ap, ◌∙◌, subst, add-one, is_some}
 use Rattle.std.proofs.lemmas.Bool.{ne_eqb, eq-eqb}
 use Rattle.std.proofs.lemmas.List.{set_split, map-append}
 use Rattle.std.specs.Ordering.{is_lt}
 use Rattle.cx_base.specs.Store.{key_cmp}
-use Rattle.doc_model.specs.Meaning.{pairs_above, with_pair, has_room, put_reply, put_if_reply, store_after_put, store_after_put_if, standing_revision, document_at, least_key, set_reply}
+use Rattle.doc_model.specs.Meaning.{pairs_above, with_pair, has_room, put_reply, put_if_reply, store_after_put, store_after_put_if, standing_revision, document_at, set_reply}
 use Rattle.doc_model.specs.Place.{DoesOp, IsAtPlace, IsGapFor, pairs_of}
 use Rattle.doc_model.specs.Revisions.{RevisedStore, next_revision, triples_below, triples_above, store_written, pairs_in}
 use Rattle.doc_model.specs.declared.operations.Reply.{Reply}
-use Rattle.doc_model.specs.declared.operations.Reply.TheVariants.{New, Replaced, Absent, NoRoom, Key, Stale}
+use Rattle.doc_model.specs.declared.operations.Reply.TheVariants.{New, Replaced, NoRoom, Stale}
 use Rattle.doc_model.proofs.Revised.{pairs_written, kept_pairs}
 
 module _ (triples : List ((List ℕ × List ℕ) × ℕ)) (key document : List ℕ) (last : ℕ) where

@@ -1,6 +1,6 @@
 //! Where a key stands among sorted pairs, and whether there is room for one more.
 
-ghost use Rattle.std.specs.Prelude.{◌≡◌, ◌-◌, ◌^◌, ◌∷◌, ◌++◌, List, ℕ, min, IfOk, IfErr, ◌≤◌, length, drop};
+ghost use Rattle.std.specs.Prelude.{◌≡◌, ◌-◌, ◌^◌, ◌∷◌, ◌++◌, ℕ, min, IfOk, IfErr, ◌≤◌, length, drop};
 ghost use Rattle.std.specs.Option.{option_copied};
 ghost use Rattle.cx_base.specs.Store as store;
 ghost use Rattle.doc_model.specs.Meaning as meaning;

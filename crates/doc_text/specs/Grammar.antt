@@ -3,7 +3,6 @@ use Rattle.std.specs.Prelude.{◌≡◌, ◌<◌, ◌^◌, ℕ, List, [], ◌∷
 use Rattle.std.specs.Fmt.{decimal, signed_decimal}
 use Rattle.cx_base.specs.Store.{IsKey}
 use Rattle.plain_text.specs.LineGrammar.{IsTextOf, LineGrammar}
-use Rattle.plain_text.specs.LineGrammar as lines
 use Rattle.plain_text.specs.Number.{is_i64}
 use Rattle.doc_model.specs.declared.operations.Op.{Op}
 use Rattle.doc_model.specs.declared.operations.Op.TheVariants.{Put, Del, Add, Get, Next, Count, PutIf, Rev}
@@ -68,7 +67,3 @@ pool_grammar = script_grammar pool_commands
 
 abbrev pub IsPoolScript : List ℕ → Script Op → Type 0
 IsPoolScript text script = IsTextOf pool_grammar text script
-
--- the first line with which the lines so far are no script, counted from 1
-abbrev pub IsFirstScriptFault : List ℕ → ℕ → Type 0
-IsFirstScriptFault text line = lines.IsFirstFault document_grammar text line

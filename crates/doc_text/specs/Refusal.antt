@@ -5,10 +5,6 @@ use Rattle.plain_text.specs.declared.reader.TextFault.{TextFault}
 use Rattle.doc_text.specs.Grammar.{document_grammar, pool_grammar}
 use Rattle.doc_text.specs.declared.script_parts.Reason.{Reason}
 
--- why the line, counted from 1, may not stand behind those before it
-abbrev pub IsScriptReasonAt : List ℕ → ℕ → Reason → Type 0
-IsScriptReasonAt text line reason = lines.IsReasonAt document_grammar text line reason
-
 -- what is told of a text that was not read
 abbrev pub IsScriptFault : List ℕ → TextFault Reason → Type 0
 IsScriptFault text fault = lines.IsFault document_grammar text fault

@@ -1,6 +1,6 @@
 //! The members of a JSON object by their measures.
 
-ghost use Rattle.std.specs.Prelude.{◌≡◌, ◌≢◌, Err, OnOk, string_bytes};
+ghost use Rattle.std.specs.Prelude.{◌≢◌, Err, OnOk, string_bytes};
 ghost use Rattle.serde_json.specs.Data.{Data, Members, no_members, object, put};
 ghost use Rattle.doc_text.specs.Measure.{IsMeasure, Describes, AreMeasured};
 

@@ -1,7 +1,6 @@
 -- The bases of lives have the results of the lives before them.
-use Rattle.std.proofs.Common.{◌≡◌, ◌==◌, ◌+◌, ◌<◌, ℕ, zero, suc, Bool, true, false, cond, List, [], ◌∷◌, ◌++◌, length, map, take, replicate, Option, None, Some, IsSome, IfSome, refl, sym, ap, ap₂, subst, ◌∙◌, arith, append_assoc, append-nil, length-append}
+use Rattle.std.proofs.Common.{◌≡◌, ◌==◌, ◌+◌, ℕ, zero, suc, Bool, true, false, cond, List, [], ◌∷◌, ◌++◌, length, map, take, replicate, Option, None, Some, IsSome, IfSome, refl, sym, ap, ap₂, subst, ◌∙◌, arith, append_assoc, append-nil, length-append}
 use Rattle.std.specs.List.{cons_option, filter, slice_get}
-use Rattle.std.specs.Prelude.{All}
 use Rattle.std.proofs.lemmas.Option.{none-some, same_Some}
 use Rattle.cx_core.specs.declared.entry.Base.{Base}
 use Rattle.table_invariant.specs.Ending.{Ending}
@@ -17,7 +16,7 @@ use Rattle.fifo_object.specs.declared.operations.FifoOp.{FifoOp}
 use Rattle.fifo_object.specs.declared.operations.FifoReply.{FifoReply}
 use Rattle.fifo_object.specs.Fifo.{IsFifo, fifo_reads, fifo_step}
 use Rattle.fifo_object.specs.FifoMeaning.{fifo_meaning}
-use Rattle.fifo_commands.specs.FifoLives.{AreFifoLivesFrom, CommandHasReply, IsFifoLife, queue_at, uncut}
+use Rattle.fifo_commands.specs.FifoLives.{AreFifoLivesFrom, IsFifoLife, queue_at, uncut}
 use Rattle.fifo_commands.specs.Leaving.{with_no_stops}
 use Rattle.fifo_commands.specs.declared.record.FifoLife.{FifoLife}
 use Rattle.fifo_commands.specs.declared.record.FifoRecord.{FifoRecord}

@@ -3,7 +3,7 @@ use Rattle.std.proofs.Common.{◌≡◌, ◌≢◌, ◌==◌, ◌||◌, inl, inr
 use Rattle.std.proofs.lemmas.Bool.{eq-eqb, le-leb, leb-true, ne_eqb}
 use Rattle.std.proofs.lemmas.List.{get_or-drop, get_or-take, length-drop, length-take-le}
 use Rattle.cx_base.specs.Calls.{Changes, Finds}
-use Rattle.cx_base.specs.Memory.{AreAt, Becomes, Framed, Reads, overwritten}
+use Rattle.cx_base.specs.Memory.{Becomes, Framed, Reads, overwritten}
 use Rattle.cx_base.specs.declared.memory.Memory.{Ghosts}
 use Rattle.fifo_object.specs.Words.{item_in, kind_in, no_item, number_item, reply_words, words_of_item}
 use Rattle.fifo_object.specs.declared.operations.FifoReply.TheVariants.{Empty, Full, Pushed}

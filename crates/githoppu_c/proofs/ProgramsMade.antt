@@ -1,5 +1,5 @@
 -- Objects of programs, and their sessions as C has them.
-use Rattle.std.proofs.Common.{◌≡◌, ◌==◌, ◌⊎◌, ◌≤◌, ◌^◌, ◌||◌, Bool, List, None, Option, Some, Result, Ok, Err, ap, arith, false, if◌then◌else◌, inl, inr, map, not, pos, refl, subst, sym, true, ℕ, ℤ}
+use Rattle.std.proofs.Common.{◌≡◌, ◌⊎◌, ◌≤◌, ◌^◌, List, None, Option, Result, Ok, Err, ap, arith, inl, inr, map, pos, subst, sym, true, ℕ, ℤ}
 use Rattle.std.proofs.lemmas.Bool.Decides.{nat_tests}
 use Rattle.std.specs.Prelude.{MatchResult}
 use Rattle.cx_core.specs.declared.entry.Base.{Base}

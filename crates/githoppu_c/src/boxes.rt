@@ -1,6 +1,6 @@
 //! Sessions as C has them.
 
-ghost use Rattle.std.specs.Prelude.{◌≡◌, IfOk, List, MatchResult, map, pos};
+ghost use Rattle.std.specs.Prelude.{◌≡◌, IfOk, MatchResult, map, pos};
 ghost use Rattle.std.specs.Global.{Global as global};
 ghost use Rattle.std_alloc.specs.declared.boxed.Box.{Box as box_type};
 ghost use Rattle.githoppu_c.specs.Contents.{program_session, queue_session, store_session};

@@ -1,6 +1,6 @@
 //! A program's object of which only the fingerprint is known.
 
-ghost use Rattle.std.specs.Prelude.{◌≡◌, ◌*◌, ◌^◌, ◌<◌, ◌≤◌, ◌↔◌, IsTrue, true, refl};
+ghost use Rattle.std.specs.Prelude.{◌≡◌, ◌*◌, ◌^◌, ◌<◌, ◌≤◌, true, refl};
 ghost use Rattle.cx_base.specs.OldFormat.{no_old_format, takes_over_nothing};
 ghost use Rattle.program_object.specs.Meaning.{IsProgramImage, opening};
 ghost use Rattle.program_object.specs.Laws.{program_opens, program_shape};

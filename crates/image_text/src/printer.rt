@@ -1,6 +1,6 @@
 //! Images as text.
 
-ghost use Rattle.std.specs.Prelude.{◌≡◌, ◌++◌, ◌<◌, ℕ, IfOk, OnOk};
+ghost use Rattle.std.specs.Prelude.{◌≡◌, ◌++◌, ℕ, IfOk, OnOk};
 ghost use Rattle.recovery.specs.Images.{IsReadable, image_word};
 ghost use Rattle.image_text.specs.ImageTexts.{IsImageText};
 ghost use Rattle.image_text.specs.Printing.{FitsImage, head_line, pair_text, pairs_text, text_of, without_zeros};

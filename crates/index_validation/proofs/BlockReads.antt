@@ -1,11 +1,10 @@
 -- Bytes in a chain of blocks, read word by word.
-use Rattle.std.proofs.Common.{◌≡◌, ◌≢◌, ◌+◌, ◌*◌, ◌/◌, ◌%◌, ◌<◌, ◌≤◌, ℕ, zero, suc, List, [], ◌∷◌, length, get_or, set, refl, sym, ap, subst, add-one, ◌∙◌, ◌⊎◌, inl, inr, below_more, arith}
+use Rattle.std.proofs.Common.{◌≡◌, ◌≢◌, ◌+◌, ◌*◌, ◌/◌, ◌%◌, ◌<◌, ◌≤◌, ℕ, zero, suc, List, [], ◌∷◌, length, get_or, set, refl, sym, ap, add-one, ◌∙◌, ◌⊎◌, inl, inr, below_more, arith}
 use Rattle.std.proofs.lemmas.Bool.{cases_eq, cases_lt}
 use Rattle.std.proofs.lemmas.List.{get_or_past, get_or-set_same, get_or-set_other}
 use Rattle.std.proofs.lemmas.List.FromFn.{fill_by_all}
 use Rattle.cx_base.specs.Packing.{packed_at, packed}
-use Rattle.avl_words.specs.Lines.{IsWithin, word_of}
-use Rattle.index_validation.specs.Blocks.{HasChainWords}
+use Rattle.avl_words.specs.Lines.{word_of}
 use Rattle.index_validation.specs.Layout.{IsChain, Holds}
 
 -- the lines of a chain, place by place
@@ -39,10 +38,6 @@ word_within i count bytes lines l c e = omega arith
 
 pub line_within : (i lines : ℕ) → i < 7 * lines → i / 7 < lines
 line_within i lines l = omega arith
-
--- nothing read
-pub read_none : (ws : List ℕ) (first count : ℕ) (into : List ℕ) → ReadSoFar first count 0 first into ws
-read_none ws first count into lines bytes h c = record { at = chain_first ws lines first h.chain; front = λ k l. absurd (omega arith) }
 
 -- the place of the next word, on the same line or on the next
 pub next_line : (ws lines : List ℕ) (first i line next : ℕ) → IsChain ws first lines → i < 7 * length lines → line ≡ get_or lines (i / 7) 0 →

@@ -5,7 +5,7 @@ use Rattle.index_validation.specs.Layout.{IsChain}
 use Rattle.index_validation.specs.Lawful.{count_of, Marks, CanMark, IsLineMarked, HasChain, NoChain}
 use Rattle.avl_words.proofs.Frames.{times_self}
 use Rattle.index_validation.proofs.Counts.{count_cons}
-use Rattle.index_validation.proofs.Marking.{marks_none, marks_then, can_mark_rest}
+use Rattle.index_validation.proofs.Marking.{marks_then, can_mark_rest}
 
 -- a chain up to a line
 abbrev pub IsPath : List ℕ → ℕ → List ℕ → ℕ → Type 0

@@ -10,7 +10,7 @@ use Rattle.doc_model.proofs.Order.{below_both}
 use Rattle.avl_words.specs.Lines.{word_of}
 use Rattle.index_validation.specs.Order.{nodes_in_order}
 use Rattle.index_validation.specs.Layout.{PairLayout, lines_at, Placed, nodes_of, IsRevision, AreRevisions}
-use Rattle.index_validation.specs.Lawful.{head_in, Marks, CanMark, HasPair, NoPair, HasNodes, NoNodes}
+use Rattle.index_validation.specs.Lawful.{head_in, Marks, CanMark, HasPair, NoPair, NoNodes}
 use Rattle.index_validation.proofs.Lines.{all_middle}
 use Rattle.index_validation.proofs.Marking.{marks_none, marks_then, marks_same, can_mark_rest, can_mark_front}
 use Rattle.index_validation.proofs.OneStore.{IsPair, pairs_of, IsFront, placed_front, placed_append}

@@ -1,5 +1,5 @@
 -- The nodes of a tree in order.
-use Rattle.std.proofs.Common.{◌≡◌, ◌≢◌, ◌+◌, ◌-◌, ◌<◌, ◌≤◌, ◌++◌, ◌^◌, inl, inr, ℕ, zero, suc, eqb, List, [], ◌∷◌, length, length-append, get_or, set, refl, sym, ap, subst, ◌∙◌, get_or-set_other, get_or-set_same, add-one, arith}
+use Rattle.std.proofs.Common.{◌≡◌, ◌≢◌, ◌+◌, ◌<◌, ◌≤◌, ◌++◌, ◌^◌, inl, inr, ℕ, zero, suc, eqb, List, [], ◌∷◌, length, length-append, get_or, set, refl, sym, ap, subst, ◌∙◌, get_or-set_other, get_or-set_same, add-one, arith}
 use Rattle.std.proofs.lemmas.Bool.{cases_eq, cond-true, eq-eqb}
 use Rattle.std.proofs.lemmas.List.{append_assoc, length-set}
 use Rattle.avl_words.specs.Tree.{Tree, Empty, Node, height, size, items}

@@ -1,12 +1,11 @@
 -- A node that names a pair, or does not.
-use Rattle.std.proofs.Common.{◌≡◌, ◌<◌, ◌≤◌, ℕ, Bool, List, [], ◌∷◌, ◌++◌, length, refl, sym, ap, subst, ◌∙◌, arith}
+use Rattle.std.proofs.Common.{◌≡◌, ◌≤◌, ℕ, Bool, List, [], ◌∷◌, ◌++◌, length, refl, sym, ap, subst, ◌∙◌, arith}
 use Rattle.std.specs.declared.cmp.Ordering.TheVariants.{Less}
-use Rattle.std.proofs.lemmas.List.Elements.{All-head}
 use Rattle.cx_base.specs.Store.{IsKey, key_cmp}
 use Rattle.avl_words.specs.Lines.{word_of}
 use Rattle.index_validation.specs.Layout.{Holds, PairLayout, lines_at, IsAt, IsRevision}
 use Rattle.index_validation.specs.Lawful.{head_in, Marks, CanMark, HasKey, HasDocument, NoDocument, HasPair, NoPair}
-use Rattle.index_validation.proofs.Marking.{marks_then, can_mark_rest, marked_there}
+use Rattle.index_validation.proofs.Marking.{marks_then, can_mark_rest}
 use Rattle.index_validation.proofs.Texts.{key_small}
 use Rattle.index_validation.proofs.OneStore.{SameText, text_one}
 
@@ -56,11 +55,6 @@ pair_there ws node last old now after end key m revision k d rises = record {
   rises = rises;
   marks = marks_then old now end (node ∷ []) (k.lines ++ d.lines) m (marks_then now after end k.lines d.lines k.marks d.marks);
 }
-
--- the node has a place for its mark
-pub node_there : (ws : List ℕ) (node : ℕ) (last : List ℕ) (old now : List Bool) (key : List ℕ) → HasPair ws node last old now key → node < length old
-node_there ws node last old now key h =
-    subst (λ n. n < length old) (sym h.here) (All-head (λ x. x < length old) h.place.node (h.place.key_lines ++ h.place.document_lines) (marked_there old now (lines_at h.place) h.marks))
 
 -- the key's length is the node's
 pub key_short : (ws : List ℕ) (node : ℕ) (last : List ℕ) (old now : List Bool) (key : List ℕ) → HasPair ws node last old now key → word_of ws node 4 ≤ 64

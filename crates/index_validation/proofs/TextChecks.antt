@@ -9,8 +9,8 @@ use Rattle.cx_base.proofs.PackingLemmas.{packed_byte}
 use Rattle.cx_base.specs.Packing.{byte_at, packed_at, packed, unpacked}
 use Rattle.avl_words.specs.Lines.{IsWithin, word_of}
 use Rattle.index_validation.specs.Layout.{IsChain, Holds}
-use Rattle.index_validation.specs.Lawful.{HasChain, NoChain, HasBlocks, IsContent, AreBytesBetween, IsFilled, ReadsText, NoText}
-use Rattle.index_validation.proofs.BlockReads.{chain_first, next_line, line_within, word_at_past}
+use Rattle.index_validation.specs.Lawful.{HasChain, HasBlocks, IsContent, AreBytesBetween, IsFilled, ReadsText, NoText}
+use Rattle.index_validation.proofs.BlockReads.{next_line, word_at_past}
 use Rattle.index_validation.proofs.Marking.{marked_there}
 
 -- a marked chain is there

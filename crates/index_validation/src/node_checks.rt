@@ -4,8 +4,7 @@ ghost use Rattle.std.specs.Prelude.{◌≡◌, ◌+◌, ◌*◌, ◌<◌, ◌≤
 ghost use Rattle.std.specs.Bool.{MatchBool};
 ghost use Rattle.std.specs.declared.cmp.Ordering.TheVariants.{Less};
 ghost use Rattle.cx_base.specs.Store.{key_cmp};
-ghost use Rattle.index_validation.specs.Shape.{HasShape};
-ghost use Rattle.avl_words.specs.Lines.{word_of, IsPartLength};
+ghost use Rattle.avl_words.specs.Lines.{word_of};
 ghost use Rattle.index_validation.specs.Layout.{IsRevision};
 ghost use Rattle.index_validation.specs.Lawful.{head_in, CanCheck, HasKey, NoKey, HasDocument, NoDocument, HasPair, NoPair, HasNodes, NoNodes};
 

@@ -1,6 +1,6 @@
 //! A check of the bytes that a chain of blocks holds.
 
-ghost use Rattle.std.specs.Prelude.{◌≡◌, ◌≢◌, ◌+◌, ◌*◌, ◌/◌, ◌%◌, ◌<◌, ◌≤◌, ◌↔◌, ℕ, List, IsTrue, All, length, take, drop};
+ghost use Rattle.std.specs.Prelude.{◌≡◌, ◌≢◌, ◌+◌, ◌*◌, ◌/◌, ◌%◌, ◌≤◌, ◌↔◌, ℕ, List, IsTrue, All, length, take, drop};
 ghost use Rattle.std.specs.Bool.{MatchBool};
 ghost use Rattle.avl_words.specs.Lines.{word_of, IsWithin};
 ghost use Rattle.index_validation.specs.Layout.{IsChain};

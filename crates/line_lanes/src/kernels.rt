@@ -1,7 +1,7 @@
 //! The kernels. A line is 8 words, so it is one vector of eight `u64`, and no words of a line are left over. Addresses are
 //! taken eight at once; those that fill no vector go through a plain loop.
 
-ghost use Rattle.std.specs.Prelude.{◌≡◌, ◌≢◌, ◌+◌, ◌*◌, ◌/◌, ◌<◌, ◌≤◌, ◌↔◌, All, IsTrue, length, slice_index};
+ghost use Rattle.std.specs.Prelude.{◌≡◌, ◌≢◌, ◌*◌, ◌/◌, ◌<◌, ◌≤◌, ◌↔◌, All, IsTrue, length, slice_index};
 ghost use Rattle.line_lanes.specs.Lines.{AddsMarks, AgreeFrom, DifferSomewhere, DiffersInLine, MarksLines, TouchesLine, is_line_of, is_touched};
 
 use std::simd::prelude::*;

@@ -9,7 +9,7 @@ use Rattle.cx_core.specs.RingEvents.{bound_in, least_in, need_word}
 use Rattle.cx_core.specs.State.{Instance, one_more}
 use Rattle.cx_table.specs.Seats.{Seated, stepped}
 use Rattle.mutation_queue.specs.declared.reclamation.Collected.{Collected}
-use Rattle.mutation_queue.specs.Collecting.{Collects, FindsLeast, Opens, Scans, ScansTo, except_collected}
+use Rattle.mutation_queue.specs.Collecting.{Collects, FindsLeast, Scans, ScansTo, except_collected}
 
 -- the least need that a scan found, of some callers
 record Least (target d number own bound : ℕ) (o : Option SeenNeed) : Type 0 where

@@ -1,6 +1,6 @@
 //! Words that are made a program, run, and told by a digest.
 
-ghost use Rattle.std.specs.Prelude.{◌≡◌, ◌*◌, IfOk, IfSome, length};
+ghost use Rattle.std.specs.Prelude.{◌≡◌, ◌*◌, IfOk, length};
 ghost use Rattle.cx_base.specs.Memory.{Always, Known};
 
 use crate::rows::{FAULTS, NUMBERS, OFFSETS, PAIRS, REGISTERS, SAMPLE, UPGRADES};

@@ -2,7 +2,7 @@
 //! for cache lines. A line is 8 words.
 
 ghost use Rattle.std.specs.Prelude.{◌≡◌, ◌+◌, ◌*◌, ◌/◌, ◌%◌, ◌^◌, ◌<◌, ◌↔◌, IsTrue, IfOk, length, map, replicate, slice_index};
-ghost use Rattle.pmem_model.specs.Medium.{IsDirtyMark, WritesBack, after_store, any_value, durable_word, fenced, image_of, left_at, mark_written_back, counted_up, word_stored, medium_word, written_back};
+ghost use Rattle.pmem_model.specs.Medium.{IsDirtyMark, WritesBack, after_store, durable_word, fenced, image_of, left_at, word_stored, medium_word, written_back};
 
 use std::alloc::{AllocError, Global};
 use std::marker::Model;

@@ -1,8 +1,7 @@
 -- The lists that a caller of its own would have, with one call more.
-use Rattle.std.proofs.Common.{◌≡◌, ◌∙◌, ◌+◌, ℕ, List, [], ◌∷◌, ◌++◌, ap, arith, length, map, refl, sym}
+use Rattle.std.proofs.Common.{◌≡◌, ◌∙◌, ◌+◌, ℕ, List, [], ◌∷◌, ◌++◌, ap, arith, length, map, refl}
 use Rattle.std.proofs.lemmas.List.{length-map, map-append}
 use Rattle.cx_core.specs.declared.local.Answer.{Answer}
-use Rattle.cx_core.specs.declared.local.Linked.{Linked}
 use Rattle.cx_core.specs.declared.local.SeenRead.{SeenRead}
 use Rattle.cx_lives.specs.Calls.{LinksEntryAt, one_read}
 use Rattle.cx_attempts.specs.Answering.{with_answer}

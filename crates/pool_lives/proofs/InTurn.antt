@@ -1,15 +1,15 @@
 -- The answers of clients in rising places, and their lines by ticket.
-use Rattle.std.proofs.Common.{◌≡◌, ◌+◌, ◌<◌, ◌≤◌, ◌==◌, ℕ, Bool, true, List, [], ◌∷◌, ◌++◌, length, get_or, map, filter, slice_get, Option, None, Some, sym, ap, subst, ◌∙◌, refl, inl, inr, ◌⊎◌, arith}
-use Rattle.std.specs.Prelude.{AllPairs, Contains, IsPermutation, IsSome}
+use Rattle.std.proofs.Common.{◌≡◌, ◌+◌, ◌<◌, ℕ, List, [], ◌∷◌, length, get_or, map, filter, slice_get, Option, None, Some, sym, ap, subst, ◌∙◌, refl, inl, inr, ◌⊎◌, arith}
+use Rattle.std.specs.Prelude.{Contains, IsPermutation, IsSome}
 use Rattle.std.specs.List.{cons_option, filter_map}
 use Rattle.std.proofs.lemmas.Bool.{eqb-true}
 use Rattle.std.proofs.lemmas.List.Elements.{Contains-append_cases, Contains-append_left, Contains-append_right, Contains-get_or, filter_passes}
 use Rattle.std.proofs.lemmas.List.Sorted.{IsPermutation-sym}
 use Rattle.life_records.proofs.ItemLists.{Contains-item, filter_map_item, map_item, some_made}
-use Rattle.life_records.proofs.Lists.{Has, Rises, contains_has, filter_has, has_contains, has_get, has_map, has_moved, pairs_rise}
+use Rattle.life_records.proofs.Lists.{Has, Rises, contains_has, filter_has, has_contains, has_get, has_moved, pairs_rise}
 use Rattle.life_records.specs.Lives.{ClientAnswer, answers_of, journal_answer, read_answer}
 use Rattle.life_records.specs.Records.{Encoding, JournalLine, Life, ReadLine}
-use Rattle.life_records.specs.Works.{AreWorks, IsDoneEntry, IsEntryBefore, IsWork, by_entry, stop_of}
+use Rattle.life_records.specs.Works.{AreWorks, IsDoneEntry, by_entry}
 use Rattle.cx_core.specs.declared.local.Local.{Local}
 use Rattle.pool_lives.specs.Recorded.{AreAnswersInTurn}
 

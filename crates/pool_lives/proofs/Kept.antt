@@ -1,11 +1,10 @@
 -- The object part of a full image is the object's image after the entries.
-use Rattle.std.proofs.Common.{◌≡◌, ◌+◌, ◌-◌, ◌^◌, ◌<◌, ◌≤◌, ℕ, zero, suc, List, [], ◌∷◌, length, take, slice_get, Some, sym, ap, subst, ◌∙◌, refl, arith}
+use Rattle.std.proofs.Common.{◌≡◌, ◌+◌, ◌-◌, ◌^◌, ◌≤◌, ℕ, zero, suc, List, [], ◌∷◌, length, take, slice_get, Some, sym, ap, ◌∙◌, refl, arith}
 use Rattle.cx_core.specs.Base.{LawfulBase}
 use Rattle.cx_core.specs.History.{AreLawful, full_image, image_after}
 use Rattle.cx_core.specs.Merge.{IsLinked}
 use Rattle.cx_core.specs.Region.{object_part}
 use Rattle.cx_core.specs.State.{Instance}
-use Rattle.cx_core.specs.declared.entry.Base.{Base}
 use Rattle.cx_core.specs.declared.entry.Entry.{Entry}
 use Rattle.cx_core.proofs.HistoryLemmas.{ObjectLaws, begins, full_lawful, full_next}
 use Rattle.cx_core.proofs.KeepLemmas.{region_kept}

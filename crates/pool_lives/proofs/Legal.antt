@@ -1,6 +1,6 @@
 -- A record of clients that shared callers is one of a legal life.
-use Rattle.std.proofs.Common.{◌≡◌, ◌+◌, ◌-◌, ◌<◌, ◌≤◌, ℕ, true, List, [], length, take, slice_get, Option, None, Some, IfSome, IsSome, sym, ap, subst, ◌∙◌, refl, inl, inr, arith}
-use Rattle.std.specs.Prelude.{◌↔◌, All, Contains}
+use Rattle.std.proofs.Common.{◌≡◌, ◌+◌, ◌-◌, ◌<◌, ◌≤◌, ℕ, true, length, take, slice_get, Option, None, Some, IfSome, IsSome, sym, ap, subst, ◌∙◌, refl, inl, inr, arith}
+use Rattle.std.specs.Prelude.{◌↔◌, Contains}
 use Rattle.std.proofs.lemmas.List.Elements.{All-nil, Contains-get_or}
 use Rattle.std.proofs.lemmas.Option.{same_Some, slice_get_within}
 use Rattle.core_replica.proofs.BaseLaws.{kept_lawful}
@@ -26,13 +26,13 @@ use Rattle.life_records.proofs.ItemLists.{All-item, Contains-item}
 use Rattle.life_records.proofs.Steps.{image_stands, op_is}
 use Rattle.life_records.proofs.TypedSteps.{TypedSteps}
 use Rattle.life_records.proofs.Lists.{all_each, each_get, get_has}
-use Rattle.life_records.specs.Lives.{ClientAnswer, HasReply, IsPrefixKept, IsKeptStop, IsLegal, IsLegalLife, IsLegalRead, answers_of, read_answer, store_at}
-use Rattle.life_records.specs.Records.{OpHasWords, JournalLine, Life, LifeRecord, ReadLine, StopLine}
+use Rattle.life_records.specs.Lives.{ClientAnswer, HasReply, IsPrefixKept, IsKeptStop, IsLegal, IsLegalLife, IsLegalRead, answers_of, store_at}
+use Rattle.life_records.specs.Records.{JournalLine, Life, LifeRecord, ReadLine, StopLine}
 use Rattle.life_records.specs.Scripts.{named_op}
-use Rattle.life_records.specs.Works.{HasCommandWords, IsReadLine}
+use Rattle.life_records.specs.Works.{IsReadLine}
 use Rattle.pool_lives.specs.PoolLives.{AreToldIn, IsPoolEntry, IsPoolRead}
 use Rattle.pool_lives.specs.Recorded.{IsPoolRecorded}
-use Rattle.pool_lives.proofs.InTurn.{answers_moved, line_behind, told_by}
+use Rattle.pool_lives.proofs.InTurn.{answers_moved, line_behind}
 use Rattle.pool_lives.proofs.Kept.{object_of_full}
 use Rattle.pool_lives.proofs.Lines.{answered, behind, caller_at, ended, entry_is, lines_are, long_journal, means, of_caller, placed, read_behind, tickets_are, words_are}
 

@@ -1,6 +1,6 @@
 //! The fields of a word, and the tables of the standard.
 
-ghost use Rattle.std.specs.Prelude.{◌≡◌, ◌+◌, ◌/◌, ◌%◌, ◌<◌, ◌^◌};
+ghost use Rattle.std.specs.Prelude.{◌≡◌, ◌+◌, ◌%◌};
 ghost use Rattle.program_code.specs.Spelling as spec;
 
 use crate::instruction::{Arith, Operand, Register, Test, Unit};

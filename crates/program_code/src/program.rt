@@ -1,6 +1,6 @@
 //! Programs: words that were decoded and found to keep the rules.
 
-ghost use Rattle.std.specs.Prelude.{◌≡◌, ◌+◌, ◌<◌, ◌≤◌, ◌⊎◌, length, take, slice_index, MatchResult};
+ghost use Rattle.std.specs.Prelude.{◌≡◌, ◌+◌, ◌<◌, ◌≤◌, ◌⊎◌, length, slice_index, MatchResult};
 ghost use Rattle.program_code.specs.Program.{Decodes, IsFirstProgramFault, instructions_of, program_words};
 ghost use Rattle.program_code.specs.Program as spec;
 

@@ -1,6 +1,6 @@
 //! The instruction that a word spells.
 
-ghost use Rattle.std.specs.Prelude.{◌≡◌, ◌+◌, ◌*◌, ◌/◌, ◌%◌, ◌<◌, ◌^◌, Some};
+ghost use Rattle.std.specs.Prelude.{◌≡◌, ◌+◌, ◌*◌, ◌%◌, ◌^◌, Some};
 ghost use Rattle.program_code.specs.Spelling as spec;
 
 use crate::fields::{

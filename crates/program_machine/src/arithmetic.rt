@@ -1,6 +1,6 @@
 //! What instructions compute of words.
 
-ghost use Rattle.std.specs.Prelude.{◌≡◌, ◌+◌, ◌-◌, ◌*◌, ◌/◌, ◌%◌, ◌^◌, ◌<◌, ◌≤◌};
+ghost use Rattle.std.specs.Prelude.{◌≡◌, ◌+◌, ◌-◌, ◌*◌, ◌/◌, ◌%◌, ◌^◌, ◌<◌};
 ghost use Rattle.program_machine.specs.Arithmetic as spec;
 
 use program_code::{Arith, Test, Width};

@@ -1,6 +1,6 @@
 //! One instruction of a run, as far as it needs no word of the object.
 
-ghost use Rattle.std.specs.Prelude.{◌≡◌, ◌+◌, ◌*◌, ◌<◌, ◌≤◌, ◌^◌, length};
+ghost use Rattle.std.specs.Prelude.{◌≡◌, ◌+◌, ◌*◌, ◌<◌};
 ghost use Rattle.program_machine.specs.Machine as spec;
 
 use crate::arithmetic::{computed, signed_8, signed_16, signed_32, test_holds};

@@ -1,6 +1,6 @@
 //! Words that a caller lends as a memory.
 
-ghost use Rattle.std.specs.Prelude.{◌≡◌, ◌^◌, ◌<◌, All, None, List, ℕ, length, true};
+ghost use Rattle.std.specs.Prelude.{◌^◌, ◌<◌, All, None, List, ℕ, length, true};
 ghost use Rattle.cx_base.specs.Memory.{Known, words_from_known};
 
 use cx_base::{Halt, Memory};

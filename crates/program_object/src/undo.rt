@@ -1,6 +1,6 @@
 //! What stores replaced, so that it can be put back.
 
-ghost use Rattle.std.specs.Prelude.{◌≡◌, ◌+◌, ◌*◌, ◌<◌, ◌≤◌, ◌^◌, IsTrue, length};
+ghost use Rattle.std.specs.Prelude.{◌≡◌, ◌<◌, ◌≤◌, IsTrue, length};
 ghost use Rattle.cx_base.specs.Calls.{Changes};
 ghost use Rattle.program_object.specs.Run as spec;
 

@@ -6,22 +6,14 @@ use Rattle.cx_base.specs.Codes.{root_place_of}
 use Rattle.cx_core.specs.declared.kinds.Kind.TheVariants.{Publish}
 use Rattle.cx_core.specs.declared.local.HeldDowngraded.{HeldDowngraded}
 use Rattle.cx_core.specs.Layout.{max_word}
-use Rattle.cx_core.specs.RootEvents.{IsAbove, code_in, outrun, published}
+use Rattle.cx_core.specs.RootEvents.{code_in, outrun, published}
 use Rattle.cx_core.specs.State.{one_more}
 use Rattle.table_invariant.specs.Running.{Running}
 use Rattle.table_invariant.specs.Seats.{Seated}
 use Rattle.table_invariant.specs.Steps.{Steps}
 use Rattle.cx_table.specs.Right.{Right, WonRight}
 use Rattle.cx_table.specs.Tokens.{TriedPublish}
-use Rattle.strong_trylock.specs.Ends.{except_downgraded}
-use Rattle.strong_trylock.specs.Held.{AllRights, all_rights}
-use Rattle.publish.proofs.Options.{none_of}
-use Rattle.publish.specs.Publishing.{Exchanges, KeepsMet, KeepsRest, MeetsOne, PassedBy, unchanged_by_publish, place_in}
-
--- what is downgraded at a place above a code may be published
-pub may_publish : (callers code : ℕ) (o : Option HeldDowngraded) → root_place_of callers code < place_in o → IsAbove callers code o
-may_publish callers code None below = absurd (omega (arith, below))
-may_publish callers code (Some h) below = below
+use Rattle.publish.specs.Publishing.{Exchanges, KeepsMet, KeepsRest, unchanged_by_publish, place_in}
 
 -- a code that is below a place is below the first code of that place
 pub below_place : (callers code place : ℕ) → 1 ≤ callers → root_place_of callers code < place → code < place * (2 * callers)
@@ -150,14 +142,3 @@ module _ {O : Type 0} (r : Running O) (step : O → List ℕ → List ℕ → Li
     where
       rises : (x y : ℕ) → y ≤ x → x ≢ y → y < x
       rises x y least apart = elim (cases_Bool (y == x)) [ inl e ↦ absurd (apart (sym (eqb-true y x e))) | inr e ↦ omega (arith, least, e) ]
-
--- the right was released
-pub passed : (callers found : ℕ) (before after : Seated) → except_downgraded after ≡ except_downgraded before → all_rights after ≡ record (all_rights before) { downgraded = None } → before.known.local.won ≡ None →
-    before.known.local.seen_cur ≡ found → place_in before.known.local.downgraded ≤ root_place_of callers before.known.local.seen_cur → PassedBy callers found before after
-passed callers found before after rest rights none seen above = record {
-  seen = ap (λ (s : Seated). s.known.local.seen_cur) rest ∙ seen;
-  above = subst (λ n. place_in before.known.local.downgraded ≤ root_place_of callers n) seen above;
-  ended = none_of _ after.known.local.downgraded (ap (λ (a : AllRights). a.downgraded) rights);
-  none = ap (λ (s : Seated). s.known.local.won) rest ∙ none;
-  stale = λ was. ap (λ (s : Seated). s.known.local.fresh) rest ∙ was;
-}

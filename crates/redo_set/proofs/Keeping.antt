@@ -1,5 +1,5 @@
 -- What a set that its caller keeps leaves: what the seat had it has.
-use Rattle.std.proofs.Common.{◌≡◌, inl, inr, ℕ, List, ap, subst, sym}
+use Rattle.std.proofs.Common.{inl, inr, ℕ, List, ap, subst, sym}
 use Rattle.cx_core.proofs.ListLemmas.{slice_get-append_left}
 use Rattle.table_invariant.specs.Fitting.{HasEntry, entries_of, has_of}
 use Rattle.table_invariant.specs.Running.{Running}

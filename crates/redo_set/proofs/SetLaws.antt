@@ -1,9 +1,8 @@
 -- What storing a set with one pair more does.
-use Rattle.std.proofs.Common.{◌≡◌, ◌≢◌, ◌+◌, ◌*◌, ◌<◌, ℕ, zero, suc, List, length, slice_index, slice_set, refl, ap, sym, subst, ◌∙◌, arith, inl, inr}
-use Rattle.std.proofs.lemmas.Bool.{cases_eq}
+use Rattle.std.proofs.Common.{◌≡◌, ◌+◌, ◌*◌, ◌<◌, ℕ, zero, suc, List, length, slice_index, slice_set, refl, ap, ◌∙◌, arith}
 use Rattle.std.proofs.lemmas.List.{get_or-set_other, get_or-set_same, length-set}
 use Rattle.cx_core.specs.WriteSet.{stored}
-use Rattle.redo_set.specs.Sets.{AreWithin, put_over, set_with_pair}
+use Rattle.redo_set.specs.Sets.{put_over, set_with_pair}
 
 -- what is stored depends on the words of the pairs alone
 pub stored_same : (n : ℕ) (set set' words : List ℕ) → ((i : ℕ) → 0 < i → i < 2 * n + 1 → slice_index set' i ≡ slice_index set i) → stored n set' words ≡ stored n set words

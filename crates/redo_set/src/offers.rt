@@ -1,6 +1,6 @@
 //! The write set of an own entry is written beside the entry's cell and offered.
 
-ghost use Rattle.std.specs.Prelude.{◌+◌, ◌*◌, ◌<◌, OnErr, OnOk};
+ghost use Rattle.std.specs.Prelude.{◌+◌, ◌*◌, OnErr, OnOk};
 ghost use Rattle.cx_core.specs.declared.kinds.Kind.TheVariants.{WriteSet as WritesWord};
 ghost use Rattle.table_invariant.specs.Offers.{TellsSet};
 ghost use Rattle.cx_table.specs.Calls.{MakesStep, MayStep};

@@ -24,7 +24,6 @@ use Rattle.cx_table.specs.GapMarks.{IsMarked, KeepsLoads, MarksChanged, with_gap
 use Rattle.cx_table.proofs.GapWalks.{walk_by}
 use Rattle.replica.specs.Copies.{HaltsUnchanged, HoldsBoth, HoldsBothIn, IsCopiedTo, IsListed, MayList, Renews, RenewsListed, unchanged_by_copy, unchanged_by_listed_copy, piece_at, skips_by, skips_piece, without_shared}
 use Rattle.replica.specs.Laws.{shared_held}
-use Rattle.replica.specs.Regions.{HasPlace}
 use Rattle.replica.specs.Replays.{StoresNone, noted_place}
 use Rattle.replica.proofs.Renewing.{loaded_once}
 use Rattle.replica.proofs.Replaying.{place_one, unchanged}
@@ -137,15 +136,6 @@ module _ {O : Type 0} (o : Ghosts O) (r : Running O) (held source : Right) (befo
               (record { few = both.shared.right.few; caller = both.shared.right.caller ∙ sym (ap (λ (l : Local). l.number) local_is); holds = ap shared_on local_is ∙ both.shared.right.holds }) fits;
         }
       ]
-
-  pub may_still : (to : ℕ) → MayList to before → MayList to after
-  may_still to may =
-      let accesses : after.known.accesses ≡ before.known.accesses = ap (λ (s : Seated). s.known.accesses) leaves.seat in
-      record {
-        unstored = subst StoresNone (sym accesses) may.unstored;
-        begun = subst HasPlace (sym accesses) may.begun;
-        source = subst (λ (l : Local). Contains (loaded_of l.shared) (0, to)) (sym local_is) may.source;
-      }
 
   abbrev unnoted : Seated → Seated
   unnoted s = record s { known = record s.known { noted = [] } }

@@ -1,6 +1,6 @@
 -- Callers that are gathered.
-use Rattle.std.proofs.Common.{◌≡◌, ◌<◌, ◌≤◌, ◌+◌, ℕ, List, [], ◌∷◌, ◌++◌, length, sym, refl, ap, ◌∙◌, subst, arith}
-use Rattle.std.specs.Prelude.{All, Option, Some, None}
+use Rattle.std.proofs.Common.{◌≡◌, ◌<◌, ◌≤◌, ◌+◌, List, [], ◌∷◌, ◌++◌, length, sym, refl, ap, ◌∙◌, subst, arith}
+use Rattle.std.specs.Prelude.{Option, Some, None}
 use Rattle.std.proofs.lemmas.List.{append-nil, length-append}
 use Rattle.std.proofs.lemmas.List.Elements.{All-append, All-nil, All-pop, All-push}
 use Rattle.table_invariant.specs.Running.{Running}
@@ -11,10 +11,9 @@ use Rattle.cx_service.specs.declared.close.Handed.TheVariants.{Idle}
 use Rattle.crossbeam_queue.specs.Fifo.{Held}
 use Rattle.crossbeam_queue.specs.Passes.{view}
 use Rattle.atomic_table.specs.Seated.{TableId}
-use Rattle.std.specs.List.{range_with_len}
 use Rattle.std.specs.Option.{option_to_list}
 use Rattle.seat_pool.specs.declared.lent.Lent.{Lent}
-use Rattle.seat_pool.specs.Gathering.{AreSame, AreCallsTold, Gathers, IsGathering, IsHandedOf, IsLentOf, IsRestOf, IsTakingIn, handed_calls, handed_reads, if_stopped, kept_list, lent_kept, lent_shown, lent_told, handed_number}
+use Rattle.seat_pool.specs.Gathering.{Gathers, IsGathering, IsHandedOf, IsLentOf, IsTakingIn, handed_calls, handed_reads, if_stopped, kept_list, lent_kept, lent_shown, lent_told, handed_number}
 use Rattle.seat_pool.specs.Pooling.{IsPassWhole, TellsRoom, all_parts, both, calls_of, total_weight, with_taken}
 use Rattle.seat_pool.specs.declared.hand.LenderPass.{LenderPass}
 use Rattle.seat_pool.specs.declared.hand.AnsweredCall.{AnsweredCall}
@@ -85,13 +84,6 @@ drained v w parts same (x ∷ items, long, tells) = absurd (omega (arith, long))
 pub as_held : {O : Type 0} (r : Running O) (v w : LenderPass) (xs ys : List Handed) → w ≡ v → ys ≡ xs → Gathers r v.held xs → Gathers r w.held ys
 as_held r v w xs ys same list g = subst (λ (u : LenderPass). Gathers r u.held ys) (sym same) (subst (λ zs. Gathers r v.held zs) (sym list) g)
 
-pub none_of : {A : Type 0} (xs : List A) → length xs ≡ 0 → xs ≡ []
-none_of [] none = refl
-none_of (x ∷ xs) none = absurd (omega (arith, none))
-
-no_weight : {A : Type 0} (f : A → ℕ) (xs : List A) → xs ≡ [] → total_weight f xs ≡ 0
-no_weight f xs none = ap (total_weight f) none
-
 module _ {O : Type 0} (r : Running O) (table : TableId) where
   pub gathers_none : (held : List Seated) (xs : List Handed) → held ≡ [] → xs ≡ [] → Gathers r held xs
   gathers_none held xs none empty = subst (λ l. Gathers r l xs) (sym none) (subst (λ l. Gathers r [] l) (sym empty) (record {
@@ -132,20 +124,3 @@ module _ {O : Type 0} (r : Running O) (table : TableId) where
         lents = (All-pop (IsLentOf r table) rest after (Some x) left k.lents).0;
         gathers = subst (λ (t : LenderPass). Gathers r t.held ys) same gathers;
       })
-
-  -- and their calls are those that were told
-  pub all_told : (all : List Lent) (v w : LenderPass) (xs ys zs : List Handed) → IsTakingIn r table all v [] xs → w.told ≡ v.told → w.shown ≡ v.shown → IsPassWhole w [] → Gathers r w.held ys → ((f : Handed → ℕ) → total_weight f xs ≤ total_weight f ys) → ((f : Handed → ℕ) → ((s : Seated) → f (Idle s) ≡ 0) → total_weight f ys ≡ total_weight f xs) → AreSame zs ys → All (IsHandedOf r) zs
-      → AreCallsTold r all zs
-  all_told all v w xs ys zs k same seen whole gathers more idle order of = record {
-    of = of;
-    untold = gathers.untold;
-    calls = λ h. (
-        let told : total_weight h w.told ≡ total_weight h v.told = ap (total_weight h) same in
-        omega (arith, told, whole.calls h, gathers.calls h, order (handed_calls h), k.told h));
-    few = λ h. omega (arith, gathers.few h, order (if_stopped h));
-    reads = λ h. (
-        let shown : total_weight h w.shown ≡ total_weight h v.shown = ap (total_weight h) seen in
-        omega (arith, shown, whole.reads h, gathers.reads h, order (handed_reads h), k.shown h));
-    kept = λ f. omega (arith, k.kept f, more f, order f);
-    others = λ f none. omega (arith, k.kept f, idle f none, order f);
-  }

@@ -10,13 +10,12 @@ use Rattle.cx_service.specs.CatchUps.{HasSeen}
 use Rattle.cx_service.specs.Drives.{answer_with}
 use Rattle.cx_service.specs.Lookups.{ReadAnswered, ReadPending}
 use Rattle.cx_service.specs.Submits.{next_entry}
-use Rattle.cx_core.specs.declared.local.FullNote.{FullNote}
-use Rattle.cx_service.specs.Updates.{KeepsLists, ReadQueues, UpdateDone, UpdateFull, UpdateWorn}
-use Rattle.cx_service.specs.declared.update.Updated.TheVariants.{Done, Full, Worn}
+use Rattle.cx_service.specs.Updates.{KeepsLists, ReadQueues, UpdateDone, UpdateWorn}
+use Rattle.cx_service.specs.declared.update.Updated.TheVariants.{Done, Worn}
 use Rattle.cx_service.proofs.Seeing.{lists_seen, queued_sees, read_behind, update_behind}
 use Rattle.cx_attempts.specs.declared.lookup.Seen.{Seen}
-use Rattle.cx_attempts.specs.Answering.{reads_with, with_answer}
-use Rattle.service_parts.specs.Asking.{IsAsked, IsIdleSince, IsOperationAnswered, IsReadBeside}
+use Rattle.cx_attempts.specs.Answering.{with_answer}
+use Rattle.service_parts.specs.Asking.{IsAsked, IsIdleSince, IsOperationAnswered}
 use Rattle.service_parts.specs.declared.call.AskOutcome.TheVariants.{Told}
 
 -- an update behind tries that changed nothing of the caller's lists
@@ -68,22 +67,6 @@ module _ {O : Type 0} (r : Running O) (op : List ℕ) (before u : Seated) (keeps
   pending_idle v p = record {
     times = record { linked = p.keeps.linked ∙ idle.times.linked; answered = p.keeps.ended ∙ idle.times.answered; reads = p.times ∙ idle.times.reads };
     since = (let first = idle.since in let more = p.keeps.since in omega (arith, first, more));
-  }
-
-  pub read_asked : (after : Seated) (found : Seen) → ReadAnswered r op u after found → IsReadBeside op found.place found.reply before after
-  read_asked after found read = record {
-    own = read.keeps.own ∙ keeps.own;
-    answered = read.keeps.answered ∙ keeps.answered;
-    reads = read.reads ∙ ap (λ (n : ℕ). reads_with found.place op found.reply n u.known.local.seen_reads) (ap length keeps.answered) ∙ ap (λ xs. reads_with found.place op found.reply (length before.known.local.answered) xs) keeps.reads;
-    times = record {
-      begun = read.times.begun;
-      ended = read.times.ended;
-      from = (let from = read.times.from in let since = idle.since in omega (arith, from, since));
-      to = read.times.to;
-      is = read.times.is ∙ ap (λ xs. xs ++ (read.times.begun, read.times.ended) ∷ []) idle.times.reads;
-    };
-    linked = read.keeps.linked ∙ idle.times.linked;
-    ended = read.keeps.ended ∙ idle.times.answered;
   }
 
   pub queued_asked : (reply : List ℕ) (after : Seated) (ticket place : ℕ) → ReadQueues r op reply u (Done after ticket) → place ≡ ticket + 1 → IsAsked r op reply before (Told after place)

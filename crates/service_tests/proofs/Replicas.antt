@@ -1,5 +1,5 @@
 -- Media of two regions of 210 lines.
-use Rattle.std.proofs.Common.{◌≡◌, ◌+◌, ◌*◌, ◌/◌, ℕ, List, length, map, replicate, ap, ◌∙◌, arith}
+use Rattle.std.proofs.Common.{◌≡◌, ◌/◌, ℕ, List, length, map, replicate, ap, ◌∙◌, arith}
 use Rattle.std.proofs.lemmas.List.{length-map, length-replicate, length-set}
 use Rattle.std.proofs.lemmas.List.FromFn.{length-map-range_with_len}
 use Rattle.pmem_model.specs.Medium.{MediumState, after_store, durable_word, fenced, image_of, left_in_medium, counted_up, word_stored, medium_word}

@@ -1,6 +1,6 @@
 //! An object alone, over a vector of words, held against what callers were told and what a closed service leaves.
 
-ghost use Rattle.std.specs.Prelude.{◌≡◌, ◌*◌, ◌<◌, ◌^◌, IfOk, IsTrue, OnOk};
+ghost use Rattle.std.specs.Prelude.{◌≡◌, ◌*◌, ◌<◌, IfOk, IsTrue, OnOk};
 ghost use Rattle.cx_base.specs.Memory.{Always};
 
 use crate::calls::Told;

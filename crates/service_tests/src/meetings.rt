@@ -1,9 +1,8 @@
 //! Callers on threads whose steps wait for one another: each of eight callers is in its command while the seven others are in theirs, and
 //! one stays in the middle of its fifth command until the others have ended.
 
-ghost use Rattle.cx_base.specs.Memory.{Words};
 ghost use Rattle.cx_base.specs.OldFormat.{no_old_format, takes_over_nothing};
-ghost use Rattle.cx_base.specs.Tally.{IsTally, tally_opening, tally_reads, tally_reply, tally_step};
+ghost use Rattle.cx_base.specs.Tally.{IsTally, tally_opening, tally_reads, tally_step};
 ghost use Rattle.cx_base.specs.TallyLaws.{tally_opens, tally_keeps, tally_shape, tally_replies, tally_leaves};
 
 use crate::holds::holds;

@@ -1,6 +1,6 @@
 //! Callers on one thread: what is answered before a call begins stands before it, and callers catch up with places that others told.
 
-ghost use Rattle.std.specs.Prelude.{◌≡◌, IfOk, IfSome, IsTrue};
+ghost use Rattle.std.specs.Prelude.{IfSome};
 ghost use Rattle.cx_service.specs.Callers.{IsCallerOf};
 
 use crate::holds::holds;

@@ -1,7 +1,5 @@
 //! Two callers submit and are handed back, at each limit of steps, and at the end of tickets; cells are kept by a caller that is stopped.
 
-ghost use Rattle.cx_base.specs.Tally.{IsTally};
-ghost use Rattle.cx_core.specs.Base.{LawfulBase};
 ghost use Rattle.cx_service.specs.Callers.{IsCallerOf};
 
 use crate::calls::{Came, SUBMIT, SUBMIT_TWICE, Told, UPDATE, asked};

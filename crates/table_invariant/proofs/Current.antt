@@ -1,5 +1,5 @@
 -- How a step moves what its caller has seen of CUR, and what everyone was answered before it.
-use Rattle.std.proofs.Common.{◌≡◌, ◌==◌, ◌<◌, ◌≤◌, ◌⊎◌, inl, inr, ℕ, nat_lt, cond, true, false, [], ◌∷◌, Some, None, length, slice_index, refl, ap, sym, subst, ◌∙◌, arith}
+use Rattle.std.proofs.Common.{◌≡◌, ◌==◌, ◌≤◌, inl, inr, ℕ, nat_lt, cond, true, false, [], ◌∷◌, Some, None, length, slice_index, refl, ap, sym, subst, ◌∙◌, arith}
 use Rattle.std.proofs.lemmas.Bool.{false≢true}
 use Rattle.std.proofs.lemmas.Option.{same_Some, slice_get_within}
 use Rattle.std.specs.List.{slice_get}
@@ -23,7 +23,7 @@ use Rattle.cx_core.proofs.Putting.{either}
 use Rattle.cx_core.proofs.RootCodes.{above_parts, code_place, place_up}
 use Rattle.core_runs.proofs.Going.{durable_event}
 use Rattle.core_runs.proofs.Keeps.{bounds_of}
-use Rattle.core_runs.proofs.Since.{SinceIn, since_run}
+use Rattle.core_runs.proofs.Since.{since_run}
 use Rattle.table_invariant.specs.Timing.{AllBelow}
 
 -- A step of a caller, by which its local state becomes another one: what it has seen of CUR is at no lower place. Where it was not fresh and is, that is

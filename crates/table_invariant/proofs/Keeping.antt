@@ -1,5 +1,5 @@
 -- A caller keeps the write set of its own entry, by what it noted. No event is made, and each word of the table stays as it is.
-use Rattle.std.proofs.Common.{◌≡◌, ◌≢◌, ◌+◌, ◌++◌, ◌<◌, length, inl, inr, ⊎_elim, ℕ, zero, suc, List, [], ◌∷◌, set, slice_index, refl, ap, sym, subst, ◌∙◌, Some}
+use Rattle.std.proofs.Common.{◌≡◌, ◌≢◌, ◌+◌, ◌<◌, length, inl, inr, ⊎_elim, ℕ, zero, suc, List, [], ◌∷◌, set, slice_index, refl, ap, sym, subst, ◌∙◌, Some}
 use Rattle.std.proofs.lemmas.List.{set-get_or}
 use Rattle.std.proofs.lemmas.Option.{none-some, same_Some}
 use Rattle.std.specs.List.{slice_get}

@@ -154,10 +154,3 @@ lawful_shown instance l law = record {
   answered = law.answered;
   reads = law.reads;
 }
-
-none_shown : (o : Option HeldExclusive) → option_map blank o ≡ None → o ≡ None
-none_shown None e = refl
-none_shown (Some h) e = cc
-
-pub none_held : (l : Local) → (shown l).exclusive ≡ None → l.exclusive ≡ None
-none_held l e = none_shown l.exclusive e

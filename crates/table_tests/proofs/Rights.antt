@@ -9,7 +9,6 @@ use Rattle.table_invariant.specs.Fitting.{Fitting}
 use Rattle.table_invariant.specs.Running.{IsTableWithinLimits, Running}
 use Rattle.table_invariant.specs.Seats.{Seated}
 use Rattle.cx_table.specs.Right.{Right}
-use Rattle.cx_attempts.specs.Replaying.{unchanged_by_replay, except_shared_loads}
 use Rattle.replica.specs.Held.{unchanged_by_access, except_loaded, except_words}
 use Rattle.replica.specs.Laws.{taken_held}
 use Rattle.strong_trylock.specs.declared.try_lock.ExclusiveTried.{ExclusiveTried}

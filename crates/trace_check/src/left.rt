@@ -1,6 +1,6 @@
 //! The place that is recovered after a crash.
 
-ghost use Rattle.std.specs.Prelude.{◌≡◌, ◌%◌, ◌<◌, ◌≤◌, IfOk, length, vec_len};
+ghost use Rattle.std.specs.Prelude.{◌≡◌, ◌%◌, ◌≤◌, IfOk, length, vec_len};
 ghost use Rattle.cx_core.specs.Chain.{IsCodeChain};
 ghost use Rattle.cx_core.specs.Lawful.{Lawful};
 ghost use Rattle.cx_core.specs.State.{instance_of};

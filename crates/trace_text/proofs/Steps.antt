@@ -1,28 +1,18 @@
 -- Each step has the number of its line.
-use Rattle.std.proofs.Common.{◌≡◌, ◌+◌, ◌<◌, ◌⊎◌, inl, inr, ℕ, zero, suc, List, [], ◌∷◌, ◌++◌, length, Some, refl, sym, ap, subst, ◌∙◌, arith}
-use Rattle.std.proofs.lemmas.Option.{none-some, same_Some}
-use Rattle.std.specs.List.{slice_get}
+use Rattle.std.proofs.Common.{◌≡◌, ℕ, List, [], ◌∷◌, Some, refl, subst, arith}
+use Rattle.std.proofs.lemmas.Option.{none-some}
 use Rattle.plain_text.specs.LineGrammar.{AddsAll, AreLinesOf}
 use Rattle.trace_text.specs.Judging.{trace_head_is}
 use Rattle.trace_text.specs.Reading.{trace_head_of, with_head, with_step}
 use Rattle.trace_text.specs.Traces.{IsTraceWithin, trace_grammar}
 use Rattle.trace_text.specs.declared.trace.Trace.{Trace}
-use Rattle.trace_text.specs.declared.trace.TraceLine.{TraceLine}
 use Rattle.trace_text.specs.declared.trace.TraceLines.{TraceLines}
 use Rattle.trace_text.specs.declared.trace.TraceLines.TheVariants.{Nothing, Begun}
-use Rattle.trace_text.specs.declared.trace.TraceWhat.{TraceWhat}
 
 pub head_kept : (line : List ℕ) (head : ℕ × ℕ) → trace_head_of line ≡ Some head → IsTraceWithin (with_head head)
 head_kept line head e =
     let is = trace_head_is line head e in
     record { some = is.some; few = is.few; enough = is.enough; small = is.small; short = omega arith; numbered = λ n x at. absurd (none-some x at) }
-
--- an item of a list with one more is one of the list, or the last
-one_of : {X : Type 0} (xs : List X) (y : X) (n : ℕ) (x : X) → slice_get (xs ++ y ∷ []) n ≡ Some x → (slice_get xs n ≡ Some x) ⊎ ((n ≡ length xs) × (x ≡ y))
-one_of [] y zero x at = inr (refl, sym (same_Some y x at))
-one_of [] y (suc n) x at = absurd (none-some x at)
-one_of (z ∷ zs) y zero x at = inl at
-one_of (z ∷ zs) y (suc n) x at = elim (one_of zs y n x at) [ inl there ↦ inl there | inr (last, same) ↦ inr (omega (arith, last), same) ]
 
 begun_stays : (trace : Trace) (lines : List (List ℕ)) (after : TraceLines) → AddsAll trace_grammar (Begun trace) lines after → (found : Trace) × (after ≡ Begun found)
 begun_stays trace [] after same = (trace, same)

@@ -150,10 +150,6 @@ module _ (ws key : List ℕ) (version : ℕ) (store : Store) (s : StandsFor ws v
       let is : store ≡ h.at.lower ++ (key, h.document) ∷ h.at.after = h.at.store_is ∙ ap (λ p. h.at.lower ++ p ∷ h.at.after) h.pair_is in
       sym (ap is_some (ap (document_at key) is ∙ document_there key h.document h.at.lower h.at.after h.below))
 
--- as the code runs
-header_of : (ws : List ℕ) (i : IsIndex ws) → 8 ≤ length ws
-header_of ws i = (let some = i.stands.arranged.sized.some in omega arith)
-
 there_of : (ws key nodes sides : List ℕ) (depth node above version : ℕ) (store : Store) (s : StandsFor ws version store) → AtSpot false key nodes sides depth node above ws → node ≢ 0 → IsThere ws nodes sides (order_in key ws) depth node s.tree
 there_of ws key nodes sides depth node above version store s spot n = record {
   header = (let some = s.arranged.sized.some in omega arith);

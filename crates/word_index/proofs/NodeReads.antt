@@ -5,7 +5,6 @@ use Rattle.cx_base.proofs.PackingLemmas.{unpacked-packed}
 use Rattle.cx_base.specs.Packing.{unpacked}
 use Rattle.index_validation.proofs.Texts.{key_small, text_is}
 use Rattle.index_validation.specs.Reading.{text_at}
-use Rattle.cx_base.specs.Store.{IsKey}
 use Rattle.avl_words.specs.Lines.{IsWithin, word_of}
 use Rattle.index_validation.proofs.Lines.{all_left, all_right}
 use Rattle.index_validation.specs.Blocks.{IsTextAt, HasText}

@@ -79,9 +79,6 @@ module _ (v x : List ℕ) (head : RevisionHead) (lower after : Store) (pair : Li
   none_first : times 0 (lines_at place) ≡ 0
   none_first = (let w = whole 0 in let o : times 0 (flat_map lines_at (front ++ place ∷ rest) ++ given ++ loose) ≡ 0 = a.once 0 in omega (arith, w, o))
 
-  pub not_first : 0 ≢ place.node
-  not_first = not_here 0 (let p = parts 0 in let z = none_first in omega (arith, p, z))
-
   nodes_middle : (k : ℕ) → times k (nodes_of (front ++ place ∷ rest)) ≡ times k (nodes_of front) + (cond (eqb place.node k) 1 0 + times k (nodes_of rest))
   nodes_middle k = ap (times k) (map_append (λ p. p.node) front (place ∷ rest)) ∙ omega (arith, times_append k (nodes_of front) (place.node ∷ nodes_of rest), times_cons k place.node (nodes_of rest))
 

@@ -1,6 +1,6 @@
 //! The kernels by worked rows, and against the plain programs.
 
-ghost use Rattle.std.specs.Prelude.{◌*◌, ◌<◌, ◌≤◌, All, length};
+ghost use Rattle.std.specs.Prelude.{◌*◌, ◌<◌, ◌≤◌, All};
 
 use crate::holds::holds;
 use crate::plain;

@@ -1,7 +1,6 @@
 //! A second memory: its caller knows the words that it loaded or stored, and no other.
 
-ghost use Rattle.std.specs.Prelude.{◌≡◌, ◌+◌, ◌-◌, ◌<◌, ◌≤◌, ◌++◌, ◌∷◌, ℕ, Bool, true, List, [], Some, length, vec_len, vec_capacity, IfOk};
-ghost use Rattle.cx_base.specs.Memory.{Words};
+ghost use Rattle.std.specs.Prelude.{◌≡◌, ◌+◌, ◌-◌, ◌<◌, ◌≤◌, ◌++◌, ◌∷◌, ℕ, true, List, [], Some, length, vec_len, vec_capacity, IfOk};
 ghost use Rattle.cx_base.specs.Noted.{NotesShow, IsToldByNotes, some_shown, shown_words};
 
 use cx_base::{Halt, Memory};

@@ -1,6 +1,6 @@
 //! The plain programs that the kernels are compared with: word by word, and line by line.
 
-ghost use Rattle.std.specs.Prelude.{◌≡◌, ◌+◌, ◌*◌, ◌/◌, ◌<◌, ◌≤◌, ◌↔◌, IsTrue, length};
+ghost use Rattle.std.specs.Prelude.{◌+◌, ◌*◌, ◌/◌, ◌≤◌, ◌↔◌, IsTrue, length};
 ghost use Rattle.line_lanes.specs.Lines.{DiffersInLine, MarksLines, TouchesLine};
 
 // Whether a word of the line differs.

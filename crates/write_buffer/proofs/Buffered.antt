@@ -2,7 +2,7 @@
 use Rattle.std.proofs.Common.{◌≡◌, ◌≢◌, ◌^◌, ◌+◌, ◌<◌, ◌≤◌, ℕ, List, length, slice_index, slice_set, refl, sym, ap, subst, ◌∙◌, inl, inr, arith}
 use Rattle.std.proofs.lemmas.Bool.{cases_eq}
 use Rattle.std.proofs.lemmas.List.{length-set, get_or-set_same, get_or-set_other, set-set, set-get_or, ext_get_or}
-use Rattle.cx_base.specs.Memory.{Words, Loaded, Stored, Same, Always, Becomes}
+use Rattle.cx_base.specs.Memory.{Words, Loaded, Stored, Always, Becomes}
 use Rattle.cx_base.specs.WordLaws.{Words-set, Words-at}
 use Rattle.cx_base.proofs.MemoryLemmas.{always_at_most}
 use Rattle.write_buffer.specs.Buffering.{IsFree, Covers, IsHeldBack, Shows}
@@ -81,38 +81,6 @@ put_back : (xs : List ℕ) (i v w : ℕ) → slice_index xs i ≡ w → slice_se
 put_back xs i v w e = set-set xs i v w ∙ ap (slice_set xs i) (sym e) ∙ set-get_or xs i 0
 
 module _ {Key : Type 0} where
-  -- where no pair behind is new, what is held back stays so
-  pub held_on : {old new : Key → List ℕ → Type 0} (size size' count : ℕ) (places found values : List ℕ) → size' ≡ size → ((key : Key) (u : List ℕ) → new key u → old key u) →
-      IsHeldBack old size count places found values → IsHeldBack new size' count places found values
-  held_on size size' count places found values e back h = record {
-    few = h.few;
-    places_long = h.places_long;
-    found_long = h.found_long;
-    values_long = h.values_long;
-    within = λ i l. subst (λ n. slice_index places i < n) (sym e) (h.within i l);
-    small = h.small;
-    apart = h.apart;
-    known = λ key u s. h.known key u (back key u s);
-  }
-
-  -- another value for one
-  pub held_put : {stands : Key → List ℕ → Type 0} (size count i v : ℕ) (places found values : List ℕ) → i < count → v < 2 ^ 64 →
-      IsHeldBack stands size count places found values → IsHeldBack stands size count places found (slice_set values i v)
-  held_put size count i v places found values l fits h = record {
-    few = h.few;
-    places_long = h.places_long;
-    found_long = h.found_long;
-    values_long = length-set values i v ∙ h.values_long;
-    within = h.within;
-    small = λ j m. elim (cases_eq j i) [
-      | inl same ↦ subst (λ k. slice_index (slice_set values i v) k < 2 ^ 64) (sym same)
-          (subst (λ n. n < 2 ^ 64) (sym (there values i v (let e = h.values_long in let f = h.few in omega (arith, l, e, f)))) fits)
-      | inr other ↦ subst (λ n. n < 2 ^ 64) (sym (beside values i j v other)) (h.small j m)
-    ];
-    apart = h.apart;
-    known = h.known;
-  }
-
   -- a load behind gives the word that was found there
   pub found_there : {old new : Key → List ℕ → Type 0} (size count i at x : ℕ) (places found values : List ℕ) → i < count → slice_index places i ≡ at →
       ∥ ((key : Key) × (now : List ℕ) × new key now) ∥₁ → IsHeldBack old size count places found values → Loaded at x old new → x ≡ slice_index found i
@@ -122,13 +90,6 @@ module _ {Key : Type 0} where
       let up : x ≤ f = always_at_most new some x f (λ key u s. (let q = same key u s in omega (arith, q))) in
       let down : f ≤ x = always_at_most new some f x (λ key u s. (let q = same key u s in omega (arith, q))) in
       omega (arith, up, down)
-
-  -- the same pairs behind: the same in front
-  pub shows_same : {old new : Key → List ℕ → Type 0} (size count : ℕ) (places values : List ℕ) → Same old new → Same (Shows old size count places values) (Shows new size count places values)
-  shows_same size count places values d = record {
-    back = λ key now s. record { under = s.under; stood = d.back key s.under s.stood; over = s.over; words = s.words };
-    on = λ key now s. record { under = s.under; stood = d.on key s.under s.stood; over = s.over; words = s.words };
-  }
 
   -- a load of a free word
   pub shows_load : {old new : Key → List ℕ → Type 0} (size count at x : ℕ) (places values : List ℕ) → IsFree places count at → Loaded at x old new →

@@ -1,6 +1,6 @@
 //! A memory over another that holds stores back.
 
-ghost use Rattle.std.specs.Prelude.{◌≡◌, ◌<◌, ◌≤◌, ℕ, IsTrue};
+ghost use Rattle.std.specs.Prelude.{◌≡◌, ◌<◌, IsTrue};
 ghost use Rattle.cx_base.specs.Calls.{Changes};
 ghost use Rattle.write_buffer.specs.Buffering.{IsHeldBack, Shows, Covers, BufferFixed, shows_some, shows_words};
 

@@ -1,4 +1,4 @@
-use Rattle.std.proofs.Common.{◌≡◌, IfErr, IfOk, MatchResult, Ok, Err, Result, subst}
+use Rattle.std.proofs.Common.{IfErr, IfOk, MatchResult, Ok, Err, Result, subst}
 use Rattle.cx_core.specs.Base.{LawfulBase}
 use Rattle.c_sessions.proofs.close.close_kept.Goals as goal
 

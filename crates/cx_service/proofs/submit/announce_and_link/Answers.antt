@@ -6,7 +6,8 @@ use Rattle.table_invariant.specs.Seats.{IsAtLimit, Seated}
 use Rattle.mutation_queue.specs.Links.{EndsBy, HaltsTry, MakesTries, Tried}
 use Rattle.cx_service.specs.Callers.{unlinked}
 use Rattle.cx_service.specs.Submits.{EntersIn}
-use Rattle.cx_service.proofs.Announced.{both_ok, halted_in, if_any_err}
+use Rattle.cx_service.proofs.Announced.{both_ok, halted_in}
+use Rattle.cx_attempts.proofs.Answered.{if_any_err}
 use Rattle.cx_service.proofs.Entering.{answered_still, unchanged_by_submit, entered, halts, halts_linking, no_sets_read, stale, tries_of}
 use Rattle.cx_service.proofs.Looking.{cur_caller, cur_loaded, enters_then, halted_then, tries_then, writing_then}
 use Rattle.cx_service.proofs.submit.announce_and_link.Goals as goal

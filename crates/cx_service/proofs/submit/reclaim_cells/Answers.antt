@@ -1,6 +1,6 @@
 use Rattle.std.proofs.Common.{refl, arith}
 use Rattle.table_invariant.specs.Running.{instance_at}
-use Rattle.cx_service.proofs.Announced.{if_any_err}
+use Rattle.cx_attempts.proofs.Answered.{if_any_err}
 use Rattle.cx_service.proofs.Looking.{collect_ends, collect_halts, collect_on, may_collect, names_holder, ticket_small}
 use Rattle.cx_service.proofs.submit.reclaim_cells.Goals as goal
 

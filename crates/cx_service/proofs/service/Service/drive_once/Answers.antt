@@ -1,4 +1,4 @@
-use Rattle.std.proofs.Common.{◌≡◌, ℕ, List, arith, subst, sym, Some, ◌∙◌, ap}
+use Rattle.std.proofs.Common.{◌≡◌, arith, subst, sym, Some, ◌∙◌, ap}
 use Rattle.cx_core.specs.declared.local.Answer.{Answer}
 use Rattle.table_invariant.specs.Running.{IsSeatOf, Running}
 use Rattle.table_invariant.specs.Seats.{Seated, unanswered_ticket}

@@ -1,4 +1,3 @@
-use Rattle.std.proofs.Common.{sym}
 use Rattle.table_invariant.specs.Running.{instance_at}
 use Rattle.table_invariant.specs.Seats.{known_of}
 use Rattle.table_invariant.proofs.Keeping.{allows_keeping}
