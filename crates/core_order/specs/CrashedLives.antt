@@ -69,7 +69,7 @@ module _ (step : List ℕ → List ℕ → List ℕ × List ℕ) (reads : List �
     pub seen : EachLocal s.locals (λ _ l. (i : ℕ) (x : SeenRead) → slice_get l.seen_reads i ≡ Some x →
         (base.place ≤ x.place) × (x.place ≤ next.place) × (x.reply ≡ reply_by first history x.place x.op))
 
-  -- each answer that was given in any of these lives stands in the history, and it is below the base of the life after its own
+  -- each answer that was given in any of these lives stands in the history, at a place no further than the base of the life after its own
   abbrev pub AllStand : Base → List Entry → Base → List LifeRun → Type 0
   AllStand first history base [] = Unit {0}
   AllStand first history base (life ∷ lives) = AnswersStand first history base (next_base base life) life.to × AllStand first history (next_base base life) lives
