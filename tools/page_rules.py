@@ -17,7 +17,7 @@ LENGTHS = {
     "docs/DECISIONS.md": 124,
     "docs/FAQ.md": 88,
     "docs/FORMATS.md": 395,
-    GLOSSARY: 80,
+    GLOSSARY: 84,
     "docs/OBJECTS_IN_C.md": 175,
     "docs/PERFORMANCE.md": 340,
     "docs/REFERENCE.md": 195,

@@ -38,6 +38,6 @@ abbrev pub FollowsAt : ℕ → ℕ → Kind → ℕ → CachedLocal → CachedLo
 FollowsAt place callers kind found before after =
     (instance : Instance) (k : Known) → instance.callers ≡ callers → place ≡ place_noted 0 k.accesses → SeenGuard instance kind k.local → before ≡ summary_of k.local → after ≡ summary_of (known_local instance (kind_found instance kind k.local found) k found)
 
--- and so do the words copied
+-- the words copied follow as `copied_after` says, of whatever a seat knows whose numbers these are
 abbrev pub CopiesFollow : Kind → ℕ → CachedLocal → Copied → Copied → Type 0
 CopiesFollow kind found numbers before after = (k : Known) → numbers ≡ summary_of k.local → after ≡ copied_after kind k found before

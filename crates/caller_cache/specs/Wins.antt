@@ -27,7 +27,7 @@ pub record IsWinTaken (before code : ℕ) (old new : List WonCode) : Type 0 wher
   pub others : (w : WonCode) → Contains old w → w.before ≢ before → Contains new w
   pub still : (w : WonCode) → Contains new w → Contains old w
 
--- one was, or there is none
+-- of wins, one over a code was taken out, or none is over that code and all are left
 abbrev pub TakesWin : ℕ → List WonCode → List WonCode → Option ℕ → Type 0
 TakesWin before old new (Some code) = IsWinTaken before code old new
 TakesWin before old new None = (new ≡ old) × ((w : WonCode) → Contains old w → w.before ≢ before)

@@ -124,7 +124,7 @@ impl Copies {
         self.kept.put(ticket, words);
     }
 
-    /// Hands the set that the caller keeps out, where it is that of a ticket: none is kept then.
+    /// Whether the set that the caller keeps is that of a ticket; if so it is handed out, and none is kept then.
     pub fn take_kept(&mut self, ticket: u64, words: &mut Vec<u64>) -> bool
         requires { IsSetList words.old.items }
         ensures taken { IsTrue result → self.old.kept ≡ Some (record { ticket = ticket; set = words.new.items }) }

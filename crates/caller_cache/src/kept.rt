@@ -49,7 +49,7 @@ impl Kept {
         self.ticket = Some(ticket);
     }
 
-    /// Hands the set out, where it is that of a ticket: none is kept then.
+    /// Whether the set that is kept is that of a ticket; if so it is handed out, and none is kept then.
     pub(crate) fn take(&mut self, ticket: u64, words: &mut Vec<u64>) -> bool
         requires { IsSetList words.old.items }
         ensures taken { IsTrue result → self.old ≡ Some (record { ticket = ticket; set = words.new.items }) }

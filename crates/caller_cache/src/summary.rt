@@ -34,6 +34,7 @@ fn is_below(place: u64, ticket: Option<u64>) -> bool
 /// The numbers of a caller's local state that code reads: all but its lists and the words of its cells and their sets.
 #[derive(Clone, Copy, Debug, Drop)]
 pub struct CachedLocal {
+    /// Which of the table's callers it is, counted from 0.
     pub number: u32,
     pub front: u64,
     /// The number of its linked entries.
@@ -67,9 +68,13 @@ pub struct CachedLocal {
     /// The scan of the callers' needs that is not at its end, and what the last whole one found.
     pub scan: Option<Scan>,
     pub seen_need: Option<SeenNeed>,
+    /// The steps made.
     pub steps: u64,
+    /// The steps allowed, where 2^64 - 1 is no limit.
     pub limit: u64,
+    /// The refusals met, as `Local` counts them.
     pub met: u64,
+    /// The scans of the callers' needs that it ended.
     pub scans: u64,
 }
 

@@ -8,7 +8,7 @@ use Rattle.cx_core.specs.Layout.{replicas_at, word_count}
 pub record HasTableWords (callers : ℕ) (words : List ℕ) : Type 0 where
   pub long : replicas_at callers ≤ length words
 
--- and this is the local state of one of its callers
+-- these are the words of a table of this number of callers, up to the replicas at least, and this is the local state of one of the callers
 pub record HasCaller (callers : ℕ) (words : List ℕ) (l : Local) : Type 0 where
   pub table : HasTableWords callers words
   pub caller : l.number < callers

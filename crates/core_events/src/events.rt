@@ -26,10 +26,10 @@ use cx_base::{Object, OpWords};
 use cx_core::{Base, Event, Kind, Local, OBJECT_START};
 use std::alloc::{AllocError, Global};
 
-/// Makes an event of the core: one step of its caller. Ok(false) comes exactly where the event's guard fails, and the
-/// state is as it was. `Err` says that memory ran out, and leaves the state as it was. The time grows with the history only where
-/// an exclusive right is released, a raise answers, a set is offered or a gap is noted, since the object's steps are then made
-/// from the base on, and with the lists that a step appends to or looks through.
+/// Whether an event of the core, one step of its caller, is allowed; if so it is made. `Ok(false)` comes exactly where it is not, and the state is as it
+/// was. `Err` says that memory ran out, and leaves the state as it was. The time grows with the history only where an exclusive right is released, a raise
+/// answers, a set is offered or a gap is noted, since the object's steps are then made from the base on, and with the lists that a step appends to or looks
+/// through.
 pub fn apply<O: Object>(
     alloc: Global,
     object: &O,
@@ -69,8 +69,8 @@ pub(crate) struct HistoryFacts {
     gap: bool,
 }
 
-/// A step of a caller with this local state, which is told what it has to know of the history. `Ok(false)` comes exactly
-/// where the guard fails. Then, and where `Err` says that memory ran out, nothing changed.
+/// Whether the caller with this local state may make a step of this kind; if so the step is made. `told` is what it has to know of the history. Where the
+/// guard fails, which is `Ok(false)`, and where `Err` says that memory ran out, nothing changed.
 fn step(
     alloc: Global,
     callers: Callers,
@@ -227,7 +227,7 @@ fn offer_of<O: Object>(
     offered_word(alloc, object, &state.base, &state.locals, local, j)
 }
 
-/// Whether a word may be noted as word `i` of slot `s` of the ring of gaps. `Err` says that memory ran out.
+/// Whether the word `v` may be noted as word `i` of slot `s` of the ring of gaps. `Err` says that memory ran out.
 fn names_gap<O: Object>(
     alloc: Global,
     object: &O,

@@ -10,7 +10,8 @@ use core_guards::callers::Callers;
 use core_guards::gaps::{can_load_gap, gap_at};
 use cx_core::Local;
 
-/// Stores a word into the ring of gaps. `told` is whether the guard holds.
+/// Whether a caller may note the word `v` as word `i` of slot `s` of the ring of gaps, which is `told`; if so the word is stored there and the step is
+/// counted.
 pub(crate) fn note_gap(
     callers: Callers,
     words: &mut [u64],
@@ -31,7 +32,7 @@ pub(crate) fn note_gap(
     true
 }
 
-/// Loads a word of the ring of gaps. The word found is no part of the local state.
+/// Whether a caller may load word `i` of slot `s` of the ring of gaps; if so the step is counted. The word found is no part of the local state.
 pub(crate) fn load_gap(callers: Callers, words: &[u64], local: &mut Local, s: u64, i: u64) -> bool
     ensures { (base : _) → EachScene callers.number base words.now (λ instance scene. Did result instance scene (LoadGap s i) local.old local.new words.now) }
 {

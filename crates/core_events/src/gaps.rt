@@ -14,7 +14,7 @@ use cx_base::Object;
 use cx_core::{Base, Local};
 use std::alloc::{AllocError, Global};
 
-/// Whether a caller may note a word as word `i` of slot `s` of the ring of gaps. `Err` says that memory ran out.
+/// Whether a caller may note the word `v` as word `i` of slot `s` of the ring of gaps. `Err` says that memory ran out.
 pub(crate) fn is_gap_of<O: Object>(
     alloc: Global,
     object: &O,

@@ -31,8 +31,8 @@ pub(crate) fn push_once(numbers: &mut Items<u64>, n: u64) -> Result<(), AllocErr
     numbers.push(n)
 }
 
-/// Tries to take a replica exclusively: a compare-exchange of its lock word from 0. `Err` says that memory ran out,
-/// and nothing changed.
+/// Whether a caller may try to take replica `r` exclusively; if so it tries, by a compare-exchange of the lock word from 0, and takes the replica or is
+/// refused. `Err` says that memory ran out, and nothing changed.
 pub(crate) fn try_exclusive(
     alloc: Global,
     callers: Callers,
@@ -58,8 +58,8 @@ pub(crate) fn try_exclusive(
     Ok(true)
 }
 
-/// What a caller learns by an exclusive try that found 0: the replica's words are its own from here on. `Err` says that
-/// memory ran out, and nothing changed.
+/// What a caller learns by an exclusive try of replica `r` that found 0: the replica's words are its own from here on. `Err` says that memory ran out, and
+/// nothing changed.
 fn take(
     alloc: Global,
     callers: Callers,
@@ -87,7 +87,7 @@ fn take(
     Ok(())
 }
 
-/// What a caller learns by an exclusive try that was refused. `Err` says that memory ran out, and nothing changed.
+/// What a caller learns by an exclusive try of replica `r` that was refused. `Err` says that memory ran out, and nothing changed.
 fn refuse(
     alloc: Global,
     callers: Callers,
@@ -110,7 +110,7 @@ fn refuse(
     Ok(())
 }
 
-/// Tries to take a replica shared: 1 is added to its lock word, and is a passer's mark where it was held exclusively.
+/// Whether a caller may try to take replica `r` shared; if so 1 is added to its lock word, which is a passer's mark where the replica was held exclusively.
 pub(crate) fn try_shared(
     alloc: Global,
     callers: Callers,
@@ -135,7 +135,7 @@ pub(crate) fn try_shared(
     true
 }
 
-/// What a caller learns by a shared try that found no exclusive mark.
+/// What a caller learns by a shared try of replica `r` that found no exclusive mark.
 fn share(alloc: Global, local: &mut Local, r: u64, found: u64)
     ensures { local.new ≡ shared_by r local.old found }
 {
@@ -150,7 +150,7 @@ fn share(alloc: Global, local: &mut Local, r: u64, found: u64)
     local.steps = local.steps.saturating_add(1);
 }
 
-/// What a caller learns by a shared try that found an exclusive mark.
+/// What a caller learns by a shared try of replica `r` that found an exclusive mark.
 fn pass(callers: Callers, local: &mut Local, r: u64, found: u64)
     ensures { local.new ≡ passing callers.number r local.old found }
 {
@@ -166,7 +166,7 @@ fn pass(callers: Callers, local: &mut Local, r: u64, found: u64)
     local.steps = local.steps.saturating_add(1);
 }
 
-/// Takes back what the caller added to a lock word by a shared try or a downgrade.
+/// Whether a caller may back off from replica `r`; if so it takes back the 1 that a shared try or a downgrade left of it in the lock word.
 pub(crate) fn back_off(callers: Callers, words: &mut [u64], local: &mut Local, r: u64) -> bool
     requires table { HasTableWords callers.number words.old }
     ensures { (base : _) → EachScene callers.number base words.old (λ instance scene. Did result instance scene (BackOff r) local.old local.new words.new) }
@@ -180,7 +180,7 @@ pub(crate) fn back_off(callers: Callers, words: &mut [u64], local: &mut Local, r
     true
 }
 
-/// What a caller's local state is after it backed off.
+/// What a caller's local state is after it backed off from replica `r`.
 fn leave(local: &mut Local, r: u64)
     ensures { local.new ≡ backed_off r local.old }
 {
@@ -194,7 +194,8 @@ fn leave(local: &mut Local, r: u64)
     local.steps = local.steps.saturating_add(1);
 }
 
-/// Turns an exclusive right into a downgraded one. `full` is whether the words held are the full image after their place.
+/// Whether a caller may turn its exclusive right on replica `r` into a downgraded one; if so it does. `full` is whether the words held are the full image
+/// after their place.
 pub(crate) fn downgrade(
     callers: Callers,
     words: &mut [u64],
@@ -214,7 +215,7 @@ pub(crate) fn downgrade(
     true
 }
 
-/// What a caller's local state is after a downgrade.
+/// What a caller's local state is after it downgraded replica `r`.
 fn keep_place(local: &mut Local, r: u64)
     ensures { local.new ≡ downgraded_to r local.old }
 {
@@ -226,7 +227,7 @@ fn keep_place(local: &mut Local, r: u64)
     local.steps = local.steps.saturating_add(1);
 }
 
-/// Releases an exclusive right. `full` is whether the words held are the full image after their place.
+/// Whether a caller may release its exclusive right on replica `r`; if so it does. `full` is whether the words held are the full image after their place.
 pub(crate) fn release_exclusive(
     callers: Callers,
     words: &mut [u64],
@@ -247,7 +248,7 @@ pub(crate) fn release_exclusive(
     true
 }
 
-/// The words of a replica as loads give them. `Err` says that memory ran out.
+/// The words of replica `r` as loads give them. `Err` says that memory ran out.
 fn words_of(
     alloc: Global,
     callers: Callers,

@@ -18,7 +18,7 @@ use cx_core::layout::{CELL_WORDS, CELLS, FREE_AT, cell_at, cell_count, link_at};
 use cx_core::{Base, Linked, Local, OBJECT_START, SeenSlot};
 use std::alloc::AllocError;
 
-/// Stores a word into a caller's cell, where it may be written.
+/// Whether a caller may write word `i` of its cell `j`, which has to be idle; if so the word `v` is stored there and the step is counted.
 pub(crate) fn write_cell(
     callers: Callers,
     words: &mut [u64],
@@ -43,7 +43,8 @@ pub(crate) fn write_cell(
     true
 }
 
-/// Tries to link the entry in a caller's cell at the caller's front. `Err` says that memory ran out, and nothing changed.
+/// Whether a caller may try to link the entry in its cell `j` at its front; if so it tries, by a compare-exchange of the link word, and wins or loses.
+/// `Err` says that memory ran out, and nothing changed.
 pub(crate) fn link(
     callers: Callers,
     base: &Base,
@@ -62,7 +63,7 @@ pub(crate) fn link(
     Ok(true)
 }
 
-/// The compare-exchange of a link, and what its caller learns. `Err` says that memory ran out, and nothing changed.
+/// The compare-exchange by which a caller tries to link the entry in its cell `j`, and what it learns. `Err` says that memory ran out, and nothing changed.
 fn exchange(
     callers: Callers,
     words: &mut [u64],
@@ -90,7 +91,7 @@ fn exchange(
     Ok(())
 }
 
-/// What a caller learns by a link that won. `Err` says that memory ran out, and nothing changed.
+/// What a caller learns by a link of the entry in its cell `j` that won. `Err` says that memory ran out, and nothing changed.
 fn win(local: &mut Local, j: u64) -> Result<(), AllocError>
     requires j { j < 16 }
     requires front { local.old.front < 2 ^ 40 }
@@ -115,7 +116,7 @@ fn lose(callers: Callers, local: &mut Local, found: u64)
     local.steps = local.steps.saturating_add(1);
 }
 
-/// Loads the word of a link slot.
+/// Whether the table has a link slot `s`; if so its word is loaded, the caller keeps it as the one last looked at, and the step is counted.
 pub(crate) fn look(callers: Callers, words: &[u64], local: &mut Local, s: u64) -> bool
     requires table { HasTableWords callers.number words.now }
     ensures { (base : _) → EachScene callers.number base words.now (λ instance scene. Did result instance scene (Look s) local.old local.new words.now) }
@@ -133,8 +134,8 @@ pub(crate) fn look(callers: Callers, words: &[u64], local: &mut Local, s: u64) -
     true
 }
 
-/// Loads a word of the cell that the slot last looked at shows with a ticket, which a confirmed protection has to keep. The word
-/// found is no part of the local state.
+/// Whether a caller may load word `i` of cell `k` for ticket `t`: the slot last looked at shows the cell with the ticket, and a confirmed protection keeps
+/// it. If so the step is counted. The word found is no part of the local state.
 pub(crate) fn read_cell(
     callers: Callers,
     words: &[u64],
@@ -156,7 +157,7 @@ pub(crate) fn read_cell(
     true
 }
 
-/// Loads FREE, which is always allowed.
+/// Whether a caller may load FREE, which is always so: the caller keeps the greatest FREE found, and the step is counted.
 pub(crate) fn load_free(words: &[u64], local: &mut Local) -> bool
     requires { 4 ≤ length words.now }
     ensures { (callers : ℕ) (base : _) → EachScene callers base words.now (λ instance scene. Did result instance scene LoadFree local.old local.new words.now) }

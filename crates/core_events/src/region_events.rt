@@ -17,8 +17,8 @@ use cx_core::{Base, HeldExclusive, HeldShared, Local};
 use std::alloc::{AllocError, Global};
 use std::mem;
 
-/// Loads a word of a replica. Of one held shared it is part of the local state. `Err` says that memory ran out, and
-/// nothing changed.
+/// Whether a caller may load word `i` of replica `r`, as a refusal where `refused` is set; if so the step is counted, and the word found is noted of a
+/// replica held shared. `Err` says that memory ran out, and nothing changed.
 pub(crate) fn load_word(
     callers: Callers,
     base: &Base,
@@ -39,7 +39,7 @@ pub(crate) fn load_word(
     Ok(true)
 }
 
-/// What a caller learns by a load. `Err` says that memory ran out, and nothing changed.
+/// What a caller learns by a load of word `i` of replica `r`. `Err` says that memory ran out, and nothing changed.
 fn learn(local: &mut Local, r: u64, i: u64, refused: bool, found: u64) -> Result<(), AllocError>
     ensures { TriesEvent result (λ _. local.new ≡ loaded_by r i refused local.old found) (local.new ≡ local.old) }
 {
@@ -54,7 +54,7 @@ fn learn(local: &mut Local, r: u64, i: u64, refused: bool, found: u64) -> Result
     Ok(())
 }
 
-/// Adds a word to what was loaded of a replica, where it is of this one. `Err` says that memory ran out, and nothing changed.
+/// Adds word `i` to what was loaded of a replica held shared, where that is replica `r`. `Err` says that memory ran out, and nothing changed.
 fn note(held: &mut HeldShared, r: u64, i: u64, found: u64) -> Result<(), AllocError>
     ensures { TriesEvent result (λ _. held.new ≡ loaded_into r i found held.old) (held.new ≡ held.old) }
 {
@@ -64,7 +64,8 @@ fn note(held: &mut HeldShared, r: u64, i: u64, found: u64) -> Result<(), AllocEr
     Ok(())
 }
 
-/// Stores a word of a replica, which is dirty from here on. `Err` says that memory ran out, and nothing changed.
+/// Whether a caller may store to word `i` of replica `r`; if so the word `v` is stored there, which is dirty from here on. `Err` says that memory ran out,
+/// and nothing changed.
 pub(crate) fn store_word(
     alloc: Global,
     callers: Callers,
@@ -90,7 +91,7 @@ pub(crate) fn store_word(
     Ok(true)
 }
 
-/// Stores a word into what is held. `Err` says that memory ran out, and nothing changed.
+/// Stores `v` as word `i` of the replica held exclusively. `Err` says that memory ran out, and nothing changed.
 fn put(alloc: Global, held: &mut HeldExclusive, i: u64, v: u64) -> Result<(), AllocError>
     ensures { TriesEvent result (λ _. held.new ≡ stored_into i v held.old) (held.new ≡ held.old) }
 {
@@ -103,7 +104,7 @@ fn put(alloc: Global, held: &mut HeldExclusive, i: u64, v: u64) -> Result<(), Al
     Ok(())
 }
 
-/// Writes a dirty word back to the medium. It is not dirty any more.
+/// Whether a caller may persist word `i` of replica `r`, which has to be dirty; if so the word is written back to the medium, and is not dirty any more.
 pub(crate) fn persist(
     alloc: Global,
     callers: Callers,
@@ -127,7 +128,7 @@ pub(crate) fn persist(
     true
 }
 
-/// Takes a word out of the dirty ones.
+/// Takes word `i` out of the dirty ones of the replica held exclusively.
 fn clean(alloc: Global, held: &mut HeldExclusive, i: u64)
     ensures { held.new ≡ persisted i held.old }
 {

@@ -15,7 +15,7 @@ use core_guards::ring::{
 use cx_core::layout::{FREE_AT, LOW_AT, MAX_WORD, need_at};
 use cx_core::{Local, Protection};
 
-/// States in the caller's need that it needs the tickets from a place on.
+/// Whether a caller may state that it needs the tickets from place `p` on, as long as it has no protection; if so its need is `p`, and the step is counted.
 pub(crate) fn protect(callers: Callers, words: &mut [u64], local: &mut Local, p: u64) -> bool
     requires table { HasCaller callers.number words.old local.old }
     ensures { (base : _) → EachScene callers.number base words.old (λ instance scene. Did result instance scene (Protect p) local.old local.new words.new) }
@@ -42,7 +42,7 @@ fn learn(callers: Callers, local: &mut Local, found: u64)
     local.steps = local.steps.saturating_add(1);
 }
 
-/// Loads LOW, which confirms the protection stated where it is at most its place.
+/// Whether a caller has stated a protection and not confirmed it; if so LOW is loaded, which confirms the protection where LOW is at most its place.
 pub(crate) fn confirm(callers: Callers, words: &[u64], local: &mut Local) -> bool
     requires table { HasTableWords callers.number words.now }
     ensures { (base : _) → EachScene callers.number base words.now (λ instance scene. Did result instance scene Confirm local.old local.new words.now) }
@@ -54,7 +54,7 @@ pub(crate) fn confirm(callers: Callers, words: &[u64], local: &mut Local) -> boo
     true
 }
 
-/// Releases the caller's protection.
+/// Whether a caller has a protection, stated or confirmed; if so the protection is released, and the step is counted.
 pub(crate) fn unprotect(callers: Callers, words: &mut [u64], local: &mut Local) -> bool
     requires table { HasCaller callers.number words.old local.old }
     ensures { (base : _) → EachScene callers.number base words.old (λ instance scene. Did result instance scene Unprotect local.old local.new words.new) }
@@ -68,7 +68,7 @@ pub(crate) fn unprotect(callers: Callers, words: &mut [u64], local: &mut Local) 
     true
 }
 
-/// Raises LOW to a target, and begins a scan of what the callers need.
+/// Whether a caller may close the tickets below `target`; if so it raises LOW to `target`, and begins a scan of what the callers need.
 pub(crate) fn close_low(callers: Callers, words: &mut [u64], local: &mut Local, target: u64) -> bool
     requires table { HasTableWords callers.number words.old }
     ensures { (base : _) → EachScene callers.number base words.old (λ instance scene. Did result instance scene (CloseLow target) local.old local.new words.new) }
@@ -87,7 +87,7 @@ pub(crate) fn close_low(callers: Callers, words: &mut [u64], local: &mut Local, 
     true
 }
 
-/// Loads the need of the next caller of the scan.
+/// Whether caller `d` is the next one of the caller's scan; if so its need is loaded, and the step is counted.
 pub(crate) fn scan(callers: Callers, words: &[u64], local: &mut Local, d: u64) -> bool
     requires table { HasTableWords callers.number words.now }
     ensures { (base : _) → EachScene callers.number base words.now (λ instance scene. Did result instance scene (Scan d) local.old local.new words.now) }
@@ -112,7 +112,7 @@ fn end_scan(local: &mut Local, found: u64)
     local.scans = local.scans.saturating_add(1);
 }
 
-/// Raises FREE to the bound that the caller's scan of every need found.
+/// Whether a caller's scan has loaded the need of every caller; if so FREE is raised to the bound that it found, and the scan ends.
 pub(crate) fn open_free(callers: Callers, words: &mut [u64], local: &mut Local) -> bool
     requires long { 4 ≤ length words.old }
     ensures { (base : _) → EachScene callers.number base words.old (λ instance scene. Did result instance scene OpenFree local.old local.new words.new) }

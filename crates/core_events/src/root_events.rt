@@ -21,7 +21,7 @@ use cx_core::{Answer, HeldDowngraded, Local, SeenRead, WonCode};
 use std::alloc::{AllocError, Global};
 use std::mem;
 
-/// Loads CUR, which is always allowed.
+/// Whether a caller may load CUR, which is always so: the code found is fresh from here on, and the step is counted.
 pub(crate) fn load_cur(callers: Callers, words: &[u64], local: &mut Local) -> bool
     requires table { HasTableWords callers.number words.now }
     ensures { (base : _) → EachScene callers.number base words.now (λ instance scene. Did result instance scene LoadCur local.old local.new words.now) }
@@ -51,7 +51,8 @@ fn code_in(callers: Callers, held: Option<HeldDowngraded>) -> u64
     }
 }
 
-/// Tries to publish the replica that is downgraded: a compare-exchange of CUR from the code last found there.
+/// Whether a caller may publish the replica that it has downgraded; if so it tries, by a compare-exchange of CUR from the code last found there, and wins
+/// or loses.
 pub(crate) fn publish(callers: Callers, words: &mut [u64], local: &mut Local) -> bool
     requires table { HasTableWords callers.number words.old }
     requires code { HasCode callers.number local.old.downgraded }
@@ -98,8 +99,8 @@ fn lose(callers: Callers, local: &mut Local, found: u64)
     local.fresh = false;
 }
 
-/// Raises DUR by a code, and gives what the raise answers. `told` is that, and none where the guard fails. `Err` says that
-/// memory ran out, and nothing changed.
+/// Whether a caller may raise DUR by a code; if so DUR is raised, and the caller is given the answers in `told`, which is `None` where the guard fails.
+/// `Err` says that memory ran out, and nothing changed.
 pub(crate) fn raise(
     alloc: Global,
     callers: Callers,
@@ -177,7 +178,7 @@ fn take_last(alloc: Global, answered: &mut Items<Answer>)
     *answered = Items::of(items);
 }
 
-/// Releases the pin on the replica of the code before the caller's win.
+/// Whether a caller may retire its win, having raised DUR by the win's code or a later one; if so the pin on the replica of the code before is released.
 pub(crate) fn retire(callers: Callers, words: &mut [u64], local: &mut Local) -> bool
     requires table { HasTableWords callers.number words.old }
     ensures { (base : _) → EachScene callers.number base words.old (λ instance scene. Did result instance scene Retire local.old local.new words.new) }

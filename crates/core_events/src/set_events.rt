@@ -11,7 +11,7 @@ use core_guards::sets::{can_load_offer, can_read_set, can_write_set};
 use cx_core::layout::{CELLS, SET_WORDS, offer_at, set_at};
 use cx_core::{Local, SeenOffer};
 
-/// Stores a word into the set of the entry in a caller's cell.
+/// Whether a caller may write word `i` of the write set in its cell `j`; if so the word `v` is stored there and the step is counted.
 pub(crate) fn write_set(
     callers: Callers,
     words: &mut [u64],
@@ -33,7 +33,7 @@ pub(crate) fn write_set(
     true
 }
 
-/// Offers the set in a caller's cell. `told` is the offer word, and none where the guard fails.
+/// Whether a caller may offer the write set in its cell `j`; if so the offer word is stored, which is `told`: `None` where the guard fails.
 pub(crate) fn offer(
     callers: Callers,
     words: &mut [u64],
@@ -57,7 +57,8 @@ pub(crate) fn offer(
     true
 }
 
-/// Loads the offer word of the cell that the slot last looked at shows with a ticket, which a confirmed protection has to keep.
+/// Whether a caller may load the offer word of cell `k` for ticket `t`: the slot last looked at shows the cell with the ticket, and a confirmed protection
+/// keeps it. If so the word found is kept as the offer word last loaded.
 pub(crate) fn load_offer(callers: Callers, words: &[u64], local: &mut Local, k: u64, t: u64) -> bool
     requires table { HasTableWords callers.number words.now }
     ensures { (base : _) → EachScene callers.number base words.now (λ instance scene. Did result instance scene (LoadOffer k t) local.old local.new words.now) }
@@ -74,8 +75,8 @@ pub(crate) fn load_offer(callers: Callers, words: &[u64], local: &mut Local, k: 
     true
 }
 
-/// Loads a word of the set of a cell, which the offer word last loaded has to name with the ticket. The word found is no part of
-/// the local state.
+/// Whether a caller may load word `i` of the write set in cell `k` for ticket `t`, which the offer word last loaded has to name; if so the step is counted.
+/// The word found is no part of the local state.
 pub(crate) fn read_set(
     callers: Callers,
     words: &[u64],

@@ -50,7 +50,7 @@ pub fn won_on(callers: Callers, local: &Local) -> Option<u64>
     }
 }
 
-/// Whether a right is on this replica.
+/// Whether a right is on replica `r`.
 pub fn is_at(r: u64, right: Option<u64>) -> bool
     ensures { result ≡ is_at r right }
 {
@@ -71,7 +71,7 @@ pub fn rights(callers: Callers, local: &Local) -> u64
         + u64::from(local.won.is_some())
 }
 
-/// Whether a caller has no right on a replica.
+/// Whether a caller has no right on replica `r`.
 pub fn has_none_on(callers: Callers, r: u64, local: &Local) -> bool
     ensures { IsTrue result ↔ (rights_on callers.number r local.now ≡ 0) }
 {
@@ -82,7 +82,7 @@ pub fn has_none_on(callers: Callers, r: u64, local: &Local) -> bool
         || is_at(r, won_on(callers, local)))
 }
 
-/// Whether a caller may try to take a replica exclusively.
+/// Whether a caller may try to take replica `r` exclusively.
 pub fn can_try_exclusive(callers: Callers, local: &Local, r: u64) -> bool
     ensures { IsTrue result ↔ CanTryExclusive callers.number r local.now }
 {
@@ -92,7 +92,7 @@ pub fn can_try_exclusive(callers: Callers, local: &Local, r: u64) -> bool
         && has_none_on(callers, r, local)
 }
 
-/// Whether a caller may try to take a replica shared.
+/// Whether a caller may try to take replica `r` shared.
 pub fn can_try_shared(callers: Callers, local: &Local, r: u64) -> bool
     ensures { IsTrue result ↔ CanTryShared callers.number r local.now }
 {
@@ -103,7 +103,7 @@ pub fn can_try_shared(callers: Callers, local: &Local, r: u64) -> bool
         && has_none_on(callers, r, local)
 }
 
-/// Whether a caller may back off from a replica.
+/// Whether a caller may back off from replica `r`.
 pub fn can_back_off(callers: Callers, local: &Local, r: u64) -> bool
     ensures { IsTrue result ↔ CanBackOff callers.number r local.now }
 {
@@ -125,7 +125,7 @@ pub fn is_free(word: u64) -> bool
     word == 0
 }
 
-/// Whether the code last loaded from CUR names this replica, and nothing ended its use.
+/// Whether the code last loaded from CUR names replica `r`, and nothing ended its use.
 pub fn is_fresh_on(callers: Callers, r: u64, local: &Local) -> bool
     ensures { result ≡ is_fresh_on callers.number r local.now }
 {
@@ -142,7 +142,7 @@ pub fn has_no_dirty(local: &Local) -> bool
     }
 }
 
-/// Whether a caller holds a replica exclusively with no word dirty and nothing downgraded.
+/// Whether a caller holds replica `r` exclusively with no word dirty and nothing downgraded.
 pub fn is_clean(callers: Callers, local: &Local, r: u64) -> bool
     ensures { IsTrue result ↔ IsClean callers.number r local.now }
 {

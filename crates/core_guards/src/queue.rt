@@ -10,7 +10,7 @@ use cx_base::{OP_WORDS, link_cell, link_ticket};
 use cx_core::layout::{CELLS, cell_count};
 use cx_core::{Base, Entry, Local, OBJECT_START, Protection, SeenSlot, slot_start};
 
-/// Whether a caller's cell may be written: it was never linked, or its ticket is below the greatest FREE found.
+/// Whether a caller's cell `j` may be written: it was never linked, or its ticket is below the greatest FREE found.
 pub fn is_idle(local: &Local, j: u64) -> bool
     requires { j < 16 }
     ensures { IsTrue result ↔ IsIdle local.now j }
@@ -52,7 +52,7 @@ pub fn shows_ticket(callers: Callers, seen: Option<SeenSlot>, ticket: u64, cell:
     }
 }
 
-/// Whether the entry in a caller's cell has the caller's next number.
+/// Whether the entry in a caller's cell `j` has the caller's next number.
 pub fn has_next_number(base: &Base, local: &Local, j: u64) -> bool
     requires j { j < 16 }
     requires caller { local.now.number < 8 }
@@ -85,7 +85,7 @@ pub fn word_seen(seen: Option<SeenSlot>) -> u64
     }
 }
 
-/// The entry in a caller's cell.
+/// The entry in a caller's cell `j`.
 pub fn entry_of(local: &Local, j: u64) -> Entry
     requires { j < 16 }
     ensures { result ≡ entry_in local.now j }
@@ -100,7 +100,7 @@ pub fn entry_of(local: &Local, j: u64) -> Entry
     }
 }
 
-/// Whether a caller may try to link the entry in its cell.
+/// Whether a caller may try to link the entry in its cell `j`.
 pub fn can_link(callers: Callers, base: &Base, local: &Local, j: u64) -> bool
     requires caller { local.now.number < callers.number }
     requires slots { OBJECT_START ≤ length base.now.words }

@@ -19,7 +19,7 @@ pub fn region_len(base: &Base) -> u64
     base.words.as_slice().len() as u64
 }
 
-/// Whether a caller may load a word of a replica.
+/// Whether a caller may load word `i` of replica `r`, which it has to hold exclusively or shared.
 pub fn can_load(callers: Callers, base: &Base, local: &Local, r: u64, i: u64) -> bool
     ensures { IsTrue result ↔ CanLoad callers.number (length base.now.words) r i local.now }
 {
@@ -28,7 +28,7 @@ pub fn can_load(callers: Callers, base: &Base, local: &Local, r: u64, i: u64) ->
         && (is_at(r, exclusive_on(local)) || is_at(r, shared_on(local)))
 }
 
-/// Whether the word of a replica, which a caller may load, shows that the replica is outdated.
+/// Whether word `i` of replica `r`, which a caller may load, shows that the replica is outdated.
 pub fn shows_outdated(
     callers: Callers,
     base: &Base,
@@ -49,7 +49,7 @@ pub fn shows_outdated(
             != root_place(callers.number, local.seen_cur)
 }
 
-/// Whether a caller may load a word of a replica, and mark it as a refusal where that is wanted.
+/// Whether a caller may load word `i` of replica `r`, and mark the load as a refusal where `refused` is set.
 pub fn can_load_as(
     callers: Callers,
     base: &Base,
@@ -66,14 +66,14 @@ pub fn can_load_as(
         && (!refused || shows_outdated(callers, base, words, local, r, i))
 }
 
-/// Whether a caller may store a word of a replica.
+/// Whether a caller may store to word `i` of replica `r`, which it has to hold exclusively.
 pub fn can_store(callers: Callers, base: &Base, local: &Local, r: u64, i: u64) -> bool
     ensures { IsTrue result ↔ CanStore callers.number (length base.now.words) r i local.now }
 {
     r < replica_count(callers.number) && i < region_len(base) && is_at(r, exclusive_on(local))
 }
 
-/// Whether a word is dirty in the replica held exclusively.
+/// Whether word `i` is dirty in the replica held exclusively.
 pub fn is_dirty(local: &Local, i: u64) -> bool
     ensures { IsTrue result ↔ Contains (held_dirty local.now.exclusive) i }
 {
@@ -83,14 +83,14 @@ pub fn is_dirty(local: &Local, i: u64) -> bool
     }
 }
 
-/// Whether a caller may persist a word of a replica.
+/// Whether a caller may persist word `i` of replica `r`, which has to be dirty.
 pub fn can_persist(callers: Callers, base: &Base, local: &Local, r: u64, i: u64) -> bool
     ensures { IsTrue result ↔ CanPersist callers.number (length base.now.words) r i local.now }
 {
     can_store(callers, base, local, r, i) && is_dirty(local, i)
 }
 
-/// A word of the replica held exclusively.
+/// Word `i` of the replica held exclusively.
 pub fn held_word(local: &Local, i: u64) -> u64
     ensures { result ≡ slice_index (held_words local.now.exclusive) i }
 {

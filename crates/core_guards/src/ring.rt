@@ -71,7 +71,7 @@ pub fn can_close(callers: Callers, local: &Local, target: u64) -> bool
     target <= root_place(callers.number, local.seen_cur) && local.scan.is_none()
 }
 
-/// Whether this is the next caller of the scan.
+/// Whether caller `d` is the next one of the scan.
 pub fn is_next(d: u64, scan: Option<cx_core::Scan>) -> bool
     ensures { IsTrue result ↔ IsNext d scan }
 {
@@ -81,7 +81,7 @@ pub fn is_next(d: u64, scan: Option<cx_core::Scan>) -> bool
     }
 }
 
-/// The least need found so far, and the least caller that had it.
+/// The least need found so far, and the least caller that had it, once caller `d` was found to have this need.
 pub fn lesser(d: u64, found: u64, least: Option<SeenNeed>) -> SeenNeed
     ensures { result ≡ lesser d found least }
 {
@@ -94,7 +94,7 @@ pub fn lesser(d: u64, found: u64, least: Option<SeenNeed>) -> SeenNeed
     }
 }
 
-/// A scan after the need of its next caller was found.
+/// A scan after the need of its next caller, `d`, was found.
 pub fn scan_after(d: u64, found: u64, scan: Option<cx_core::Scan>) -> Option<cx_core::Scan>
     requires { d < 8 }
     ensures { result ≡ scan_after d found scan }

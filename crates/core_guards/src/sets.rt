@@ -38,7 +38,7 @@ pub fn is_unoffered(own: &[Linked], ticket: Option<u64>, offer: u64) -> bool
     }
 }
 
-/// Whether a caller may write the set of the entry in its cell.
+/// Whether a caller may write the set of the entry in its cell `j`.
 pub fn can_write_set(local: &Local, j: u64) -> bool
     ensures { IsTrue result ↔ CanWriteSet local.now j }
 {
@@ -67,7 +67,7 @@ pub fn leads(set: &[u64; SET_WORDS], region: &mut [u64], after: &[u64]) -> bool
     *region == *after
 }
 
-/// Whether the offer word last loaded is that of a cell for a ticket, and names the ticket.
+/// Whether the offer word last loaded is that of cell `k` for ticket `t`, and names the ticket.
 pub fn shows_offer(seen: Option<SeenOffer>, k: u64, t: u64) -> bool
     ensures { IsTrue result ↔ ShowsOffer seen k t }
 {
@@ -77,7 +77,7 @@ pub fn shows_offer(seen: Option<SeenOffer>, k: u64, t: u64) -> bool
     }
 }
 
-/// Whether a caller may look whether the entry with a ticket, in a cell, is offered: it may read the entry.
+/// Whether a caller may look whether the entry with ticket `t`, in cell `k`, is offered: it may read the entry.
 pub fn can_load_offer(callers: Callers, local: &Local, k: u64, t: u64) -> bool
     ensures value { IsTrue result ↔ ((t < local.now.front) × ShowsTicket callers.number local.now.seen_slot t k × Protects t local.now.protection) }
     ensures within { IsTrue result → k < cell_count callers.number }
@@ -85,7 +85,7 @@ pub fn can_load_offer(callers: Callers, local: &Local, k: u64, t: u64) -> bool
     t < local.front && shows_ticket(callers, local.seen_slot, t, k) && protects(local.protection, t)
 }
 
-/// Whether a caller may read a word of the set of the entry with a ticket, in a cell.
+/// Whether a caller may read word `i` of the set of the entry with ticket `t`, in cell `k`.
 pub fn can_read_set(callers: Callers, local: &Local, k: u64, t: u64, i: u64) -> bool
     ensures { IsTrue result ↔ ((t < local.now.front) × (i < SET_WORDS) × ShowsTicket callers.number local.now.seen_slot t k × Protects t local.now.protection × ShowsOffer local.now.seen_offer k t) }
 {

@@ -39,7 +39,7 @@ module _ (step : List ℕ → List ℕ → List ℕ × List ℕ) (reads : List �
     pub ran : Run (instance_from base life) life.from life.events life.to
     pub crashed : IsCrashImage (instance_from base life) life.to life.image
 
-  -- each of them starts from what is recovered of the one before, the first from this base
+  -- each of these lives ran and crashed, and starts from what is recovered of the one before, the first from this base
   abbrev pub AreCrashedLives : Base → List LifeRun → Type 0
   AreCrashedLives base [] = Unit {0}
   AreCrashedLives base (life ∷ lives) = IsCrashedLife base life × AreCrashedLives (next_base base life) lives
@@ -69,7 +69,7 @@ module _ (step : List ℕ → List ℕ → List ℕ × List ℕ) (reads : List �
     pub seen : EachLocal s.locals (λ _ l. (i : ℕ) (x : SeenRead) → slice_get l.seen_reads i ≡ Some x →
         (base.place ≤ x.place) × (x.place ≤ next.place) × (x.reply ≡ reply_by first history x.place x.op))
 
-  -- so it is of each of the lives
+  -- each answer that was given in any of these lives stands in the history, at a place no further than the base of the life after its own
   abbrev pub AllStand : Base → List Entry → Base → List LifeRun → Type 0
   AllStand first history base [] = Unit {0}
   AllStand first history base (life ∷ lives) = AnswersStand first history base (next_base base life) life.to × AllStand first history (next_base base life) lives

@@ -66,7 +66,7 @@ pub record IsOrderOf (instance : Instance) (from : State) (events : List Event) 
   pub real_time : (a b : Operation) → PrecedesIn instance from events a b → TookEffect to b → StandsBefore order a b
   pub replays : Replays instance to (object_part instance.base.words) order
 
--- there is such a list
+-- all operations that took effect in the run of these events have an order
 pub record HasOrder (instance : Instance) (from : State) (events : List Event) (to : State) : Type 0 where
   pub order : List Operation
   pub is : IsOrderOf instance from events to order

@@ -18,13 +18,13 @@ pub record QueueLawful (instance : Instance) (history : List Entry) (words : Lis
   pub fronts : Fronts instance history words locals
   pub ring : Ring instance words locals
 
--- those parts hold, with a history that begins with this one
+-- the parts of `QueueLawful` hold, with a history that begins with this one
 pub record QueueContinues (instance : Instance) (history : List Entry) (words : List ℕ) (locals : List Local) : Type 0 where
   pub after : List Entry
   pub continues : Continues history after
   pub lawful : QueueLawful instance after words locals
 
--- each step of this kind keeps those parts, whichever caller makes it, where what callers have seen of the root is within it
+-- each step of this kind keeps the parts of `QueueLawful`, whichever caller makes it, where what callers have seen of the root is within it
 abbrev pub KeepsQueue : Kind → Type 0
 KeepsQueue kind =
     (instance : Instance) (history : List Entry) (before after : State) (caller : ℕ) → QueueLawful instance history before.words before.locals →

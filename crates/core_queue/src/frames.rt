@@ -8,40 +8,41 @@ ghost use Rattle.cx_core.specs.Lawful.{Cells, Fronts, Links, Shape, Tickets};
 ghost use Rattle.cx_core.specs.LawfulRing.{Ring};
 ghost use Rattle.cx_core.specs.State.{Instance, State};
 
-/// The part on tickets names no shared word, and of a local state the own list and the answers.
+/// A step that leaves its caller's own list and answers as they were keeps `Tickets`, whichever word it stores.
 pub fn tickets_framed()
     ensures { (instance : Instance) (history : _) (before after : State) → StepApart AnyWord SameTickets before after →
         Tickets instance history before.locals → Tickets instance history after.locals }
 {}
 
-/// The part on links names the link words, and no local state.
+/// A step that stores no link word keeps `Links`, whatever it changes of its caller's local state.
 pub fn links_framed()
     ensures { (instance : Instance) (history : _) (before after : State) → StepApart (OffLinks instance) AnyLocal before after →
         Links instance history before.words → Links instance history after.words }
 {}
 
-/// The part on cells names FREE, the link words, and the words of cells, offers and sets. Of a local state it names the
-/// cells and what was seen of slots and offers.
+/// Where `Shape` holds, a step that stores neither FREE nor a word of the links, cells, offers and sets, and leaves its caller's cells and what it saw of
+/// slots and offers as they were, keeps `Cells`.
 pub fn cells_framed()
     ensures { (instance : Instance) (history : _) (before after : State) → StepApart (OffCells instance) SameCells before after →
         Shape instance before.words before.locals → Cells instance history before.words before.locals →
         Cells instance history after.words after.locals }
 {}
 
-/// The part on fronts names DUR, LOW and FREE. Of a local state it names the fields of `SameFront`.
+/// A step that stores neither DUR, LOW nor FREE, and leaves the fields of `SameFront` as they were, keeps `Fronts`.
 pub fn fronts_framed()
     ensures { (instance : Instance) (history : _) (before after : State) → StepApart OffFronts SameFront before after →
         Fronts instance history before.words before.locals → Fronts instance history after.words after.locals }
 {}
 
-/// The part on the ring names CUR, LOW, FREE and the need of each caller. Of a local state it names the protection and the
-/// scan.
+/// Where `Shape` holds, a step that stores neither CUR, LOW, FREE nor the need of a caller, and leaves its caller's protection and scan as they were, keeps
+/// `Ring`.
 pub fn ring_framed()
     ensures { (instance : Instance) (before after : State) → StepApart (OffRing instance) SameRing before after →
         Shape instance before.words before.locals → Ring instance before.words before.locals → Ring instance after.words after.locals }
 {}
 
-/// A step apart from all five parts and from the shape keeps them.
+/// A step that stores a lock word, or a word of gaps or replicas, and leaves the fields of `SameQueue` as they were, keeps `QueueLawful`: all five parts
+/// and `Shape`.
 pub fn queue_framed()
     ensures { (instance : Instance) (history : _) (before after : State) → StepApart (OffQueue instance) SameQueue before after →
         QueueLawful instance history before.words before.locals → QueueLawful instance history after.words after.locals }

@@ -67,7 +67,7 @@ abbrev pub entry_linked_next : Instance → State → ℕ → Local → List ℕ
 entry_linked_next instance s caller l op =
     record { ticket = next_ticket instance s; entry = record { caller = caller; number = next_number instance.base l; op = op } }
 
--- so events lead to a state in which this entry is linked as well, and answered
+-- events lead to a state in which the caller's entry with this operation is linked as well, behind all others, and answered
 abbrev pub ReachesUpdate : Instance → State → ℕ → Local → List ℕ → Type 0
 ReachesUpdate instance from caller l op =
     let x = entry_linked_next instance from caller l op in ReachesAnswers instance from caller (history_in instance from ++ x.entry ∷ []) (l.own ++ x ∷ [])

@@ -14,6 +14,7 @@ pub record CodeStands (instance : Instance) (s : State) (code : ℕ) : Type 0 wh
   pub unheld : IsUnheld s.locals (root_replica_of instance.callers code)
   pub durable : durable_place instance s.words ≤ root_place_of instance.callers code
 
--- so it is of each code of a chain from DUR to CUR. It follows from the parts on locks and on the root.
+-- Each code of a chain from DUR to CUR stands: its replica has its place, at or above DUR's, and nobody holds it exclusively. It follows from the parts on
+-- locks and on the root.
 pub record ChainStands (instance : Instance) (s : State) : Type 0 where
   pub each : (chain : List ℕ) (code : ℕ) → IsCodeChain s.words s.locals chain → Contains chain code → CodeStands instance s code

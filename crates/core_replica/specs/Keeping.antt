@@ -18,7 +18,7 @@ pub record Grounds (instance : Instance) (history : List Entry) (words : List �
   pub locks : Locks instance.callers words locals
   pub regions : Regions instance history words locals
 
--- each step of this kind keeps that part where those hold too, whichever caller makes it, with the history as it was
+-- each step of this kind keeps `Answers` where the parts of `Grounds` hold too, whichever caller makes it, with the history as it was
 abbrev pub KeepsAnswers : Kind → Type 0
 KeepsAnswers kind =
     (instance : Instance) (history : List Entry) (before after : State) (caller : ℕ) →

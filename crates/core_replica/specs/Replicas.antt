@@ -14,7 +14,7 @@ pub record ReplicasLawful (instance : Instance) (history : List Entry) (words : 
   pub locks : Locks instance.callers words locals
   pub regions : Regions instance history words locals
 
--- each step of this kind keeps those parts, whichever caller makes it, where the shape holds and the history is the state's
+-- each step of this kind keeps the parts of `ReplicasLawful`, whichever caller makes it, where the shape holds and the history is the state's
 abbrev pub KeepsReplicas : Kind → Type 0
 KeepsReplicas kind =
     (instance : Instance) (history : List Entry) (before after : State) (caller : ℕ) →

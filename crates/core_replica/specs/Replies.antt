@@ -22,7 +22,7 @@ pub record HasAnswersOf (l l' : Local) : Type 0 where
   pub reads : (i : ℕ) (x : SeenRead) → slice_get l.seen_reads i ≡ Some x → slice_get l'.seen_reads i ≡ Some x
   pub floor : l.floor ≤ l'.floor
 
--- so it is of a caller in a state
+-- in a state a caller still has each answer that it was given by this local state, and its floor did not fall
 pub record StillAnswered (s : State) (caller : ℕ) (l : Local) : Type 0 where
   pub local : Local
   pub of_caller : slice_get s.locals caller ≡ Some local

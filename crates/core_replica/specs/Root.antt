@@ -8,7 +8,7 @@ use Rattle.cx_core.specs.LawfulRegions.{Regions}
 use Rattle.cx_core.specs.LawfulRoot.{Root}
 use Rattle.cx_core.specs.State.{Instance, State}
 
--- each step of this kind keeps the part, whichever caller makes it, where the parts on shape, locks, regions and fronts hold too
+-- each step of this kind keeps `Root`, whichever caller makes it, where the parts on shape, locks, regions and fronts hold too
 abbrev pub KeepsRoot : Kind → Type 0
 KeepsRoot kind =
     (instance : Instance) (history : _) (before after : State) (caller : ℕ) →

@@ -7,7 +7,7 @@ ghost use Rattle.cx_core.specs.Frames.{StepApart};
 ghost use Rattle.cx_core.specs.LawfulAnswers.{Answers, durable_place};
 ghost use Rattle.cx_core.specs.State.{Instance, State};
 
-/// The part on answers names DUR. Of a local state it names the own list, the answers, the reads and the floor.
+/// A step that does not store DUR, and leaves its caller's own list, answers, reads and floor as they were, keeps `Answers`.
 pub fn answers_framed()
     ensures { (instance : Instance) (history : _) (before after : State) → StepApart OffAnswers SameAnswers before after →
         Answers instance history before.words before.locals → Answers instance history after.words after.locals }

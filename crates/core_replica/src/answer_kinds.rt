@@ -5,12 +5,12 @@ ghost use Rattle.core_replica.specs.Keeping.{KeepsAnswers};
 ghost use Rattle.cx_core.specs.LawfulAnswers.{Answers};
 ghost use Rattle.cx_core.specs.State.{Instance, opening_locals, opening_words};
 
-/// The opening state.
+/// The opening state has the part on answers, `Answers`: nothing is answered yet.
 pub fn opening_has_the_answers()
     ensures { (instance : Instance) → Answers instance [] (opening_words instance.callers instance.base) (opening_locals instance.callers instance.base.place) }
 {}
 
-/// Any kind: the others neither touch DUR nor answer anything.
+/// Each step of any kind keeps `Answers`: but for a raise, no step touches DUR or answers anything.
 pub fn events_keep_the_answers()
     ensures { (kind : _) → KeepsAnswers kind }
 {}

@@ -12,35 +12,35 @@ ghost use Rattle.cx_core.specs.LawfulRoot.{Root};
 ghost use Rattle.cx_core.specs.Layout.{cur_at, dur_at};
 ghost use Rattle.cx_core.specs.State.{Instance, State};
 
-/// There is a chain.
+/// Where `Root` holds, there is a chain of codes from DUR to CUR: DUR's, and then those above it that `Root` gives.
 pub fn a_chain_stands()
     ensures { (instance : Instance) (s : State) (root : Root instance s.words s.locals) → IsCodeChain s.words s.locals (slice_index s.words dur_at ∷ root.above) }
 {}
 
-/// There is no other.
+/// Where `Root` holds, there is one chain of codes from DUR to CUR at most.
 pub fn there_is_one_chain()
     ensures { (instance : Instance) (s : State) (codes others : _) → Root instance s.words s.locals →
         IsCodeChain s.words s.locals codes → IsCodeChain s.words s.locals others → codes ≡ others }
 {}
 
-/// It rises in place.
+/// Where `Root` holds, the codes of a chain rise in place.
 pub fn chain_rises_in_place()
     ensures { (instance : Instance) (s : State) (first : ℕ) (rest : _) → Root instance s.words s.locals →
         IsCodeChain s.words s.locals (first ∷ rest) → RiseInPlace instance.callers first rest }
 {}
 
-/// Where DUR is CUR, it is the one code.
+/// Where DUR is CUR, a chain has that one code alone.
 pub fn chain_is_the_one_code()
     ensures { (s : State) (codes : _) → IsCodeChain s.words s.locals codes → slice_index s.words dur_at ≡ slice_index s.words cur_at → codes ≡ slice_index s.words cur_at ∷ [] }
 {}
 
-/// Each of its codes names a pinned replica, which has the code's place and which nobody holds exclusively.
+/// Each code of a chain names a pinned replica, which has the code's place and which nobody holds exclusively.
 pub fn chain_is_pinned()
     ensures { (instance : Instance) (s : State) (codes : _) (code : ℕ) → Shape instance s.words s.locals → Locks instance.callers s.words s.locals → Root instance s.words s.locals →
         IsCodeChain s.words s.locals codes → Contains codes code → IsPinned instance s code }
 {}
 
-/// So each names the full image after its place, in both memories.
+/// Each code of a chain names a replica that is the full image after its place, in both memories.
 pub fn chain_names_images()
     ensures { (instance : Instance) (history : _) (s : State) (codes : _) (code : ℕ) → Shape instance s.words s.locals → Locks instance.callers s.words s.locals →
         Regions instance history s.words s.locals → Root instance s.words s.locals →

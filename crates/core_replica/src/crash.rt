@@ -9,8 +9,8 @@ ghost use Rattle.cx_core.specs.State.{State};
 use cx_base::Object;
 use cx_core::Base;
 
-/// What is recovered is a lawful base, and its words are the full image after its place, where the base was lawful and so is
-/// each entry.
+/// What is recovered is a lawful base, and its words are the full image after its place, where the object's base was lawful and each entry of the history
+/// is lawful.
 pub fn kept_bases_are_lawful<O: Object>(object: &O, base: &Base)
     requires { LawfulBase (O.line_count object.now) (O.lawful object.now) base.now }
     ensures { (callers : ℕ) (history : _) (s : State) (kept : _) → AreLawful base.now.place history → base.now.place + length history ≤ 2 ^ 40 →

@@ -7,8 +7,8 @@ ghost use Rattle.cx_core.specs.LawfulLocks.{Locks};
 ghost use Rattle.cx_core.specs.LawfulRoot.{Root};
 ghost use Rattle.cx_core.specs.State.{Instance, State};
 
-/// The part on the root names CUR, DUR and the place words of replicas. Of a local state it names what was seen of CUR, the win
-/// and the downgraded right, which may also end.
+/// Where `Locks` holds, a step that stores neither CUR, DUR nor the place word of a replica, leaves what its caller saw of CUR and its win as they were,
+/// and leaves or ends its downgraded right, keeps `Root`.
 pub fn root_framed()
     ensures { (instance : Instance) (before after : State) → StepApart (OffRoot instance) SameRoot before after → 1 ≤ instance.callers →
         Locks instance.callers before.words before.locals → Root instance before.words before.locals → Root instance after.words after.locals }

@@ -11,7 +11,7 @@ ghost use Rattle.cx_core.specs.Lawful.{Lawful};
 ghost use Rattle.cx_core.specs.LawfulRegions.{IsReplicaImage};
 ghost use Rattle.cx_core.specs.State.{Instance, State};
 
-/// Each of its codes names a replica that is the full image after its place, in both memories.
+/// In a lawful state each code of a chain names a replica that is the full image after its place, in both memories.
 pub fn chains_name_images()
     ensures { (instance : Instance) (s : State) (codes : _) (code : ℕ) (law : Lawful instance s) → IsCodeChain s.words s.locals codes → Contains codes code →
         IsReplicaImage instance law.history s.words (root_replica_of instance.callers code) }
@@ -23,7 +23,7 @@ pub fn no_event_stores_to_the_chain()
         IsCodeChain before.words before.locals codes → Contains codes code → Makes instance event before after → LeavesReplicas event.kind (root_replica_of instance.callers code) }
 {}
 
-/// So each leaves the words of those replicas, in both memories.
+/// Each event leaves the words of the replicas that the codes of a chain name as they were, in both memories.
 pub fn events_leave_the_chain()
     ensures { (instance : Instance) (before after : State) (event : _) (codes : _) (code : ℕ) → Lawful instance before →
         IsCodeChain before.words before.locals codes → Contains codes code → Makes instance event before after →

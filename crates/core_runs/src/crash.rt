@@ -19,7 +19,8 @@ pub fn crash_images_recover()
     ensures { (instance : Instance) (s : State) (image : _) (law : Lawful instance s) → IsCrashImage instance s image → IsKept instance law.history s (recovered instance image) }
 {}
 
-/// So it is of what a medium with the words of all replicas leaves, by whichever choice, with any root code of the chain.
+/// What is recovered from a medium with the words of all replicas, by whichever choice and with any root code of the chain, is the full image after a place
+/// at or above DUR's: it holds each entry that was answered, and the place of each read that was.
 pub fn mediums_recover()
     ensures { (instance : Instance) (s : State) (medium : _) (chain : List ℕ) (root choice : ℕ) (law : Lawful instance s) →
         IsMediumOf instance s medium → IsCodeChain s.words s.locals chain → Contains chain root →

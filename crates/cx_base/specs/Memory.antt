@@ -13,7 +13,7 @@ abbrev pub one_less : Option ℕ → Option ℕ
 one_less None = None
 one_less (Some n) = Some (n - 1)
 
--- the same pairs stand
+-- the pairs that stand now are those that stood before
 pub record Same {Key : Type 0} (old new : Key → List ℕ → Type 0) : Type 0 where
   pub back : (first : Key) (now : List ℕ) → new first now → old first now
   pub on : (first : Key) (now : List ℕ) → old first now → new first now
@@ -32,7 +32,7 @@ pub record Stored {Key : Type 0} (at v : ℕ) (old new : Key → List ℕ → Ty
 pub record Becomes {Key : Type 0} (old new : Key → List ℕ → Type 0) (R : List ℕ → List ℕ → Type 0) : Type 0 where
   pub from : (first : Key) (now : List ℕ) → new first now → (before : List ℕ) × old first before × R before now
 
--- each pair that stands now stood before, and its words are so
+-- each pair that stands now stood before, and P holds of its words now
 pub record Reads {Key : Type 0} (old new : Key → List ℕ → Type 0) (P : List ℕ → Type 0) : Type 0 where
   pub from : (first : Key) (now : List ℕ) → new first now → old first now × P now
 
@@ -61,7 +61,7 @@ unfoldable pub overwritten : ℕ → List ℕ → List ℕ → List ℕ
 overwritten at [] words = words
 overwritten at (v ∷ vs) words = overwritten (at + 1) vs (slice_set words at v)
 
--- all the words that may be there now are so
+-- P holds of all the words that may be there now
 abbrev pub Always : {Key : Type 0} → (Key → List ℕ → Type 0) → (List ℕ → Type 0) → Type 0
 Always {Key = Key} stands P = (first : Key) (now : List ℕ) → stands first now → P now
 

@@ -12,7 +12,7 @@ pub record GivesBytes (n : ℕ) (bytes buffer : List ℕ) (rest : Option (List �
   pub left : rest ≡ Some (drop n bytes)
   pub end : n ≡ 0 → bytes ≡ []
 
--- the same, where the bytes left are told
+-- n bytes came from the front of the bytes that were left, where these are told, to the front of a buffer; 0 is the end of the input
 abbrev pub Gave : ℕ → Option (List ℕ) → List ℕ → Option (List ℕ) → Type 0
 Gave n before buffer after = IfSome before (λ bytes. GivesBytes n bytes buffer after)
 
@@ -54,7 +54,7 @@ pub record Telling : Type 0 where
   pub calls : ℕ
   pub faults : ℕ
 
--- the same of a sink, and its room
+-- what a sink in memory holds and how its calls go (`Telling`), and its room
 pub record Filling : Type 0 where
   pub told : Telling
   pub room : ℕ

@@ -24,7 +24,8 @@ pub fn store_words<M: Memory>(mem: &mut M, at: u64, words: &[u64]) -> Result<(),
     Ok(())
 }
 
-/// Does as `store_words` for as many words as a reply has, or fewer: those that are there are loaded in one go, and compared before any is stored.
+/// Puts words over those from a place on, at most as many as a reply has, and stores only those that differ: the words that are there are loaded in one go,
+/// and compared before any is stored. `Halt` comes only where no access is left, and then only the first of the words are there.
 fn store_few<M: Memory>(mem: &mut M, at: u64, words: &[u64]) -> Result<(), Halt>
     requires few { length words.now ≤ OP_WORDS }
     requires within { at + length words.now ≤ M.size mem.old }

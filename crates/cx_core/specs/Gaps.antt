@@ -27,7 +27,7 @@ abbrev pub Walk : (Gap → Type 0) → ℕ → ℕ → List ℕ → ℕ → Type
 Walk G ticket from [] last = G (record { ticket = ticket; from = from; to = last })
 Walk G ticket from (line ∷ lines) last = G (record { ticket = ticket; from = from; to = line }) × Walk G ticket line lines last
 
--- so they do for each ticket from one place to below another, from line 0, which is the place's own, to the end of a region
+-- the gaps of each ticket from one place to below another lead over the lines of its list, from line 0, which is the place's own, to the end of a region
 abbrev pub AreWalked : (Gap → Type 0) → ℕ → ℕ → ℕ → (ℕ → List ℕ) → Type 0
 AreWalked G lines from to lists = (ticket : ℕ) → from ≤ ticket → ticket < to → Walk G ticket 0 (lists ticket) lines
 

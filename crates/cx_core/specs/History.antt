@@ -39,6 +39,6 @@ pub record IsLawfulEntry (place : ℕ) (entry : Entry) : Type 0 where
   pub most : entry.number ≤ place + 1
   pub op : Words 144 entry.op
 
--- so is each entry of a history, whose first one has this ticket
+-- each entry of a history, whose first one has this ticket, is one that a lawful base may take at the entry's place
 abbrev pub AreLawful : ℕ → List Entry → Type 0
 AreLawful place history = (i : ℕ) (entry : Entry) → slice_get history i ≡ Some entry → IsLawfulEntry (place + i) entry

@@ -68,7 +68,7 @@ pub data LinkWord (instance : Instance) (history : List Entry) (slot word : ℕ)
   Never : ((other : ℕ) (e : Entry) → IsLinked instance.base.place history other e → other % cell_count instance.callers ≢ slot) → word ≡ 0 → LinkWord instance history slot word
   Names : (ticket : ℕ) (entry : Entry) (j : ℕ) → IsGreatest instance history slot ticket entry → j < 16 → word ≡ link_code_of instance.callers ticket (16 * entry.caller + j) → LinkWord instance history slot word
 
--- Links: each link word is so
+-- Links: each link word is 0, or the link code of the greatest linked ticket that has its slot
 pub record Links (instance : Instance) (history : List Entry) (words : List ℕ) : Type 0 where
   pub each : (slot : ℕ) → slot < cell_count instance.callers → LinkWord instance history slot (slice_index words (link_at instance.callers slot))
 
@@ -152,7 +152,7 @@ pub record IsBehind (instance : Instance) (history : List Entry) (words : List �
   pub floor_cur : l.floor ≤ root_place_of instance.callers l.seen_cur
   pub won : (won : WonCode) → l.won ≡ Some won → won.code ≤ l.seen_cur
 
--- Fronts: it is so of each caller
+-- Fronts: what each caller has seen is not ahead of what is there
 pub record Fronts (instance : Instance) (history : List Entry) (words : List ℕ) (locals : List Local) : Type 0 where
   pub each : EachLocal locals (λ _ l. IsBehind instance history words l)
 

@@ -41,12 +41,12 @@ pub record IsRead (instance : Instance) (history : List Entry) (end_ : ℕ) (l :
 abbrev pub NeverFall : List SeenRead → Type 0
 NeverFall reads = (i j : ℕ) (x y : SeenRead) → slice_get reads i ≡ Some x → slice_get reads j ≡ Some y → i ≤ j → (x.place ≤ y.place) × (x.before ≤ y.before)
 
--- so it is of what a caller was answered, where what is below this place is durable
+-- what a caller was answered is the history's, where what is below this place is durable, and along its reads neither places nor counts fall
 pub record AreAnswers (instance : Instance) (history : List Entry) (end_ : ℕ) (l : Local) : Type 0 where
   pub entries : (i : ℕ) (x : Answer) → slice_get l.answered i ≡ Some x → IsAnswer instance history end_ l x
   pub reads : (i : ℕ) (x : SeenRead) → slice_get l.seen_reads i ≡ Some x → IsRead instance history end_ l x
   pub rise : NeverFall l.seen_reads
 
--- Answers: it is so of each caller
+-- Answers: what each caller was answered is the history's, and DUR's place is the end of what is durable
 pub record Answers (instance : Instance) (history : List Entry) (words : List ℕ) (locals : List Local) : Type 0 where
   pub each : EachLocal locals (λ _ l. AreAnswers instance history (durable_place instance words) l)

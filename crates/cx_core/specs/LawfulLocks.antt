@@ -34,7 +34,7 @@ pub record FewRights (callers : ℕ) (l : Local) : Type 0 where
   pub below : (r : ℕ) → 0 < rights_on callers r l → r < 2 * callers
   pub apart : (r : ℕ) → holds r l + is_on r (shared_on l) + is_on r (downgraded_on l) + is_on r l.passer ≤ 1
 
--- Locks: it is so of each lock word and each caller
+-- Locks: each lock word is the sum of all marks and the pin, held exclusively by one caller at most, and each caller has at most two rights
 pub record Locks (callers : ℕ) (words : List ℕ) (locals : List Local) : Type 0 where
   pub each : (r : ℕ) → r < 2 * callers → LockWord callers (slice_index words cur_at) locals r (slice_index words (lock_at callers r))
   pub few : EachLocal locals (λ _ l. FewRights callers l)

@@ -42,7 +42,8 @@ pub record HasWords (instance : Instance) (words : List ℕ) (h : HeldExclusive)
 abbrev pub HasLoaded : Instance → List ℕ → HeldShared → Type 0
 HasLoaded instance words h = All (λ (x : ℕ × ℕ). (x.0 < length instance.base.words) × (vol_word instance words h.replica x.0 ≡ x.1)) h.loaded
 
--- Regions: it is so of each replica and each caller
+-- Regions: each replica that nobody holds exclusively is the full image after its place, one held exclusively has its holder's words, and what was loaded
+-- of one held shared is there
 pub record Regions (instance : Instance) (history : List Entry) (words : List ℕ) (locals : List Local) : Type 0 where
   pub unheld : (r : ℕ) → r < 2 * instance.callers → IsUnheld locals r → IsReplicaImage instance history words r
   pub held : EachLocal locals (λ _ l. (h : HeldExclusive) → l.exclusive ≡ Some h → HasWords instance words h)

@@ -15,13 +15,13 @@ pub record ScanStands (instance : Instance) (words : List ℕ) (locals : List Lo
   pub next : s.next ≤ instance.callers
   pub passed : (d : ℕ) (l : Local) → slice_get locals d ≡ Some l → d < s.next → (p : ℕ) → l.protection ≡ Confirmed p → s.bound ≤ p
 
--- a caller's need stands in its word, what it needs by a confirmed protection is not opened, and so is its scan
+-- a caller's need stands in its word, what it needs by a confirmed protection is not opened, and its scan's bound stands
 pub record InRing (instance : Instance) (words : List ℕ) (locals : List Local) (caller : ℕ) (l : Local) : Type 0 where
   pub need : slice_index words (need_at caller) ≡ need_word l.protection
   pub kept : (p : ℕ) → l.protection ≡ Confirmed p → slice_index words free_at ≤ p
   pub scan : (s : Scan) → l.scan ≡ Some s → ScanStands instance words locals s
 
--- Ring: what is opened is closed, what is closed is at most the place of CUR, and so it is of each caller
+-- Ring: what is opened is closed, what is closed is at most the place of CUR, and each caller's need, protection and scan stand
 pub record Ring (instance : Instance) (words : List ℕ) (locals : List Local) : Type 0 where
   pub closed : slice_index words free_at ≤ slice_index words low_at
   pub current : slice_index words low_at ≤ root_place_of instance.callers (slice_index words cur_at)

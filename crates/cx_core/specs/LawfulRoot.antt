@@ -33,7 +33,8 @@ pub record InChain (instance : Instance) (words above : List ℕ) (l : Local) : 
   pub won : (won : WonCode) → l.won ≡ Some won → WinStands instance words above won
   pub downgraded : (h : HeldDowngraded) → l.downgraded ≡ Some h → vol_word instance words h.replica 0 ≡ h.place
 
--- Root: there is a chain, which is the only one, the code in CUR is placed, and so it is of each caller
+-- Root: there is a chain, which is the only one, the code in CUR is placed, and what each caller has seen of CUR, won with and downgraded stands in the
+-- chain
 pub record Root (instance : Instance) (words : List ℕ) (locals : List Local) : Type 0 where
   pub above : List ℕ
   pub leads : Leads locals (slice_index words dur_at) above (slice_index words cur_at)
@@ -49,8 +50,8 @@ pub record WithinRoot (instance : Instance) (end_ cur : ℕ) (l : Local) : Type 
   pub replica : (h : HeldDowngraded) → l.downgraded ≡ Some h → h.replica < 2 * instance.callers
   pub place : (h : HeldDowngraded) → l.downgraded ≡ Some h → h.place ≤ end_
 
--- DUR is at most CUR, CUR's place is at most the history's end, and so it is of each caller. It follows from the parts on
--- locks, regions and the root.
+-- DUR is at most CUR, CUR's place is at most the history's end, and what each caller has seen, won with and downgraded is within these. It follows from the
+-- parts on locks, regions and the root.
 pub record RootBounds (instance : Instance) (history : List Entry) (words : List ℕ) (locals : List Local) : Type 0 where
   pub dur : slice_index words dur_at ≤ slice_index words cur_at
   pub current : root_place_of instance.callers (slice_index words cur_at) ≤ instance.base.place + length history

@@ -49,7 +49,7 @@ CanBackOff callers r l = (r < 2 * callers) × ((shared_on l ≡ Some r) ⊎ ((l.
 abbrev pub IsClean : ℕ → ℕ → Local → Type 0
 IsClean callers r l = (r < 2 * callers) × (exclusive_on l ≡ Some r) × IsNone l.downgraded × (held_dirty l.exclusive ≡ [])
 
--- it may release the right where the words are the full image after their place
+-- a caller may end its exclusive right on a replica where no word is dirty, nothing is downgraded, and the words are the full image after their place
 abbrev pub CanGiveUp : Instance → Scene → ℕ → Local → Type 0
 CanGiveUp instance scene r l = IsClean instance.callers r l × IsFull instance scene.history (held_words l.exclusive)
 

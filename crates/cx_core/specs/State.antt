@@ -29,7 +29,7 @@ pub record Scene : Type 0 where
   pub history : List Entry
   pub words : List ℕ
 
--- it holds of each such instance and of each scene with these words, whatever the history
+-- P holds of the instance with this number of callers and this base, and of each scene with these words, whatever the object means and whatever the history
 abbrev pub EachScene : ℕ → Base → List ℕ → (Instance → Scene → Type 0) → Type 0
 EachScene callers base words P =
     (step : List ℕ → List ℕ → List ℕ × List ℕ) (reads : List ℕ → Bool) (history : List Entry) →
@@ -46,7 +46,7 @@ pub record Core : Type 0 where
 abbrev pub instance_of : Core → (List ℕ → List ℕ → List ℕ × List ℕ) → (List ℕ → Bool) → Instance
 instance_of core step reads = record { callers = core.callers; base = core.base; step = step; reads = reads }
 
--- so it is of each caller and its local state
+-- P holds of each caller and its local state
 abbrev pub EachLocal : List Local → (ℕ → Local → Type 0) → Type 0
 EachLocal locals P = (caller : ℕ) (local : Local) → slice_get locals caller ≡ Some local → P caller local
 

@@ -38,8 +38,8 @@ pub fn full_images_stay()
     ensures { (instance : Instance) (history more : List Entry) (place : ℕ) → place ≤ instance.base.place + length history → full_image instance.step instance.base (history ++ more) place ≡ full_image instance.step instance.base history place }
 {}
 
-/// The law that the full image after each place up to the history's end has the words of a lawful base, where the base is
-/// lawful and so is each entry.
+/// The law that the full image after each place up to the history's end has the words of a lawful base, where the base is lawful and each entry of the
+/// history is lawful.
 pub fn full_images_are_lawful<O: Object>(object: &O, base: &Base)
     requires { LawfulBase (O.line_count object.now) (O.lawful object.now) base.now }
     ensures { (history : List Entry) (place : ℕ) → AreLawful base.now.place history → base.now.place + length history ≤ 2 ^ 40 → base.now.place ≤ place → place ≤ base.now.place + length history → LawfulBase (O.line_count object.now) (O.lawful object.now) (record { place = place; words = full_image (O.step object.now) base.now history place }) }

@@ -136,7 +136,7 @@ pub struct Scan {
 /// with `seen_cur` and `raised` at the opening root code.
 #[derive(Drop)]
 pub struct Local {
-    /// The caller, from 0.
+    /// Which of the table's callers it is, counted from 0.
     pub number: u32,
     /// Every ticket from the base's place to below it is linked.
     pub front: u64,
@@ -182,9 +182,11 @@ pub struct Local {
     pub steps: u64,
     /// The steps allowed, where 2^64 - 1 is no limit.
     pub limit: u64,
-    /// The refusals met.
+    /// The refusals met. One is met where all replicas refused an exclusive try in turn; another where the code last loaded from CUR, while fresh, proved
+    /// outdated or out of reach: its replica is held exclusively or at another place, LOW is above a place stated at or above the code's, or a publication
+    /// over it was lost.
     pub met: u64,
-    /// The scans ended.
+    /// The scans of the callers' needs that it ended.
     pub scans: u64,
 }
 

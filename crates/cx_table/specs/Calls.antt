@@ -17,7 +17,8 @@ pub record MakesStep {O A E : Type 0} (r : Running O) (before after : Seated) (r
   pub made : IfOk result Made
   pub halted : OnErr result (Halts r before after)
 
--- the same of a step that tells besides that some pair of words fits what its caller noted
+-- What a step call leaves that tells more: this of the step that it made, and that some pair of words fits what its caller then noted; or nothing is
+-- changed, since the steps equal the limit.
 pub record MakesFittingStep {O A E : Type 0} (o : Ghosts O) (r : Running O) (before after : Seated) (result : Result A E) (Made : A → Type 0) : Type 0 where
   pub made : IfOk result Made
   pub fits : OnOk result (Fitting r.lines (o.lawful r.object) r.base (o.step r.object) after.known)

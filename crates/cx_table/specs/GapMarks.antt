@@ -29,7 +29,7 @@ pub record MarksTicket (instance : Instance) (lines ticket : ℕ) (marks : List 
   pub walked : Walk (HasGap instance known) ticket 0 list lines
   pub marked : AreMarked marks list
 
--- so for each ticket from one place to below another
+-- of each ticket from one place to below another, gaps were loaded that lead over all lines but those of a list, which are marked
 pub record MarksChanged (instance : Instance) (lines from to : ℕ) (marks : List Bool) (known : Known) : Type 0 where
   pub lists : ℕ → List ℕ
   pub walked : AreWalked (HasGap instance known) lines from to lists

@@ -11,7 +11,7 @@ start_at words (suc n) = slice_index words n % 2 ^ 17
 abbrev pub AreNamed : ℕ → ℕ → ℕ → List ℕ → ℕ → Type 0
 AreNamed callers slot ticket words n = (k : ℕ) → k < n → gap_of callers slot (slice_index words k) ≡ record { ticket = ticket; from = start_at words k; to = slice_index words k % 2 ^ 17 }
 
--- and the one behind them a gap to the end of a region
+-- n words of a slot name gaps of a ticket, each from where the one before ends, and the next word a gap from there to the end of a region
 pub record TellsLines (callers slot ticket lines : ℕ) (words : List ℕ) (n : ℕ) : Type 0 where
   pub within : n < length words
   pub each : AreNamed callers slot ticket words n
@@ -26,7 +26,7 @@ lines_from from (suc n) words = slice_index words from % 2 ^ 17 ∷ lines_from (
 abbrev pub IsNamed : ℕ → ℕ → List ℕ → Gap → Type 0
 IsNamed callers slot words g = (i : ℕ) × (i < length words) × (gap_of callers slot (slice_index words i) ≡ g)
 
--- so far they were read, up to a line
+-- m words of a slot were read, which name gaps of a ticket, each from where the one before ends, up to this line
 pub record ReadsTo (callers slot ticket : ℕ) (words : List ℕ) (m at : ℕ) : Type 0 where
   pub each : AreNamed callers slot ticket words m
   pub line : at ≡ start_at words m

@@ -37,7 +37,7 @@ pub record RoomFor : Type 0 where
   pub callers : ℕ
   pub lines : ℕ
 
--- it is for this table
+-- the room for what a closing hands out is for as many callers and lines as this table has
 pub record IsRoomOf {O : Type 0} (r : Running O) (room : RoomFor) : Type 0 where
   pub callers : room.callers ≡ r.callers
   pub lines : room.lines ≡ r.lines

@@ -32,7 +32,7 @@ pub data Runs {O : Type 0} (r : Running O) (step : O → List ℕ → List ℕ �
   one_more_step : (words : List ℕ) (before after : Seated) (first : List ℕ) (found : ℕ) (mid : Seated) → words ≡ first ++ found ∷ [] → Runs r step reads lawful kinds first before mid → Steps r step reads (kinds (length first)) found mid after →
       Fitting r.lines lawful r.base (step r.object) after.known → Runs r step reads lawful kinds words before after
 
--- they teach their caller's seat this
+-- steps of these kinds, which found these words in order, teach their caller's seat this
 pub data TeachesRun (instance : Instance) (kinds : ℕ → Kind) : List ℕ → Me ℕ (List Known) → Me ℕ (List Known) → Type 0 where
   taught_none : (words : List ℕ) (before after : Me ℕ (List Known)) → words ≡ [] → after ≡ before → TeachesRun instance kinds words before after
   taught_more : (words : List ℕ) (before after : Me ℕ (List Known)) (first : List ℕ) (found : ℕ) (mid : Me ℕ (List Known)) → words ≡ first ++ found ∷ [] → TeachesRun instance kinds first before mid → KnowledgeAfter instance (kinds (length first)) (known_of mid.0) found after →

@@ -21,7 +21,7 @@ pub record IsOfOne {O : Type 0} (r : Running O) (table : TableId) (me : Me ℕ (
   pub table_is : table ≡ r.table
   pub one : me ≡ (known_of me.0 ∷ [], [])
 
--- and the table has the word
+-- the seat is of this table and knows one caller, and the table has the word
 pub record IsOnWord {O : Type 0} (r : Running O) (word : ℕ) (table : TableId) (me : Me ℕ (List Known)) : Type 0 where
   pub table_is : table ≡ r.table
   pub one : me ≡ (known_of me.0 ∷ [], [])

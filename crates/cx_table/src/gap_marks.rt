@@ -28,9 +28,9 @@ pub fn piece_of(line: u64) -> u64
     (line + 7) / 8
 }
 
-/// Marks the pieces of a region of `lines` lines in which the entries changed a line whose tickets are from one place to below another, where
-/// each ticket's slot of the ring tells them. False comes where one does not, or names a line behind the marks, or where the limit leaves
-/// fewer steps than a slot has words. It makes 16 steps a ticket at most, and beside them and the gaps noted changes nothing of the seat.
+/// Whether the ring tells of each ticket from one place to below another which lines its entry changed; if so the pieces of a region of `lines` lines with
+/// those lines are marked. It is false where a ticket's slot does not tell them or names a line behind the marks, or where the limit leaves fewer steps
+/// than a slot has words. It makes 16 steps a ticket at most, and beside them and the gaps noted changes nothing of the seat.
 pub fn mark_changed<O: Object>(
     shared: &Shared<O>,
     seat: &mut CallerSeat,
@@ -53,7 +53,8 @@ pub fn mark_changed<O: Object>(
     true
 }
 
-/// Marks the pieces that the entry of one ticket changed, as `mark_changed` does.
+/// Whether the ring tells which lines the entry of a ticket changed; if so the pieces with those lines are marked. It is false where the ticket's slot does
+/// not tell them or names a line behind the marks, or where the limit leaves fewer steps than a slot has words.
 fn mark_ticket<O: Object>(
     shared: &Shared<O>,
     seat: &mut CallerSeat,
@@ -80,7 +81,7 @@ fn mark_ticket<O: Object>(
     }
 }
 
-/// Marks the piece of the line at the end of each gap that these words name. False comes where one is behind the marks.
+/// Whether there is a mark for the piece of the line at the end of each gap that these words name; if so those pieces are marked.
 fn mark_all(words: &[u64], marks: &mut [bool]) -> bool
     ensures marks { IsTrue result → (k : ℕ) → k < length words.now → IsMarked marks.new ((slice_index words.now k % 2 ^ 17 + 7) / 8) }
     ensures kept { (piece : ℕ) → IsMarked marks.old piece → IsMarked marks.new piece }

@@ -48,8 +48,8 @@ impl<O: Object> Shared<O> {
 }
 
 impl CallerSeat {
-    /// Hands the set that the caller keeps out, where it is that of its own entry with a ticket: its addresses are those of a region's words. It is
-    /// in plain memory no more then.
+    /// Whether the set that the caller keeps is that of its own entry with a ticket; if so it is handed out, and is in plain memory no more. Its addresses
+    /// are those of a region's words.
     pub fn take_kept(&mut self, ticket: u64, set: &mut Vec<u64>) -> bool
         requires { IsSetList set.old.items }
         ensures same { self.new ≡ self.old }

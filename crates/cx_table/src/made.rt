@@ -41,7 +41,8 @@ impl<O: Object> Shared<O> {
         self.made_learned(seat, kind, word, instruction)
     }
 
-    /// The same of a step that what its caller noted tells. A load that may be marked as a refusal is marked by the word found.
+    /// Makes the step of this kind, as what its caller noted tells it: an instruction on its word. It gives the word found, by which a load that may be
+    /// marked as a refusal is marked.
     #[inline(always)]
     pub(crate) fn made_learned(
         &self,
@@ -83,7 +84,7 @@ impl<O: Object> Shared<O> {
         self.stored_learned(seat, kind, word, new)
     }
 
-    /// The same of a step that what its caller noted tells.
+    /// Makes the step of this kind that stores a word, as what its caller noted tells it.
     #[inline(always)]
     pub(crate) fn stored_learned(
         &self,

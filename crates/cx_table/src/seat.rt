@@ -53,7 +53,7 @@ impl Model for CallerSeat {
 }
 
 impl CallerSeat {
-    /// The caller, from 0.
+    /// Which of the table's callers it is, counted from 0.
     pub fn number(&self) -> u32
         ensures value { result ≡ self.now.known.local.number }
         ensures cells { HasCells self.now.known.local }
@@ -84,7 +84,8 @@ impl CallerSeat {
         self.summary.front
     }
 
-    /// The refusals met. This stays at 2^64 - 1 once there.
+    /// The refusals met (`met` of `Local`): how often all replicas refused an exclusive try in turn, or the code last loaded from CUR proved outdated or
+    /// out of reach. This stays at 2^64 - 1 once there.
     pub fn met(&self) -> u64
         ensures { result ≡ self.now.known.local.met }
     {
@@ -126,8 +127,7 @@ impl CallerSeat {
         self.copy.cell_apart(j, op, from)
     }
 
-    /// The caller's own entry with a ticket, where a cell has it: its words are those last written there. It is false where no cell
-    /// has the ticket.
+    /// Whether a cell has the caller's own entry with a ticket; if so `entry` is that entry, with the words last written there.
     pub fn own_entry(&self, ticket: u64, entry: &mut Entry) -> bool
         ensures { IsTrue result → IsOwnEntry self.now.known.local.own self.now.known.local.number ticket entry.new }
     {
@@ -268,7 +268,7 @@ impl CallerSeat {
         self.summary.seen_need
     }
 
-    /// The scans ended. This stays at 2^64 - 1 once there.
+    /// The scans of the callers' needs that it ended. This stays at 2^64 - 1 once there.
     pub fn scans(&self) -> u64
         ensures { result ≡ self.now.known.local.scans }
     {

@@ -87,7 +87,7 @@ pub record IsNotedEntry (ticket : ℕ) (seat : Seated) (entry : Entry) : Type 0 
   pub lawful : IsLawfulEntry ticket entry
   pub small : ticket < 2 ^ 40
 
--- so is the entry of this caller with these words, its number first, and what is noted fits what is there
+-- the entry of this caller with these words, its number first, is noted whole with a ticket and may come there, and what is noted fits what is there
 pub record NotesEntry {O : Type 0} (o : Ghosts O) (r : Running O) (caller ticket : ℕ) (words : List ℕ) (seat : Seated) : Type 0 where
   pub each : (entry : Entry) → entry.caller ≡ caller → entry.number ∷ entry.op ≡ words → IsNotedEntry ticket seat entry
   pub fits : Fitting r.lines (o.lawful r.object) r.base (o.step r.object) seat.known

@@ -124,7 +124,7 @@ pub record LinksAgain (callers tries : ℕ) (before after : Seated) : Type 0 whe
   pub cur : root_place_of callers before.known.local.seen_cur + tries ≤ after.known.local.front
   pub left : after.known.local.front < 2 ^ 40
 
--- there is no further ticket
+-- no entry was linked, and there is no further ticket
 pub record IsWorn (before after : Seated) : Type 0 where
   pub none : LinksNone before after
   pub front : after.known.local.front ≡ 2 ^ 40

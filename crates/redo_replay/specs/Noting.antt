@@ -25,7 +25,7 @@ pub record NotingFixed (Name Table : Type 0) : Type 0 where
   pub held : Right
   pub rest : Seated
 
--- this is what the seat knows, and the place was loaded
+-- a noting begins with what the seat knows, which is this, and the place was loaded or stored
 pub record BeginsNoting (known : Known) (seat : Seated) : Type 0 where
   pub same : known ≡ seat.known
   pub place : HasPlace seat.known.accesses

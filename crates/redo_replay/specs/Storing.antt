@@ -17,7 +17,7 @@ pub record SetComesNext (region : ℕ) (set : List ℕ) (seat : Seated) : Type 0
   pub had : (has_of seat.known).set (noted_place seat) set
   pub within : IsSetWithin region set
 
--- the set of an own cell is one
+-- the set in a cell of the caller is one with the place of the replica held exclusively as its ticket, and its addresses are those of a region's words
 pub record OwnSetComesNext (region cell : ℕ) (seat : Seated) : Type 0 where
   pub few : cell < 16
   pub comes : SetComesNext region (cell_of seat.known.local cell).set seat
@@ -27,7 +27,7 @@ unfoldable pub stores_to : ℕ → List ℕ → List Note
 stores_to zero set = []
 stores_to (suc m) set = stores_to m set ++ (true, slice_index set (2 * m + 1), slice_index set (2 * m + 2)) ∷ []
 
--- and of all its pairs
+-- the stores of all pairs of a set, as accesses
 unfoldable pub set_stores : List ℕ → List Note
 set_stores set = stores_to (slice_index set 0) set
 

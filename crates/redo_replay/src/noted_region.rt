@@ -177,7 +177,8 @@ pub fn apply_noting<O: Object>(
     Ok(true)
 }
 
-/// Does as `apply_noting`, and notes no gaps in the ring.
+/// Does the full step of the entry of the place of a replica held exclusively, and notes what it stores, but no gaps in the ring. It answers whether the
+/// set has room for all: then it is told to be a write set of the entry's ticket. `Halt` comes only where the seat's steps equal its limit.
 fn apply_telling<O: Object>(
     shared: &Shared<O>,
     seat: &mut CallerSeat,

@@ -13,9 +13,9 @@ use cx_core::layout::cell_count;
 use cx_table::{CallerSeat, Exclusive, Shared};
 use redo_set::{WriteSet, take};
 
-/// Brings a replica held exclusively on by the write set of the entry whose ticket is its place, where that entry is offered: a look at its
-/// slot, a load of the offer, a load of each word of the set, and a store of each pair. It is false where the entry is not offered, and then
-/// the replica is as it was. A set that is counted is one whose pairs were stored. `Halt` comes only where the seat's steps equal its limit.
+/// Whether the entry whose ticket is the place of a replica held exclusively is offered; if so its write set brings the replica on: a look at its slot, a
+/// load of the offer, a load of each word of the set, and a store of each pair. Where it is not offered, the replica is as it was. A set that is counted is
+/// one whose pairs were stored. `Halt` comes only where the seat's steps equal its limit.
 pub fn replay_offered<O: Object>(
     shared: &Shared<O>,
     seat: &mut CallerSeat,

@@ -18,9 +18,9 @@ use cx_core::{Entry, HEAD_LINES, LINE_WORDS};
 use cx_table::{CallerSeat, Exclusive, Shared};
 use redo_set::{WriteSet, keep, offer, take_kept};
 
-/// Brings a replica held exclusively on by the set of the caller's own entry whose ticket is its place, where that is offered, or kept by the only
-/// caller of a table, from the seat's memory: a store of each pair, and no load. It is false where it is neither, and then no step is made. `Halt` comes
-/// only where the seat's steps equal its limit. What the set given has is left open.
+/// Whether the set of the caller's own entry, whose ticket is the place of a replica held exclusively, is offered, or kept by the only caller of a table;
+/// if so the set brings the replica on, from the seat's memory: a store of each pair, and no load. If not, no step is made. `Halt` comes only where the
+/// seat's steps equal its limit. What the set given has is left open.
 pub fn replay_own<O: Object>(
     shared: &Shared<O>,
     seat: &mut CallerSeat,
@@ -38,7 +38,7 @@ pub fn replay_own<O: Object>(
     replay_cell(shared, seat, held, ticket)
 }
 
-/// Brings the replica on by the set that the caller keeps.
+/// Whether the caller keeps the set of its own entry with a ticket, which is the replica's place; if so the set brings the replica on.
 fn replay_kept<O: Object>(
     shared: &Shared<O>,
     seat: &mut CallerSeat,
@@ -57,7 +57,7 @@ fn replay_kept<O: Object>(
     Ok(true)
 }
 
-/// Brings the replica on by the set in the cell of the caller's own entry, where it is offered.
+/// Whether the caller's own entry with a ticket, which is the replica's place, is offered in a cell; if so the set in that cell brings the replica on.
 fn replay_cell<O: Object>(
     shared: &Shared<O>,
     seat: &mut CallerSeat,

@@ -36,8 +36,8 @@ pub fn store_set<O: Object>(
     Ok(())
 }
 
-/// Does as `store_set` by the set of the caller's own entry in a cell, from the seat's memory. `Halt` comes only where the seat's steps equal
-/// its limit.
+/// Stores the pairs of the set of the caller's own entry in a cell, from the seat's memory, where the entry's ticket is the place of a replica held
+/// exclusively: it is the image after its place, and then that after the next. `Halt` comes only where the seat's steps equal its limit.
 pub fn store_own_set<O: Object>(
     shared: &Shared<O>,
     seat: &mut CallerSeat,

@@ -51,7 +51,7 @@ pub record AreEnds (set : List ℕ) (lines : ℕ) (ends : List ℕ) (n : ℕ) : 
   pub within : (k : ℕ) → k < n → slice_index ends k ≤ lines
   pub each : (k : ℕ) → k < n → LeavesGap set (begin_of ends k) (slice_index ends k)
 
--- and they are the ends of all gaps of the set, to the end of the region
+-- the first of these lines are the ends of all gaps of a set, each of which begins where the one before ends, to the end of a region of this size
 pub record AreAllEnds (set : List ℕ) (lines : ℕ) (ends : List ℕ) (n : ℕ) : Type 0 where
   pub are : AreEnds set lines ends n
   pub last : begin_of ends n ≡ lines

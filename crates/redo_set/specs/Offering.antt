@@ -33,7 +33,7 @@ pub record OffersSet (j ticket : ℕ) (pairs : List ℕ) (before after : Seated)
   pub same : (i : ℕ) → i < 2 * slice_index pairs 0 + 1 → slice_index set i ≡ slice_index pairs i
   pub seat : after ≡ seat_with_set j set (ticket + 1) after.known.local.steps before
 
--- they were offered, and what really is there fits what their caller then knows
+-- the pairs of a set were written beside a cell and offered with a ticket, and what really is there fits what their caller then knows
 pub record OffersFitting {O : Type 0} (o : Ghosts O) (r : Running O) (j ticket : ℕ) (pairs : List ℕ) (before after : Seated) : Type 0 where
   pub offers : OffersSet j ticket pairs before after
   pub fits : FittingIn o r after.known

@@ -21,7 +21,7 @@ pub record MayTakeSet {O : Type 0} (r : Running O) (cell ticket : ℕ) (seat : S
   pub shows : ShowsTicket r.callers seat.known.local.seen_slot ticket cell
   pub protected : Protects ticket seat.known.local.protection
 
--- and each word of its set may be read: it was seen to be offered
+-- each word of the set of the entry with a ticket may be read in a cell: the entry was seen to be offered
 pub record MayReadSet {O : Type 0} (o : Ghosts O) (r : Running O) (cell ticket : ℕ) (seat : Seated) : Type 0 where
   pub of : IsSeatOf r seat
   pub guard : (i : ℕ) → i < 513 → Guard (instance_at r o.step o.only_reads) unseen (ReadSet cell ticket i) seat.known.local

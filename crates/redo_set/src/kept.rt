@@ -21,8 +21,8 @@ pub fn keep<O: Object>(shared: &Shared<O>, seat: &mut CallerSeat, ticket: u64, s
     shared.keep_set(seat, ticket, &mut set.words);
 }
 
-/// Hands out the set in the seat's memory, where that is one of the caller's own entry with a ticket. It is in the seat's memory no more then. Where it is
-/// false, what the set has is left open.
+/// Whether the set in the seat's memory is that of the caller's own entry with a ticket; if so it is handed out, and is in the seat's memory no more. Where
+/// it is not, what the set given has is left open.
 pub fn take_kept(seat: &mut CallerSeat, ticket: u64, into: &mut WriteSet) -> bool
     ensures same { seat.new ≡ seat.old }
     ensures taken { IsTrue result → IsKeptSet seat.old.known.kept ticket into.new × IsSetWithin seat.old.region into.new }

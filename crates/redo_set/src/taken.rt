@@ -7,11 +7,11 @@ use crate::set::WriteSet;
 use cx_base::{Halt, Object, SET_WORDS};
 use cx_table::{CallerSeat, Shared};
 
-/// Reads the write set of the entry with a ticket, whose cell the slot last looked at shows, where the entry is offered: the offer word, the
-/// number of pairs and each pair, all under the protection that keeps the entry. Each word is noted with the ticket, and a set that was
-/// read whole is a write set of its ticket. False comes exactly where the offer word, loaded in this call by the one step that it makes, is
-/// another than the ticket plus 1; what is in `into` then is left open. `Halt` comes exactly where a further step is to be made, as no offer was
-/// loaded or fewer words were read than the set has, and the seat's steps equal its limit.
+/// Whether the entry with a ticket, whose cell the slot last looked at shows, is offered; if so its write set is read: the offer word, the number of pairs
+/// and each pair, all under the protection that keeps the entry. Each word is noted with the ticket, and a set that was read whole is a write set of its
+/// ticket. False comes exactly where the offer word, loaded in this call by the one step that it makes, is another than the ticket plus 1; what is in
+/// `into` then is left open. `Halt` comes exactly where a further step is to be made, as no offer was loaded or fewer words were read than the set has, and
+/// the seat's steps equal its limit.
 pub fn take<O: Object>(
     shared: &Shared<O>,
     seat: &mut CallerSeat,

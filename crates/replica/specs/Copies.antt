@@ -53,7 +53,7 @@ pub record HaltsUnchanged (beside : Seated → Seated) (before after : Seated) :
   pub rest : beside after ≡ beside before
   pub limit : IsAtLimit after.known.local
 
--- the same with no replica held shared
+-- the seat, with no replica held shared
 abbrev pub without_shared : Seated → Seated
 without_shared s = record s { known = record s.known { local = record s.known.local { shared = None } } }
 
@@ -79,7 +79,8 @@ pub record IsSeen (at u v : ℕ) (known : Known) : Type 0 where
   pub same : u ≡ v → word_noted None at known.accesses ≡ Some v
   pub was : (first now : List ℕ) → NotesLead known.accesses first now → slice_index now at ≡ u
 
--- so were the words of these lists, from one on up to below another
+-- the words of these lists, from one on up to below another, were loaded: the first list's of the replica held exclusively, the second's of the one held
+-- shared
 abbrev pub AreSeen : ℕ → ℕ → ℕ → List ℕ → List ℕ → Known → Type 0
 AreSeen from least n us vs known = (i : ℕ) → least ≤ i → i < n → IsSeen (from + i) (slice_index us i) (slice_index vs i) known
 
@@ -152,8 +153,8 @@ pub record CopiesMarked {O : Type 0} (o : Ghosts O) (r : Running O) (skips : ℕ
   pub copied : IsCopiedTo skips (region_words (o.line_count r.object)) (region_words (o.line_count r.object)) before.known after.known
   pub place : noted_place after ≡ at
 
--- One was, whose shared right was released: the replica is the image after this place, which is the one that was loaded before, if
--- it was.
+-- A replica held shared was copied over one held exclusively, and the shared right was released: the replica is the image after this place, which is the
+-- one that was loaded before, if it was.
 pub record Renews {O : Type 0} (o : Ghosts O) (r : Running O) (held : Right) (at : ℕ) (before after : Seated) : Type 0 where
   pub ready : IsReady o r held at after
   pub placed : (p : ℕ) → Contains (loaded_of before.known.local.shared) (0, p) → noted_place after ≡ p
@@ -163,7 +164,8 @@ pub record Renews {O : Type 0} (o : Ghosts O) (r : Running O) (held : Right) (at
 abbrev pub unchanged_by_listed_copy : Seated → Seated
 unchanged_by_listed_copy s = record (unchanged_by_copy s) { known = record (unchanged_by_copy s).known { noted = [] } }
 
--- the same as of a copy of all words, after one by listed lines
+-- A replica held shared was copied by listed lines over one held exclusively, and the shared right was released: the replica is the image after this place,
+-- which is the one that was loaded before, if it was.
 pub record RenewsListed {O : Type 0} (o : Ghosts O) (r : Running O) (held : Right) (at : ℕ) (before after : Seated) : Type 0 where
   pub ready : IsReady o r held at after
   pub placed : (p : ℕ) → Contains (loaded_of before.known.local.shared) (0, p) → noted_place after ≡ p

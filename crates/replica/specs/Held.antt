@@ -42,7 +42,7 @@ pub record IsHeld {O : Type 0} (lines : ℕ) (r : Running O) (lawful : List ℕ 
 abbrev pub IsHeldIn : {O : Type 0} → Ghosts O → Running O → Seated → Right → Type 0
 IsHeldIn o r = IsHeld (o.line_count r.object) r (o.lawful r.object) (o.step r.object)
 
--- the same of a replica held shared
+-- The token is of this seat, which holds the replica shared, and some pair fits the words loaded of it.
 pub record IsHeldShared {O : Type 0} (lines : ℕ) (r : Running O) (lawful : List ℕ → Type 0) (seat : Seated) (held : Right) : Type 0 where
   pub sized : IsSized lines r
   pub of : IsSeatOf r seat
@@ -71,8 +71,7 @@ unchanged_by_access r s = record s {
   };
 }
 
--- the same of a replica held shared: the seat but for the steps, what is loaded of it, and the accesses of the same replica
--- held exclusively
+-- what no access of a replica held shared changes: the seat but for the steps, what is loaded of it, and the accesses of the same replica held exclusively
 abbrev pub unchanged_by_shared_access : ℕ → Seated → Seated
 unchanged_by_shared_access r s = record s {
   known = record s.known {

@@ -60,7 +60,7 @@ fitting_shared r lawful step known q holds fits = by known.local.shared refl hol
     by None is there = absurd (none-some q there)
     by (Some h) is there = fits.shared h is
 
--- so a replica whose shared right was handed out is held
+-- a replica is held whose shared right was handed out to this seat, where what is noted fits
 pub shared_held : {O : Type 0} (lines : ℕ) (r : Running O) (lawful : List ℕ → Type 0) (step : O → List ℕ → List ℕ → List ℕ × List ℕ) (seat : Seated) (held : Right) → IsSized lines r → IsSeatOf r seat → IsSharedOf r.callers seat held → Fitting r.lines lawful r.base (step r.object) seat.known → IsHeldShared lines r lawful seat held
 shared_held lines r lawful step seat held sized of right fits = record {
   sized = sized;

@@ -24,7 +24,7 @@ pub record RegionFixed (Name Table : Type 0) : Type 0 where
 abbrev pub region_fixed : {Name Table : Type 0} → Name → Table → Right → Bool → ℕ → Seated → RegionFixed Name Table
 region_fixed name table held placed began seat = record { name = name; table = table; held = held; placed = placed; began = began; rest = unchanged_by_access held.replica seat }
 
--- it is the same region
+-- what no access of a region changes is as before
 pub record SameRegion {Name Table : Type 0} (before after : RegionFixed Name Table) : Type 0 where
   pub name : after.name ≡ before.name
   pub table : after.table ≡ before.table
@@ -33,7 +33,8 @@ pub record SameRegion {Name Table : Type 0} (before after : RegionFixed Name Tab
   pub began : after.began ≡ before.began
   pub rest : after.rest ≡ before.rest
 
--- the same of a region for loads, where the place may have been loaded before
+-- what no access of a region for loads changes: the reference to the seat, the table, the token, the place where it was loaded before, the steps made
+-- before, and the seat but for what an access changes
 pub record ReadFixed (Name Table : Type 0) : Type 0 where
   pub name : Name
   pub table : Table

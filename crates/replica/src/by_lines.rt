@@ -46,7 +46,7 @@ pub fn renew_listed<O: Object>(
     Ok(place)
 }
 
-/// Marks the pieces with lines that changed between the places of two replicas. False comes where the ring does not tell them.
+/// Whether the ring tells which lines changed between the places of two replicas; if so the pieces with those lines are marked.
 fn mark_listed<O: Object>(
     shared: &Shared<O>,
     seat: &mut CallerSeat,

@@ -67,8 +67,9 @@ pub fn renew_from<O: Object>(
     Ok(place)
 }
 
-/// The same as `copy_from` of marked pieces alone, and of the first, which is the line of the place: whatever fits, the words of each other are
-/// as they were.
+/// Copies the marked pieces of a replica held shared over one held exclusively, and the first piece, which is the line of the place; all pieces where `all`
+/// is set. Whatever fits, the words of each other piece are as they were. It gives the place, and both rights stand afterwards. `Halt` comes only where the
+/// seat's steps equal its limit.
 pub(crate) fn copy_marked<O: Object>(
     shared: &Shared<O>,
     seat: &mut CallerSeat,

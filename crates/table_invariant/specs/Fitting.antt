@@ -33,7 +33,8 @@ pub record IsConsistentWith (lines : ℕ) (lawful : List ℕ → Type 0) (base :
 abbrev pub loads_of : List (ℕ × ℕ) → List Note
 loads_of loaded = map (λ (x : ℕ × ℕ). (false, x.0, x.1)) loaded
 
--- the same for a replica held shared, which nobody stores to: the second list is the first
+-- A pair of lists fits the words loaded of a replica held shared, which nobody stores to: the first is lawful as a base, at a place from the base's on, and
+-- has those words, and the second is the first.
 pub record ReadFits (lines : ℕ) (lawful : List ℕ → Type 0) (base : Base) (loaded : List (ℕ × ℕ)) (first now : List ℕ) : Type 0 where
   pub fits : IsConsistentWith lines lawful base (loads_of loaded) first now
   pub same : now ≡ first
@@ -155,6 +156,6 @@ AreEqual lines lawful base step known =
 abbrev pub IsReplayed : ℕ → (List ℕ → Type 0) → Base → (List ℕ → List ℕ → List ℕ × List ℕ) → Known → Type 0
 IsReplayed lines lawful base step known = (first now : List ℕ) → FitsKnown lines lawful base step known first now → (place : ℕ) × ReplayedTo step (has_of known) first place now
 
--- and it leads to the place that was last loaded or stored
+-- for every pair that fits what a seat knows, what it has leads from the first list to the second, at the place that was last loaded or stored
 abbrev pub IsReplayedToPlace : ℕ → (List ℕ → Type 0) → Base → (List ℕ → List ℕ → List ℕ × List ℕ) → Known → Type 0
 IsReplayedToPlace lines lawful base step known = (first now : List ℕ) → FitsKnown lines lawful base step known first now → ReplayedTo step (has_of known) first (place_noted 0 known.accesses) now

@@ -30,7 +30,7 @@ pub record Learns (instance : Instance) (s : State) (history : List Entry) (kind
   pub imaged : AddsImage instance history known.images after.images
   pub fits : WordFits kind
 
--- it is so in each lawful state with these words, of each local state that a seat shows which knows this of its caller
+-- `Learns` holds in each lawful state with these words, of each local state that a seat shows which knows this of its caller
 abbrev pub LearnsInAnyState : Instance → List ℕ → Kind → Known → ℕ → ℕ → Known → Type 0
 LearnsInAnyState instance words kind known word new after =
     (locals : List Local) (law : Lawful instance (record { words = words; locals = locals })) (l : Local) → slice_get locals known.local.number ≡ Some l → known.local ≡ shown l →

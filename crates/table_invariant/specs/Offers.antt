@@ -14,7 +14,7 @@ pub record LeadsFrom (step : List ℕ → List ℕ → List ℕ × List ℕ) (ha
   pub to : ReplayedTo step has first (ticket + 1) now
   pub leads : stored (slice_index set 0) set before ≡ now
 
--- it is so whatever fits
+-- whatever fits, the pairs of this set lead from the words at the ticket to those at the next place; there are at most 256, at words of a region
 pub record TellsSet (lines : ℕ) (lawful : List ℕ → Type 0) (base : Base) (step : List ℕ → List ℕ → List ℕ × List ℕ) (known : Known) (ticket : ℕ) (set : List ℕ) : Type 0 where
   pub few : slice_index set 0 ≤ 256
   pub within : (m : ℕ) → m < slice_index set 0 → slice_index set (2 * m + 1) < length base.words

@@ -82,7 +82,7 @@ times_raised answers reads known = record known.times {
 abbrev pub known_raised : Instance → ℕ → List Answer → List SeenRead → Known → Known
 known_raised instance code answers reads known = record known { local = answered_local instance code answers reads known.local; times = times_raised answers reads known }
 
--- the same where the reads are of a read that is given or not
+-- what the caller of a raise then knows, where the reads answered are the one of a read that is given, or none where none is given
 abbrev pub known_answered : Instance → ℕ → List Answer → Option (List ℕ × List ℕ) → Known → Known
 known_answered instance code answers read known =
     known_raised instance code answers (read_at (root_place_of instance.callers code) (length known.local.answered + length answers) read) known

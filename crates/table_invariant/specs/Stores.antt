@@ -21,7 +21,7 @@ FittingIn o r = Fitting r.lines (o.lawful r.object) r.base (o.step r.object)
 abbrev pub IsReplayedIn : {O : Type 0} → Ghosts O → Running O → Known → Type 0
 IsReplayedIn o r = IsReplayed r.lines (o.lawful r.object) r.base (o.step r.object)
 
--- the same, and it leads to the place that was loaded or stored last
+-- whatever fits, what the caller has of entries and write sets leads from the first words to the present ones, at the place that was loaded or stored last
 abbrev pub IsReplayedToPlaceIn : {O : Type 0} → Ghosts O → Running O → Known → Type 0
 IsReplayedToPlaceIn o r = IsReplayedToPlace r.lines (o.lawful r.object) r.base (o.step r.object)
 

@@ -52,8 +52,9 @@ pub record DurableAt (instance : Instance) (from : State) (events : List Event) 
   pub last : (front : List Event) × (event : Event) × (by.before ≡ front ++ event ∷ []) × (event.caller ≡ caller)
   pub durable : place ≤ durable_place instance by.moment.words
 
--- The times of a caller's operations are so: each entry, answer and read has one. At the load of CUR all that anyone was answered is below the place of
--- what was seen of CUR since, and so it is of each image.
+-- The times of a caller's operations: each entry, answer and read has one, a moment of the run at which it began or was answered. At the load of CUR all
+-- that anyone was answered is below the place of what was seen of CUR since. So it is below an image's place where the image began, and the place noted as
+-- durable was so where it ended.
 pub record AreTimes (instance : Instance) (from : State) (events : List Event) (caller : ℕ) (l : Local) (t : Times) : Type 0 where
   pub all_linked : length t.linked ≡ length l.own
   pub linked : (i n : ℕ) → slice_get t.linked i ≡ Some n → BeginsAt instance from events caller (Update caller i) n
@@ -98,7 +99,8 @@ pub record EndsIn (last : ℕ) (old new : List ℕ) : Type 0 where
   pub to : at ≤ last
   pub is : new ≡ old ++ at ∷ []
 
--- the same of a read, which began after at least the first number of steps and was answered within the last
+-- A read was answered, which began when its caller had made at least the first number of steps, and ended when it had made at most the last: the list of
+-- both counts has one more.
 pub record ReadsIn (first last : ℕ) (old new : List (ℕ × ℕ)) : Type 0 where
   pub begun : ℕ
   pub ended : ℕ
@@ -106,7 +108,8 @@ pub record ReadsIn (first last : ℕ) (old new : List (ℕ × ℕ)) : Type 0 whe
   pub to : ended ≤ last
   pub is : new ≡ old ++ (begun, ended) ∷ []
 
--- the same of an image at a place, which was durable when it was taken
+-- An image at a place was taken, which began when its caller had made at least the first number of steps and ended when it had made at most the last, and
+-- the place was durable then: the list of images has one more.
 pub record ImageIn (first last place : ℕ) (old new : List ImageTimes) : Type 0 where
   pub image : ImageTimes
   pub from : min first max_word ≤ image.begun
