@@ -21,11 +21,11 @@ use Rattle.strong_trylock.specs.Held.{AllRights, all_rights, no_rights}
 with_others : Option ℕ → Others → AllRights
 with_others exclusive o = record { exclusive = exclusive; shared = o.shared; passer = o.passer; downgraded = o.downgraded; won = o.won }
 
-pub finished : {O : Type 0} (o : Ghosts O) (r : Running O) (ticket : ℕ) (before mid after : Seated) (held token : Right) (reply : List ℕ) →
-    others before.known.local ≡ no_others → exclusive_on before.known.local ≡ Some held.replica → IsBroughtUp o r held ticket mid reply → unchanged_by_bringing mid ≡ unchanged_by_bringing before → Downgrades r o.step o.only_reads held.replica mid after token →
-    Prepares o r ticket reply before after token
+pub finished : {O : Type 0} (o : Ghosts O) (r : Running O) (ticket : ℕ) (first before mid after : Seated) (held token : Right) (reply : List ℕ) →
+    before.known.local.met ≡ first.known.local.met → others before.known.local ≡ no_others → exclusive_on before.known.local ≡ Some held.replica → IsBroughtUp o r held ticket mid reply → unchanged_by_bringing mid ≡ unchanged_by_bringing before → Downgrades r o.step o.only_reads held.replica mid after token →
+    Prepares o r ticket reply first after token
 unfolding with_others
-finished o r ticket before mid after held token reply alone holds brought work d =
+finished o r ticket first before mid after held token reply same alone holds brought work d =
     let free : all_rights before ≡ record no_rights { exclusive = Some held.replica } =
     ap (λ (o : Option ℕ). with_others o (others before.known.local)) holds ∙ ap (with_others (Some held.replica)) alone in
     let made = d.made.made in
@@ -51,5 +51,5 @@ finished o r ticket before mid after held token reply alone holds brought work d
       some = some_same r.lines (o.lawful r.object) r.base (o.step r.object) mid.known after.known has accesses (subst (λ n. SomeFits n (o.lawful r.object) r.base (o.step r.object) mid.known) (sym lines_are) brought.is_held.some);
       protection = ap (λ (s : Seated). s.known.local.protection) made ∙ brought.none;
       refused = ap (λ (s : Seated). s.known.local.refused) made ∙ ap (λ (s : Seated). s.known.local.refused) work ∙ ap (λ (o : Others). o.refused) alone;
-      met = ap (λ (s : Seated). s.known.local.met) made ∙ ap (λ (s : Seated). s.known.local.met) work;
+      met = ap (λ (s : Seated). s.known.local.met) made ∙ ap (λ (s : Seated). s.known.local.met) work ∙ same;
     }

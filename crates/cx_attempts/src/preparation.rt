@@ -2,9 +2,9 @@
 
 ghost use Rattle.std.specs.Prelude.{IfOk, MatchResult, OnOk};
 ghost use Rattle.table_invariant.specs.Seats.{IsAtLimit};
-ghost use Rattle.cx_attempts.specs.Bringing.{CountsEntries, CountsIn};
-ghost use Rattle.cx_attempts.specs.Keeping.{IsKeptFor, IsTakenFor};
-ghost use Rattle.cx_attempts.specs.Preparing.{Prepares, TriesPrepare};
+ghost use Rattle.cx_attempts.specs.Bringing.{CountsIn};
+ghost use Rattle.cx_attempts.specs.Keeping.{IsTakenFor};
+ghost use Rattle.cx_attempts.specs.Preparing.{TriesPrepare};
 ghost use Rattle.cx_attempts.specs.Attempts.{HaltsAttempt, MayAttempt, RaisesFront, unchanged_by_prepare};
 
 use crate::acquisition::take_any;
@@ -54,27 +54,10 @@ fn renew<O: Object>(
     ensures attempts { RaisesFront shared.now unchanged_by_prepare seat.old seat.new }
 {
     begin(shared, seat, &held)?;
-    match keep(shared, seat, held, ticket)? {
-        Some(held) => Ok(Some(finish(shared, seat, held, ticket, scratch, reply)?)),
-        None => Ok(None),
-    }
-}
-
-/// Brings a replica that was kept up to a ticket, and turns the right into a shared one.
-fn finish<O: Object>(
-    shared: &Shared<O>,
-    seat: &mut CallerSeat,
-    held: Exclusive,
-    ticket: u64,
-    scratch: &mut Scratch,
-    reply: &mut OpWords,
-) -> Result<Downgraded, Halt>
-    requires kept { IsKeptFor O.Object shared.now ticket seat.old held }
-    ensures prepared { MatchResult result (Prepares O.Object shared.now ticket reply.new seat.old seat.new) (λ _. HaltsAttempt seat.old seat.new) }
-    ensures counted { OnOk result (CountsEntries scratch.old.taken seat.old scratch.new.taken seat.new) }
-    ensures attempts { RaisesFront shared.now unchanged_by_prepare seat.old seat.new }
-{
+    let Some(held) = keep(shared, seat, held, ticket)? else {
+        return Ok(None);
+    };
     bring_up(shared, seat, &held, ticket, scratch, reply)?;
     let held = downgrade(shared, seat, held)?;
-    Ok(held)
+    Ok(Some(held))
 }
