@@ -1,8 +1,8 @@
 -- What calls bring on by write sets, one after another.
-use Rattle.std.proofs.Common.{◌≡◌, ◌+◌, inl, inr, ℕ, List, min, refl, ap, sym, ◌∙◌, arith, Option, Some, None, Result, Ok, Err, IfOk}
+use Rattle.std.proofs.Common.{◌≡◌, ◌+◌, inl, inr, ℕ, List, min, refl, ap, sym, ◌∙◌, arith}
 use Rattle.cx_core.specs.Layout.{max_word}
 use Rattle.table_invariant.specs.Seats.{Seated}
-use Rattle.cx_attempts.specs.Bringing.{BringsAtMost, BringsEntries, BringsOn, CountsEntries, CountsIn, none_yet, one_more}
+use Rattle.cx_attempts.specs.Bringing.{BringsAtMost, BringsEntries, BringsOn, CountsEntries, none_yet, one_more}
 use Rattle.cx_attempts.specs.Attempts.{KeepsCount}
 use Rattle.redo_set.specs.Taking.{sets_read}
 use Rattle.redo_replay.specs.Offered.{StoresSet}
@@ -61,9 +61,3 @@ counts_none taken now s v still same = record { counted = counted_same taken now
 
 pub counts_then : (taken mid now : ℕ) (s u v : Seated) → CountsEntries taken s mid u → CountsEntries mid u now v → CountsEntries taken s now v
 counts_then taken mid now s u v a b = record { counted = λ was. b.counted (a.counted was); by_sets = brings_then s u v a.by_sets b.by_sets }
-
--- and of an attempt that may give nothing
-pub counts_before : {X E : Type 0} (taken now : ℕ) (s t v : Seated) → t.known.sets ≡ s.known.sets → (result : Result (Option X) E) → IfOk result (CountsIn {X = X} taken t now v) → IfOk result (CountsIn {X = X} taken s now v)
-counts_before taken now s t v before (Ok (Some x)) counts = record { counted = λ was. counts.counted (counted_same taken taken s t refl before was); by_sets = brings_around s t v v before counts.by_sets refl }
-counts_before taken now s t v before (Ok None) counts = record { counted = λ was. counts.counted (counted_same taken taken s t refl before was); by_sets = counts.by_sets ∙ before }
-counts_before taken now s t v before (Err e) counts = tt

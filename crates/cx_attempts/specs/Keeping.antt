@@ -19,7 +19,6 @@ use Rattle.cx_attempts.specs.Attempts.{StepsOn, AttemptRefused}
 use Rattle.mutation_queue.specs.Protections.{MeetsNone, ShowsRootOutdated}
 use Rattle.replica.specs.Copies.{HoldsBothIn}
 use Rattle.replica.specs.Held.{IsHeldIn, IsHeldSharedIn}
-use Rattle.replica.specs.Laws.{IsTakenIn}
 use Rattle.replica.specs.Replays.{IsHeldImageIn, StoresNone, noted_place}
 use Rattle.strong_trylock.specs.Held.{AllRights, all_rights}
 
@@ -130,13 +129,6 @@ pub record MayKeep (ticket : ℕ) (seat : Seated) : Type 0 where
   pub none : seat.known.local.protection ≡ Unprotected
   pub stale : seat.known.local.fresh ≡ false
   pub linked : ticket < seat.known.local.front
-
--- A replica was just taken, before the entries up to a ticket are protected, which is linked. Beside it the caller has no right and no scan,
--- and nothing is refused.
-pub record IsTakenFor {O : Type 0} (o : Ghosts O) (r : Running O) (ticket : ℕ) (seat : Seated) (held : Right) : Type 0 where
-  pub taken : IsTakenIn o r seat held
-  pub alone : others seat.known.local ≡ no_others
-  pub ready : MayKeep ticket seat
 
 -- a caller of this table without a protection may protect the place of its replica, for the entries up to a ticket, which is linked
 pub record MayGuard {O : Type 0} (r : Running O) (ticket : ℕ) (seat : Seated) : Type 0 where

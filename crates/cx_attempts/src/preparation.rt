@@ -3,7 +3,6 @@
 ghost use Rattle.std.specs.Prelude.{IfOk, MatchResult, OnOk};
 ghost use Rattle.table_invariant.specs.Seats.{IsAtLimit};
 ghost use Rattle.cx_attempts.specs.Bringing.{CountsIn};
-ghost use Rattle.cx_attempts.specs.Keeping.{IsTakenFor};
 ghost use Rattle.cx_attempts.specs.Preparing.{TriesPrepare};
 ghost use Rattle.cx_attempts.specs.Attempts.{HaltsAttempt, MayAttempt, RaisesFront, unchanged_by_prepare};
 
@@ -12,7 +11,7 @@ use crate::renewal::keep;
 use crate::replay::bring_up;
 use crate::scratch::Scratch;
 use cx_base::{Halt, Object, OpWords};
-use cx_table::{CallerSeat, Downgraded, Exclusive, Shared};
+use cx_table::{CallerSeat, Downgraded, Shared};
 use replica::begin;
 use strong_trylock::downgrade;
 
@@ -33,26 +32,9 @@ pub fn prepare<O: Object>(
     ensures counted { IfOk result (CountsIn scratch.old.taken seat.old scratch.new.taken seat.new) }
     ensures attempts { RaisesFront shared.now unchanged_by_prepare seat.old seat.new }
 {
-    match take_any(shared, seat)? {
-        Some(held) => renew(shared, seat, held, ticket, scratch, reply),
-        None => Ok(None),
-    }
-}
-
-/// Brings a replica that was just taken up to a ticket, and turns the right into a shared one.
-fn renew<O: Object>(
-    shared: &Shared<O>,
-    seat: &mut CallerSeat,
-    held: Exclusive,
-    ticket: u64,
-    scratch: &mut Scratch,
-    reply: &mut OpWords,
-) -> Result<Option<Downgraded>, Halt>
-    requires taken { IsTakenFor O.Object shared.now ticket seat.old held }
-    ensures prepared { MatchResult result (TriesPrepare O.Object shared.now ticket reply.new seat.old seat.new) (λ _. HaltsAttempt seat.old seat.new) }
-    ensures counted { IfOk result (CountsIn scratch.old.taken seat.old scratch.new.taken seat.new) }
-    ensures attempts { RaisesFront shared.now unchanged_by_prepare seat.old seat.new }
-{
+    let Some(held) = take_any(shared, seat)? else {
+        return Ok(None);
+    };
     begin(shared, seat, &held)?;
     let Some(held) = keep(shared, seat, held, ticket)? else {
         return Ok(None);
