@@ -39,7 +39,6 @@
 //! - No refusal is taken back, whether an attempt halts or not: `counted` of `HaltsAttempt` and `HaltsFor`, and `met` of the others.
 #![tactic(auto)]
 
-mod acquisition;
 mod checkpoint;
 mod current;
 mod facts;
@@ -50,11 +49,10 @@ mod replay;
 mod scratch;
 mod updates;
 
-pub use acquisition::take_any;
 pub use checkpoint::try_checkpoint_once;
 pub use current::{query_held, query_part, read_current};
 pub use lookup::{Seen, try_read_once};
-pub use preparation::prepare;
+pub use preparation::{prepare, take_any};
 pub use renewal::{keep, unguard};
 pub use replay::replay_to;
 pub use scratch::Scratch;

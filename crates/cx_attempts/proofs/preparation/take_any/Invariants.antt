@@ -3,7 +3,7 @@ use Rattle.table_invariant.specs.Running.{IsSeatOf}
 use Rattle.table_invariant.specs.Seats.{IsAtLimit, StepsBy, StepsOn}
 use Rattle.cx_attempts.specs.Taking.{unchanged_by_tries}
 use Rattle.cx_attempts.proofs.Refusals.{IsRefusing}
-use Rattle.cx_attempts.proofs.acquisition.take_any.Given as goal
+use Rattle.cx_attempts.proofs.preparation.take_any.Given as goal
 
 abbrev pub invariant-loop-tried : goal.invariant-loop-tried
 invariant-loop-tried g l = record {

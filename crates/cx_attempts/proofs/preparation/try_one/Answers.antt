@@ -1,5 +1,5 @@
 use Rattle.cx_attempts.proofs.Taken.{took_one}
-use Rattle.cx_attempts.proofs.acquisition.try_one.Goals as goal
+use Rattle.cx_attempts.proofs.preparation.try_one.Goals as goal
 
 pub returns-in-Got-clause-tried : goal.returns-in-Got-clause-tried
 returns-in-Got-clause-tried g c =

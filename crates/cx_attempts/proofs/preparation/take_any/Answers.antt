@@ -3,7 +3,7 @@ use Rattle.table_invariant.specs.Seats.{IsAtLimit, Seated}
 use Rattle.cx_attempts.proofs.Refusals.{refusing_more}
 use Rattle.table_invariant.proofs.Stepping.{on_then}
 use Rattle.cx_attempts.specs.Taking.{TriesOne}
-use Rattle.cx_attempts.proofs.acquisition.take_any.Goals as goal
+use Rattle.cx_attempts.proofs.preparation.take_any.Goals as goal
 
 pub loop-tried-preserved : goal.loop-tried-preserved
 loop-tried-preserved g c =
