@@ -1,21 +1,27 @@
 -- What a noting region knows after an access, and what a step's notes tell.
-use Rattle.std.proofs.Common.{◌≡◌, ◌+◌, ◌<◌, ◌≤◌, ◌*◌, ℕ, Bool, IsTrue, List, length, slice_index, slice_set, ap, arith, sym, subst, ◌∙◌, Result, Ok, Err, IfOk, OnErr}
+use Rattle.std.proofs.Common.{◌≡◌, ◌+◌, ◌<◌, ◌≤◌, ◌*◌, ℕ, Bool, IsTrue, List, length, slice_index, slice_set, ap, arith, sym, subst, ◌∙◌, Result, Ok, Err, IfOk, OnErr, OnOk}
 use Rattle.std.proofs.Math.Bridge.{le_prop}
 use Rattle.std.proofs.Math.Logic.{∥∥₁_elim, ∥∥₁_map}
-use Rattle.cx_base.specs.Memory.{Loaded, Stored}
+use Rattle.cx_base.specs.declared.object.Object.{Ghosts}
+use Rattle.cx_base.specs.Memory.{Becomes, Loaded, Stored}
 use Rattle.cx_base.proofs.MemoryLemmas.{Becomes-load, Becomes-same, Becomes-store, Becomes-weaker}
 use Rattle.cx_core.specs.declared.entry.Base.{Base}
+use Rattle.cx_core.specs.declared.entry.Entry.{Entry}
 use Rattle.cx_core.specs.Region.{region_words}
+use Rattle.cx_core.specs.Step.{IsStepped}
 use Rattle.cx_core.specs.WriteSet.{stored}
+use Rattle.cx_core.proofs.HistoryLemmas.{ObjectLaws}
 use Rattle.table_invariant.specs.declared.rule.Known.{Known}
 use Rattle.table_invariant.specs.Fitting.{FitsKnown, ReplayedTo, has_of}
 use Rattle.table_invariant.specs.Offers.{TellsSet}
 use Rattle.table_invariant.specs.Running.{Running}
 use Rattle.table_invariant.specs.Seats.{Seated, place_noted}
 use Rattle.table_invariant.specs.Steps.{Halts}
+use Rattle.cx_table.specs.Right.{Right}
 use Rattle.redo_replay.specs.Noting.{Notes}
 use Rattle.redo_set.specs.Sets.{AreWithin, put_over}
-use Rattle.replica.specs.Replays.{IsHeldImage}
+use Rattle.replica.proofs.Replaying.{steps_ready}
+use Rattle.replica.specs.Replays.{ComesNext, IsAfterFullStep, IsHeldImage, IsReady, ShowsReply, noted_place}
 
 -- no pair puts nothing
 none_put : (set words : List ℕ) → slice_index set 0 ≡ 0 → words ≡ put_over set words
@@ -59,3 +65,20 @@ tells_set lines lawful base step old new set long has before after place few not
         leads = sym p.2;
       }));
 }
+
+-- an entry's step that was done and noted: the replica is ready for the next, and what was noted whole is the entry's set
+module _ {O : Type 0} (o : Ghosts O) (r : Running O) (held : Right) (entry : Entry) (reply set : List ℕ) (before after : Seated) (laws : ObjectLaws (o.line_count r.object) (o.lawful r.object) (o.step r.object)) where
+  abbrev Fits : Known → List ℕ → List ℕ → Type 0
+  Fits known = FitsKnown (o.line_count r.object) (o.lawful r.object) r.base (o.step r.object) known
+
+  pub noted_ready : {X E : Type 0} (result : Result X E) (x : X) → result ≡ Ok x → IsReady o r held (noted_place before) before → ComesNext entry before → IsAfterFullStep o r held before after →
+      OnOk result (Becomes (Fits before.known) (Fits after.known) (IsStepped (o.step r.object) entry reply)) →
+      IsReady o r held (noted_place before + 1) after × ShowsReply (o.line_count r.object) (o.lawful r.object) r.base (o.step r.object) after.known entry.caller reply
+  noted_ready result x is was next leaves becomes =
+      subst (λ d. OnOk d (IsReady o r held (noted_place before + 1) after × ShowsReply (o.line_count r.object) (o.lawful r.object) r.base (o.step r.object) after.known entry.caller reply)) is
+      (steps_ready o r held entry reply before after laws result was.image next leaves becomes)
+
+  pub noted_tells : IsReady o r held (noted_place before) before → IsReady o r held (noted_place before + 1) after → IsAfterFullStep o r held before after → slice_index set 0 ≤ 256 →
+      ∥ Notes (Fits before.known) (Fits after.known) (region_words (o.line_count r.object)) set ∥₁ → TellsSet (o.line_count r.object) (o.lawful r.object) r.base (o.step r.object) after.known (noted_place before) set
+  noted_tells was ready leaves few notes =
+      tells_set (o.line_count r.object) (o.lawful r.object) r.base (o.step r.object) before.known after.known set was.is_held.sized.region (ap (λ (s : Seated). has_of s.known) leaves.rest) was.image ready.image ready.place few notes

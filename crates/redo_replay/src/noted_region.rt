@@ -168,35 +168,14 @@ pub fn apply_noting<O: Object>(
     ensures leaves { IsAfterFullStep O.Object shared.now held.now seat.old seat.new }
 {
     let ticket = seat.noted_place();
-    let whole = apply_telling(shared, seat, held, entry, set, reply)?;
+    let (done, whole) = step_noting::<O, Brand>(shared, seat, held, entry, set, reply);
+    // pairs are few
+    let _pairs = set.len();
+    done?;
     if !whole {
         return Ok(false);
     }
     note_gaps(shared, seat, ticket, set)?;
     steps_are_within_limit(seat);
     Ok(true)
-}
-
-/// Does the full step of the entry of the place of a replica held exclusively, and notes what it stores, but no gaps in the ring. It answers whether the
-/// set has room for all: then it is told to be a write set of the entry's ticket. `Halt` comes only where the seat's steps equal its limit.
-fn apply_telling<O: Object>(
-    shared: &Shared<O>,
-    seat: &mut CallerSeat,
-    held: &Exclusive,
-    entry: &Entry,
-    set: &mut WriteSet,
-    reply: &mut OpWords,
-) -> Result<bool, Halt>
-    requires ready { IsReady O.Object shared.now held.now (noted_place seat.old) seat.old }
-    requires next { ComesNext entry.now seat.old }
-    ensures ready { OnOk result (IsReady O.Object shared.now held.now (noted_place seat.old + 1) seat.new × ShowsReplyIn O.Object shared.now seat.new.known entry.now.caller reply.new) }
-    ensures tells { IfOk result (λ whole. IsTrue whole → TellsSetIn O.Object shared.now seat.new.known (noted_place seat.old) set.new) }
-    ensures halts { OnErr result (left_of seat.new.known.local ≡ Some 0) }
-    ensures leaves { IsAfterFullStep O.Object shared.now held.now seat.old seat.new }
-{
-    let (done, whole) = step_noting::<O, Brand>(shared, seat, held, entry, set, reply);
-    // pairs are few
-    let _pairs = set.len();
-    done?;
-    Ok(whole)
 }
