@@ -2,15 +2,13 @@
 //! step call names its kind, and these functions are inlined there, so that the compiled step has the code of its kind alone. `Halt` comes exactly
 //! where the seat's steps equal its limit, and then nothing changes.
 
-ghost use Rattle.std.specs.Prelude.{◌≡◌, ◌<◌, ℕ};
+ghost use Rattle.std.specs.Prelude.{◌≡◌, ℕ};
 ghost use Rattle.cx_core.specs.declared.local.Local.{Local};
-ghost use Rattle.cx_core.specs.Events.{step_word};
 ghost use Rattle.table_invariant.specs.Running.{instance_at};
-ghost use Rattle.table_invariant.specs.Seats.{IsByShown, WordFits, kind_found};
+ghost use Rattle.table_invariant.specs.Seats.{kind_found};
 ghost use Rattle.table_invariant.specs.Steps.{IsBlind, MayStepKnowing, IsStoreEvent, Puts, Steps};
-ghost use Rattle.cx_table.specs.Calls.{MakesFittingStep, MayStep};
+ghost use Rattle.cx_table.specs.Calls.{IsShownStep, MakesFittingStep, MayMake};
 ghost use Rattle.cx_table.specs.Words.{put_by};
-ghost use Rattle.caller_cache.specs.Following.{IsFollowed};
 
 use crate::events::Instruction;
 use crate::seat::CallerSeat;
@@ -29,12 +27,8 @@ impl<O: Object> Shared<O> {
         word: usize,
         instruction: Instruction,
     ) -> Result<u64, Halt>
-        requires shown { IsByShown kind.now }
-        requires fits { WordFits kind.now }
-        requires followed { IsFollowed self.now.callers kind.now seat.old.known.local }
-        requires may { MayStep O.Object self.now kind.now seat.old }
-        requires place { word ≡ step_word (instance_at self.now O.step O.only_reads) kind.now seat.old.known.local }
-        requires within { word < self.now.table.words }
+        requires may { MayMake O.Object self.now kind.now word seat.old }
+        requires shown { IsShownStep O.Object self.now kind.now word seat.old }
         requires puts { Puts (instance_at self.now O.step O.only_reads) kind.now seat.old.known.local (put_by instruction) }
         ensures { MakesFittingStep O.Object self.now seat.old seat.new result (λ found. Steps self.now O.step O.only_reads kind.now found seat.old seat.new) }
     {
@@ -51,9 +45,7 @@ impl<O: Object> Shared<O> {
         word: usize,
         instruction: Instruction,
     ) -> Result<u64, Halt>
-        requires followed { IsFollowed self.now.callers kind.now seat.old.known.local }
-        requires may { MayStep O.Object self.now kind.now seat.old }
-        requires within { word < self.now.table.words }
+        requires may { MayMake O.Object self.now kind.now word seat.old }
         requires learns { MayStepKnowing (instance_at self.now O.step O.only_reads) kind.now seat.old.known word (put_by instruction) }
         ensures { MakesFittingStep O.Object self.now seat.old seat.new result (λ found. Steps self.now O.step O.only_reads (kind_found (instance_at self.now O.step O.only_reads) kind.now seat.old.known.local found) found seat.old seat.new) }
     {
@@ -72,12 +64,8 @@ impl<O: Object> Shared<O> {
         word: usize,
         new: u64,
     ) -> Result<(), Halt>
-        requires shown { IsByShown kind.now }
-        requires fits { WordFits kind.now }
-        requires followed { IsFollowed self.now.callers kind.now seat.old.known.local }
-        requires may { MayStep O.Object self.now kind.now seat.old }
-        requires place { word ≡ step_word (instance_at self.now O.step O.only_reads) kind.now seat.old.known.local }
-        requires within { word < self.now.table.words }
+        requires may { MayMake O.Object self.now kind.now word seat.old }
+        requires shown { IsShownStep O.Object self.now kind.now word seat.old }
         requires stores { IsStoreEvent (instance_at self.now O.step O.only_reads) kind.now seat.old.known new }
         ensures { MakesFittingStep O.Object self.now seat.old seat.new result (λ _. Steps self.now O.step O.only_reads kind.now 0 seat.old seat.new) }
     {
@@ -93,9 +81,7 @@ impl<O: Object> Shared<O> {
         word: usize,
         new: u64,
     ) -> Result<(), Halt>
-        requires followed { IsFollowed self.now.callers kind.now seat.old.known.local }
-        requires may { MayStep O.Object self.now kind.now seat.old }
-        requires within { word < self.now.table.words }
+        requires may { MayMake O.Object self.now kind.now word seat.old }
         requires learns { MayStepKnowing (instance_at self.now O.step O.only_reads) kind.now seat.old.known word (λ _. new) }
         requires plain { (l : Local) (found : ℕ) → kind_found (instance_at self.now O.step O.only_reads) kind.now l found ≡ kind.now }
         requires blind { IsBlind (instance_at self.now O.step O.only_reads) kind.now seat.old.known }

@@ -5,7 +5,7 @@ use Rattle.cx_table.proofs.shared.Shared.made.Goals as goal
 
 pub made_learned-requires-clause-learns : goal.made_learned-requires-clause-learns
 made_learned-requires-clause-learns g c =
-    learns_made (instance_at c.args.self.now g.O.Object.step g.O.Object.only_reads) c.args.kind.now c.args.seat.now.known c.args.word (put_by c.args.instruction) c.requires.shown c.requires.fits c.requires.may.guard c.requires.place c.requires.puts
+    learns_made (instance_at c.args.self.now g.O.Object.step g.O.Object.only_reads) c.args.kind.now c.args.seat.now.known c.args.word (put_by c.args.instruction) c.requires.shown.shown c.requires.shown.fits c.requires.may.step.guard c.requires.shown.place c.requires.puts
 
 pub returns : goal.returns
-returns g c = made_shown g.O.Object c.args.self.now c.args.kind.now c.args.seat.now _ _ c.requires.shown c.made_learned.ensures
+returns g c = made_shown g.O.Object c.args.self.now c.args.kind.now c.args.seat.now _ _ c.requires.shown.shown c.made_learned.ensures

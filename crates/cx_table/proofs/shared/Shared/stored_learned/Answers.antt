@@ -22,10 +22,10 @@ follow-requires g c =
     let t = c.args.self.now in
     let instance = instance_at t g.O.Object.step g.O.Object.only_reads in
     let same = ap (λ (r : Running _). r.callers) c.self.view_is in
-    let region = ap (λ (s : Seated). s.region) c.seat.view_is ∙ c.requires.may.seat.region in
+    let region = ap (λ (s : Seated). s.region) c.seat.view_is ∙ c.requires.may.step.seat.region in
     subst (λ n. CanFollow n c.args.kind.now c.seat.inside.summary c.seat.inside.copy) (sym same)
     (can_follow instance c.args.kind.now c.seat.inside.seat.me c.seat.inside.summary c.seat.inside.before c.seat.inside.copy c.seat.invariant region (subst (λ n. n ≤ 8) same c.self.inside.callers.few)
-    (subst (λ (s : Seated). SeenGuard instance c.args.kind.now s.known.local) (sym c.seat.view_is) c.requires.may.guard) (subst (λ (s : Seated). IsFollowed t.callers c.args.kind.now s.known.local) (sym c.seat.view_is) c.requires.followed))
+    (subst (λ (s : Seated). SeenGuard instance c.args.kind.now s.known.local) (sym c.seat.view_is) c.requires.may.step.guard) (subst (λ (s : Seated). IsFollowed t.callers c.args.kind.now s.known.local) (sym c.seat.view_is) c.requires.may.followed))
 
 -- what the step makes
 made : (g : _) (c : goal.After-follow g) → IsSeat c.store_learned.new.seat.me c.follow.new.summary c.seat.inside.before c.follow.new.copy
@@ -36,7 +36,7 @@ made g c =
     let taught = subst (λ (k : Kind). KnowledgeAfter instance k (known_of c.seat.inside.seat.me.0) 0 c.store_learned.new.seat.me) (sym (c.requires.plain (known_of c.seat.inside.seat.me.0).local 0)) c.store_learned.ensures.taught in
     subst (λ (k : Kind). IsSeat c.store_learned.new.seat.me c.follow.new.summary c.seat.inside.before c.follow.new.copy × Steps t g.O.Object.step g.O.Object.only_reads k 0 c.args.seat.now (seated c.store_learned.new.seat.table_id c.store_learned.new.seat.me c.seat.inside.before c.follow.new.copy))
     (c.requires.plain c.args.seat.now.known.local 0)
-    (step_made t g.O.Object.step g.O.Object.only_reads c.args.kind.now 0 _ _ _ _ _ _ _ _ _ _ _ c.seat.invariant c.seat.view_is c.in_ok-check.ensures c.requires.may.seat c.requires.may.guard
+    (step_made t g.O.Object.step g.O.Object.only_reads c.args.kind.now 0 _ _ _ _ _ _ _ _ _ _ _ c.seat.invariant c.seat.view_is c.in_ok-check.ensures c.requires.may.step.seat c.requires.may.step.guard
     c.store_learned.ensures.table taught (ap (λ (r : Running _). r.callers) c.self.view_is) c.follow.ensures.numbers c.follow.ensures.copies)
 
 pub invariant_of-seat : goal.invariant_of-seat
