@@ -15,6 +15,7 @@ squares a b k p q =
       | inr l ↦ (let m : b * b ≤ b * a = mul-le-mul_left b l in omega (arith, m, p, q))
     ]
 
+-- the bound of the law for a node over two level subtrees: `l` is the height of the higher one and `m` its size, `r` and `n` those of the other
 higher_first : (l r m n : ℕ) → IsLevel l r → r ≤ l → 2 ^ l ≤ (m + 1) * (m + 1) → 2 ^ r ≤ (n + 1) * (n + 1) → 2 ^ suc l ≤ ((m + 1) + (n + 1)) * ((m + 1) + (n + 1))
 higher_first zero r m n level le p q = omega arith
 higher_first (suc l) r m n level le p q =

@@ -32,6 +32,7 @@ module _ (now : List ℕ) (old : ℕ → ℕ → ℕ) where
   abbrev Says : Tree ℕ → Type 0
   Says t = (k i : ℕ) → times k t ≢ 0 → i < 3 → word_of now k i ≡ link_of t k i (old k i)
 
+  -- of words that say what a tree says, the first three of the line of its root `x` are that node's children and height
   link_here : (l : Tree ℕ) (x : ℕ) (r : Tree ℕ) (i : ℕ) → Says (Node l x r) → i < 3 → word_of now x i ≡ node_word (root l) (root r) (height (Node l x r)) i (old x i)
   link_here l x r i s h =
       s x i (λ z. absurd (let o = times_self x in omega (arith, o, z))) h

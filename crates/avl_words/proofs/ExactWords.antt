@@ -52,12 +52,14 @@ link_none (Node l x r) line i old z =
           ∙ link_none l line i (link_of r line i old) (omega (arith, z)) ∙ link_none r line i old (omega (arith, z))
     ]
 
+-- where words stand for the node `x` over `l` and `r`, the first three words of its line are its children and its height
 here_word : (ws : List ℕ) (l : Tree ℕ) (x : ℕ) (r : Tree ℕ) (i old : ℕ) → RepresentsTree ws (Node l x r) → i < 3 → node_word (root l) (root r) (height (Node l x r)) i old ≡ word_of ws x i
 here_word ws l x r zero old s h = sym s.0.left_is
 here_word ws l x r (suc zero) old s h = sym s.0.right_is
 here_word ws l x r (suc (suc zero)) old s h = sym s.0.height_is
 here_word ws l x r (suc (suc (suc i))) old s h = absurd (omega arith)
 
+-- where words stand for `t`, what its links make of one of the first three words of a line of its own is the word that is there
 link_there : (ws : List ℕ) (t : Tree ℕ) (line i old : ℕ) → RepresentsTree ws t → times line t ≢ 0 → i < 3 → link_of t line i old ≡ word_of ws line i
 link_there ws Empty line i old s n h = absurd (n refl)
 link_there ws (Node l x r) line i old s n h =
@@ -74,6 +76,7 @@ link_there ws (Node l x r) line i old s n h =
 split_place : (p : ℕ) → 8 * (p / 8) + p % 8 ≡ p
 split_place p = omega arith
 
+-- where only links of `t` have changed and words stand for it now, each word `p` is what the links of `t` make of the old one
 one_word : (ws now : List ℕ) (t : Tree ℕ) (p : ℕ) → SameExcept ws now t → RepresentsTree now t → get_or now p 0 ≡ link_of t (p / 8) (p % 8) (get_or ws p 0)
 one_word ws now t p but s =
     let e = split_place p in

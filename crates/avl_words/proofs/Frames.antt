@@ -16,10 +16,12 @@ times_most x line = grind (arith, nat_tests)
 pub times_other : (x line : ℕ) → x ≢ line → ◌≡◌ {A = ℕ} (cond (eqb x line) 1 0) 0
 times_other x line n = grind (arith, nat_tests)
 
+-- how often a line is in a node `x` over `a` and `b`, at either side: the sum of both and of the node's own line
 pub times_on : (line side : ℕ) (a : Tree ℕ) (x : ℕ) (b : Tree ℕ) → times line (node_on side a x b) ≡ times line a + cond (eqb x line) 1 0 + times line b
 times_on line zero a x b = refl
 times_on line (suc k) a x b = omega arith
 
+-- the root of the node `x` over `a` and `b` is `x`, whichever side `a` is at
 pub root_on : (side : ℕ) (a : Tree ℕ) (x : ℕ) (b : Tree ℕ) → root (node_on side a x b) ≡ x
 root_on zero a x b = refl
 root_on (suc k) a x b = refl
@@ -80,6 +82,7 @@ stands_same ws now (Node l x r) long same s = (
   stands_same ws now r long (λ line n. same line (λ z. n (omega (arith, z)))) s.2,
 )
 
+-- words that stand for `t` still do after the links of a line that is not in `t` are set
 pub stands_set : (line side a b : ℕ) (ws : List ℕ) (t : Tree ℕ) → side < 2 → times line t ≡ 0 → RepresentsTree ws t → RepresentsTree (with_node line side a b ws) t
 stands_set line side a b ws t s none h =
     stands_same ws (with_node line side a b ws) t (with_node_long line side a b ws)
@@ -99,12 +102,14 @@ pub record IsThere (ws : List ℕ) (x : ℕ) : Type 0 where
   pub some : 1 ≤ x
   pub within : IsWithin ws x
 
+-- a line `x` that is within the words is so after the links of a node are set
 pub there_set : (line side a b : ℕ) (ws : List ℕ) (x : ℕ) → side < 2 → IsThere ws x → IsThere (with_node line side a b ws) x
 there_set line side a b ws x s h = record {
   some = h.some;
   within = subst (λ k. 8 * x + 8 ≤ k) (sym (with_node_long line side a b ws)) h.within;
 }
 
+-- after the links of a node `x` are set to two standing trees that do not hold it, words stand for the node over them
 pub stands_on : (side : ℕ) (ta : Tree ℕ) (x : ℕ) (tb : Tree ℕ) (ws : List ℕ) → side < 2 → IsThere ws x → RepresentsTree ws ta → RepresentsTree ws tb → times x ta ≡ 0 → times x tb ≡ 0 →
     RepresentsTree (with_node x side (root ta) (root tb) ws) (node_on side ta x tb)
 stands_on zero ta x tb ws s h p q m n =
@@ -144,9 +149,11 @@ except_set line side a b ws t s there = record {
   ]);
 }
 
+-- two changes one after the other, from `a` to `b` and on to `c`, both of links of `t` only, are one change of links of `t` only
 pub except_then : (a b c : List ℕ) (t : Tree ℕ) → SameExcept a b t → SameExcept b c t → SameExcept a c t
 except_then a b c t p q = record { long = q.long ∙ p.long; same = λ k i l h. q.same k i l h ∙ p.same k i l h }
 
+-- a change from `a` to `b` of links of `s` only is one of links of `t` only, where no line is in `s` more often than in `t`
 pub except_more : (a b : List ℕ) (s t : Tree ℕ) → ((line : ℕ) → times line s ≤ times line t) → SameExcept a b s → SameExcept a b t
 except_more a b s t le p = record {
   long = p.long;

@@ -18,25 +18,30 @@ inner_up_times k (suc s) a y Empty x c = omega arith
 inner_up_times k zero a y (Node l z r) x c = omega arith
 inner_up_times k (suc s) a y (Node l z r) x c = omega arith
 
+-- a single rotation leaves it as it was how often a line `k` is in the tree
 single_times : (k side : ℕ) (a : Tree ℕ) (y : ℕ) (b : Tree ℕ) (x : ℕ) (c : Tree ℕ) → times k (node_on side a y (node_on side b x c)) ≡ times k (node_on side (node_on side a y b) x c)
 single_times k zero a y b x c = omega arith
 single_times k (suc s) a y b x c = omega arith
 
+-- a rotation of a node `x` and its child `y`, single or double, leaves it as it was how often a line `k` is in the tree
 child_up_times : (k side : ℕ) (a : Tree ℕ) (y : ℕ) (b : Tree ℕ) (x : ℕ) (c : Tree ℕ) → times k (child_up side a y b x c) ≡ times k (node_on side (node_on side a y b) x c)
 child_up_times k side a y b x c =
     cond_both (leb (height b) (height a)) (node_on side a y (node_on side b x c)) (inner_up side a y b x c) (λ t. times k t ≡ times k (node_on side (node_on side a y b) x c))
     (λ _. single_times k side a y b x c) (λ _. inner_up_times k side a y b x c)
 
+-- a node `x` with `t` at a side and `c` at the other holds a line `k` as often after it is rotated away from `t` as before
 rotated_times : (k side : ℕ) (t : Tree ℕ) (x : ℕ) (c : Tree ℕ) → times k (rotated side t x c) ≡ times k (node_on side t x c)
 rotated_times k side Empty x c = refl
 rotated_times k zero (Node l y r) x c = child_up_times k zero l y r x c
 rotated_times k (suc s) (Node l y r) x c = child_up_times k (suc s) r y l x c
 
+-- a node `x` over `l` and `r` holds a line `k` as often after it is balanced as before
 joined_times : (k : ℕ) (l : Tree ℕ) (x : ℕ) (r : Tree ℕ) → times k (joined l x r) ≡ times k (Node l x r)
 joined_times k l x r =
     cond_both (leb (height l + 2) (height r)) (rotated 1 r x l) (cond (leb (height r + 2) (height l)) (rotated 0 l x r) (Node l x r)) (λ t. times k t ≡ times k (Node l x r)) (λ _. rotated_times k 1 r x l)
     (λ _. cond_both (leb (height r + 2) (height l)) (rotated 0 l x r) (Node l x r) (λ t. times k t ≡ times k (Node l x r)) (λ _. rotated_times k 0 l x r) (λ _. refl))
 
+-- a node `x` with `t` at a side and `s` at the other holds a line `k` as often after it is balanced as before
 pub under_times : (k side : ℕ) (t : Tree ℕ) (x : ℕ) (s : Tree ℕ) → times k (under side t x s) ≡ times k (node_on side t x s)
 under_times k zero t x s = joined_times k t x s
 under_times k (suc n) t x s = joined_times k s x t
@@ -60,6 +65,7 @@ mended_times k (turn ∷ way) t =
 open_left : (ws : List ℕ) (t : Tree ℕ) (x : ℕ) (s : Tree ℕ) → IsHanging ws 0 t x s → IsNodeOpen ws t x s
 open_left ws t x s h = record { some = h.some; within = h.within; left = h.hung; right = h.beside; once = h.once; low = h.low }
 
+-- a node `x` at whose right side `t` is to hang is open, with its sibling `s` as the left tree and `t` as the right one
 open_right : (ws : List ℕ) (t : Tree ℕ) (x : ℕ) (s : Tree ℕ) → IsHanging ws 1 t x s → IsNodeOpen ws s x t
 open_right ws t x s h = record { some = h.some; within = h.within; left = h.beside; right = h.hung; once = λ line. (let n = h.once line in omega (arith, n)); low = h.low }
 
@@ -70,6 +76,7 @@ hang_link ws node side child high c =
     let is : root c.sibling ≡ word_of ws node (1 - side) = sym c.hanging.link_is ∙ ap (λ n. word_of ws n (1 - side)) c.node_is in
     record { there = there; link = (link_is ws c.sibling (word_of ws node (1 - side)) c.hanging.beside is (let m = c.hanging.low in let h = height_on side c.tree c.item c.sibling in omega (arith, m, h))).there }
 
+-- where a tree `t` is to hang at a side of a node, the node's link at the other side is the root of the sibling `s`
 link_there : (ws : List ℕ) (node side sibling : ℕ) (t : Tree ℕ) (x : ℕ) (s : Tree ℕ) → IsHanging ws side t x s → x ≡ node → word_of ws node (1 - side) ≡ sibling → root s ≡ sibling
 link_there ws node side sibling t x s h e w = sym h.link_is ∙ ap (λ n. word_of ws n (1 - side)) e ∙ w
 
@@ -100,11 +107,13 @@ module _ (ws : List ℕ) (node side child high sibling sh : ℕ) (b : IsSubtree 
     right_high_is = c.high_is;
   }
 
+  -- where the side is the left, joining the node over the child and the sibling hangs the child at it and balances it
   pub hangs_left : (now : List ℕ) (top top_high : ℕ) → side ≡ 0 → Joins node child sibling top top_high ws now → Hangs node side child top top_high ws now
   hangs_left now top top_high z j t x s h e f =
       subst (λ k. IsHigh ws now (node_on k t x s) (under k t x s) top top_high) (sym z)
       (j x t s (open_left ws t x s (subst (λ k. IsHanging ws k t x s) z h)) e f (link_there ws node side sibling t x s h e b.link_is))
 
+  -- where the side is the right, joining the node over the sibling and the child hangs the child at it and balances it
   pub hangs_right : (now : List ℕ) (top top_high : ℕ) → side ≡ 1 → Joins node sibling child top top_high ws now → Hangs node side child top top_high ws now
   hangs_right now top top_high z j t x s h e f =
       subst (λ k. IsHigh ws now (node_on k t x s) (under k t x s) top top_high) (sym z)

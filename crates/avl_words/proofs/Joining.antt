@@ -8,6 +8,7 @@ use Rattle.avl_words.specs.Links.{with_node, IsLink, CanSet, IsNodeOpen, IsHigh,
 use Rattle.avl_words.proofs.Frames.{times_self, stands_on, except_set, except_more}
 use Rattle.avl_words.proofs.Rotations.{link_is, height_seen}
 
+-- a node that is open over `l` and `r` is open with the two trees exchanged
 pub open_swap : (ws : List ℕ) (l : Tree ℕ) (x : ℕ) (r : Tree ℕ) → IsNodeOpen ws l x r → IsNodeOpen ws r x l
 open_swap ws l x r o = record {
   some = o.some;
@@ -18,6 +19,7 @@ open_swap ws l x r o = record {
   low = (let m = o.low in omega (arith, m));
 }
 
+-- a tree `t` made of the lines of a node over `r` and `l` is one made of the lines of the node over `l` and `r`
 made_swap : (ws now : List ℕ) (l : Tree ℕ) (x : ℕ) (r t : Tree ℕ) (top high : ℕ) → IsHigh ws now (Node r x l) t top high → IsHigh ws now (Node l x r) t top high
 made_swap ws now l x r t top high m = record {
   made = record { stands = m.made.stands; root_is = m.made.root_is; but = except_more ws now (Node r x l) (Node l x r) (λ line. omega arith) m.made.but };
@@ -66,6 +68,7 @@ module _ (ws : List ℕ) (node left lh right rh : ℕ) (c : CanJoin ws node left
   pub can_plain : CanSet ws node left lh right rh
   can_plain = record { there = subst (IsWithin ws) c.node_is c.open_node.within; first = join_left; second = join_right }
 
+  -- where the right tree is higher by two or more, joining the node is rotating it to the left
   pub joins_right : (now : List ℕ) (top high : ℕ) → lh + 2 ≤ rh → Rotates node 1 right left top high ws now → Joins node left right top high ws now
   joins_right now top high le rot x l r o e f g =
       let p = height_seen ws l left lh o.left f c.left_high_is in
@@ -74,6 +77,7 @@ module _ (ws : List ℕ) (node left lh right rh : ℕ) (c : CanJoin ws node left
       subst (λ t. IsHigh ws now (Node l x r) t top high) (sym (cond-true (leb (height l + 2) (height r)) (rotated 1 r x l) (cond (leb (height r + 2) (height l)) (rotated 0 l x r) (Node l x r)) (le-leb (height l + 2) (height r) h)))
       (made_swap ws now l x r (rotated 1 r x l) top high (rot x r l (open_swap ws l x r o) e g f h))
 
+  -- where the left tree is higher by two or more, joining the node is rotating it to the right
   pub joins_left : (now : List ℕ) (top high : ℕ) → rh + 2 ≤ lh → Rotates node 0 left right top high ws now → Joins node left right top high ws now
   joins_left now top high le rot x l r o e f g =
       let p = height_seen ws l left lh o.left f c.left_high_is in
@@ -85,6 +89,7 @@ module _ (ws : List ℕ) (node left lh right rh : ℕ) (c : CanJoin ws node left
       ∙ cond-true (leb (height r + 2) (height l)) (rotated 0 l x r) (Node l x r) (le-leb (height r + 2) (height l) h)))
       (rot x l r o e f g h)
 
+  -- where the heights of both trees differ by at most one, joining the node is setting its links and its height
   pub joins_plain : (top high : ℕ) → rh < lh + 2 → lh < rh + 2 → top ≡ node → high ≡ 1 + max lh rh → Joins node left right top high ws (with_node node 0 left right ws)
   joins_plain top high lt gt top_is tall x l r o e f g =
       let p = height_seen ws l left lh o.left f c.left_high_is in

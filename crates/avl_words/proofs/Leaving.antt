@@ -26,6 +26,7 @@ noted_below : (nodes sides : List ℕ) (way : List (Turn ℕ)) (d a : ℕ) → l
 noted_below nodes sides [] d a le n = tt
 noted_below nodes sides (turn ∷ way) d a le n = (get_or-set_other nodes d (length way) a 0 (omega arith) ∙ n.0, n.1, n.2, noted_below nodes sides way d a (omega arith) n.3)
 
+-- a way noted with a turn to the right at `x` is noted with that turn at `m`, once `m` is stored in place of `x`
 pub noted_other : (nodes sides : List ℕ) (passed way : List (Turn ℕ)) (x m : ℕ) (s : Tree ℕ) → length way < length nodes → IsWayNoted nodes sides (passed ++ record { side = 1; item = x; sibling = s } ∷ way) →
     IsWayNoted (set nodes (length way) m) sides (passed ++ record { side = 1; item = m; sibling = s } ∷ way)
 noted_other nodes sides [] way x m s room n = (get_or-set_same nodes (length way) m 0 room, n.1, n.2, noted_below nodes sides way (length way) m (omega arith) n.3)
@@ -46,6 +47,7 @@ pub descending_begins : (ws nodes sides : List ℕ) (depth node : ℕ) (way : Li
 descending_begins ws nodes sides depth node way c z d b =
     record { passed = []; left = c; item = z; right = d; same = refl; whole_is = refl; noted = b.noted; long = b.long; node_is = b.node_is; stands = b.stands }
 
+-- a walk down to the least node that is at a node `x` with no left child has found it: `x` is the least node, and its way is noted
 left_end : (nodes sides : List ℕ) (depth node : ℕ) (way passed : List (Turn ℕ)) (l : Tree ℕ) (x : ℕ) (r : Tree ℕ) (c : Tree ℕ) (z : ℕ) (d : Tree ℕ) (ws : List ℕ) → RepresentsTree ws l → root l ≡ 0 → least passed l x r ≡ least [] c z d →
     IsWayNoted nodes sides (passed ++ way) → length (passed ++ way) ≡ depth → x ≡ node → IsLeastNode nodes sides depth node way c z d
 left_end nodes sides depth node way passed Empty x r c z d ws s e same noted long is = record {
@@ -55,10 +57,12 @@ left_end nodes sides depth node way passed Empty x r c z d ws s e same noted lon
 }
 left_end nodes sides depth node way passed (Node a y b) x r c z d ws s e same noted long is = absurd (let some = s.0.some in omega arith)
 
+-- a walk down to the least node ends at a node whose word 0 is 0: that node is the least one
 pub descending_ends : (ws nodes sides : List ℕ) (depth node left : ℕ) (way : List (Turn ℕ)) (c : Tree ℕ) (z : ℕ) (d : Tree ℕ) → IsDescending ws nodes sides depth node way c z d → word_of ws node 0 ≡ left → left ≡ 0 → IsLeastNode nodes sides depth node way c z d
 descending_ends ws nodes sides depth node left way c z d o w e =
     left_end nodes sides depth node way o.passed o.left o.item o.right c z d ws o.stands.1 (sym o.stands.0.left_is ∙ ap (λ n. word_of ws n 0) o.node_is ∙ w ∙ e) o.same o.noted o.long o.node_is
 
+-- a walk down to the least node that is at a node `x` with a left child notes `x` and goes on at that child, one deeper
 left_on : (ws nodes sides : List ℕ) (depth node left : ℕ) (way passed : List (Turn ℕ)) (l : Tree ℕ) (x : ℕ) (r : Tree ℕ) (c : Tree ℕ) (z : ℕ) (d : Tree ℕ) → RepresentsTree ws l → root l ≡ left → left ≢ 0 → least passed l x r ≡ least [] c z d →
     whole passed (Node l x r) ≡ Node c z d → IsWayNoted nodes sides (passed ++ way) → length (passed ++ way) ≡ depth → x ≡ node → depth < length nodes → depth < length sides →
     IsDescending ws (set nodes depth node) (set sides depth 0) (depth + 1) left way c z d
@@ -81,11 +85,13 @@ left_on ws nodes sides depth node left way passed (Node a y b) x r c z d s e n s
   stands = s;
 }
 
+-- a walk down to the least node goes on at the node that word 0 of its node names, where that is not 0
 pub descending_on : (ws nodes sides : List ℕ) (depth node left : ℕ) (way : List (Turn ℕ)) (c : Tree ℕ) (z : ℕ) (d : Tree ℕ) → IsDescending ws nodes sides depth node way c z d → word_of ws node 0 ≡ left → left ≢ 0 → depth < length nodes → depth < length sides →
     IsDescending ws (set nodes depth node) (set sides depth 0) (depth + 1) left way c z d
 descending_on ws nodes sides depth node left way c z d o w n room space =
     left_on ws nodes sides depth node left way o.passed o.left o.item o.right c z d o.stands.1 (sym o.stands.0.left_is ∙ ap (λ k. word_of ws k 0) o.node_is ∙ w) n o.same o.whole_is o.noted o.long o.node_is room space
 
+-- the node that a walk down to the least node is at is within the words
 pub descending_within : (ws nodes sides : List ℕ) (depth node : ℕ) (way : List (Turn ℕ)) (c : Tree ℕ) (z : ℕ) (d : Tree ℕ) → IsDescending ws nodes sides depth node way c z d → IsWithin ws node
 descending_within ws nodes sides depth node way c z d o = subst (IsWithin ws) o.node_is o.stands.0.within
 
@@ -111,6 +117,7 @@ module _ (ws nodes sides : List ℕ) (depth node left right : ℕ) (way : List (
     pub left_is : word_of ws node 0 ≡ left
     pub right_is : word_of ws node 1 ≡ right
 
+  -- with no word changed, a balanced tree `c` of lines of the node at the end of the way, level with it, can hang in its place
   one_gone : (l : Tree ℕ) (x : ℕ) (r c : Tree ℕ) → IsAtEnd (Node l x r) → RepresentsTree ws c → Balanced c → IsLevel (height (Node l x r)) (height c) → ((line : ℕ) → times line c ≤ times line (Node l x r)) → IsGone ws ws nodes sides depth depth (root c) way c
   one_gone l x r c e s b level le = record {
     hung = record {
@@ -139,6 +146,7 @@ module _ (ws nodes sides : List ℕ) (depth node left right : ℕ) (way : List (
       let is : y ≡ left = sym s.0.left_is ∙ ap (λ n. word_of ws n 0) (sym e.node_is) ∙ e.left_is in
       absurd (let some = s.1.0.some in omega arith)
 
+  -- a node at the end of the way with a left child and no right one is out with no word changed: its left child is to take its place
   pub right_out : (here : Tree ℕ) → IsAtEnd here → left ≢ 0 → right ≡ 0 → IsNodeOut ws ws nodes sides depth depth left way here
   right_out Empty e n z = tt
   right_out (Node Empty x r) e n z =
@@ -166,6 +174,7 @@ module _ (ws nodes sides : List ℕ) (depth node left right : ℕ) (way : List (
     pub d : Tree ℕ
     pub is : here ≡ Node (Node a y b) x (Node c z d)
 
+  -- a node at the end of the way whose words 0 and 1 are not 0 has two children
   pub both_of : (here : Tree ℕ) → IsAtEnd here → node ≢ 0 → left ≢ 0 → right ≢ 0 → HasBoth here
   both_of Empty e s n m = absurd (s e.node_is)
   both_of (Node Empty x r) e s n m =
@@ -277,9 +286,11 @@ out_words ws mid now nodes sides depth settled rest high top way (Node l x r) n 
     let but : SameExcept ws now (mended v c) = except_more ws now (whole v c) (mended v c) (λ k. (let a = mended_times k v c in let b = whole_times k v c in omega (arith, a, b))) (except_then ws mid now (whole v c) o.but made.but) in
     ap (λ k. with_word 0 1 k now) (sym made.root_is) ∙ ap (with_word 0 1 (root (mended v c))) (only_words ws now (mended v c) but made.stands)
 
+-- a tree `t` whose root is not 0 is not empty
 not_empty : (t : Tree ℕ) (node : ℕ) → node ≡ root t → node ≢ 0 → t ≢ Empty
 not_empty t node e n = λ f. n (e ∙ ap root f)
 
+-- where a tree is to hang in the node's place, mending the way with it and then storing the new root takes the node out of the tree
 pub takes : (ws mid now last nodes sides nodes_now sides_now : List ℕ) (depth node left right depth_now rest high top : ℕ) → word_of ws node 0 ≡ left → word_of ws node 1 ≡ right → RaisesNode nodes sides depth node left right nodes_now sides_now depth_now rest ws mid →
     high_of rest mid ≡ high → Mends nodes_now sides_now depth_now depth rest high top mid now → last ≡ with_word 0 1 top now → TakesNode nodes sides depth node ws last
 takes ws mid now last nodes sides nodes_now sides_now depth node left right depth_now rest high top l r u tall m e order t i =
@@ -311,20 +322,24 @@ node_there ws nodes sides depth node c =
     let e = spot_whole c.order [] c.tree in
     at_root (spot c.order [] c.tree).1 (stands_at ws (spot c.order [] c.tree).0 (spot c.order [] c.tree).1 (subst (RepresentsTree ws) (sym e) i.tree.stands)) i.spot.node_is i.some
   where
+    -- the root of a standing tree `t` is within the words where it is what is to hang there, which is not 0
     at_root : (here : Tree ℕ) → RepresentsTree ws here → node ≡ root here → node ≢ 0 → IsWithin ws node
     at_root Empty s e n = absurd (n e)
     at_root (Node l x r) s e n = subst (IsWithin ws) (sym e) s.0.within
 
+-- a node is taken out of the words `x` also where the change began at words `y` that are equal to them
 pub takes_from : (x y mid now last nodes sides nodes_now sides_now : List ℕ) (depth node left right depth_now rest high top : ℕ) → y ≡ x → HasTwo y nodes sides depth node left right → RaisesNode nodes sides depth node left right nodes_now sides_now depth_now rest y mid →
     high_of rest mid ≡ high → Mends nodes_now sides_now depth_now depth rest high top mid now → last ≡ with_word 0 1 top now → TakesNode nodes sides depth node x last
 takes_from x y mid now last nodes sides nodes_now sides_now depth node left right depth_now rest high top e h u tall m l =
     subst (λ w. TakesNode nodes sides depth node w last) e (takes y mid now last nodes sides nodes_now sides_now depth node left right depth_now rest high top h.left_is h.right_is u tall m l)
 
+-- where a node has no left child, no word changes before the way is mended: its right child is to hang in its place
 pub one_raises_left : (x y nodes sides : List ℕ) (depth node left right : ℕ) → x ≡ y → left ≡ 0 → RaisesNode nodes sides depth node left right nodes sides depth right x y
 one_raises_left x y nodes sides depth node left right e z order t i l r =
     subst (λ w. IsNodeOut x w nodes sides depth depth right (spot order [] t).0 (spot order [] t).1) e
     (left_out x nodes sides depth node left right (spot order [] t).0 (spot order [] t).1 (at_end x nodes sides order depth node left right t i l r) z)
 
+-- where a node has a left child and no right one, no word changes before the way is mended: its left child is to hang in its place
 pub one_raises_right : (x y nodes sides : List ℕ) (depth node left right : ℕ) → x ≡ y → left ≢ 0 → right ≡ 0 → RaisesNode nodes sides depth node left right nodes sides depth left x y
 one_raises_right x y nodes sides depth node left right e n z order t i l r =
     subst (λ w. IsNodeOut x w nodes sides depth depth left (spot order [] t).0 (spot order [] t).1) e
@@ -341,15 +356,18 @@ descending_deep ws nodes sides depth node nodes_now sides_now depth_now node_now
 end_of : (ws nodes sides : List ℕ) (depth node left right : ℕ) (h : HasTwo ws nodes sides depth node left right) → IsAtEnd ws nodes sides depth node left right (spot h.can.order [] h.can.tree).0 (spot h.can.order [] h.can.tree).1
 end_of ws nodes sides depth node left right h = at_end ws nodes sides h.can.order depth node left right h.can.tree h.can.there h.left_is h.right_is
 
+-- a node with two children is at a depth of at most 62, so that its way has room for two more turns
 pub two_room : (ws nodes sides : List ℕ) (depth node left right : ℕ) → left ≢ 0 → right ≢ 0 → HasTwo ws nodes sides depth node left right → depth + 2 ≤ 64
 two_room ws nodes sides depth node left right n m h =
     room_two ws nodes sides depth node left right (spot h.can.order [] h.can.tree).0 (spot h.can.order [] h.can.tree).1 (end_of ws nodes sides depth node left right h) h.can.there.some n m
 
+-- once the turn to the right at a node with two children is noted, a walk down to the least node of its right tree may begin
 pub two_descends : (ws nodes sides : List ℕ) (depth node left right : ℕ) → left ≢ 0 → right ≢ 0 → length nodes ≡ 64 → length sides ≡ 64 → HasTwo ws nodes sides depth node left right →
     CanDescend ws (set nodes depth node) (set sides depth 1) (depth + 1) right
 two_descends ws nodes sides depth node left right n m nl sl h =
     can_descend ws nodes sides depth node left right (spot h.can.order [] h.can.tree).0 (spot h.can.order [] h.can.tree).1 (end_of ws nodes sides depth node left right h) h.can.there.some n m nl sl
 
+-- the least node `m` of the right tree, which the walk down has found, is within the words
 pub two_within : (ws nodes sides nodes_now sides_now : List ℕ) (depth node left right depth_now m : ℕ) → left ≢ 0 → right ≢ 0 → length nodes ≡ 64 → length sides ≡ 64 → HasTwo ws nodes sides depth node left right →
     Descends (set nodes depth node) (set sides depth 1) (depth + 1) right nodes_now sides_now depth_now m ws → IsWithin ws m
 two_within ws nodes sides nodes_now sides_now depth node left right depth_now m n k nl sl h d =
@@ -360,6 +378,7 @@ two_within ws nodes sides nodes_now sides_now depth node left right depth_now m 
     let l = d (next_way ws nodes sides depth node left right way here end h.can.there.some n k) v.c v.z v.d (is_below ws nodes sides depth node left right way here end h.can.there.some n k nl sl) in
     least_within ws nodes sides depth node left right way here end h.can.there.some n k m l.node_is
 
+-- with the least node `m` in the node's place on the way, and the left child stored as its word 0, the right child of `m` is to hang there
 pub two_raises : (x y nodes sides nodes_now sides_now : List ℕ) (now : List ℕ) (depth node left right depth_now m rest : ℕ) → left ≢ 0 → right ≢ 0 → length nodes ≡ 64 → length sides ≡ 64 → length nodes_now ≡ 64 → y ≡ x →
     Descends (set nodes depth node) (set sides depth 1) (depth + 1) right nodes_now sides_now depth_now m y → word_of y m 1 ≡ rest → now ≡ with_word m 0 left y →
     RaisesNode nodes sides depth node left right (set nodes_now depth m) sides_now depth_now rest x now

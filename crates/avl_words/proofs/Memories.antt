@@ -47,9 +47,11 @@ Becomes-behind S r b w = record {
 
 -- the clauses of a call one by one; a line then stays one line
 module _ {Memory T E : Type 0} {m : Ghosts Memory} {old new : Memory} {result : Result T E} where
+  -- the clauses of a call that only loads, put together: all words are kept, and what it found is told of them
   pub found : {Told : T → List ℕ → Type 0} → IfOk result (λ v. Reads (m.stands old) (m.stands new) (Told v)) → Becomes (m.stands old) (m.stands new) ◌≡◌ → OnErr result (m.left new ≡ Some 0) → Framed m.size m.fixed m.writable m.left old new → Finds m old new result Told
   found d k h f = record { done = d; kept = k; halts = h; framed = f }
 
+  -- the clauses of a call that stores, put together: the words after it are related to those before it
   pub changed : {Related : T → List ℕ → List ℕ → Type 0} → IfOk result (λ v. Becomes (m.stands old) (m.stands new) (Related v)) → OnErr result (m.left new ≡ Some 0) → Framed m.size m.fixed m.writable m.left old new → Changes m old new result Related
   changed d h f = record { done = d; halts = h; framed = f }
 
@@ -57,5 +59,6 @@ module _ {Memory : Type 0} {m : Ghosts Memory} {memory : Memory} {P : List ℕ �
   pub loadable : IsPartLength (m.size memory) → Always (m.stands memory) P → IsLoadable m memory P
   loadable s a = record { sized = s; all = a }
 
+  -- a writable memory of whole lines, of all whose words `P` holds, may be loaded and stored to
   pub storable : IsPartLength (m.size memory) → IsTrue (m.writable memory) → Always (m.stands memory) P → IsStorable m memory P
   storable s w a = record { sized = s; writable = w; all = a }

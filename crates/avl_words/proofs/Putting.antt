@@ -41,6 +41,7 @@ low_way (turn ∷ way) old now b p level low =
     let one = mended_balanced (turn ∷ []) old now (balanced_at way (node_on turn.side old turn.item turn.sibling) b) p level in
     (omega arith, low_way way (node_on turn.side old turn.item turn.sibling) (under turn.side now turn.item turn.sibling) b one.0 one.1 low)
 
+-- a line `k` that is at most once in `t` is at most once there with a new node `n` beside it, where `n` is not in `t`
 pub once_more : (n k : ℕ) (t : Tree ℕ) → times n t ≡ 0 → times k t ≤ 1 → times k t + cond (eqb n k) 1 0 ≤ 1
 once_more n k t none once =
     elim (cases_eq n k) as (λ _. times k t + cond (eqb n k) 1 0 ≤ 1) [
@@ -102,6 +103,7 @@ can_mend_leaf ws nodes sides depth node c =
       settled_way = settled_leaf ws nodes sides c.order depth node c.tree b.tree b.spot b.leaf b.apart;
     }
 
+-- mending the way at whose end the new leaf hangs, and storing the new root, puts the node in the tree
 pub puts : (ws now last nodes sides : List ℕ) (depth node top : ℕ) → Mends nodes sides depth depth node 1 top ws now → last ≡ with_word 0 1 top now → PutsNode nodes sides depth node ws last
 puts ws now last nodes sides depth node top m e order t b =
     let h = hung_leaf ws nodes sides order depth node t b.tree b.spot b.leaf b.apart in

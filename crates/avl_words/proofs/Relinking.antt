@@ -17,6 +17,7 @@ stood_attempt ws zero t x s l h = (h.0.left_is, h.0.height_is)
 stood_attempt ws (suc zero) t x s l h = (h.0.right_is, h.0.height_is)
 stood_attempt ws (suc (suc k)) t x s l h = absurd (omega arith)
 
+-- where words stand for the whole with `t` at the end of a way, the links and heights of the way's nodes are those with `t` there
 pub stood_of : (ws nodes sides : List ℕ) (way : List (Turn ℕ)) (t : Tree ℕ) → IsWayNoted nodes sides way → RepresentsTree ws (whole way t) → Stood ws way t
 stood_of ws nodes sides [] t n s = tt
 stood_of ws nodes sides (turn ∷ way) t n s =
@@ -24,6 +25,7 @@ stood_of ws nodes sides (turn ∷ way) t n s =
     let h = stood_attempt ws turn.side t turn.item turn.sibling n.2 (stands_at ws way up s) in
     (h.0, h.1, stood_of ws nodes sides way up n.3 s)
 
+-- where words stand for a balanced whole with `t` at the end of a way, the way is settled for any number `n` of its first nodes
 pub settled_of : (ws nodes sides : List ℕ) (n : ℕ) (way : List (Turn ℕ)) (t : Tree ℕ) → IsWayNoted nodes sides way → RepresentsTree ws (whole way t) → Balanced (whole way t) → Settled ws n way
 settled_of ws nodes sides n [] t noted s b = tt
 settled_of ws nodes sides n (turn ∷ way) t noted s b = (
@@ -41,6 +43,7 @@ stood_kept a b nodes sides t (turn ∷ way) old but n once s =
       stood_kept a b nodes sides t way (node_on turn.side old turn.item turn.sibling) but n.3 (λ k. (let c = once k in omega (arith, c))) s.2,
     )
 
+-- a change from `a` to `b` of links of a tree `t` that is apart from the way keeps the first `n` nodes of the way settled
 pub settled_kept : (a b nodes sides : List ℕ) (t : Tree ℕ) (n : ℕ) (way : List (Turn ℕ)) → SameExcept a b t → IsWayNoted nodes sides way → ((line : ℕ) → times_way line way + times line t ≤ 1) → Settled a n way → Settled b n way
 settled_kept a b nodes sides t n [] but noted once s = tt
 settled_kept a b nodes sides t n (turn ∷ way) but noted once s = (
@@ -62,9 +65,11 @@ node_stands ws zero t x s l some within a b high p q = (record { some = some; wi
 node_stands ws (suc zero) t x s l some within a b high p q = (record { some = some; within = within; left_is = b; right_is = a; height_is = high }, q, p)
 node_stands ws (suc (suc k)) t x s l some within a b high p q = absurd (omega arith)
 
+-- a node `x` beside `s` is as high with `old` below it as with `t`, where those two have the same height
 level_on : (side : ℕ) (old t : Tree ℕ) (x : ℕ) (s : Tree ℕ) → height old ≡ height t → height (node_on side old x s) ≡ height (node_on side t x s)
 level_on side old t x s e = height_on side old x s ∙ ap (λ n. 1 + max n (height s)) e ∙ sym (height_on side t x s)
 
+-- nodes of a way that stand with `old` at its end stand for the whole with a standing `t` there, of the same root and height
 pub stood_stands : (ws nodes sides : List ℕ) (way : List (Turn ℕ)) (old t : Tree ℕ) → IsWayNoted nodes sides way → Spine ws way → Stood ws way old → RepresentsTree ws t → root old ≡ root t → height old ≡ height t → RepresentsTree ws (whole way t)
 stood_stands ws nodes sides [] old t n p s h e level = h
 stood_stands ws nodes sides (turn ∷ way) old t n p s h e level =
@@ -111,6 +116,7 @@ module _ (ws nodes sides : List ℕ) (turn : Turn ℕ) (way : List (Turn ℕ)) (
     but = except_more ws now one (whole (turn ∷ way) t) (λ k. (let w = whole_times k (turn ∷ way) t in omega (arith, w))) but;
   }
 
+-- where the tree at the end of a way is as high as the old one, storing the last node's link to it makes words stand for the whole
 pub relinks : (ws now nodes sides : List ℕ) (depth node : ℕ) → 1 ≤ depth → now ≡ with_word (get_or nodes (depth - 1) 0) (get_or sides (depth - 1) 0) node ws → Relinks nodes sides depth node (get_or nodes 0 0) ws now
 relinks ws now nodes sides depth node some is [] t old h s level = absurd (let l = h.long in omega arith)
 relinks ws now nodes sides depth node some is (turn ∷ way) t old h s level =

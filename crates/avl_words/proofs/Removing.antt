@@ -28,6 +28,7 @@ module _ {A : Type 0} where
   whole_both [] v t = refl
   whole_both (turn ∷ w) v t = whole_both w v (node_on turn.side t turn.item turn.sibling)
 
+  -- the items of a node `x` over `l` and `r`: the least one, then those of its own right tree, then those behind on the way to it
   least_items : (l : Tree A) (x : A) (r : Tree A) → items (Node l x r) ≡ (least [] l x r).item ∷ (items (least [] l x r).rest ++ behind (least [] l x r).way)
   least_items l x r =
       ap items (sym (least_whole [] l x r)) ∙ whole_items (least [] l x r).way (Node Empty (least [] l x r).item (least [] l x r).rest)
@@ -46,6 +47,7 @@ module _ {A : Type 0} where
       ∙ regroup (before way) (items (Node a y b)) q.item (items q.rest) (behind q.way) (behind way)
       ∙ ap (λ u. before way ++ (items (Node a y b) ++ (u ++ behind way))) (sym (least_items c z d))
     where
+      -- a list is the same with `m` as the last item of the part before it or as the first of the part behind it
       regroup : (u v : List A) (m : A) (p q w : List A) → (u ++ (v ++ m ∷ [])) ++ (p ++ (q ++ w)) ≡ u ++ (v ++ ((m ∷ (p ++ q)) ++ w))
       regroup u v m p q w = simp append_assoc
 
@@ -59,6 +61,7 @@ module _ {A : Type 0} where
       (height_on turn.side old turn.item turn.sibling ∙ ap (λ h. 1 + max h (height turn.sibling)) e ∙ sym (height_on turn.side now turn.item turn.sibling))
       (balanced_on turn.side now turn.item turn.sibling (record { left = omega arith; right = omega arith }) p here.2) b
 
+  -- a balanced whole is balanced again after the node `x` at the end of a way is taken out
   pub out_balanced : (way : List (Turn A)) (l : Tree A) (x : A) (r : Tree A) → Balanced (whole way (Node l x r)) → Balanced (with_out way (Node l x r))
   out_balanced way Empty x r b =
       let h = balanced_at way (Node Empty x r) b in

@@ -49,6 +49,7 @@ up ws now nodes sides depth settled turn way t node top high h stays hangs =
       but = λ big b. except_more ws now (node_on turn.side t turn.item turn.sibling) big (λ k. (let o = on k in let c = b k in omega (arith, o, c))) m.made.but;
     }
 
+-- the way up begins with no word changed and all of the way left to mend
 pub mending_begins : (ws nodes sides : List ℕ) (depth settled node high : ℕ) → Mending nodes sides depth settled node high depth node high ws ws
 mending_begins ws nodes sides depth settled node high way t h tall s =
     record { rest = way; tree = t; hung = h; high_is = height_seen ws t node high h.stands h.root_is tall; settled_way = s; same = refl; lines = λ line. refl; but = record { long = refl; same = λ line i l n. refl } }
@@ -71,17 +72,20 @@ went_on before mid now nodes sides rest settled way t top top_high next next_hig
       but = except_then before mid now (whole way t) but (u.but (whole way t) (λ k. whole_times k way t ∙ sym (lines k)));
     }
 
+-- where the tree so far is hung at the last node left of the way, the way up goes on above that node, from the new words
 pub mending_goes_on : (before mid now nodes sides : List ℕ) (depth settled node high rest top top_high next next_high : ℕ) → 1 ≤ rest → Mending nodes sides depth settled node high rest top top_high before mid →
     Hangs (get_or nodes (rest - 1) 0) (get_or sides (rest - 1) 0) top next next_high mid now → Mending nodes sides depth settled node high (rest - 1) next next_high before now
 mending_goes_on before mid now nodes sides depth settled node high rest top top_high next next_high some m hangs way t h tall s =
     let a = m way t h tall s in
     went_on before mid now nodes sides rest settled way t top top_high next next_high some a.rest a.tree a.hung a.settled_way a.same a.lines a.but hangs
 
+-- where no node of the way is left, the tree that stands is the mended whole
 ends : (before now nodes sides : List ℕ) (way : List (Turn ℕ)) (t : Tree ℕ) (top : ℕ) (rest : List (Turn ℕ)) (tree : Tree ℕ) → IsHung now nodes sides 0 rest tree top → mended rest tree ≡ mended way t → SameExcept before now (whole way t) →
     IsTreeMade before now (whole way t) (mended way t) top
 ends before now nodes sides way t top [] tree h e b = record { stands = subst (RepresentsTree now) e h.stands; root_is = ap root (sym e) ∙ h.root_is; but = b }
 ends before now nodes sides way t top (turn ∷ rest) tree h e b = absurd (let l = h.long in omega arith)
 
+-- a way up on which no node is left to mend has mended the way
 pub mending_ends : (before now nodes sides : List ℕ) (depth settled node high top top_high : ℕ) → Mending nodes sides depth settled node high 0 top top_high before now → Mends nodes sides depth settled node high top before now
 mending_ends before now nodes sides depth settled node high top top_high m way t h tall s = (let a = m way t h tall s in ends before now nodes sides way t top a.rest a.tree a.hung a.same a.but)
 
@@ -95,6 +99,7 @@ record IsLeveled (mid now nodes sides : List ℕ) (rest : ℕ) (turn : Turn ℕ)
   lines : (line : ℕ) → times_way line way + times line (under turn.side tree turn.item turn.sibling) ≡ times_way line (turn ∷ way) + times line tree
   but : (big : Tree ℕ) → ((line : ℕ) → times line big ≡ times_way line (turn ∷ way) + times line tree) → SameExcept mid now big
 
+-- a settled node that is balanced to the height it had leaves each node above it as it stood
 leveled : (mid now nodes sides : List ℕ) (rest settled : ℕ) (turn : Turn ℕ) (way : List (Turn ℕ)) (tree : Tree ℕ) (top next next_high high : ℕ) → IsHung mid nodes sides rest (turn ∷ way) tree top → Settled mid settled (turn ∷ way) →
     rest ≤ settled → word_of mid (get_or nodes (rest - 1) 0) 2 ≡ high → next_high ≡ high → Hangs (get_or nodes (rest - 1) 0) (get_or sides (rest - 1) 0) top next next_high mid now → IsLeveled mid now nodes sides rest turn way tree next
 leveled mid now nodes sides rest settled turn way tree top next next_high high h s le seen e hangs =
@@ -114,6 +119,7 @@ leveled mid now nodes sides rest settled turn way tree top next next_high high h
       but = u.but;
     }
 
+-- at a settled node that is balanced to the height it had the way up may stop, and the way above be relinked
 pub can_relink : (before mid now nodes sides : List ℕ) (depth settled node first_high rest top top_high next next_high high : ℕ) → CanMend before nodes sides depth settled node first_high → Mending nodes sides depth settled node first_high rest top top_high before mid →
     1 ≤ rest → rest ≤ settled → word_of mid (get_or nodes (rest - 1) 0) 2 ≡ high → next_high ≡ high → Hangs (get_or nodes (rest - 1) 0) (get_or sides (rest - 1) 0) top next next_high mid now → CanRelink now nodes sides (rest - 1) next
 can_relink before mid now nodes sides depth settled node first_high rest top top_high next next_high high c m some le seen e hangs =
@@ -125,6 +131,7 @@ can_relink before mid now nodes sides depth settled node first_high rest top top
         let v = leveled mid now nodes sides rest settled turn way tree top next next_high high h s le seen e hangs in
         record { way = way; tree = under turn.side tree turn.item turn.sibling; old = v.old; hung = v.hung; stood = v.stood; level = v.level }
 
+-- a way up that stops at a settled node as high as it was, and stores the link to it from above, has mended the way
 pub mending_stops : (before mid now last nodes sides : List ℕ) (depth settled node first_high rest top top_high next next_high high root_now : ℕ) → Mending nodes sides depth settled node first_high rest top top_high before mid →
     1 ≤ rest → rest ≤ settled → word_of mid (get_or nodes (rest - 1) 0) 2 ≡ high → next_high ≡ high → Hangs (get_or nodes (rest - 1) 0) (get_or sides (rest - 1) 0) top next next_high mid now →
     Relinks nodes sides (rest - 1) next root_now now last → Mends nodes sides depth settled node first_high root_now before last

@@ -16,6 +16,7 @@ link_is ws t node s e low = record {
   low = low;
 }
   where
+    -- the root of a standing tree, where it is not 0, is within the words
     root_there : (t : Tree ℕ) → RepresentsTree ws t → root t ≡ node → node ≢ 0 → IsWithin ws node
     root_there Empty s e n = absurd (n (sym e))
     root_there (Node l x r) s e n = subst (IsWithin ws) e s.0.within
@@ -47,6 +48,7 @@ pub record HasView (ws : List ℕ) (side node child low outer inner : ℕ) (t : 
 there_node : (ws : List ℕ) (x : ℕ) (left right high : ℕ) → IsNode ws x left right high → IsThere ws x
 there_node ws x left right high n = record { some = n.some; within = n.within }
 
+-- the trees around an open node `x` and its higher child are those that the two links loaded from the child's line name
 pub view_of : (ws : List ℕ) (side node child low outer inner : ℕ) (t : Tree ℕ) (x : ℕ) (s : Tree ℕ) → side < 2 → IsNodeOpen ws t x s → x ≡ node → root t ≡ child → root s ≡ low →
     height s + 2 ≤ height t → word_of ws child side ≡ outer → word_of ws child (1 - side) ≡ inner → HasView ws side node child low outer inner t x s
 view_of ws side node child low outer inner Empty x s l o e f g h p q = absurd (omega arith)
@@ -157,6 +159,7 @@ pub record HasInner (ws : List ℕ) (side inner near far : ℕ) (b : Tree ℕ) :
   pub near_is : root n ≡ near
   pub far_is : root f ≡ far
 
+-- the two trees of the inner child `b` are those that the two links loaded from its line name
 pub inner_of : (ws : List ℕ) (side inner near far : ℕ) (b : Tree ℕ) → side < 2 → RepresentsTree ws b → root b ≡ inner → 1 ≤ height b → word_of ws inner side ≡ near → word_of ws inner (1 - side) ≡ far → HasInner ws side inner near far b
 inner_of ws side inner near far Empty l s e h p q = absurd (omega arith)
 inner_of ws zero inner near far (Node u z v) l s e h p q = record {
@@ -278,10 +281,12 @@ pub record IsSeen (ws : List ℕ) (side child outer inner outer_height inner_hei
   pub outer_high : high_of outer ws ≡ outer_height
   pub inner_high : high_of inner ws ≡ inner_height
 
+-- a node whose links may be set may have them set also with all words, links and heights replaced by equal ones
 can_same : (ws vs : List ℕ) (a b bh c ch d e eh f fh : ℕ) → ws ≡ vs → a ≡ d → b ≡ e → bh ≡ eh → c ≡ f → ch ≡ fh → CanSet ws a b bh c ch → CanSet vs d e eh f fh
 can_same ws vs a b bh c ch d e eh f fh p q r s t u h =
     subst (λ v. CanSet v d e eh f fh) p (subst (λ n. CanSet ws n e eh f fh) q (subst (λ n. CanSet ws a n eh f fh) r (subst (λ n. CanSet ws a b n f fh) s (subst (λ n. CanSet ws a b bh n fh) t (subst (CanSet ws a b bh c) u h)))))
 
+-- the trees around an open node `x` and its higher child `t`, from what the loads of a rotation gave
 seen_view : (ws : List ℕ) (side node child low outer inner oh ih : ℕ) (t : Tree ℕ) (x : ℕ) (s : Tree ℕ) → side < 2 → IsSeen ws side child outer inner oh ih → IsNodeOpen ws t x s → x ≡ node → root t ≡ child → root s ≡ low →
     height s + 2 ≤ height t → HasView ws side node child low outer inner t x s
 seen_view ws side node child low outer inner oh ih t x s l seen o e f g h = view_of ws side node child low outer inner t x s l o e f g h seen.outer_is seen.inner_is
@@ -298,6 +303,7 @@ record IsSeenView (ws : List ℕ) (side node child low low_height outer inner oh
   low_high : height s ≡ low_height
   lower_high : height (node_on side has.b x s) ≡ 1 + max ih low_height
 
+-- the trees around an open node `x` and its higher child `t`, and their heights, from what the loads of a rotation gave
 see_view : (ws : List ℕ) (side node child low lh outer inner oh ih : ℕ) (t : Tree ℕ) (x : ℕ) (s : Tree ℕ) → side < 2 → IsSeen ws side child outer inner oh ih → IsNodeOpen ws t x s → x ≡ node → root t ≡ child → root s ≡ low →
     high_of low ws ≡ lh → height s + 2 ≤ height t → IsSeenView ws side node child low lh outer inner oh ih t x s
 see_view ws side node child low lh outer inner oh ih t x s l seen o e f g low_is h =
@@ -322,6 +328,7 @@ runs_single_first ws side node child low lh outer inner oh ih l c seen =
     let v = w.has in
     can_same ws ws c.item (root v.b) (height v.b) (root c.low_tree) (height c.low_tree) node inner ih low lh refl v.node_is v.inner_is w.inner_high v.low_is w.low_high (single_first ws side c.high_tree c.item c.low_tree v.a v.y v.b l v.view)
 
+-- the two writes of a single rotation give equal words for equal nodes and links
 single_words : (ws : List ℕ) (side a b c d e f g h i j : ℕ) → a ≡ f → b ≡ g → c ≡ h → d ≡ i → e ≡ j → with_node a side b c (with_node c side d e ws) ≡ with_node f side g h (with_node h side i j ws)
 single_words ws side a b c d e f g h i j p q r s t = cc
 
@@ -335,6 +342,7 @@ runs_single_second ws side node child low lh outer inner oh ih lower lower_high 
     e v.child_is v.outer_is w.outer_high (v.node_is ∙ sym is) (w.lower_high ∙ sym high)
     (single_second ws side c.high_tree c.item c.low_tree v.a v.y v.b l v.view)
 
+-- where the inner child is no higher than the outer one, setting the node's links and then the child's is the rotation
 pub runs_single : (ws : List ℕ) (side node child low lh outer inner oh ih lower top_high : ℕ) → side < 2 → high_of low ws ≡ lh → IsSeen ws side child outer inner oh ih → ih ≤ oh → lower ≡ node → top_high ≡ 1 + max oh (1 + max ih lh) →
     Rotates node side child low child top_high ws (with_node child side outer lower (with_node node side inner low ws))
 runs_single ws side node child low lh outer inner oh ih lower top_high l low_is seen le is high x t s o e f g h =
@@ -362,6 +370,7 @@ record IsInnerView (ws : List ℕ) (side inner near far nh fh lh oh : ℕ) (a : 
   first_high : height (node_on side a y has.n) ≡ 1 + max oh nh
   second_high : height (node_on side has.f x s) ≡ 1 + max fh lh
 
+-- the trees of the inner child, where it is higher than the outer one, and the heights over them, from what the loads of a rotation gave
 inner_view : (ws : List ℕ) (side node child low lh outer inner near far oh ih nh fh : ℕ) (t : Tree ℕ) (x : ℕ) (s : Tree ℕ) → side < 2 → IsSeenInner ws side inner near far nh fh → oh < ih →
     (w : IsSeenView ws side node child low lh outer inner oh ih t x s) → IsInnerView ws side inner near far nh fh lh oh w.has.a w.has.y w.has.b x s
 inner_view ws side node child low lh outer inner near far oh ih nh fh t x s l more lt w =
@@ -377,6 +386,7 @@ inner_view ws side node child low lh outer inner near far oh ih nh fh t x s l mo
       second_high = height_on side i.f x s ∙ ap (λ k. 1 + max k (height s)) f ∙ ap (λ k. 1 + max fh k) w.low_high;
     }
 
+-- the first two writes of a double rotation give equal words for equal nodes and links
 double_two : (ws : List ℕ) (side a b c d e f g h i j k l : ℕ) → a ≡ g → b ≡ h → c ≡ i → d ≡ j → e ≡ k → f ≡ l → with_node a side b c (with_node d side e f ws) ≡ with_node g side h i (with_node j side k l ws)
 double_two ws side a b c d e f g h i j k l p q r s t u = cc
 
@@ -398,6 +408,7 @@ module _ (ws : List ℕ) (side node child low lh outer inner near far oh ih nh f
       can_same (with_node w.has.y side (root w.has.a) (root i.has.n) ws) (with_node child side outer near ws) c.item (root i.has.f) (height i.has.f) (root c.low_tree) (height c.low_tree) node far fh low lh e w.has.node_is i.has.far_is i.far_high w.has.low_is w.low_high
       (double_second ws side c.high_tree c.item c.low_tree w.has.a w.has.y w.has.b i.has.n i.has.z i.has.f l w.has.view i.has.is)
 
+  -- in the third write of a double rotation the inner child may get the child and the node below it, at their new heights
   pub runs_double_third : (first first_high second second_high : ℕ) → first ≡ child → first_high ≡ 1 + max oh nh → second ≡ node → second_high ≡ 1 + max fh lh →
       CanSet (with_node node side far low (with_node child side outer near ws)) inner first first_high second second_high
   runs_double_third first first_high second second_high p q r s =
@@ -407,6 +418,7 @@ module _ (ws : List ℕ) (side node child low lh outer inner near far oh ih nh f
       i.has.z_is (w.has.child_is ∙ sym p) (i.first_high ∙ sym q) (w.has.node_is ∙ sym r) (i.second_high ∙ sym s)
       (double_third ws side c.high_tree c.item c.low_tree w.has.a w.has.y w.has.b i.has.n i.has.z i.has.f l w.has.view i.has.is)
 
+-- where the inner child is higher than the outer one, setting the links of the child, of the node and of the inner child is the rotation
 pub runs_double : (ws : List ℕ) (side node child low lh outer inner near far oh ih nh fh first second top_high : ℕ) → side < 2 → high_of low ws ≡ lh → IsSeen ws side child outer inner oh ih → IsSeenInner ws side inner near far nh fh → oh < ih →
     first ≡ child → second ≡ node → top_high ≡ 1 + max (1 + max oh nh) (1 + max fh lh) →
     Rotates node side child low inner top_high ws (with_node inner side first second (with_node node side far low (with_node child side outer near ws)))

@@ -9,6 +9,7 @@ use Rattle.avl_words.specs.Tree.{Tree, Empty, Node, items, size, Balanced}
 use Rattle.avl_words.specs.Ways.{Turn, by_order, whole, before, behind, spot, IsCutBy, WayEnds, with_new}
 use Rattle.avl_words.proofs.Trees.{whole_items, mended_items, mended_balanced}
 
+-- what holds of each choice under its ordering holds of the one that `o` chooses
 pub by_order_both : {B : Type 0} (o : Ordering) (a b c : B) (P : B → Type 0) → (o ≡ Less → P a) → (o ≡ Equal → P b) → (o ≡ Greater → P c) → P (by_order o a b c)
 by_order_both Less a b c P p q r = p refl
 by_order_both Equal a b c P p q r = q refl
@@ -24,6 +25,7 @@ all_right P [] ys a = a
 all_right P (x ∷ xs) ys a = all_right P xs ys (All-tail P x (xs ++ ys) a)
 
 module _ {A : Type 0} where
+  -- the items of a whole with the node `x` at the end of a way: those before it, `x`, and those behind it
   pub parted : (way : List (Turn A)) (l : Tree A) (x : A) (r : Tree A) → items (whole way (Node l x r)) ≡ (before way ++ items l) ++ x ∷ (items r ++ behind way)
   parted way l x r = whole_items way (Node l x r) ∙ simp append_assoc
 
@@ -32,22 +34,27 @@ module _ {A : Type 0} where
   size_is (Node l x r) = (let a = size_is l in let b = size_is r in let c = length-append (items l) (x ∷ items r) in omega (arith, c))
 
   module _ (order : A → Ordering) where
+    -- in a list cut by an order, all behind an item `x` that is not below what is sought are above it
     cut_above : (xs : List A) (x : A) (ys : List A) → IsCutBy order (xs ++ x ∷ ys) → order x ≢ Less → All (λ y. order y ≡ Greater) ys
     cut_above [] x ys c n = c.0 n
     cut_above (z ∷ xs) x ys c n = cut_above xs x ys c.1 n
 
+    -- in a list cut by an order, all before an item `x` that is not above what is sought are below it
     cut_below : (xs : List A) (x : A) (ys : List A) → IsCutBy order (xs ++ x ∷ ys) → order x ≢ Greater → All (λ y. order y ≡ Less) xs
     cut_below [] x ys c n = All-nil (λ y. order y ≡ Less)
     cut_below (z ∷ xs) x ys c n =
         All-cons (λ y. order y ≡ Less) z xs (less_from (order z) (λ m. n (All-head (λ y. order y ≡ Greater) x ys (all_right (λ y. order y ≡ Greater) xs (x ∷ ys) (c.0 m)))))
         (cut_below xs x ys c.1 n)
 
+    -- a walk at a node `x` below what is sought ends where a walk in its right tree does
     pub spot_right : (way : List (Turn A)) (l : Tree A) (x : A) (r : Tree A) → order x ≡ Less → spot order way (Node l x r) ≡ spot order (record { side = 1; item = x; sibling = l } ∷ way) r
     spot_right way l x r e = ap (λ o. by_order o (spot order (record { side = 1; item = x; sibling = l } ∷ way) r) (way, Node l x r) (spot order (record { side = 0; item = x; sibling = r } ∷ way) l)) e
 
+    -- a walk at a node `x` that is what is sought ends there
     pub spot_here : (way : List (Turn A)) (l : Tree A) (x : A) (r : Tree A) → order x ≡ Equal → spot order way (Node l x r) ≡ (way, Node l x r)
     spot_here way l x r e = ap (λ o. by_order o (spot order (record { side = 1; item = x; sibling = l } ∷ way) r) (way, Node l x r) (spot order (record { side = 0; item = x; sibling = r } ∷ way) l)) e
 
+    -- a walk at a node `x` above what is sought ends where a walk in its left tree does
     pub spot_left : (way : List (Turn A)) (l : Tree A) (x : A) (r : Tree A) → order x ≡ Greater → spot order way (Node l x r) ≡ spot order (record { side = 0; item = x; sibling = r } ∷ way) l
     spot_left way l x r e = ap (λ o. by_order o (spot order (record { side = 1; item = x; sibling = l } ∷ way) r) (way, Node l x r) (spot order (record { side = 0; item = x; sibling = r } ∷ way) l)) e
 
@@ -68,6 +75,7 @@ module _ {A : Type 0} where
       pub lower : All (λ y. order y ≡ Less) (before way)
       pub higher : All (λ y. order y ≡ Greater) (behind way)
 
+    -- after a turn to the right at `x`, below what is sought, all before the place are still below that and all behind it above
     right_between : (way : List (Turn A)) (l : Tree A) (x : A) (r : Tree A) → IsCutBy order (items (whole way (Node l x r))) → order x ≡ Less → IsBetween way → IsBetween (record { side = 1; item = x; sibling = l } ∷ way)
     right_between way l x r c e b =
         let below = cut_below (before way ++ items l) x (items r ++ behind way) (subst (IsCutBy order) (parted way l x r) c) (λ f. (let g : Less ≡ Greater = sym e ∙ f in cc)) in
@@ -77,6 +85,7 @@ module _ {A : Type 0} where
           higher = b.higher;
         }
 
+    -- after a turn to the left at `x`, above what is sought, all before the place are still below that and all behind it above
     left_between : (way : List (Turn A)) (l : Tree A) (x : A) (r : Tree A) → IsCutBy order (items (whole way (Node l x r))) → order x ≡ Greater → IsBetween way → IsBetween (record { side = 0; item = x; sibling = r } ∷ way)
     left_between way l x r c e b =
         let above = cut_above (before way ++ items l) x (items r ++ behind way) (subst (IsCutBy order) (parted way l x r) c) (λ f. (let g : Greater ≡ Less = sym e ∙ f in cc)) in
@@ -103,6 +112,7 @@ module _ {A : Type 0} where
     pub new_items : (x : A) (t : Tree A) → items (with_new order x t) ≡ before (spot order [] t).0 ++ x ∷ behind (spot order [] t).0
     new_items x t = mended_items (spot order [] t).0 (Node Empty x Empty)
 
+    -- a balanced tree `t` is balanced again after a new item `x` is put where a walk ended at nothing
     pub new_balanced : (x : A) (t : Tree A) → (spot order [] t).1 ≡ Empty → Balanced t → Balanced (with_new order x t)
     new_balanced x t e b =
         (mended_balanced (spot order [] t).0 Empty (Node Empty x Empty) (subst (λ u. Balanced (whole (spot order [] t).0 u)) e (subst Balanced (sym (spot_whole [] t)) b))

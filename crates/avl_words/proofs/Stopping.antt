@@ -6,11 +6,13 @@ use Rattle.avl_words.specs.Ways.{Turn, under, whole, mended}
 use Rattle.avl_words.proofs.Trees.{height_on, balanced_at, balanced_parts}
 
 module _ {A : Type 0} where
+  -- balancing leaves a node `x` as it is where the heights of `l` and `r` differ by at most one
   joined_level : (l : Tree A) (x : A) (r : Tree A) → height l ≤ height r + 1 → height r ≤ height l + 1 → joined l x r ≡ Node l x r
   joined_level l x r p q =
       cond-false (leb (height l + 2) (height r)) (rotated 1 r x l) (cond (leb (height r + 2) (height l)) (rotated 0 l x r) (Node l x r)) (lt-leb (height l + 2) (height r) (let h : height r < height l + 2 = omega arith in h))
       ∙ cond-false (leb (height r + 2) (height l)) (rotated 0 l x r) (Node l x r) (lt-leb (height r + 2) (height l) (let h : height l < height r + 2 = omega arith in h))
 
+  -- balancing leaves a node `x` with `t` at a side as it is where the heights of `t` and `s` differ by at most one
   under_level : (side : ℕ) (t : Tree A) (x : A) (s : Tree A) → height t ≤ height s + 1 → height s ≤ height t + 1 → under side t x s ≡ node_on side t x s
   under_level zero t x s p q = joined_level t x s p q
   under_level (suc k) t x s p q = joined_level s x t q p

@@ -14,6 +14,7 @@ use Rattle.avl_words.proofs.Hanging.{whole_times, spine_kept}
 use Rattle.avl_words.proofs.Putting.{spine_of, low_way}
 use Rattle.avl_words.proofs.Removing.{least_whole, balanced_in, whole_both}
 
+-- where the nodes of the ways `w` and `v` are there with their siblings, so are those of the way that goes down `v` and on down `w`
 spine_both : (ws : List ℕ) (w v : List (Turn ℕ)) → Spine ws w → Spine ws v → Spine ws (w ++ v)
 spine_both ws [] v p q = q
 spine_both ws (turn ∷ w) v p q = (p.0, p.1, p.2, p.3, spine_both ws w v p.4 q)
@@ -22,6 +23,7 @@ pub times_both : (k : ℕ) (w v : List (Turn ℕ)) → times_way k (w ++ v) ≡ 
 times_both k [] v = omega arith
 times_both k (turn ∷ w) v = (let i = times_both k w v in omega arith)
 
+-- a whole is as high with `s` at the end of a way as with `t`, where those two have the same height
 heights_in : (way : List (Turn ℕ)) (s t : Tree ℕ) → height s ≡ height t → height (whole way s) ≡ height (whole way t)
 heights_in [] s t e = e
 heights_in (turn ∷ way) s t e =

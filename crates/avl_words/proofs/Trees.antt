@@ -11,6 +11,7 @@ pub record IsNear (l r : ℕ) : Type 0 where
   pub left : l ≤ r + 2
   pub right : r ≤ l + 2
 
+-- one step up: a node balanced over `n` and `b` to the height `u` is level with the old node over `o` and `b`
 step_level : (o n b u : ℕ) → IsLevel o b → IsLevel o n → max n b ≤ u → u ≤ max n b + 1 → (n ≤ b + 1 → b ≤ n + 1 → u ≡ max n b + 1) → IsLevel (1 + max o b) u
 step_level o n b u s level least most f =
     elim (cases_lt (b + 1) n) as (λ _. IsLevel (1 + max o b) u) [
@@ -43,6 +44,7 @@ module _ {A : Type 0} where
   rotated_items zero (Node l y r) x low = child_up_items zero l y r x low
   rotated_items (suc k) (Node l y r) x low = child_up_items (suc k) r y l x low
 
+  -- balancing a node `x` over `l` and `r` keeps its items in their order
   pub joined_items : (l : Tree A) (x : A) (r : Tree A) → items (joined l x r) ≡ items l ++ x ∷ items r
   joined_items l x r =
       cond_both (leb (height l + 2) (height r)) (rotated 1 r x l) (cond (leb (height r + 2) (height l)) (rotated 0 l x r) (Node l x r))
@@ -73,6 +75,7 @@ module _ {A : Type 0} where
   height_on zero a x b = refl
   height_on (suc k) a x b = omega arith
 
+  -- a node `x` over two balanced trees of level heights is balanced, whichever side `a` is at
   pub balanced_on : (side : ℕ) (a : Tree A) (x : A) (b : Tree A) → IsLevel (height a) (height b) → Balanced a → Balanced b → Balanced (node_on side a x b)
   balanced_on zero a x b level p q = (level, p, q)
   balanced_on (suc k) a x b level p q = (record { left = level.right; right = level.left }, q, p)
@@ -83,6 +86,7 @@ module _ {A : Type 0} where
     pub least : h ≤ height t
     pub most : height t ≤ h + 1
 
+  -- where the inner tree is one higher than the outer, a double rotation gives a balanced tree two or three higher than the low one
   inner_up_joined : (side : ℕ) (outer : Tree A) (y : A) (inner : Tree A) (x : A) (low : Tree A) → Balanced outer → Balanced inner → Balanced low →
       height inner ≡ height outer + 1 → height outer ≡ height low → IsJoined (inner_up side outer y inner x low) (height low + 2)
   inner_up_joined side outer y Empty x low p q r e f = absurd (omega arith)
@@ -97,6 +101,7 @@ module _ {A : Type 0} where
     most = omega (arith, q.0);
   }
 
+  -- where the inner tree is no higher than the outer, a single rotation gives a balanced tree two or three higher than the low one
   single_joined : (side : ℕ) (outer : Tree A) (y : A) (inner : Tree A) (x : A) (low : Tree A) → Balanced outer → Balanced inner → Balanced low → IsLevel (height outer) (height inner) →
       height inner ≤ height outer → height outer ≡ height low + 1 → IsJoined (node_on side outer y (node_on side inner x low)) (height low + 2)
   single_joined side outer y inner x low p q r level e f =
@@ -108,6 +113,7 @@ module _ {A : Type 0} where
         most = omega arith;
       }
 
+  -- where the child `y` is two higher than the low tree, its rotation gives a balanced tree as high as the child or one higher
   child_up_joined : (side : ℕ) (outer : Tree A) (y : A) (inner : Tree A) (x : A) (low : Tree A) → Balanced outer → Balanced inner → Balanced low → IsLevel (height outer) (height inner) →
       1 + max (height outer) (height inner) ≡ height low + 2 → IsJoined (child_up side outer y inner x low) (height low + 2)
   child_up_joined side outer y inner x low p q r level e =
@@ -115,6 +121,7 @@ module _ {A : Type 0} where
       (λ le. let h = leb-true (height inner) (height outer) le in single_joined side outer y inner x low p q r level h (omega arith))
       (λ gt. let h = leb-false (height inner) (height outer) gt in inner_up_joined side outer y inner x low p q r (omega arith) (omega arith))
 
+  -- where the child tree `t` is two higher than the low one, rotating the node `x` gives a balanced tree as high as `t` or one higher
   rotated_joined : (side : ℕ) (t : Tree A) (x : A) (low : Tree A) → Balanced t → Balanced low → height t ≡ height low + 2 → IsJoined (rotated side t x low) (height t)
   rotated_joined side Empty x low p r e = absurd (omega arith)
   rotated_joined zero (Node a y b) x low p r e =
@@ -128,6 +135,7 @@ module _ {A : Type 0} where
     pub most : height t ≤ max l r + 1
     pub level : l ≤ r + 1 → r ≤ l + 1 → height t ≡ max l r + 1
 
+  -- joining `x` over balanced trees at most two apart in height gives a balanced one, as high as the higher of them or one higher
   pub joined_bound : (l : Tree A) (x : A) (r : Tree A) → Balanced l → Balanced r → IsNear (height l) (height r) → IsBound (joined l x r) (height l) (height r)
   joined_bound l x r p q near =
       cond_both (leb (height l + 2) (height r)) (rotated 1 r x l) (cond (leb (height r + 2) (height l)) (rotated 0 l x r) (Node l x r)) (λ t. IsBound t (height l) (height r))
@@ -146,6 +154,7 @@ module _ {A : Type 0} where
       let f = leb-false (height r + 2) (height l) ft in
       record { balanced = (record { left = omega arith; right = omega arith }, p, q); least = omega arith; most = omega arith; level = λ v w. omega arith }))
 
+  -- hanging `t` beside a sibling at most two apart in height gives a balanced tree, as high as the higher of them or one higher
   under_bound : (side : ℕ) (t : Tree A) (x : A) (sibling : Tree A) → Balanced t → Balanced sibling → IsNear (height t) (height sibling) → IsBound (under side t x sibling) (height t) (height sibling)
   under_bound zero t x sibling p q near = joined_bound t x sibling p q near
   under_bound (suc k) t x sibling p q near =
