@@ -12,11 +12,13 @@ pub chain_first : (ws lines : List ℕ) (first : ℕ) → IsChain ws first lines
 chain_first ws [] first c = c
 chain_first ws (line ∷ lines) first c = c.0
 
+-- word 0 of the line at place `j` of a chain is the line at the next place, `suc j`, and 0 at the last one
 chain_after : (ws lines : List ℕ) (first j : ℕ) → IsChain ws first lines → j < length lines → word_of ws (get_or lines j 0) 0 ≡ get_or lines (suc j) 0
 chain_after ws [] first j c l = absurd (omega arith)
 chain_after ws (line ∷ lines) first zero c l = chain_first ws lines (word_of ws line 0) c.1
 chain_after ws (line ∷ lines) first (suc j) c l = chain_after ws lines (word_of ws line 0) j c.1 (omega arith)
 
+-- word 0 of the line at place `j` of a chain is the line at `j + 1`, the next place as the code counts it
 pub chain_next : (ws lines : List ℕ) (first j : ℕ) → IsChain ws first lines → j < length lines → word_of ws (get_or lines j 0) 0 ≡ get_or lines (j + 1) 0
 chain_next ws lines first j c l = chain_after ws lines first j c l ∙ ap (λ n. get_or lines n 0) (sym (add-one j))
 
@@ -33,6 +35,7 @@ pub record SoFar (i line : ℕ) (into lines bytes : List ℕ) : Type 0 where
 abbrev pub ReadSoFar : ℕ → ℕ → ℕ → ℕ → List ℕ → List ℕ → Type 0
 ReadSoFar first count i line into ws = (lines bytes : List ℕ) → Holds ws first lines bytes → count ≡ (length bytes + 7) / 8 → SoFar i line into lines bytes
 
+-- a packed word `i` of some bytes has its place in their blocks, which have seven words each
 word_within : (i count bytes lines : ℕ) → i < count → count ≡ (bytes + 7) / 8 → lines ≡ (bytes + 55) / 56 → i < 7 * lines
 word_within i count bytes lines l c e = omega arith
 

@@ -26,6 +26,7 @@ record IsBegun (ws : List ℕ) (line : ℕ) (front lines : List ℕ) : Type 0 wh
   pub lines_are : lines ≡ front ++ rest
   pub chain : IsChain ws line rest
 
+-- a path begins each chain from the same line that is no shorter, and the rest of the chain goes on where the path ends
 path_front : (ws front lines : List ℕ) (first line : ℕ) → IsPath ws first front line → IsChain ws first lines → length front ≤ length lines → IsBegun ws line front lines
 path_front ws [] lines first line p c l = record { rest = lines; lines_are = refl; chain = subst (λ x. IsChain ws x lines) p c }
 path_front ws (x ∷ front) [] first line p c l = absurd (omega arith)
@@ -45,6 +46,7 @@ pub record MarkedSoFar (ws : List ℕ) (first n line : ℕ) (old now : List Bool
   pub counted : length front ≡ n
   pub marks : Marks old front now
 
+-- with the line behind the first `n` of a chain marked too, its first `n + 1` lines are marked, and `next` is the one behind them
 pub marked_more : (ws : List ℕ) (first n line next : ℕ) (old now after : List Bool) → MarkedSoFar ws first n line old now → Marks now (line ∷ []) after → word_of ws line 0 ≡ next →
     MarkedSoFar ws first (n + 1) next old after
 marked_more ws first n line next old now after s m e = record {
@@ -54,6 +56,7 @@ marked_more ws first n line next old now after s m e = record {
   marks = marks_then old now after s.front (line ∷ []) s.marks m;
 }
 
+-- where the first `n` lines, as many as were asked for, are marked and no line is behind them, they are the whole chain
 pub marked_all : (ws : List ℕ) (first n count line : ℕ) (old now : List Bool) → MarkedSoFar ws first n line old now → n ≡ count → line ≡ 0 → HasChain ws first count old now
 marked_all ws first n count line old now s e last = record {
   lines = s.front;
@@ -67,6 +70,7 @@ starts_with : (ws rest : List ℕ) (line : ℕ) → IsChain ws line rest → 1 �
 starts_with ws [] line c l = absurd (omega arith)
 starts_with ws (x ∷ rest) line c l = subst (λ y. 1 ≤ count_of y (x ∷ rest)) (sym c.0) (omega (arith, count_cons x x rest, times_self x))
 
+-- where fewer than `count` lines are marked and the line behind these `n` cannot be, there is no chain of `count` lines to mark
 pub no_chain_taken : (ws : List ℕ) (first n count line : ℕ) (old now : List Bool) → MarkedSoFar ws first n line old now → n < count → IsLineMarked now line → NoChain ws first count old
 no_chain_taken ws first n count line old now s l taken lines c counted can =
     let b = path_front ws s.front lines first line s.path c (omega (arith, s.counted)) in
@@ -80,6 +84,7 @@ ends_here : (ws rest : List ℕ) (line : ℕ) → IsChain ws line rest → lengt
 ends_here ws [] line c l = c
 ends_here ws (x ∷ rest) line c l = absurd (omega arith)
 
+-- where a line is left behind the first `n`, which are `count` already, there is no chain of `count` lines to mark
 pub no_chain_longer : (ws : List ℕ) (first n count line : ℕ) (old now : List Bool) → MarkedSoFar ws first n line old now → n ≡ count → line ≢ 0 → NoChain ws first count old
 no_chain_longer ws first n count line old now s e more lines c counted can =
     let b = path_front ws s.front lines first line s.path c (omega (arith, s.counted)) in

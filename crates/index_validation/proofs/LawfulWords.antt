@@ -66,6 +66,7 @@ is_marked : (b : Bool) → ◌≡◌ {A = ℕ} (cond b 1 0) 1 → b ≡ true
 is_marked true e = refl
 is_marked false e = absurd (omega arith)
 
+-- where the lines are lawful, all are marked once those of the nodes `h` and the given-back ones `g` are
 pub all_from_lines : (ws : List ℕ) (old now end : List Bool) → HasNodes ws old now → HasChain ws (word_of ws 0 2) (word_of ws 0 4) now end → AreLinesLawful ws old → All (λ b. b ≡ true) end
 all_from_lines ws old now end h g a =
     let places = same_places ws old now h a in
@@ -97,6 +98,7 @@ header_mark end x some =
 once_from : (x end count mark : ℕ) → 1 ≤ end → count + mark ≡ cond (ltb x end) 1 0 → mark ≡ cond (eqb x 0) 1 0 → count ≡ cond (leb 1 x && ltb x end) 1 0
 once_from x end count mark some e m = grind (arith, nat_tests)
 
+-- where a line `x` from 1 to below `end` is counted once and line 0 alone has a mark, count and mark make one for each line below `end`
 once_to : (x end count mark : ℕ) → 1 ≤ end → count ≡ cond (leb 1 x && ltb x end) 1 0 → mark ≡ cond (eqb x 0) 1 0 → count + mark ≡ cond (ltb x end) 1 0
 once_to x end count mark some e m = grind (arith, nat_tests)
 
@@ -107,6 +109,7 @@ first_long end = length-set (replicate end false) 0 true ∙ length-replicate en
 few_nodes : (n m k : ℕ) → n < m → m ≤ k → k ≤ 2 ^ 32 → n < 2 ^ 32
 few_nodes n m k l e f = omega arith
 
+-- words with a right header `h`, a tree of as many nodes as it says, and lawful lines `a` stand for a store
 pub lawful_from : (ws : List ℕ) (version end : ℕ) → end ≡ word_of ws 0 3 → IsHeader ws version → HasRoot ws → AreLinesLawful ws (set (replicate end false) 0 true) → IsLawful ws version
 lawful_from ws version end is h r a =
     let some : 1 ≤ end = (let from = h.end_from in omega arith) in

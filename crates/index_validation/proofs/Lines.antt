@@ -25,6 +25,7 @@ all_middle P xs ys y h = All-head P y ys (all_right P xs (y ∷ ys) h)
 counted_once : (line end n : ℕ) → cond (eqb line line) 1 0 ≤ n → n ≡ cond (leb 1 line && ltb line end) 1 0 → (1 ≤ line) × (line < end)
 counted_once line end n least e = (grind (arith, nat_tests), grind (arith, nat_tests))
 
+-- in words that are laid out, each line of a pair, given back or loose is from 1 to below the end
 pub lines_there : (ws : List ℕ) (head : RevisionHead) (store : Store) (tree : Tree ℕ) (places : List PairLayout) (given loose : List ℕ) → IsLaidOut ws head store tree places given loose →
     All (λ line. (1 ≤ line) × (line < word_of ws 0 3)) (flat_map lines_at places ++ given ++ loose)
 lines_there ws head store tree places given loose a k d l =
@@ -32,6 +33,7 @@ lines_there ws head store tree places given loose a k d l =
     let line = get_or lines k d in
     counted_once line (word_of ws 0 3) (count_by (λ x. eqb x line) lines) (get_or-le-sum_by (λ x. cond (eqb x line) 1 0) lines k d l) (a.once line)
 
+-- a line below an end that is at most the number of lines in `n` words is within these words
 below_end : (n end line : ℕ) → n ≡ 8 * (n / 8) → end ≤ n / 8 → line < end → 8 * line + 8 ≤ n
 below_end n end line whole e l = omega arith
 

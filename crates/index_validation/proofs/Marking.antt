@@ -15,9 +15,11 @@ pub by_test : (b : Bool) (F P Q : Type 0) → (IsTrue b ↔ F) → (F → P) →
 by_test true F P Q says p q = p (says.0 refl)
 by_test false F P Q says p q = q (λ f. false≢true (says.1 f))
 
+-- the test whether `x` is below `n` counts 1 where it is
 pub in_line : (x n : ℕ) → x < n → ◌≡◌ {A = ℕ} (cond (ltb x n) 1 0) 1
 in_line x n l = grind (arith, nat_tests)
 
+-- the test whether `x` is below `n` counts 0 where `x` is `n` or more
 pub past_line : (x n : ℕ) → n ≤ x → ◌≡◌ {A = ℕ} (cond (ltb x n) 1 0) 0
 past_line x n l = grind (arith, nat_tests)
 
@@ -63,6 +65,7 @@ taken_marked marks line is lines can =
 pub marks_none : (marks : List Bool) → Marks marks [] marks
 marks_none marks = record { long = refl; are = λ x. omega arith }
 
+-- where some lines are marked from `a` to `b` and the rest from `b` to `c`, all of them are marked from `a` to `c`
 pub marks_then : (a b c : List Bool) (front rest : List ℕ) → Marks a front b → Marks b rest c → Marks a (front ++ rest) c
 marks_then a b c front rest m n = record { long = n.long ∙ m.long; are = λ x. omega (arith, m.are x, n.are x, count_append x front rest) }
 
@@ -75,6 +78,7 @@ can_mark_rest a b front rest m can = record {
 pub can_mark_front : (a : List Bool) (front rest : List ℕ) → CanMark a (front ++ rest) → CanMark a front
 can_mark_front a front rest can = record { once = λ x. omega (arith, can.once x, count_append x front rest) }
 
+-- where the lines `xs` are marked from `a` to `b`, so are those of an equal list `ys`
 pub marks_same : (a b : List Bool) (xs ys : List ℕ) → xs ≡ ys → Marks a xs b → Marks a ys b
 marks_same a b xs ys e m = subst (λ zs. Marks a zs b) e m
 
@@ -86,6 +90,7 @@ there x n most some l =
       | inr h ↦ absurd (omega (arith, past_line x n h))
     ]
 
+-- lines that were marked are all below the number of marks
 pub marked_there : (old now : List Bool) (lines : List ℕ) → Marks old lines now → All (λ x. x < length old) lines
 marked_there old now lines m k d l =
     let x = get_or lines k d in

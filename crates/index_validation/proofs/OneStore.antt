@@ -59,12 +59,14 @@ pub record SamePair (p q : PairLayout) (a b : List ℕ × List ℕ) : Type 0 whe
   pub place : p ≡ q
   pub pair : a ≡ b
 
+-- two places `p` and `q` are equal where their nodes, their lines and their revisions are
 place_one : (p q : PairLayout) → p.node ≡ q.node → p.key_lines ≡ q.key_lines → p.document_lines ≡ q.document_lines → p.revision ≡ q.revision → p ≡ q
 place_one p q e f g h =
     let make : ℕ → List ℕ → List ℕ → ℕ → PairLayout = λ n k d r. record { node = n; key_lines = k; document_lines = d; revision = r } in
     ap (λ n. make n p.key_lines p.document_lines p.revision) e ∙ ap (λ k. make q.node k p.document_lines p.revision) f ∙ ap (λ d. make q.node q.key_lines d p.revision) g
     ∙ ap (λ r. make q.node q.key_lines q.document_lines r) h
 
+-- two pairs `a` and `b` are equal where their keys and their documents are
 two_parts : (a b : List ℕ × List ℕ) → a.0 ≡ b.0 → a.1 ≡ b.1 → a ≡ b
 two_parts a b e f =
     let make : List ℕ → List ℕ → List ℕ × List ℕ = λ k d. (k, d) in
@@ -77,6 +79,7 @@ IsPair pair = IsKey pair.0 × IsDocument pair.1
 pub pairs_of : (store : Store) → IsStore store → All IsPair store
 pairs_of store s = λ k d l. (s.keys k d l, s.documents k d l)
 
+-- of two places `p` and `q` with one node the pairs `a` and `b`, both within the limits, are equal, and so are the places
 pub pair_one : (ws : List ℕ) (p q : PairLayout) (a b : List ℕ × List ℕ) → IsAt ws p a → IsAt ws q b → p.node ≡ q.node → IsPair a → IsPair b → SamePair p q a b
 pair_one ws p q a b at at_too here is is_too =
     let key_long : length a.0 ≡ length b.0 = sym at.key_length ∙ ap (λ n. word_of ws n 4) here ∙ at_too.key_length in
@@ -99,6 +102,7 @@ pub record IsFront (ws : List ℕ) (more : List ℕ) (front places : List PairLa
   pub nodes : nodes_of rest ≡ more
   pub placed : Placed ws rest others
 
+-- where the nodes of all places begin with those of some others, the pairs at those others are the first of all pairs
 pub placed_front : (ws more : List ℕ) (front places : List PairLayout) (lower store : Store) → Placed ws front lower → Placed ws places store → nodes_of places ≡ nodes_of front ++ more →
     All IsPair lower → All IsPair store → IsFront ws more front places lower store
 placed_front ws more [] places [] store n m e is is_too = record { rest = places; others = store; places_are = refl; store_is = refl; nodes = e; placed = m }
@@ -138,11 +142,13 @@ pub record IsSame (places more : List PairLayout) (store others : Store) : Type 
   pub places_are : places ≡ more
   pub store_is : store ≡ others
 
+-- where no node is left behind the places that are the first ones, both lists of places are equal, and so are the two stores
 ended : (ws : List ℕ) (places more : List PairLayout) (store others : Store) (f : IsFront ws [] more places others store) (rest : List PairLayout) (left : Store) → rest ≡ f.rest → left ≡ f.others → nodes_of rest ≡ [] → Placed ws rest left → IsSame places more store others
 ended ws places more store others f [] [] e g n p = record { places_are = f.places_are ∙ ap (λ u. more ++ u) (sym e) ∙ append-nil more; store_is = f.store_is ∙ ap (λ u. others ++ u) (sym g) ∙ append-nil others }
 ended ws places more store others f [] (b ∷ left) e g n p = absurd p
 ended ws places more store others f (q ∷ rest) left e g n p = absurd (omega (arith, ap length n))
 
+-- two stores within the limits, at places with the same nodes in order, are one store at the same places
 pub placed_one : (ws : List ℕ) (places more : List PairLayout) (store others : Store) → Placed ws places store → Placed ws more others → nodes_of places ≡ nodes_of more → IsStore store → IsStore others → IsSame places more store others
 placed_one ws places more store others p q e is is_too =
     let f = placed_front ws [] more places others store q p (e ∙ sym (append-nil (nodes_of more))) (pairs_of others is_too) (pairs_of store is) in

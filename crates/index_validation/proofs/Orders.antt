@@ -49,6 +49,7 @@ pub record IsParted (ws : List ℕ) (line level : ℕ) : Type 0 where
   pub right : HasTree ws (word_of ws line 1) (level + 1)
   pub lines : nodes_in_order line ws ≡ nodes_in_order (word_of ws line 0) ws ++ line ∷ nodes_in_order (word_of ws line 1) ws
 
+-- a tree `t` whose root is not 0 is a node and two trees, and its nodes in order are those of the left one, the node, and the right one's
 part : (ws : List ℕ) (line level : ℕ) (t : Tree ℕ) → RepresentsTree ws t → root t ≡ line → level + height t ≤ 64 → line ≢ 0 → IsParted ws line level
 part ws line level Empty s e low n = absurd (n (sym e))
 part ws line level (Node l x r) s e low n =
@@ -92,12 +93,14 @@ to_come_set ws nodes (suc d) e v le =
     ap (λ k. k ∷ (nodes_in_order (word_of ws k 1) ws ++ to_come ws (set nodes e v) d)) (get_or-set_other nodes e d v 0 (omega arith))
     ∙ ap (λ u. get_or nodes d 0 ∷ (nodes_in_order (word_of ws (get_or nodes d 0) 1) ws ++ u)) (to_come_set ws nodes d e v (omega arith))
 
+-- with a node `v` noted at depth `d`, it is the next that the walk reaches, then those of its right tree, then those that were to come
 to_come_note : (ws nodes : List ℕ) (d v : ℕ) → d < length nodes → to_come ws (set nodes d v) (d + 1) ≡ v ∷ (nodes_in_order (word_of ws v 1) ws ++ to_come ws nodes d)
 to_come_note ws nodes d v l =
     ap (λ k. to_come ws (set nodes d v) k) (add-one d)
     ∙ ap (λ k. k ∷ (nodes_in_order (word_of ws k 1) ws ++ to_come ws (set nodes d v) d)) (get_or-set_same nodes d v 0 l)
     ∙ ap (λ u. v ∷ (nodes_in_order (word_of ws v 1) ws ++ u)) (to_come_set ws nodes d d v (omega arith))
 
+-- with a node `v` whose left subtree is passed noted at depth `d`, the first `d + 1` nodes noted are all such nodes
 pub noted_more : (ws nodes : List ℕ) (d v : ℕ) → d < length nodes → AreNoted ws nodes d → IsLeftPassed ws v d → AreNoted ws (set nodes d v) (d + 1)
 noted_more ws nodes d v l are is p less =
     elim (cases_eq p d) as (λ _. IsLeftPassed ws (get_or (set nodes d v) p 0) p) [
@@ -112,6 +115,7 @@ pub record IsDescending (ws nodes : List ℕ) (depth node from : ℕ) (rest : Li
   pub lines : nodes_in_order node ws ++ to_come ws nodes depth ≡ nodes_in_order from ws ++ rest
   pub long : length nodes ≡ 64
 
+-- the way down to the least node notes a node and goes on at its left child: all nodes still to be reached are the same ones
 pub descend_more : (ws nodes : List ℕ) (depth node next from : ℕ) (rest : List ℕ) → IsDescending ws nodes depth node from rest → node ≢ 0 → next ≡ word_of ws node 0 → IsDescending ws (set nodes depth node) (depth + 1) next from rest
 descend_more ws nodes depth node next from rest d n e =
     let long = d.long in

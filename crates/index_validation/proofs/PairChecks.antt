@@ -36,6 +36,7 @@ pub no_pair_order : (ws : List ℕ) (node : ℕ) (last : List ℕ) (old now afte
 no_pair_order ws node last old now after key h none place pair here is revision is_key is_document rises can =
     none (subst (λ k. key_cmp last k ≡ Less) (sym (key_same ws node now after key h place pair here is is_key).of_bytes) rises)
 
+-- a marked node with a revision that may be, a marked key `k` above the last one, and a marked document `d` is the node of a pair
 pub pair_there : (ws : List ℕ) (node : ℕ) (last : List ℕ) (old now after end : List Bool) (key : List ℕ) → Marks old (node ∷ []) now → IsRevision (head_in ws) (word_of ws node 7) → HasKey ws node now after key → HasDocument ws node after end → key_cmp last key ≡ Less →
     HasPair ws node last old end key
 pair_there ws node last old now after end key m revision k d rises = record {

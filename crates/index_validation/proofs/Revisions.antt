@@ -76,6 +76,7 @@ has_one_revised_store ws l = record { stands = stands_revised ws l.0 l.1; only =
 given_in : (last revision : ℕ) → IsRevision (head_of 2 last) revision → (1 ≤ revision) × (revision ≤ last)
 given_in last revision r = (let from = r.0 in omega arith, r.1)
 
+-- the store read off lawful words of version 2 is one with revisions from 1 to the last one given
 pub is_revised_store : (ws : List ℕ) (n : ℕ) → IsLawful ws 2 → Words n ws → IsRevisedStore (revised_in ws)
 is_revised_store ws n l w =
     let s = l.1 in

@@ -50,6 +50,7 @@ pub record IsSplit (ws : List ℕ) (line count : ℕ) : Type 0 where
   pub left : HasShape ws (word_of ws line 0) n
   pub right : HasShape ws (word_of ws line 1) m
 
+-- a balanced tree `t` whose root is a line other than 0 is a good node and two balanced trees with all its other nodes
 split : (ws : List ℕ) (line count : ℕ) (t : Tree ℕ) → RepresentsTree ws t → Balanced t → root t ≡ line → size t ≡ count → line ≢ 0 → IsSplit ws line count
 split ws line count Empty s b e c n = absurd (n (sym e))
 split ws line count (Node l x r) s b e c n =
@@ -75,6 +76,7 @@ split ws line count (Node l x r) s b e c n =
 pub split_of : (ws : List ℕ) (line count : ℕ) → HasShape ws line count → line ≢ 0 → IsSplit ws line count
 split_of ws line count h n = split ws line count h.tree h.stands h.balanced h.root_is h.counted n
 
+-- a tree `t` whose root is 0 has no nodes: the number given for it is 0
 none_counts : (ws : List ℕ) (count : ℕ) (t : Tree ℕ) → RepresentsTree ws t → root t ≡ 0 → size t ≡ count → count ≡ 0
 none_counts ws count Empty s e c = sym c
 none_counts ws count (Node l x r) s e c = absurd (let some = s.0.some in omega arith)
@@ -90,6 +92,7 @@ pub pending_set : (stack : List ℕ) (d e v : ℕ) → d ≤ e → pending d (se
 pending_set stack zero e v le = refl
 pending_set stack (suc d) e v le = ap (λ k. k ∷ pending d (set stack e v)) (get_or-set_other stack e d v 0 (omega arith)) ∙ ap (λ u. get_or stack d 0 ∷ u) (pending_set stack d e v (omega arith))
 
+-- with a line `v` pushed at depth `d`, it is the first of those pending, before the ones that were
 pub pending_push : (stack : List ℕ) (d v : ℕ) → d < length stack → pending (d + 1) (set stack d v) ≡ v ∷ pending d stack
 pending_push stack d v l =
     ap (λ k. pending k (set stack d v)) (add-one d) ∙ ap (λ k. k ∷ pending d (set stack d v)) (get_or-set_same stack d v 0 l) ∙ ap (λ u. v ∷ u) (pending_set stack d d v (omega arith))
@@ -99,6 +102,7 @@ pub record IsPushed (old now : List ℕ) (depth result line : ℕ) : Type 0 wher
   pub none : line ≡ 0 → (result ≡ depth) × (now ≡ old)
   pub some : line ≢ 0 → (result ≡ depth + 1) × (now ≡ set old depth line)
 
+-- with a line pushed, unless it is 0, its tree of `n` nodes and a forest of `m` below the others are a forest of all `n + m`
 pub push_on : (ws old now : List ℕ) (depth result line n m : ℕ) → depth < length old → IsPushed old now depth result line → HasShape ws line n → Forest ws (pending depth old) m → Forest ws (pending result now) (n + m)
 push_on ws old now depth result line n m l p h f =
     elim (cases_eq line 0) as (λ _. Forest ws (pending result now) (n + m)) [
@@ -115,6 +119,7 @@ pub record IsBack (ws : List ℕ) (line : ℕ) (lines : List ℕ) (count : ℕ) 
   pub shape : HasShape ws line n
   pub rest : Forest ws lines m
 
+-- a forest below all lines pending after a push is a tree below the pushed line, or none below 0, and a forest below the others
 pub push_back : (ws old now : List ℕ) (depth result line count : ℕ) → depth < length old → IsPushed old now depth result line → Forest ws (pending result now) count → IsBack ws line (pending depth old) count
 push_back ws old now depth result line count l p f =
     elim (cases_eq line 0) as (λ _. IsBack ws line (pending depth old) count) [
@@ -153,6 +158,7 @@ look_left ws stack one two line count depth first second rest l more p = record 
       p.back (subst (λ u. Forest ws u rest) (sym (top_of stack depth l.some)) (a.n + (1 + b.n), b.m, (let x = a.sum_is in let y = b.sum_is in omega arith), h, b.rest)));
 }
 
+-- with a line pushed whose height and depth `d` are at most 64 together, the heights of all pending lines leave room as before
 roomy_push : (ws old now : List ℕ) (d r line : ℕ) → d < length old → IsPushed old now d r line → high_of line ws + d ≤ 64 → IsRoomy ws d old → IsRoomy ws r now
 roomy_push ws old now d r line l p low room q less =
     elim (cases_eq line 0) as (λ _. (1 ≤ get_or now q 0) × (high_of (get_or now q 0) ws + q ≤ 64)) [
@@ -167,6 +173,7 @@ roomy_push ws old now d r line l p low room q less =
           ]))
     ]
 
+-- a push makes the depth `d` at most one more
 pub pushed_most : (old now : List ℕ) (d r line : ℕ) → IsPushed old now d r line → r ≤ d + 1
 pushed_most old now d r line p = elim (cases_eq line 0) as (λ _. r ≤ d + 1) [ inl z ↦ (let e = (p.none z).0 in omega arith) | inr n ↦ (let e = (p.some n).0 in omega arith) ]
 

@@ -33,6 +33,7 @@ pub record ContentSoFar (ws lines content : List ℕ) (i line : ℕ) : Type 0 wh
 abbrev pub ReadsSoFar : List ℕ → ℕ → ℕ → List ℕ → ℕ → ℕ → Type 0
 ReadsSoFar ws first count content i line = (lines : List ℕ) → IsChain ws first lines → length lines ≡ count → ContentSoFar ws lines content i line
 
+-- with word `i` of the blocks stored as `v`, the first `i + 1` words are read, and `next` is the line of the one behind them
 pub content_more : (ws : List ℕ) (first count : ℕ) (content : List ℕ) (i line next v : ℕ) → ReadsSoFar ws first count content i line → i < 7 * count → 7 * count ≤ length content → v ≡ word_of ws line (1 + i % 7) →
     (i % 7 ≡ 6 → next ≡ word_of ws line 0) → (i % 7 ≢ 6 → next ≡ line) → ReadsSoFar ws first count (set content i v) (i + 1) next
 content_more ws first count content i line next v so l room is last other lines c e =
@@ -89,6 +90,7 @@ pub record IsRead (ws : List ℕ) (first count len : ℕ) (content bytes : List 
 bytes_long : (ws : List ℕ) (first count len : ℕ) (content bytes : List ℕ) → IsRead ws first count len content bytes → length bytes ≡ 8 * length content
 bytes_long ws first count len content bytes r = ap length r.bytes_are ∙ length-map-range_with_len (byte_at content) 0 (8 * length content)
 
+-- a marked chain `h`, read as bytes of which the first ones are within the limits and the others 0, holds the first ones as a text
 pub text_there : (ws : List ℕ) (first count len least most : ℕ) (content bytes : List ℕ) (old now : List Bool) → HasChain ws first count old now → IsRead ws first count len content bytes → IsFilled bytes len least most →
     ReadsText ws first len least most old now (take len bytes)
 text_there ws first count len least most content bytes old now h r f =
@@ -129,6 +131,7 @@ content_is ws first count len content bytes lines text r h long counted =
       | inr ge ↦ is.behind i ge ∙ sym (word_at_past text i (omega (arith, long, r.counted, counted)))
     ]))
 
+-- byte `k` that was read of a chain is byte `k` of the text that the chain holds, and 0 behind it
 read_byte : (ws : List ℕ) (first count len : ℕ) (content bytes lines text : List ℕ) → IsRead ws first count len content bytes → Holds ws first lines text → length text ≡ len → length lines ≡ count → ((i : ℕ) → get_or text i 0 < 256) →
     (k : ℕ) → get_or bytes k 0 ≡ get_or text k 0
 read_byte ws first count len content bytes lines text r h long counted small k =

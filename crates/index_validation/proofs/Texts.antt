@@ -37,6 +37,7 @@ chain_words_long (suc n) line ws =
       chain_words_long n (word_of ws line 0) ws,
     )
 
+-- packed word `k` of a chain of blocks is word 1 + `k` mod 7 of block `k` / 7
 chain_word : (ws lines : List ℕ) (first k : ℕ) → IsChain ws first lines → k < 7 * length lines → get_or (chain_words (length lines) first ws) k 0 ≡ word_of ws (get_or lines (k / 7) 0) (1 + k % 7)
 chain_word ws [] first k c l = absurd (omega arith)
 chain_word ws (line ∷ lines) first k c l =

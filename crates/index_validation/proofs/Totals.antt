@@ -28,6 +28,7 @@ unfolding sum_below
 sum_plus zero f g = refl
 sum_plus (suc n) f g = omega (arith, sum_plus n f g)
 
+-- the test whether `l` and `n` are equal counts 1 where they are
 is_same : (l n : ℕ) → l ≡ n → ◌≡◌ {A = ℕ} (cond (eqb l n) 1 0) 1
 is_same l n e = grind (arith, nat_tests)
 
