@@ -11,6 +11,7 @@ use Rattle.write_buffer.specs.Buffering.{IsFree, Covers, IsHeldBack, Shows}
 there : (xs : List ℕ) (n v : ℕ) → n < length xs → slice_index (slice_set xs n v) n ≡ v
 there xs n v l = get_or-set_same xs n v 0 l
 
+-- a number put into a list at `n` leaves what stands at another index `i` as it was
 beside : (xs : List ℕ) (n i v : ℕ) → i ≢ n → slice_index (slice_set xs n v) i ≡ slice_index xs i
 beside xs n i v ne = get_or-set_other xs n i v 0 ne
 
@@ -32,6 +33,7 @@ covers_more count at x places values under now p v free c e = record {
   free = λ a f. c.free a (λ i l e'. f i (omega (arith, l)) (beside places count i at (λ same. omega (arith, l, same)) ∙ e'));
 }
 
+-- one word less, where it is as it stands behind: the words are still those behind with the others put over them
 pub covers_less : (count at x : ℕ) (places values under now : List ℕ) → count < length places → count < length values → slice_index under at ≡ x →
     Covers (count + 1) (slice_set places count at) (slice_set values count x) under now → Covers count places values under now
 covers_less count at x places values under now p v e c = record {
@@ -256,6 +258,7 @@ module _ {Key : Type 0} where
         (p.0, p.1, subst (λ xs. Covers (i + 1) places values p.0 xs) (sym q.2) (covers_stored i count places values p.0 q.0 l within h.apart p.2)));
   }
 
+  -- where held-back word `i` is what was found behind it, the first `i + 1` words are put over once the first `i` are
   pub becomes_kept : {old mid : Key → List ℕ → Type 0} (size i count : ℕ) (places found values : List ℕ) → i < count → slice_index values i ≡ slice_index found i → IsHeldBack old size count places found values →
       Becomes old mid (Covers i places values) → Becomes old mid (Covers (i + 1) places values)
   becomes_kept size i count places found values l same h b = record {
