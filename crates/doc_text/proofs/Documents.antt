@@ -72,6 +72,7 @@ letter_plain x some =
           ]
     ]
   where
+    -- where one of the tests `a` to `e` for control characters passes, the letter of that one's escape is no control character
     control : (a b c d e : Bool) → 0 < cond a 98 (cond b 102 (cond c 110 (cond d 114 (cond e 116 0)))) → 32 ≤ cond a 98 (cond b 102 (cond c 110 (cond d 114 (cond e 116 0))))
     control true b c d e h = omega arith
     control false true c d e h = omega arith

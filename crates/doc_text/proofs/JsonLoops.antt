@@ -9,10 +9,12 @@ use Rattle.serde_json.specs.Read.{of_json, of_items, of_members, converted}
 
 -- ---- what was read, as data
 
+-- where `x` with a rest behind it is some `b` with what is left, `x` is some `b`, and the rest is what is left
 converted_parts : {A B : Type 0} (a : A) (rest left : List Token) (x : Option B) (b : B) → option_map {U = B × List Token} (λ y. (y, rest)) x ≡ Some (b, left) → (rest ≡ left) × (x ≡ Some b)
 converted_parts a rest left None b e = absurd (cc)
 converted_parts {B = B} a rest left (Some y) b e = let same : (y, rest) ≡ (b, left) = cc in (ap (λ (p : B × List Token). p.1) same, ap (λ (p : B × List Token). Some p.0) same)
 
+-- a parsed result that is converted to some `b` with a rest is a value with that rest, of which `f` makes `b`
 pub converted_some : {A B : Type 0} (f : A → Option B) (o : Option (A × List Token)) (b : B) (rest : List Token) → converted f o ≡ Some (b, rest) → (a : A) × (o ≡ Some (a, rest)) × (f a ≡ Some b)
 converted_some f None b rest e = absurd (cc)
 converted_some f (Some p) b rest e = let both = converted_parts p.0 p.1 rest (f p.0) b e in (p.0, ap (λ (s : List Token). Some (p.0, s)) both.0, both.1)
@@ -33,6 +35,7 @@ pub converted-object : (o : Option (json.Members × List Token)) → converted o
 converted-object None = refl
 converted-object (Some p) = twice object p.1 (of_members p.0 no_members)
 
+-- with `j`, which is read as `d`, put before them, parsed items are converted to `d` before what they are converted to
 with_item : (j : json.Json) (d : Data) → of_json j ≡ Some d → (o : Option (json.Items × List Token)) → converted of_items (parse_map (json.item j) o) ≡ parse_map (item d) (converted of_items o)
 with_item j d e None = refl
 with_item j d e (Some p) = rw e (twice (item d) p.1 (of_items p.0))
@@ -41,11 +44,13 @@ without_item : (j : json.Json) → of_json j ≡ None → (o : Option (json.Item
 without_item j e None = refl
 without_item j e (Some p) = rw e
 
+-- with `j`, which is read as `d`, put before them at the key `k`, parsed members are converted with `d` put at `k` to begin with
 with_member : (k : List ℕ) (j : json.Json) (d : Data) (old : Members) → of_json j ≡ Some d → (o : Option (json.Members × List Token))
     → converted (λ ms. of_members ms old) (parse_map (json.member k j) o) ≡ converted (λ ms. of_members ms (put k d old)) o
 with_member k j d old e None = refl
 with_member k j d old e (Some p) = rw e
 
+-- with a value `j` put before them that is not read as data, parsed members are not converted
 without_member : (k : List ℕ) (j : json.Json) (old : Members) → of_json j ≡ None → (o : Option (json.Members × List Token)) → converted (λ ms. of_members ms old) (parse_map (json.member k j) o) ≡ None
 without_member k j old e None = refl
 without_member k j old e (Some p) = rw e
@@ -53,6 +58,7 @@ without_member k j old e (Some p) = rw e
 -- ---- the turns
 
 module _ (p : Parse json.Json) where
+  -- where an array goes on with a value that is read as `d`, its items are `d` and those read from the rest in `n - 1` turns
   pub item_read : (n : ℕ) (ts rest : List Token) (d : Data) → 0 < n → after_end_array ts ≡ None → converted of_json (p ts) ≡ Some (d, rest)
       → converted of_items (items p n ts) ≡ parse_map (item d) (converted of_items (items p (n - 1) rest))
   item_read n ts rest d some going e = let j = converted_some of_json (p ts) d rest e in ap (converted of_items) (items_more p n ts rest j.0 some going j.1) ∙ with_item j.0 d j.2 _
@@ -70,6 +76,7 @@ module _ (p : Parse json.Json) where
   items_over n ts rest enough e = ap (converted of_items) (items_end p n ts rest enough e)
 
   module _ (old : Members) where
+    -- where an object goes on with the key `k` and a value that is read as `d`, `d` is put at `k` and the rest read in `n - 1` turns
     pub member_read : (n : ℕ) (k : List ℕ) (ts s rest : List Token) (d : Data) → 0 < n → read_key ts ≡ Some (Some k, s) → converted of_json (p s) ≡ Some (d, rest)
         → converted (λ ms. of_members ms old) (members p n ts) ≡ converted (λ ms. of_members ms (put k d old)) (members p (n - 1) rest)
     member_read n k ts s rest d some key e =

@@ -24,6 +24,7 @@ count_commands from ops a (suc n) =
     length-append (generated_commands from ops a) (flat_map (generated_commands from ops) (range_with_len (a + 1) n)) in
     both ∙ (ap₂ (λ (x y : ℕ). x + y) own rest ∙ grind arith)
 
+-- the commands of the clients from `a` to `j` end with those of the last one, `j`
 last_commands : (from ops a n j : ℕ) → a + n ≡ j → flat_map (generated_commands from ops) (range_with_len a (suc n)) ≡ flat_map (generated_commands from ops) (range_with_len a n) ++ generated_commands from ops j
 last_commands from ops a zero j e =
     let same : a ≡ j = omega arith in append-nil (generated_commands from ops a) ∙ ap (generated_commands from ops) same

@@ -81,6 +81,7 @@ number_no_value : (o : Option Num) → option_map number o ≡ None → o ≡ No
 number_no_value None e = refl
 number_no_value (Some n) e = absurd cc
 
+-- a number's text `s` that is read as `d` has a measure, in which `b` says whether `d` is no 64-bit integer
 pub number_measured : (s : List ℕ) (d : Data) (b : Bool) → IsNumber s → read s ≡ Some d → b ≡ unwrap_or (option_map is_float (as_number d)) false → ReadsNumber s (record { has_float = b; least = 0 })
 number_measured s d b is e float_is =
     let found = number_some_value (number_of s) d (sym (number_read s is) ∙ e) in (
@@ -183,11 +184,13 @@ floats-put k d (member l e ms) new old =
 abbrev pub Entry : Type 0
 Entry = String Global × Measure
 
+-- of entries `a`, `b` and `c` that measure members each, those that the ordering `o` chooses measure the members that it chooses
 measured-match : (o : Ordering) (a b c : List Entry) (a' b' c' : Members) → AreMeasured a a' → AreMeasured b b' → AreMeasured c c' → AreMeasured (match_ordering o a b c) (match_ordering o a' b' c')
 measured-match Less a b c a' b' c' below at above = below
 measured-match Equal a b c a' b' c' below at above = at
 measured-match Greater a b c a' b' c' below at above = above
 
+-- entries that measure members, with the measure `m` of `d` put in at the key `k`, measure the members with `d` put in at that key
 pub measured-put : (es : List Entry) (ms : Members) (k : String Global) (m : Measure) (d : Data) → IsMeasure m d → AreMeasured es ms → AreMeasured (insert_entry string_cmp es k m) (put (string_bytes k) d ms)
 measured-put [] no_members k m d is are = (refl, is, tt)
 measured-put (x ∷ es) (member l e ms) k m d is (key, first, more) =
@@ -224,6 +227,7 @@ measured-end found least es rest ms ended are floats weight =
 
 -- ---- what was noted of members
 
+-- what is noted of many members still holds with `d`, each of whose numbers is a 64-bit integer, put in at the key `k`
 pub described-many : (found : MeasuredMembers) (k : List ℕ) (m : Measure) (d : Data) (ms : Members) → found.are_many ≡ true → m.has_float ≡ false → IsMeasure m d → Describes found ms → Describes found (put k d ms)
 described-many found k m d ms many plain is noted =
     let old = noted.many many in
@@ -232,6 +236,7 @@ described-many found k m d ms many plain is noted =
       many = λ _. (omega (arith, old.0, count-put k d ms), floats-put k d ms (sym is.float ∙ plain) old.1);
     }
 
+-- where few members are noted by their entries, those with the measure `m` of `d` put in measure the members with `d` put in
 pub described-few : (members : BTreeMap (String Global) Measure) (found : MeasuredMembers) (k : String Global) (m : Measure) (d : Data) (ms : Members) → found.are_many ≡ false
     → members.entries ≡ insert_entry string_cmp found.members.entries k m → IsMeasure m d → Describes found ms → AreMeasured members.entries (put (string_bytes k) d ms)
 described-few members found k m d ms few inserted is noted =
