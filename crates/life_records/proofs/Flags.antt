@@ -66,6 +66,7 @@ same_stopped client (x ∷ xs) (y ∷ ys) z =
     ∙ ap (λ b. (y.client == client) || b) (same_stopped client xs ys z.1)
 same_stopped client _ _ z = absurd z
 
+-- a line of the entry `x` beside its client's stop line `a` is one beside `b`, which is the same stop but for the kept flag
 line_flagged : {Op Reply : Type 0} → (encoding : Encoding Op Reply) → (life : Life Op) (client : ℕ) (answered : List Answer) (a b : Option StopLine) (x : Linked) (line : JournalLine Reply) → SameStopOf a b → IsLineOf encoding life client answered a x line → IsLineOf encoding life client answered b x line
 line_flagged encoding life client answered a b x line same is = record {
   ticket = is.ticket;

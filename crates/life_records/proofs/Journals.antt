@@ -22,6 +22,7 @@ use Rattle.life_records.proofs.Owns.{own_rises}
 use Rattle.life_records.proofs.Firsts.{first_is}
 use Rattle.life_records.specs.Lives.{is_stopped}
 
+-- a linked entry `x` with the given ticket and the given entry is the record of these two
 linked_is : (x : Linked) (ticket : ℕ) (entry : Entry) → x.ticket ≡ ticket → x.entry ≡ entry → x ≡ record { ticket = ticket; entry = entry }
 linked_is x ticket entry t e = ap (λ (k : ℕ). record { ticket = k; entry = x.entry }) t ∙ ap (λ (y : Entry). record { ticket = ticket; entry = y }) e
 

@@ -65,6 +65,7 @@ has_filter p (x ∷ xs) z (inr h) is =
       | false ↦ rest
     ]
 
+-- an item `z` of a filtered list is one of the list
 pub filter_has : {X : Type 0} (p : X → Bool) (xs : List X) (z : X) → Has (filter p xs) z → Has xs z
 filter_has p [] z h = absurd h
 filter_has p (x ∷ xs) z h =
@@ -114,6 +115,7 @@ same_items {X} key (x ∷ xs) (y ∷ ys) rx ry to from =
         let b : key x < key y = each_has (λ w. key x < key w) xs y rx.0 h in
         absurd (omega arith)
 
+    -- an item `z` whose key is above that of the first item `v`, which is `u`, is among the rest `vs`
     later : (u v : X) (us : List X) (z : X) (vs : List X) → u ≡ v → key u < key z → Has (v ∷ vs) z → Has vs z
     later u v us z vs e up (inl s) = let same : key u ≡ key z = ap key (e ∙ s) in absurd (omega arith)
     later u v us z vs e up (inr h) = h
@@ -136,6 +138,7 @@ room (suc n) p (x ∷ xs) c all =
     skip x xs t ne (inl s) = absurd (ne s)
     skip x xs t ne (inr h) = h
 
+    -- where the first number `x` is not `p`, all of the row from `p` on is among the rest `xs`, which is long enough for it
     room_more : (n p x : ℕ) (xs : List ℕ) → Climbs (λ x. x) (x ∷ xs) → x ≢ p → ((t : ℕ) → p ≤ t → t < p + n → Has (x ∷ xs) t) → (((t : ℕ) → p ≤ t → t < p + n → Has xs t) → n ≤ length xs) → n ≤ length xs
     room_more zero p x xs c ne all go = omega arith
     room_more (suc n) p x xs c ne all go =
@@ -176,6 +179,7 @@ zip_has R (a ∷ xs) [] x z h = absurd z
 zip_has {A} {B} R (a ∷ xs) (b ∷ ys) x z (inl s) = (b, inl refl, subst (λ (w : A). R w b) s z.0)
 zip_has R (a ∷ xs) (b ∷ ys) x z (inr h) = let r = zip_has R xs ys x z.1 h in (r.0, inr r.1, r.2)
 
+-- beside an item `y` of the second of two lists stands one of the first
 pub zip_back : {A B : Type 0} (R : A → B → Type 0) (xs : List A) (ys : List B) (y : B) → AllZip R xs ys → Has ys y → (x : A) × Has xs x × R x y
 zip_back R xs [] y z h = absurd h
 zip_back R [] (b ∷ ys) y z h = absurd z
@@ -225,6 +229,7 @@ climbs_from {X} key (x ∷ xs) up =
     each_map [] all = tt
     each_map (y ∷ ys) all = (all 0 y (omega arith), each_map ys (λ k d within. all (suc k) d (omega arith)))
 
+-- the key `k` of an item `z` of a list is among the keys of the list
 pub has_map : {X : Type 0} (key : X → ℕ) (xs : List X) (z : X) (k : ℕ) → Has xs z → key z ≡ k → Has (map key xs) k
 has_map key [] z k h e = absurd h
 has_map key (x ∷ xs) z k (inl s) e = inl (ap key s ∙ e)
@@ -279,6 +284,7 @@ pairs_cons R x xs head rest _ zero d up within = absurd (omega arith)
 pub pairs_head : {X : Type 0} (R : X → X → Type 0) (x : X) (xs : List X) → AllPairs R (x ∷ xs) → Each (R x) xs
 pairs_head R x xs a = each_get (R x) xs (λ k z at. subst (R x) (get_or_from_slice_get xs k z z at) (a 0 (suc k) z (omega arith) (let w = slice_get_within xs k z at in omega arith)))
 
+-- where `R` holds of all pairs of a list in their order, it holds of those behind its first item `x`
 pub pairs_tail : {X : Type 0} (R : X → X → Type 0) (x : X) (xs : List X) → AllPairs R (x ∷ xs) → AllPairs R xs
 pairs_tail R x xs a i j d up within = a (suc i) (suc j) d (omega arith) (omega arith)
 

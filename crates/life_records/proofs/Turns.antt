@@ -143,6 +143,7 @@ module _ {Op Reply Store : Type 0} (t : TypedSteps Op Reply Store) (callers : �
   read_line : (client : ℕ) (seat : SeatOf client) (a : ClientAnswer) (r : OfRead a) → r.line.client ≡ client → ReadOf client seat r.line
   read_line client seat a r mine = read_of_line t callers base s store life told base_law law is client seat r.index r.line r.there mine
 
+  -- an answer `b` to a later command of the client is not below the place that the answer `a` of an entry names as the next
   after_entry : (a b : ClientAnswer) → OfEntry a → OfEntry b ⊎ OfRead b → a.client ≡ b.client → a.command < b.command → a.next ≤ b.at
   after_entry a b x y same order =
       let client = x.line.client in
@@ -157,6 +158,7 @@ module _ {Op Reply Store : Type 0} (t : TypedSteps Op Reply Store) (callers : �
             omega (arith, rise, x.next, r.at))
       ]
 
+  -- an answer `b` to a later command of the client is not below the place that the answer `a` of a read names as the next
   after_read : (a b : ClientAnswer) → OfRead a → OfEntry b ⊎ OfRead b → a.client ≡ b.client → a.command < b.command → a.next ≤ b.at
   after_read a b x y same order =
       let client = x.line.client in
