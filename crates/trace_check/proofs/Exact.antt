@@ -27,10 +27,12 @@ makes_one instance event a b c m k =
     let locals : b.locals ≡ c.locals = m.locals ∙ ap (λ (l : Local). slice_set a.locals event.caller (local_after instance (scene_of instance a) event.kind l)) one ∙ sym k.locals in
     λ i. record { words = words i; locals = locals i }
 
+-- a line leads from a state `a` to one state only: `b` and `c` are equal
 passes_one : (instance : Instance) (what : TraceWhat) (a b c : State) → Passes instance what a b → Passes instance what a c → b ≡ c
 passes_one instance (Event event) a b c m k = makes_one instance event a b c m k
 passes_one instance (Crash choice place) a b c m k = m.1 ∙ sym k.1
 
+-- a line that is good in a lawful state `a` leads to a lawful state `b`
 pub passes_lawful : (instance : Instance) (what : TraceWhat) (a b : State) → Lawful instance a → Passes instance what a b → Lawful instance b
 passes_lawful instance (Event event) a b law m = event_kept instance event a b law m
 passes_lawful instance (Crash choice place) a b law m = subst (Lawful instance) (sym m.1) law
@@ -39,6 +41,7 @@ pub good_lawful : (instance : Instance) (from : State) (xs : List TraceLine) (to
 good_lawful instance from [] to law good = subst (Lawful instance) (sym good) law
 good_lawful instance from (x ∷ xs) to law good = good_lawful instance good.0 xs to (passes_lawful instance x.what from good.0 law good.1) good.2
 
+-- good lines lead from a state to one state only: `b` and `c` are equal
 good_one : (instance : Instance) (from : State) (xs : List TraceLine) (b c : State) → Good instance from xs b → Good instance from xs c → b ≡ c
 good_one instance from [] b c m k = m ∙ sym k
 good_one instance from (x ∷ xs) b c m k =
@@ -54,6 +57,7 @@ good_at instance from (y ∷ ys) to (suc n) x at good =
     let r = good_at instance good.0 ys to n x at good.2 in
     (r.0, (good.0, good.1, r.1), r.2, r.3)
 
+-- the item `x` at an index `n` below `m` is at that index of the first `m` items
 get_take : {X : Type 0} (xs : List X) (n m : ℕ) (x : X) → n < m → slice_get xs n ≡ Some x → slice_get (take m xs) n ≡ Some x
 get_take [] n m x less at = absurd (none-some x at)
 get_take (y ∷ ys) n zero x less at = absurd (omega arith)
@@ -75,18 +79,21 @@ record Stops (instance : Instance) (from : State) (xs : List TraceLine) (n : ℕ
   before : Good instance from (take n xs) s
   stuck : (t : State) → Passes instance x.what s t → ⊥
 
+-- lines that stop at the index `n` are not all good
 never_good : (instance : Instance) (from : State) (xs : List TraceLine) (n : ℕ) (x : TraceLine) (s to : State) → Stops instance from xs n x s → Good instance from xs to → ⊥
 never_good instance from xs n x s to stops good =
     let r = good_at instance from xs to n x stops.at good in
     let same = good_one instance from (take n xs) r.0 s r.1 stops.before in
     stops.stuck r.2 (subst (λ (z : State). Passes instance x.what z r.2) same r.3)
 
+-- lines that stop at the index `n` do not stop at a later index `m` too
 not_later : (instance : Instance) (from : State) (xs : List TraceLine) (n m : ℕ) (x y : TraceLine) (s t : State) → Stops instance from xs n x s → Stops instance from xs m y t → n < m → ⊥
 not_later instance from xs n m x y s t first second less =
     never_good instance from (take m xs) n x s t
     (record { at = get_take xs n m x less first.at; before = subst (λ zs. Good instance from zs s) (sym (take_take xs n m (omega arith))) first.before; stuck = first.stuck })
     second.before
 
+-- lines stop at one line in one state only: `x` and `y` are equal, and so are `s` and `t`
 stop_one : (instance : Instance) (from : State) (xs : List TraceLine) (n m : ℕ) (x y : TraceLine) (s t : State) → Stops instance from xs n x s → Stops instance from xs m y t → (x ≡ y) × (s ≡ t)
 stop_one instance from xs n m x y s t first second =
     let same : n ≡ m = elim (cases_lt n m) [
@@ -133,6 +140,7 @@ module _ (instance : Instance) (from : State) (xs : List TraceLine) (law : Lawfu
       let one = stop_one instance from xs f.n h.n f.x h.x f.state h.state (guard_stops line f) (place_stops other found h) in
       subst is_event (sym f.is ∙ ap (λ (z : TraceLine). z.what) one.0 ∙ h.is) tt
 
+  -- the crash after which another place is recovered is at one line only, and the place is one: `p` and `q` are equal
   places_one : (line other p q : ℕ) → FailsPlace instance from xs line p → FailsPlace instance from xs other q → (line ≡ other) × (p ≡ q)
   places_one line other p q f h =
       let one = stop_one instance from xs f.n h.n f.x h.x f.state h.state (place_stops line p f) (place_stops other q h) in
@@ -141,6 +149,7 @@ module _ (instance : Instance) (from : State) (xs : List TraceLine) (law : Lawfu
       let there = subst (λ (z : State). LeavesPlace instance z h.choice p) one.1 here in
       (sym f.named ∙ ap (λ (z : TraceLine). z.line) one.0 ∙ h.named, leaves_one instance h.state h.choice p q (good_lawful instance from (take h.n xs) h.state law h.before) there h.leaves)
 
+  -- lines have one verdict only: `v` and `w` are equal
   pub verdict_one : (v w : Verdict) → IsVerdict instance from xs v → IsVerdict instance from xs w → v ≡ w
   verdict_one (Yes e c) (Yes e' c') v w = (let ee = v.1 ∙ sym w.1 in let cc = v.2 ∙ sym w.2 in λ i. Yes (ee i) (cc i))
   verdict_one (Yes e c) (Guard line) v w = absurd (never_good instance from xs w.n w.x w.state v.0.0 (guard_stops line w) v.0.1)

@@ -51,6 +51,7 @@ dirties_or_not (Some h) r i =
       ]
     ]
 
+-- where neither the first caller's local state `l` nor the others' `ls` make word `i` of replica `r` dirty, no caller's does
 neither : (l : Local) (ls : List Local) (r i : ℕ) → (Dirties l.exclusive r i → ⊥) → (IsDirtyIn ls r i → ⊥) → (caller : ℕ) (local : Local) → slice_get (l ∷ ls) caller ≡ Some local → Dirties local.exclusive r i → ⊥
 neither l ls r i here later zero local at d = here (subst (λ (y : Local). Dirties y.exclusive r i) (sym (same_Some l local at)) d)
 neither l ls r i here later (suc caller) local at d = later (record { caller = caller; local = local; held = d.held; of_caller = at; has = d.has; replica = d.replica; dirty = d.dirty })

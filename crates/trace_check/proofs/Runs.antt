@@ -17,6 +17,7 @@ use Rattle.trace_check.proofs.Exact.{good_at, good_lawful, makes_one}
 use Rattle.trace_check.proofs.Leaving.{accepted, at_place, kept_at}
 use Rattle.trace_check.proofs.Made.{image_left}
 
+-- the same events from one state run to one state only: `b` and `c` are equal
 run_one : (instance : Instance) (events : List CoreEvent) (from b c : State) → Run instance from events b → Run instance from events c → b ≡ c
 run_one instance [] from b c m k = m ∙ sym k
 run_one instance (x ∷ xs) from b c m k =
