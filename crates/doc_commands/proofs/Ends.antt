@@ -16,6 +16,7 @@ use Rattle.doc_commands.specs.declared.image_answer.ImageEnd.TheVariants.{Fine, 
 one_value : (a b : ImageLines) → ◌≡◌ {A = Result ImageLines ImageReason} (Ok a) (Ok b) → a ≡ b
 one_value a b same = cc
 
+-- the same lines, with the same said before them, say one thing: `a` and `b` are equal
 said_once : (before : ImageLines) (lines : List (List ℕ)) (a b : ImageLines) → AddsAll image_grammar before lines a → AddsAll image_grammar before lines b
     → a ≡ b
 said_once before [] a b x y = x ∙ sym y
@@ -26,6 +27,7 @@ said_once before (line ∷ lines) a b (m, x, xs) (n, y, ys) =
 same_image : (a b : Image) → Whole a ≡ Whole b → a ≡ b
 same_image a b same = cc
 
+-- a text is that of one image only: `a` and `b` are equal
 pub one_image : (input : List ℕ) (a b : Image) → IsImageText input a → IsImageText input b → a ≡ b
 one_image input a b x y = same_image a b (said_once Nothing (text_lines input) (Whole a) (Whole b) x y)
 

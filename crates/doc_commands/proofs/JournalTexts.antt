@@ -119,6 +119,7 @@ same_op lines store life a b told other client command =
 same_line : (a b : JournalLine Reply) → a.ticket ≡ b.ticket → a.client ≡ b.client → a.command ≡ b.command → a.reply ≡ b.reply → a ≡ b
 same_line a b ticket client command reply = λ i. record { ticket = ticket i; client = client i; command = command i; reply = reply i }
 
+-- where two told lines `a` and `b` begin equal texts, with `x` and `y` behind them, they are the same but for replies, and `x` is `y`
 same_first : (lines : ℕ) (store : RevisedStore) (life : Life Op) (a b : JournalLine Reply) (x y : List ℕ)
     → IsTold lines store life a → IsTold lines store life b
     → journal_text document_wording life a ++ x ≡ journal_text document_wording life b ++ y → (bare a ≡ bare b) × (x ≡ y)
@@ -143,6 +144,7 @@ same_first lines store life a b x y told other e =
       same_after_answer (reply_to lines store told.op) a.reply b.reply x y told.plain told.reply one answers,
     )
 
+-- a text `y` that begins with no digit does not begin with a line of a journal
 no_line : (life : Life Op) (line : JournalLine Reply) (x y : List ℕ) → HasLineNumbers line → BeginsOutside y → journal_text document_wording life line ++ x ≡ y → ⊥
 no_line life line x y numbers outside e =
     number_outside line.ticket (32 ∷ (decimal line.client ++ 46 ∷ (decimal line.command ++ 32 ∷ answer_end life line x))) y numbers.0 outside
@@ -176,6 +178,7 @@ same_journals lines store life (line ∷ a) (next ∷ b) x y told others x_outsi
 abbrev pub IsAnsweredBy : (JournalLine Reply → Bool) → JournalLine Reply → Type 0
 IsAnsweredBy test line = is_some line.reply ≡ test line
 
+-- `a` and `b`, each no reply or the reply `r`, are the same where both or neither of them tell one
 same_reply : (r : Reply) (a b : Option Reply) → IsNoneOr r a → IsNoneOr r b → is_some a ≡ is_some b → a ≡ b
 same_reply r a b (inl none) (inl also) same = none ∙ sym also
 same_reply r a b (inl none) (inr some) same = let h : false ≡ true = rw (none, some) at same in absurd cc

@@ -25,6 +25,7 @@ use Rattle.script_text.proofs.EndTexts.{HasStopNumbers, HasFullNumbers, stops_re
 use Rattle.doc_commands.proofs.JournalTexts.{AreTold, AreTold-from_places, IsAnsweredBy, bare, named_within, same_journals, same_replies}
 use Rattle.doc_commands.proofs.ReadTexts.{IsReadOff, reads_read}
 
+-- the texts `a` to `f`, joined and then put before `x`, are the same as each of them put before what follows it
 regroup : (a b c d e f x : List ℕ) → (a ++ b ++ c ++ d ++ e ++ f) ++ x ≡ a ++ (b ++ (c ++ (d ++ (e ++ (f ++ x)))))
 regroup a b c d e f x = simp append_assoc
 

@@ -99,6 +99,7 @@ tells_nothing image fault is some tells =
       | inr slots ↦ slots.2 tells.replies
     ]
 
+-- an image has at most one fault besides running out of memory: `f` and `g` are equal
 document_fault_one : (image : Image) (f g : ImageFault) → IsDocumentFault image f → f ≢ Memory → IsDocumentFault image g → g ≢ Memory → f ≡ g
 document_fault_one image f g x some y more =
     elim (kinds image f x) [

@@ -121,6 +121,7 @@ answer_text reply = option_map_or reply_text reply unanswered
 abbrev pub IsNoneOr : Reply → Option Reply → Type 0
 IsNoneOr r reply = (reply ≡ None) ⊎ (reply ≡ Some r)
 
+-- what follows the same bytes and a line break in two equal texts is the same: `x` and `y` are equal
 cancel : (ds x y : List ℕ) → ds ++ 10 ∷ x ≡ ds ++ 10 ∷ y → x ≡ y
 cancel [] x y e = cc
 cancel (d ∷ ds) x y e = cancel ds x y cc

@@ -51,6 +51,7 @@ same_reply lines place store life journal a b legal other client command at =
     ∙ ap (λ n. reply_to lines (store_at (document_meaning lines) store life journal (n - place)) op.0) at
     ∙ sym (has_reply lines place store life journal b other op.0 (sym same ∙ op.1))
 
+-- where two legal reads `a` and `b` begin equal texts, with `x` and `y` behind them, they are the same
 same_first : (lines place : ℕ) (store : RevisedStore) (life : Life Op) (journal : List (JournalLine Reply)) (a b : ReadLine Reply) (x y : List ℕ)
     → IsLegalRead (document_meaning lines) place store life journal a → IsLegalRead (document_meaning lines) place store life journal b
     → HasReadNumbers a → HasReadNumbers b
