@@ -14,7 +14,9 @@ ghost use Rattle.replica.specs.Held.{Accesses, EndsRun, HaltsLoading, IsHeld, Is
 use cx_base::{Halt, Object};
 use cx_table::{CallerSeat, Exclusive, Shared, SharedHold};
 
-/// The accesses of a replica held, on a running table of some object.
+/// The accesses of a replica held, on a running table of some object. It is a trait, though `Shared` alone implements it, since a ghost field
+/// of a struct over `Shared<O>` cannot name the members of `Object` at `O` (the toolchain refuses it in a struct that owns memory), and the ghost
+/// fields of a region name them.
 pub trait HeldWords {
     /// The object of the table.
     ghost Object: { Type 0 };
