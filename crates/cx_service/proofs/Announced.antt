@@ -23,6 +23,7 @@ some_differ (x ∷ xs) (y ∷ ys) =
       | inr ne ↦ (let other = ap count (ne_eqb x y ne) in omega (arith, other, rest))
     ]
 
+-- a caller that halts in writing its entry into the cell `j` has halted in its submit with nothing linked, and the entry is still to be written there
 pub halted_in : {O : Type 0} (r : Running O) (j most : ℕ) (op : List ℕ) (s t : Seated) → IsCallerOf r (stale s) → j < 16 → 145 ≤ most → length op ≡ 144 → HaltsIn j (next_number r.base s.known.local ∷ op) s t → SubmitHalted r most (stale s) (unlinked t) × IsWriting r op 0 (stale s) t
 halted_in r j most op s t caller room many long halted =
     let limit = ap (λ (x : Seated). x.known.local.limit) halted.rest in

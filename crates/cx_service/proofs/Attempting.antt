@@ -37,6 +37,7 @@ meets_one s v is =
 pub rises_one : (s v : Seated) → s.known.local.met ≤ max_word → v.known.local.met ≡ one_more s.known.local.met → s.known.local.met ≤ v.known.local.met
 rises_one s v small is = omega (arith, small, is)
 
+-- at least `n` refusals from `s` to `u`, and `m` from `u` to `v`, are at least `n + m` from `s` to `v`, unless their count is at its end
 pub meets_then : (n m : ℕ) (s u v : Seated) → MeetsMore n s u → MeetsMore m u v → MeetsMore (n + m) s v
 meets_then n m s u v (inl a) (inl b) = inl (omega (arith, a, b))
 meets_then n m s u v (inr a) (inl b) = inr (omega (arith, a, b))
@@ -134,6 +135,7 @@ module _ {O : Type 0} (r : Running O) (n : ℕ) (s u : Seated) (before : DrivePe
       ap (λ (xs : List Linked). option_map (λ (x : Linked). x.ticket) (slice_get xs (length s.known.local.answered))) (sym before.keeps.own)
       ∙ ap (λ (as_ : List Answer). option_map (λ (x : Linked). x.ticket) (slice_get u.known.local.own (length as_))) (sym before.answered)
 
+  -- `m` refused attempts behind the `n` before leave the entry unanswered from `s` to `v`, with `n + m` refusals met
   pending_then : (m : ℕ) (v : Seated) → DrivePending r m u v → DrivePending r (n + m) s v
   pending_then m v p = record {
     caller = p.caller;
@@ -180,6 +182,7 @@ pub record DrivesOn {O : Type 0} (r : Running O) (n : ℕ) (s u : Seated) : Type
   pub attempts : ((n ≡ 0) × (u ≡ s)) ⊎ DrivePending r n s u
 
 module _ {O : Type 0} (r : Running O) (n : ℕ) (s u : Seated) (on : DrivesOn r n s u) where
+  -- `m` refused attempts behind `n`, of which there may be none, are `n + m` attempts from the first seat `s` on
   drives_then : (m : ℕ) (v : Seated) → DrivePending r m u v → DrivesOn r (n + m) s v
   drives_then m v p = record {
     caller = p.caller;
@@ -216,12 +219,15 @@ pub record DrivesAgain {O : Type 0} (r : Running O) (s u : Seated) : Type 0 wher
   pub attempts : ℕ
   pub on : DrivesOn r attempts s u
 
+-- attempts that are begun again go on to `v` by `m` more, each with a refusal
 pub again_more : {O : Type 0} (r : Running O) (m : ℕ) (s u v : Seated) → DrivesAgain r s u → DrivePending r m u v → DrivesAgain r s v
 again_more r m s u v again p = record { attempts = again.attempts + m; on = drives_then r again.attempts s u again.on m v p }
 
+-- where attempts that are begun again answer the entry from `u` on, it is answered from the first seat `s` on
 pub again_done : {O : Type 0} (r : Running O) (s u v : Seated) (answer : Answer) → DrivesAgain r s u → DriveDone r u v answer → DriveDone r s v answer
 again_done r s u v answer again d = done_on r again.attempts s u again.on v answer d
 
+-- where attempts that are begun again halt at the limit from `u` on, the drive has halted from the first seat `s` on
 pub again_halted : {O : Type 0} (r : Running O) (s u : Seated) (v : StoppedSeat) → DrivesAgain r s u → DriveHalted r u v → DriveHalted r s v
 again_halted r s u v again h = halted_on r again.attempts s u again.on v h
 

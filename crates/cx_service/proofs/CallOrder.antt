@@ -44,10 +44,11 @@ steps_of-append caller (event ∷ x) y = counted (event.caller == caller) (steps
     counted true n k is = omega (arith, is)
     counted false n k is = is
 
--- of two prefixes of a list one is a prefix of the other
+-- the list `x` is a prefix of the list `y`
 abbrev Begins : List Event → List Event → Type 0
 Begins x y = (more : List Event) × (y ≡ x ++ more)
 
+-- where `x` and `y` both begin one list, `x` begins `y` or `y` begins `x`
 one_begins : (x x' y y' : List Event) → x ++ x' ≡ y ++ y' → Begins x y ⊎ Begins y x
 one_begins [] x' y y' is = inl (y, refl)
 one_begins (e ∷ x) x' [] y' is = inr (e ∷ x, refl)
@@ -174,6 +175,7 @@ module _ (instance : Instance) (from to : State) (events : List Event) (law : La
   begins_at seat (Update caller i) n times begin = subst (λ c. BeginsAt instance from events c (Update c i) n) begin.0 (times.linked i n begin.1)
   begins_at seat (Read caller i) n times begin = subst (λ c. BeginsAt instance from events c (Read c i) n) begin.0 (subst (BeginsAt instance from events seat.known.local.number (Read seat.known.local.number i)) begin.3 (times.begun i begin.1 begin.2))
 
+  -- an operation that ended before another began, by the steps that the seats counted, stands before it in the history
   pub keeps_calls : (seats : List Seated) → All TimesOf seats → KeepsCalls events seats to
   keeps_calls seats times seat other a b m n p q has has' end_ begin =
       in_call_order a b m n p q (ends_at seat a m (All-contains TimesOf seats seat times has) end_) (begins_at other b n (All-contains TimesOf seats other times has') begin)

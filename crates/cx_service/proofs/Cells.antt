@@ -46,9 +46,11 @@ own_more l m y c cells own from front others here = record { own = has; apart = 
     not_new : (k t : ℕ) → t ≡ y.ticket → (cell_of l k).ticket ≡ Some t → ⊥
     not_new k t is at = (let h = cells.own k t at in let below = cells.to h.0 h.1 h.2 in let same = h.3 in omega (arith, below, same, is, from))
 
+    -- a ticket `t` of the cell `j` is that of the new entry `y`, where `j` is the cell `c` that was put
     new_at : (j t : ℕ) → j ≡ c → (cell_of m j).ticket ≡ Some t → t ≡ y.ticket
     new_at j t e at = same_Some t y.ticket (sym at ∙ ap (λ i. (cell_of m i).ticket) e ∙ here)
 
+    -- cells `j` and `k` with the same ticket `t` are one cell, also where that is the ticket of the new entry
     apart : (j k t : ℕ) → (cell_of m j).ticket ≡ Some t → (cell_of m k).ticket ≡ Some t → j ≡ k
     apart j k t a b =
         elim (cases_eq j c) [
@@ -86,6 +88,7 @@ many_own l cells all =
     some : (j : ℕ) → (t : ℕ) × ((cell_of l j).ticket ≡ Some t) → (i : ℕ) × Has j i × (i < length l.own)
     some j t = (let h = cells.own j t.0 t.1 in (h.0, (h.1, h.2, t.1 ∙ ap (λ u. Some u) (sym h.3)), slice_get_within l.own h.0 h.1 h.2))
 
+    -- cells `j` and `k` with the ticket of one own entry, the one at `i`, are one cell
     apart : (j k i : ℕ) → j ≤ length l.own → k ≤ length l.own → Has j i → Has k i → j ≡ k
     apart j k i a b p q = cells.apart j k p.0.ticket p.2 (q.2 ∙ ap (λ (x : Linked). Some x.ticket) (same_Some q.0 p.0 (sym q.1 ∙ p.1)))
 

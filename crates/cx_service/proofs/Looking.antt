@@ -96,6 +96,7 @@ module _ {O : Type 0} (r : Running O) (more : ℕ) (s t : Seated) (first : Prece
   allowed : ¬ IsAtLimit t.known.local → ¬ IsAtLimit s.known.local
   allowed free at = free (subst (λ (x : Seated). IsAtLimit x.known.local) (sym (first.stood at)) at)
 
+  -- what a submit from `t` leaves as it was, one from `s` leaves so too, in at most `more` steps more
   keeps_then : (m n : ℕ) (v : Seated) → m + more ≤ n → SubmitKeeps m t v → SubmitKeeps n s v
   keeps_then m n v most after = record {
     number = after.number ∙ ap (λ (x : Seated). x.known.local.number) first.kept;
@@ -169,6 +170,7 @@ module _ {O : Type 0} (r : Running O) (more : ℕ) (s t : Seated) (first : Prece
     since = omega (arith, after.since, first.since);
   }
 
+  -- a submit from `t` that lost all its tries is one from `s` that did, in at most `more` steps more
   again_then : (tries m n : ℕ) (v : Seated) → m + more ≤ n → SubmitAgain r tries m t v → SubmitAgain r tries n s v
   again_then tries m n v most after = record {
     caller = after.caller;
@@ -183,6 +185,7 @@ module _ {O : Type 0} (r : Running O) (more : ℕ) (s t : Seated) (first : Prece
     since = omega (arith, after.since, first.since);
   }
 
+  -- a submit from `t` that found no ticket left is one from `s`, with the `took` steps from `s` to `t` counted in
   worn_then : (took k least m n : ℕ) (v : Seated) → m + more ≤ n → least ≤ took + k → min (s.known.local.steps + took) max_word ≤ t.known.local.steps → SubmitWorn r k m t v → SubmitWorn r least n s v
   worn_then took k least m n v most all from after = record {
     caller = after.caller;
@@ -196,6 +199,7 @@ module _ {O : Type 0} (r : Running O) (more : ℕ) (s t : Seated) (first : Prece
     linked = after.linked ∙ first.linked;
   }
 
+  -- a submit that halts at the limit from `t` on has halted from `s` on, with nothing linked, in at most `more` steps more
   pub halted_then : (m n : ℕ) (v : StoppedSeat) → m + more ≤ n → SubmitHalted r m t v → SubmitHalted r n s v
   halted_then m n v most halted = record {
     caller = halted.caller;
@@ -207,6 +211,7 @@ module _ {O : Type 0} (r : Running O) (more : ℕ) (s t : Seated) (first : Prece
     since = omega (arith, halted.since, first.since);
   }
 
+  -- whatever the tries to link from `t` on end with, a link, a loss of all or no ticket left, those from `s` on end with it, `took` steps later
   pub enters_then : (op : List ℕ) (k took tries m n : ℕ) (v : Seated) (tried : LinkTried) → m + more ≤ n → min (s.known.local.steps + took) max_word ≤ t.known.local.steps → EntersIn k m r op tries t v tried → EntersIn (took + k) n r op tries s v tried
   enters_then op k took tries m n v (TriedLinked ticket) most least after = linked_then op m n v most after
   enters_then op k took tries m n v TriedAgain most least after = (again_then tries m n v most after.0, tries_then k took (LosesTries r.callers tries) v least after.1)
@@ -283,6 +288,7 @@ none_ends r s caller = record { scan = caller.rest.scan; fresh = caller.rest.fre
 pub looked_then : (m n k : ℕ) (s t v : Seated) → m + n ≤ k → LooksForCell m s t → LooksForCell n t v → LooksForCell k s v
 looked_then m n k s t v most a b = record { same = b.same ∙ a.same; steps = omega (arith, most, a.steps, b.steps) }
 
+-- where looking for a cell ends at `t` and again at `v`, it has ended from `s` to `v`: no scan is under way, and no step is taken back
 pub ends_then : (s t v : Seated) → EndsLooking s t → EndsLooking t v → EndsLooking s v
 ends_then s t v a b = record { scan = b.scan; fresh = b.fresh; scans = omega (arith, a.scans, b.scans); since = omega (arith, a.since, b.since) }
 
@@ -290,6 +296,7 @@ ends_then s t v a b = record { scan = b.scan; fresh = b.fresh; scans = omega (ar
 pub finds_at_once : {O : Type 0} (r : Running O) (s : Seated) (cell : ℕ) → IsCallerOf r s → cell < 16 → IsIdle s.known.local cell → FindsIdle r.callers s s cell
 finds_at_once r s cell caller within idle = record { ends = none_ends r s caller; stood = inr refl; within = within; idle = idle; took = 0; looked = inl (refl, (cell, within, idle)); least = omega arith; most = omega arith }
 
+-- where all cells of `s` are in use and FREE is loaded in one step to `t`, what a scan from `t` finds is what looking for a cell from `s` finds
 pub finds_then : (callers : ℕ) (s t v : Seated) (found : Result ℕ FullNote) → AreInUse s.known.local → ¬ IsAtLimit s.known.local → EndsLooking s t → t.known.local.scans ≡ s.known.local.scans → t.known.local.steps ≡ one_more s.known.local.steps → LooksForCell (callers + 4) s v → FindsAgain callers t v found → FindsCell callers s v found
 finds_then callers s t v (Ok cell) used free ends scans one looked finds = record {
   ends = ends_then s t v ends finds.ends;
