@@ -25,6 +25,7 @@ removed_keeps (z ∷ zs) (suc i) y x at there =
       | inr a ↦ elim (removed_keeps zs i y x at a) [ inl e ↦ inl e | inr b ↦ inr (contains_rest z (remove zs i) x b) ]
     ]
 
+-- an item `x` of a list without its item at `i` is an item of the list
 pub removed_among : {X : Type 0} (xs : List X) (i : ℕ) (y x : X) → slice_get xs i ≡ Some y → Contains (remove xs i) x → Contains xs x
 removed_among [] i y x at there = absurd (none-some y at)
 removed_among (z ∷ zs) zero y x at there = contains_rest z zs x there
@@ -123,6 +124,7 @@ wins_among (l ∷ ls) w there =
       | inr later ↦ (let r = wins_among ls w later in record { caller = suc r.caller; local = r.local; of_caller = r.of_caller; won = r.won })
     ]
 
+-- the win `w` of the caller `c` is among the wins of all callers
 won_at : (ls : List Local) (c : ℕ) (l : Local) (w : WonCode) → slice_get ls c ≡ Some l → l.won ≡ Some w → Contains (wins_of ls) w
 won_at [] c l w at won = absurd (none-some l at)
 won_at (x ∷ ls) zero l w at won =

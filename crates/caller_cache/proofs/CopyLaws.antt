@@ -65,9 +65,11 @@ one_item y x here = elim (Contains-push_cases [] y x here) [ inl none ↦ (let b
 abbrev Passes : (ℕ → Bool) → List ℕ → ℕ → Type 0
 Passes p xs x = Contains xs x × (p x ≡ true)
 
+-- an item `x` of `ys` that passes the test `p` is an item of `y ∷ ys` that passes it
 passes_later : (p : ℕ → Bool) (y : ℕ) (ys : List ℕ) (x : ℕ) → Passes p ys x → Passes p (y ∷ ys) x
 passes_later p y ys x r = (Contains-append_right (y ∷ []) ys x r.0, r.1)
 
+-- where `y` passes the test `p`, and each item left of `ys` is one of `ys` that passes it, so is each item left of `y ∷ ys`
 passes_kept : (p : ℕ → Bool) (y : ℕ) (ys left : List ℕ) (x : ℕ) → p y ≡ true → (Contains left x → Passes p ys x) → Contains (y ∷ left) x → Passes p (y ∷ ys) x
 passes_kept p y ys left x e rest there = elim (Contains-append_cases (y ∷ []) left x there) [
   | inl here ↦ (Contains-append_left (y ∷ []) ys x here, ap p (sym (one_item y x here)) ∙ e)
@@ -103,6 +105,7 @@ SameRows row l l' = (j : ℕ) → row (cell_of l' j) ≡ row (cell_of l j)
 abbrev SameCells : Local → Local → Type 0
 SameCells l l' = (j : ℕ) → (words_in (cell_of l' j) ≡ words_in (cell_of l j)) × (set_in (cell_of l' j) ≡ set_in (cell_of l j))
 
+-- a list with a row of words of each cell of `l` has those of `l'`, where the rows of the cells are as they were
 same_rows : (n : ℕ) (row : Cell → List ℕ) (l l' : Local) (rows : List ℕ) → SameRows row l l' → HasRows n row l rows → HasRows n row l' rows
 same_rows n row l l' rows same has = record { long = has.long; each = λ j i small below. has.each j i small below ∙ ap (λ ws. slice_index ws i) (sym (same j)) }
 
@@ -275,6 +278,7 @@ cleaned k k' c i small same accesses dirty cells is =
     off : Some false ≡ Some true → ⊥
     off e = cc
 
+    -- the number `j` of the word that was persisted, `i`, does not pass the test that leaves it out of the dirty words
     fails : (j : ℕ) → j ≡ i → cond (j == i) false true ≡ true → ⊥
     fails j e t = (let on : (j == i) ≡ true = eq-eqb j i e in cc)
 
@@ -291,6 +295,7 @@ dirty_persisted (Some h) i = refl
 abbrev backed_off_by : Bool → Bool → Local → Local
 backed_off_by a b l = cond a (record l { shared = None; steps = one_more l.steps }) (cond b (record l { passer = None; steps = one_more l.steps }) (record l { downgraded = None; steps = one_more l.steps }))
 
+-- what a seat keeps in plain memory follows a step of any kind: it has as many words, and is the copy of what the caller knows after the step
 pub copy_kept : (instance : Instance) (kind : Kind) (k : Known) (found : ℕ) (c : Copied) → SeenGuard instance kind k.local → HasCells k.local → length c.words ≡ length instance.base.words → IsCopied k c →
     (length (copied_after kind k found c).words ≡ length c.words) × IsCopied (known_after instance kind k found) (copied_after kind k found c)
 copy_kept instance (WriteCell j i v) k found c guard shape long is = (

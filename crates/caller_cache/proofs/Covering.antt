@@ -17,6 +17,7 @@ unmarked zero at is = absurd (false≢true (get_or_from_slice_get [] at true fal
 unmarked (suc c) zero is = absurd (false≢true (get_or_from_slice_get (replicate (suc c) false) zero true false is))
 unmarked (suc c) (suc at) is = unmarked c at is
 
+-- what holds of `x` holds of each item of the list of `x` alone
 alone : (P : ℕ → Type 0) (x : ℕ) → P x → All P (x ∷ [])
 alone P x p zero d below = p
 alone P x p (suc k) d below = absurd (omega (arith, below))
@@ -24,6 +25,7 @@ alone P x p (suc k) d below = absurd (omega (arith, below))
 nothing_in : (P : ℕ → Type 0) → All P []
 nothing_in P k d below = absurd (omega (arith, below))
 
+-- where no word is marked, no word listed and no line marked, the marks are covered
 pub covered_none : (marks lines : List Bool) (listed : List ℕ) (count : ℕ) → marks ≡ replicate count false → listed ≡ [] → lines ≡ replicate (count / 8 + 1) false → AreCovered marks listed lines 0
 covered_none marks lines listed count m n l =
     let long : length marks ≡ count = ap length m ∙ length-replicate count false in

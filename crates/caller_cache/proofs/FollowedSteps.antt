@@ -56,6 +56,7 @@ guard_found : (instance : Instance) (kind : Kind) (l : Local) (found : ℕ) → 
 guard_found instance (LoadWord r i mark) l found guard = guard
 guard_found instance kind l found guard = guard
 
+-- whether a load is marked as a refusal by the word found makes no difference to the copy after the step
 copied_found : (instance : Instance) (kind : Kind) (k : Known) (found : ℕ) (copy : Copied) → copied_after kind k found copy ≡ copied_after (kind_found instance kind k.local found) k found copy
 copied_found instance (LoadWord r i mark) k found copy = refl
 copied_found instance kind k found copy = refl

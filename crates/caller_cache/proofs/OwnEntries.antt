@@ -54,6 +54,7 @@ own_put l entries j new below count grows here was = λ k t small ticket. (
 abbrev HaveOps : Local → Type 0
 HaveOps l = (i : ℕ) (x : Linked) → slice_get l.own i ≡ Some x → Words 144 x.entry.op
 
+-- after a step of any kind each cell with a ticket still has the own entry with that ticket in it
 pub own_kept : (before : ℕ) (instance : Instance) (kind : Kind) (k : Known) (found : ℕ) → SeenGuard instance kind k.local → before ≡ slot_number k.local.number instance.base.words → before + length k.local.own ≤ k.local.front → length k.local.cells ≡ 16 → HaveOps (known_local instance kind k found) → OwnCells k.local →
     OwnCells (known_local instance kind k found)
 own_kept before instance (WriteCell j i v) k found guard based few count ops was =

@@ -73,6 +73,7 @@ marked_more marks xs r small is =
 abbrev pub after_refusal : Bool → ℕ → CachedLocal → CachedLocal
 after_refusal all r m = record m { refused = cond all (replicate 16 false) (set m.refused r true); met = cond all (one_more m.met) m.met; steps = one_more m.steps }
 
+-- after the replica `r` refused an exclusive try, the numbers that code reads are those of the local state after the try
 pub summary_refused : (callers r found : ℕ) (l : Local) (m : CachedLocal) (all : Bool) → callers ≤ 8 → r < 2 * callers → m ≡ summary_of l →
     list_all (λ q. slice_index_or (set m.refused r true) q false) (range_with_len 0 (2 * callers)) ≡ all → after_refusal all r m ≡ summary_of (refused_by callers r l found)
 summary_refused callers r found l m all few small is each =

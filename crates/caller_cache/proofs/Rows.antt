@@ -7,6 +7,7 @@ use Rattle.std.proofs.lemmas.Bool.{cases_lt}
 pub row_before : (n q r : ℕ) → q < r → n * q + n ≤ n * r
 row_before n q r below = let m = mul-le-mul_left {m = suc q} {n = r} n (omega (arith, below)) in let e = mul-suc n q in omega (arith, m, e)
 
+-- in rows of `n` words, the word `i` of row `q` and the word `j` of row `r` stand at one place only where they are the same word of one row
 pub same_row : (n q r i j : ℕ) → i < n → j < n → n * q + i ≡ n * r + j → (q ≡ r) × (i ≡ j)
 same_row n q r i j small below same =
     elim (cases_lt q r) [

@@ -45,6 +45,7 @@ summary_set instance l m j i v found is =
 abbrev pub after_offer : ℕ → ℕ → CachedLocal → CachedLocal
 after_offer j word m = record m { offers = set m.offers j word; steps = one_more m.steps }
 
+-- after the set in the cell `j` was offered with `word`, the numbers that code reads are those of the local state after the step
 pub summary_offered : (instance : Instance) (l : Local) (m : CachedLocal) (j word found : ℕ) → m ≡ summary_of l → word ≡ offer_of (slice_index_or m.tickets j None) (slice_index m.offers j) → after_offer j word m ≡ summary_of (shown_next instance (Offer j) l found)
 summary_offered instance l m j word found is word_is =
     let put : Cell → Cell = λ x. record x { offer = offer_of x.ticket x.offer } in

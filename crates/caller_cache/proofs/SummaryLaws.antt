@@ -43,6 +43,7 @@ offer_in c = c.offer
 abbrev pub after_write : ℕ → CachedLocal → CachedLocal
 after_write j m = record m { tickets = set m.tickets j None; fresh = false; steps = one_more m.steps }
 
+-- after a word was written into the cell `j`, the numbers that code reads are those of the local state after the step
 pub summary_written : (instance : Instance) (l : Local) (m : CachedLocal) (j i v found : ℕ) → m ≡ summary_of l → after_write j m ≡ summary_of (shown_next instance (WriteCell j i v) l found)
 summary_written instance l m j i v found is =
     let offers = part_kept offer_in l.cells j (λ x. record x { words = set x.words i v; ticket = None }) (λ x. refl) in
@@ -53,6 +54,7 @@ summary_written instance l m j i v found is =
 abbrev pub after_win : ℕ → CachedLocal → CachedLocal
 after_win j m = record m { front = m.front + 1; linked = m.linked + 1; unanswered = Some m.front; tickets = set m.tickets j (Some m.front); steps = one_more m.steps }
 
+-- after the entry in the cell `j` was linked, with none unanswered before, the numbers that code reads are those of the local state with the link
 pub summary_won : (l : Local) (m : CachedLocal) (j : ℕ) → m ≡ summary_of l → length l.answered ≡ length l.own → after_win j m ≡ summary_of (linked l j)
 summary_won l m j is same =
     let new : Linked = record { ticket = l.front; entry = entry_in l j } in
@@ -88,6 +90,7 @@ quiet before l l' small shape own front number cells steps limit = record {
   limit = limit;
 }
 
+-- a step of any kind keeps the numbers small, the local state in shape and the limit as it was, and is counted
 goes_on : (before : ℕ) (instance : Instance) (kind : Kind) (k : Known) (found : ℕ) → SeenGuard instance kind k.local → IsSmall before k.local → LocalShape k.local.number k.local → GoesOn before k.local (known_local instance kind k found)
 goes_on before instance (WriteCell j i v) k found guard small shape =
     record { small = small; shape = shape_written k.local.number k.local _ j i v shape guard.0 guard.3 refl refl; steps = refl; limit = refl }
