@@ -42,6 +42,7 @@ shared_there instance s law some caller l at h mine =
       loads_lead region (vol_word instance s.words h.replica) words h.loaded (λ i below. replica_at instance.callers region s.words h.replica i below) (law.regions.loaded caller l at h mine),
     )
 
+-- behind what a caller noted there is the history of the lawful state, with the full images that its accesses and its loads lead on from
 pub behind_notes : (instance : Instance) (s : State) (law : Lawful instance s) → 0 < length instance.base.words → (l : Local) (k : Known) → slice_get s.locals k.local.number ≡ Some l →
     k.local ≡ shown l → NotesHold instance law.history k.noted → IsTraced instance law.history k.accesses l →
     SetsHold instance s law.history k → OwnSetsHold instance law.history l.cells → IsBehindNotes instance k

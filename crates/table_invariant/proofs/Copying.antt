@@ -36,12 +36,15 @@ leads_length ((true, at, v) ∷ accesses) first now leads = leads_length accesse
 abbrev IsThere : Option ℕ → ℕ → List ℕ → Type 0
 IsThere word i ws = (v : ℕ) → word ≡ Some v → slice_index ws i ≡ v
 
+-- a choice by whether `at` is the place `i` is `a` where it is
 pub here_or : {X : Type 0} (at i : ℕ) (a b : X) → at ≡ i → cond (at == i) a b ≡ a
 here_or at i a b same = ap (λ c. cond c a b) (eq-eqb at i same)
 
+-- a choice by whether `at` is the place `i` is `b` where `at` is another place
 pub or_there : {X : Type 0} (at i : ℕ) (a b : X) → at ≢ i → cond (at == i) a b ≡ b
 or_there at i a b apart = ap (λ c. cond c a b) (ne_eqb at i apart)
 
+-- what is known of the word at `i` is true after an access at `at`: it is `u` where the access is at `i`, and as before where it is elsewhere
 there_more : (word : Option ℕ) (at i u : ℕ) (ws ws' : List ℕ) → IsThere word i ws → (at ≡ i → slice_index ws' i ≡ u) → (at ≢ i → slice_index ws' i ≡ slice_index ws i) → IsThere (cond (at == i) (Some u) word) i ws'
 there_more word at i u ws ws' known here other v is = elim (cases_eq at i) [
   | inl e ↦ here e ∙ same_Some u v (sym (here_or at i (Some u) word e) ∙ is)

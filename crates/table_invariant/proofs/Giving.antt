@@ -72,6 +72,7 @@ learns_persist instance r i known word new may at tells words _ =
       timed = tt;
     }))
   where
+    -- after the word `i` of the replica `r` was persisted, the seat shows what the caller's local state then has to show
     persisted_shown : (instance : Instance) (r i : ℕ) (known : Known) (l : Local) (found : ℕ) → known.local ≡ shown l → known_local instance (Persist r i) known found ≡ shown (next instance unseen (Persist r i) l found)
     persisted_shown instance r i known l found shows = ap (λ (x : Local). next instance unseen (Persist r i) x found) shows ∙ by l.exclusive
       where
@@ -149,6 +150,7 @@ outdated_shows instance words r i l is =
     and_true true b e = (refl, e)
     and_true false b e = cc
 
+    -- where the test for a difference of `x` and `y` is true, they differ
     not_same : (x y : ℕ) → cond (x == y) false true ≡ true → x ≢ y
     not_same x y e same = (let on : (x == y) ≡ true = eq-eqb x y same in cc)
 
@@ -175,6 +177,7 @@ learns_load instance r i mark known word can at words _ =
     second true b e = e
     second false b e = cc
 
+    -- a load of the word `i` of the replica `r` that is allowed by what the seat shows is allowed by the caller's local state `l`
     can_on : (callers region r i : ℕ) (known : Known) (l : Local) → known.local ≡ shown l → CanLoad callers region r i known.local → CanLoad callers region r i l
     can_on callers region r i known l shows can = (can.0, can.1, elim can.2 [ inl held ↦ inl (held_on known l shows ∙ held) | inr shared ↦ inr (ap (λ (x : Local). shared_on x) (sym shows) ∙ shared) ])
 

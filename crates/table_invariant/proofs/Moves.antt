@@ -58,6 +58,7 @@ module _ {A : Type 0} where
   drop_one [] i a e = absurd (none-some a e)
   drop_one (x ∷ xs) i a e = e
 
+  -- an item `a` at `i` of a list cut to its first item is at index 0, and it is the first item of the list
   take_one : (l : List A) (i : ℕ) (a : A) → slice_get (take 1 l) i ≡ Some a → (i ≡ 0) × (slice_get l 0 ≡ Some a)
   take_one [] i a e = absurd (none-some a e)
   take_one (x ∷ xs) zero a e = (refl, e)
@@ -69,6 +70,7 @@ module _ {A : Type 0} where
   in_two (x ∷ xs) r zero a e = inl e
   in_two (x ∷ xs) r (suc i) a e = ⊎_elim (λ t. inl t) (λ t. inr (t.0, (let q = t.1 in omega arith), t.2)) (in_two xs r i a e)
 
+  -- the empty list has no item `a` at any index `i`
   no_item : (i : ℕ) (a : A) → slice_get [] i ≡ Some a → ⊥
   no_item i a e = none-some a e
 
@@ -134,6 +136,7 @@ join_other id other m i = ap (λ b. joined_at id m b (eqb other id) other i) (eq
 join_own : (id other m i : ℕ) → other ≢ id → join id other m (id, i) ≡ (id, m + i)
 join_own id other m i ne = ap (λ b. joined_at id m b (eqb id id) id i) (ne_eqb id other (λ e. ne (sym e))) ∙ ap (λ b. joined_at id m false b id i) (eq-eqb id id refl)
 
+-- a caller at place `i` of the view of a third seat `j` stays there where the view of `other` is joined to that of `id`
 join_else : (id other m j i : ℕ) → j ≢ other → j ≢ id → join id other m (j, i) ≡ (j, i)
 join_else id other m j i a b = ap (λ c. joined_at id m c (eqb j id) j i) (ne_eqb j other a) ∙ ap (λ c. joined_at id m false c j i) (ne_eqb j id b)
 

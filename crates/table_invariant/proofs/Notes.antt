@@ -25,6 +25,7 @@ slice_get-append [] ys i x at = inr (i, at)
 slice_get-append (z ∷ xs) ys zero x at = inl at
 slice_get-append (z ∷ xs) ys (suc i) x at = slice_get-append xs ys i x at
 
+-- where the notes `xs` and the notes `ys` hold of the history, so do those of both lists in one
 pub notes-append : (instance : Instance) (history : List Entry) (xs ys : List Noted) → NotesHold instance history xs → NotesHold instance history ys → NotesHold instance history (xs ++ ys)
 notes-append instance history xs ys a b n noted at =
     elim (slice_get-append xs ys n noted at) [

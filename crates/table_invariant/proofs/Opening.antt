@@ -31,6 +31,7 @@ mapped_at f n i x at =
     let within : i < n = omega (arith, slice_get_within (map f (range_with_len 0 n)) i x at, length-map-range_with_len f 0 n) in
     (within, sym (get_or_from_slice_get (map f (range_with_len 0 n)) i x x at) ∙ get_or-map-range_with_len f 0 n i i x within (omega arith))
 
+-- a list that is made item by item, of `n` items, has `f i` at each index `i` below `n`
 pub mapped_there : {X : Type 0} (f : ℕ → X) (n i : ℕ) → i < n → slice_get (map f (range_with_len 0 n)) i ≡ Some (f i)
 mapped_there f n i within =
     let long : i < length (map f (range_with_len 0 n)) = omega (arith, length-map-range_with_len f 0 n) in

@@ -39,6 +39,7 @@ abbrev backed_by : Bool → Bool → Local → Local
 backed_by a b l =
     cond a (record l { shared = None; steps = one_more l.steps }) (cond b (record l { passer = None; steps = one_more l.steps }) (record l { downgraded = None; steps = one_more l.steps }))
 
+-- what is shown after backing off is what backing off makes of the local state with its exclusive right `o` blanked
 backed_shown : (r : ℕ) (l : Local) (o : Option HeldExclusive) (a b : Bool) → shown (backed_by a b (holding l o)) ≡ backed_by a b (holding l (option_map blank o))
 backed_shown r l o true b = refl
 backed_shown r l o false true = refl

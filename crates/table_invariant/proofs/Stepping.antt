@@ -43,6 +43,7 @@ on_same s t same = on_still s t (ap (λ (x : Seated). x.known.local.steps) same)
 pub on_one : (s t : Seated) → t.known.local.steps ≡ one_more s.known.local.steps → StepsOn s t
 on_one s t is = omega (arith, is)
 
+-- where no step is taken back from `s` to `t` nor from `t` to `u`, none is from `s` to `u`
 pub on_then : (s t u : Seated) → StepsOn s t → StepsOn t u → StepsOn s u
 on_then s t u one two = omega (arith, one, two)
 

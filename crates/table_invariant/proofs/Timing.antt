@@ -193,6 +193,7 @@ module _ (instance : Instance) (from : State) (events : List Event) where
 abbrev Adds : ℕ → Times → Local → Local → Type 0
 Adds callers t l l' = AddTimes callers l l' t t
 
+-- a step from `l` to `l'` that adds no own entry, answer or read, and makes nothing fresh, leaves the times `t` as they are
 same_times : (callers : ℕ) (l l' : Local) (t : Times) → l'.own ≡ l.own → l'.answered ≡ l.answered → l'.seen_reads ≡ l.seen_reads → (l'.fresh ≡ true → l.fresh ≡ true) → Adds callers t l l'
 same_times callers l l' t own answered reads fresh = record {
   linked = inl (ap length own, refl);

@@ -159,6 +159,7 @@ module _ (instance : Instance) (s : State) (law : Lawful instance s) (caller : �
         | inr e ↦ subst P (sym e) (same_held l' same)
       ]
 
+  -- a store of `v` into the word `i` of the replica held exclusively leads the accesses on to the words of the replica with `v` there
   stores : (i v : ℕ) (l' : Local) → v < 2 ^ 64 → l'.exclusive ≡ option_map (stored_into i v) l.exclusive → Traced (k.accesses ++ (true, i, v) ∷ []) l'
   stores i v l' small is = record {
     first = traced.first;
