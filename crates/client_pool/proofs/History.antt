@@ -88,6 +88,7 @@ module _ {O : Type 0} (r : Running O) (instance : Instance) (handed : List Hande
       let l = some_of (slice_get leaves.whole i) (seat_of g).known.local (sym (slice_get-map shown leaves.whole i) ∙ ap (λ (ls : List Local). slice_get ls i) leaves.shows ∙ locals) in
       record { local = l.0; there = l.1; ends = ap (λ (ls : List Local). slice_get ls i) leaves.locals ∙ locals; is = l.2 }
 
+  -- the answered call at `j` of the caller handed in at `i` is an entry of the history with its reply, and stands in that caller's lists at the end
   entry_here : (i : ℕ) (g : Handed) (j : ℕ) (t : AnsweredCall) → slice_get handed i ≡ Some g → slice_get (calls_of (seat_of g)) j ≡ Some t → IsEntryOf instance history t × IsCallersEntry remains.trail.locals t
   entry_here i g j t at there =
       let b = behind i g at in
@@ -116,6 +117,7 @@ module _ {O : Type 0} (r : Running O) (instance : Instance) (handed : List Hande
         },
       )
 
+  -- the read at `j` of the caller handed in at `i` has the reply of the history at its place, and stands in the list of some caller's reads
   read_here : (i : ℕ) (g : Handed) (j : ℕ) (x : SeenRead) → slice_get handed i ≡ Some g → slice_get (seat_of g).known.local.seen_reads j ≡ Some x → IsReadOf instance history x × IsCallersRead remains.trail.locals x
   read_here i g j x at there =
       let b = behind i g at in

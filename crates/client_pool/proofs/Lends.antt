@@ -92,6 +92,7 @@ module _ {O : Type 0} (r : Running O) where
   pub comes_first : (x : Seated) → IsCallerOf r x → ComesFrom r x x
   comes_first x is = record { idle = stays x is; scans = omega arith; met = omega arith; front = omega arith; steps = λ _. omega arith }
 
+  -- a caller that is `y` later in a call that began with `x`, and `z` later than `y`, is `z` later in the call that began with `x`
   pub comes_on : (x y z : Seated) → ComesFrom r x y → ComesFrom r y z → ComesFrom r x z
   comes_on x y z a b = record {
     idle = stays_on x y z a.idle b.idle;
@@ -101,6 +102,7 @@ module _ {O : Type 0} (r : Running O) where
     steps = λ none. (let both = none_both a.idle.more b.idle.more none in let first = a.steps both.0 in let then = b.steps both.1 in omega (arith, first, then));
   }
 
+  -- a caller that answers a read beside the queue, from `y` to `z`, is still the caller `x` that the call began with
   pub comes_reading : (op : List ℕ) (x y z : Seated) (seen : Seen) → ComesFrom r x y → ReadAnswered r op y z seen → ComesFrom r x z
   comes_reading op x y z seen from a = record {
     idle = read_on op x y z seen from.idle a;
@@ -113,6 +115,7 @@ module _ {O : Type 0} (r : Running O) where
         absurd (omega (arith, long)));
   }
 
+  -- a caller of which `tries` attempts for a read were refused, from `y` to `z`, is still the caller `x` that the call began with
   pub comes_refused : (tries : ℕ) (x y z : Seated) → ComesFrom r x y → ReadPending r tries y z → ComesFrom r x z
   comes_refused tries x y z from a = record {
     idle = refused_on tries x y z from.idle a;
@@ -174,6 +177,7 @@ module _ {O : Type 0} (r : Running O) where
       let e = next_entry r x.known.local op answer.ticket in
       done.caller.cells.to (length x.known.local.own) e (ap (λ (l : List OwnEntry). slice_get l (length x.known.local.own)) done.links.own ∙ slice_get-last x.known.local.own e)
 
+  -- a pass `v` that holds a caller as it is at `x` holds it as it is at `y`, where it stays in no call and is answered nothing but reads
   pub holds_on : (v : LenderPass) (x y : Seated) → HoldsIdle r v x → StaysIdle r x y → HoldsIdle r v y
   holds_on v x y holds idle = record { taken = holds.taken; held = holds.held; limit = holds.limit; idle = stays_on holds.taken x y holds.idle idle }
 
@@ -269,6 +273,7 @@ module _ {O : Type 0} (r : Running O) where
           shows = λ h. (let same : total_weight h (view after.pass).shown ≡ total_weight h (v.shown ++ idle.more) = ap (λ (u : LenderPass). total_weight h u.shown) is ∙ ap (total_weight h) shown.2 in omega (arith, same, total_both h v.shown idle.more));
         }
 
+    -- a client that was told and shown nothing from `a` to `b`, nor from `b` to `c`, was told and shown nothing from `a` to `c`
     pub tells_on : (a b c : Lent) → TellsSame a b → TellsSame b c → TellsSame a c
     tells_on a b c s t = record { limits = t.limits ∙ s.limits; told = t.told ∙ s.told; shown = t.shown ∙ s.shown; returned = t.returned ∙ s.returned }
 
@@ -381,6 +386,7 @@ module _ {O : Type 0} (r : Running O) where
     update_settles op reply lent x out (UpdatedWorn y) is = tt
     update_settles op reply lent x out (UpdatedHalted s) is = tt
 
+    -- the caller that is out with a read that entered the queue may be given back once the read is answered
     pub read_settles : (op reply : List ℕ) (lent : Lent) (x : Seated) → IsOut r table lent x → (u : Updated) → EntersRead r op reply x u → MaySettle r lent u
     read_settles op reply lent x out (UpdatedDone y ticket) q = done_back op lent q.refused y (answer_with ticket reply) (queued_out op reply lent x (UpdatedDone y ticket) out q) q.entered
     read_settles op reply lent x out (UpdatedFull y note) is = tt

@@ -85,6 +85,7 @@ module _ {O : Type 0} (r : Running O) where
         )
 
   module _ (table : TableId) where
+    -- where one more part of the right to know the whole is cut off from `v` for a client, all callers are still placed, and `n + 1` parts are given
     pub placed_more : (n : ℕ) (v w : LenderPass) → AreCallersPlaced r n v → n < 1024 → w ≡ cut_left v → AreCallersPlaced r (n + 1) w
     placed_more n v w placed few cut = subst (λ (u : LenderPass). AreCallersPlaced r (n + 1) u) (sym cut) (record {
       home = placed.home;
@@ -115,6 +116,7 @@ module _ {O : Type 0} (r : Running O) where
       pub limits_are : All (λ (c : Client). limits_of c.lent ≡ limits) clients
       pub calls : All (λ (c : Client). HasCalls r c []) clients
 
+    -- the first `n` clients `xs` of a pool with a new one `x` behind them, which has the number `n`, are its first `n + 1` clients
     pub made_more : (limits now : List ℕ) (n : ℕ) (xs ys : List Client) (x m : Client) → AreMade limits n xs → ys ≡ xs ++ x ∷ [] → IsNewClient r table now n m → now ≡ limits → x.number ≡ m.number → x.floor ≡ m.floor → x.answers ≡ m.answers → x.lent ≡ m.lent → AreMade limits (n + 1) ys
     made_more limits now n xs ys x m made are new same_limits number floor answers lent = record {
       long = (let long = made.long in let all : length ys ≡ length (xs ++ x ∷ []) = ap length are in omega (arith, long, all, length-append xs (x ∷ [])));

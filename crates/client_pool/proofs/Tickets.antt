@@ -62,6 +62,7 @@ module _ (k ticket : ℕ) (e : HistoryEntry) (rest : List HistoryEntry) where
       (λ c ne. ap (λ m. both_of m (one_at k ticket)) (one_else e.caller c ne))
       (let one : mine e.caller ≡ one_at k ticket = ap (λ m. both_of m (one_at k ticket)) (one_self e.caller) in omega (arith, one))
 
+-- the `n` callers from `a` on own, of a history from `ticket` on, at most as many entries with the ticket `k` as there are tickets `k` in it
 by_history : (k a n ticket : ℕ) (history : List HistoryEntry) → total_weight (λ c. owns k (own_of c ticket history)) (range_with_len a n) ≤ total_weight (one_at k) (range_with_len ticket (length history))
 by_history k a n ticket [] = (let none = none_more (range_with_len a n) in omega (arith, none))
 by_history k a n ticket (e ∷ rest) =

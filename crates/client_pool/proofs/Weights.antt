@@ -16,6 +16,7 @@ both_are : (a b : ℕ) → 0 < both_of a b → (0 < a) × (0 < b)
 both_are zero b lt = absurd (omega (arith, lt))
 both_are (suc a) b lt = (omega arith, lt)
 
+-- where each of two weights `a` and `b` is one, the weight of both is one
 both_one : (a b : ℕ) → a ≡ 1 → b ≡ 1 → both_of a b ≡ 1
 both_one a b p q = ap (λ k. both_of k b) p ∙ q
 
@@ -127,6 +128,7 @@ past f m a (suc n) off lt =
     let rest = past f m (a + 1) n off (omega (arith, lt)) in
     omega (arith, here, rest)
 
+-- what weighs nothing but at the number `m`, and at most `v` there, weighs at most `v` over any `n` numbers from `a` on
 pub single : (f : ℕ → ℕ) (m v a n : ℕ) → ((c : ℕ) → c ≢ m → f c ≡ 0) → f m ≤ v → total_weight f (range_with_len a n) ≤ v
 single f m v a zero off most = omega arith
 single f m v a (suc n) off most =

@@ -75,6 +75,7 @@ all_answered n [] answers same = refl
 all_answered n (x ∷ own) [] same = absurd (omega (arith, same))
 all_answered n (x ∷ own) (a ∷ answers) same = (let rest = all_answered n own answers (omega (arith, same)) in omega (arith, rest))
 
+-- where each own entry is answered, the own entry `x` at `k` is that of the answered call at `k`
 call_there : (n : ℕ) (own : List OwnEntry) (answers : List Answer) (k : ℕ) (x : OwnEntry) → length own ≡ length answers → slice_get own k ≡ Some x → (t : AnsweredCall) × (slice_get (calls_from n own answers) k ≡ Some t) × (t.entry ≡ x)
 call_there n [] answers k x same at = absurd (none-some x at)
 call_there n (y ∷ own) [] k x same at = absurd (omega (arith, same))
