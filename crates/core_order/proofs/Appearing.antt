@@ -199,6 +199,7 @@ module _ (instance : Instance) where
     pub moments : (before after : List Event) (moment : State) (a b : Operation) → events ≡ before ++ after → Run instance from before moment →
         TookEffect moment a → (TookEffect from a → ⊥) → TookEffect to b → (TookEffect moment b → ⊥) → StandsBefore all a b
 
+  -- two equal lists of events begin with the same event
   heads : (e f : Event) (x y : List Event) → e ∷ x ≡ f ∷ y → e ≡ f
   heads e f x y is = same_Some e f (ap (λ (es : List Event). slice_get es 0) is)
 
@@ -241,6 +242,7 @@ module _ (instance : Instance) where
         moments = passed mid m law_mid rest;
       }
     where
+      -- what took effect by a moment of the run stands before what took effect behind it, whether the moment is before the event `e` or behind it
       passed : (mid : State) (m : Makes instance e from mid) → Lawful instance mid → (rest : Appears mid events to) (before after : List Event) (moment : State) (a b : Operation) → e ∷ events ≡ before ++ after → Run instance from before moment →
           TookEffect moment a → (TookEffect from a → ⊥) → TookEffect to b → (TookEffect moment b → ⊥) → StandsBefore (news e from mid m ++ rest.all) a b
       passed mid m law_mid rest [] after moment a b are by made_a new_a made_b new_b = absurd (new_a (subst (λ (s : State). TookEffect s a) by made_a))

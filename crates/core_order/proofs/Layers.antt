@@ -96,6 +96,7 @@ module _ (key : Operation → ℕ) where
     | inr ne ↦ (let r = of_only k xs o (subst (λ ys. IsIn ys o) (only_other k x xs ne) has) in (inr r.0, r.1))
   ]
 
+  -- of two operations with the key `k`, the one that stands before the other in a list does so in the list's layer of that key
   pub before_only : (k : ℕ) (xs : List Operation) (a b : Operation) → StandsBefore xs a b → key a ≡ k → key b ≡ k → StandsBefore (only_at k xs) a b
   before_only k [] a b is at_a at_b = absurd is
   before_only k (x ∷ xs) a b is at_a at_b = elim is [
@@ -106,6 +107,7 @@ module _ (key : Operation → ℕ) where
     ]
   ]
 
+  -- an operation that stands before another in a list's layer of the key `k` stands before it in the list
   pub only_before : (k : ℕ) (xs : List Operation) (a b : Operation) → StandsBefore (only_at k xs) a b → StandsBefore xs a b
   only_before k [] a b is = absurd is
   only_before k (x ∷ xs) a b is = elim (cases_eq (key x) k) [

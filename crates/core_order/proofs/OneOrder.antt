@@ -59,6 +59,7 @@ abbrev point_key : Point → ℕ
 point_key (At ticket) = 2 * ticket + 1
 point_key (Behind place) = 2 * place
 
+-- the key of an operation `o` is that of its point `p` in the history: odd for an update's ticket, even for a read's place
 key_at : (s : State) (o : Operation) (p : Point) → IsPointOf s o p → key_in s o ≡ point_key p
 key_at s (Update c i) p at = ap (λ (x : Option Local). key_own (own_in x i)) at.1 ∙ ap key_own at.3 ∙ sym (ap point_key at.4)
 key_at s (Read c i) p at = ap (λ (x : Option Local). key_read (read_in x i)) at.1 ∙ ap key_read at.3 ∙ sym (ap point_key at.4)
@@ -144,6 +145,7 @@ module _ (instance : Instance) where
       from : 2 * base ≤ key o
       below : key o < 2 * base + odd (length history)
 
+    -- an own entry `x` of the caller `c` stands in the history at its ticket, which is not below the base's place, as an entry of that caller
     own_within : (c : ℕ) (l : Local) (i : ℕ) (x : Linked) → slice_get to.locals c ≡ Some l → slice_get l.own i ≡ Some x → (base ≤ x.ticket) × (slice_get history (x.ticket - base) ≡ Some x.entry) × (x.entry.caller ≡ c)
     own_within c l i x of at =
         let there : slice_get (own_of c base history) i ≡ Some x = ap (λ (os : List Linked). slice_get os i) (sym (law.tickets.merged.own c l of)) ∙ at in
