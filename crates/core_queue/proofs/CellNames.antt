@@ -17,10 +17,12 @@ KeepsNames free locals locals' = (caller j ticket : ℕ) (cell : Cell) → Names
 named_by : (locals : List Local) (caller : ℕ) (l : Local) (d j ticket : ℕ) (cell : Cell) → slice_get locals caller ≡ Some l → d ≡ caller → (names : NamesCell locals d j ticket cell) → names.local ≡ l
 named_by locals caller l d j ticket cell at e names = same_Some names.local l (sym names.of_caller ∙ ap (slice_get locals) e ∙ at)
 
+-- the local state `l'` that was put for a caller stands at `d`, where `d` is that caller
 put_there : (locals : List Local) (caller : ℕ) (l l' : Local) (d : ℕ) → slice_get locals caller ≡ Some l → d ≡ caller → slice_get (set locals caller l') d ≡ Some l'
 put_there locals caller l l' d at e =
     ap (slice_get (set locals caller l')) e ∙ slice_get-set_same locals caller l' (slice_get_within locals caller l at)
 
+-- where a caller's new local state has the cells that it had, each cell that a live ticket is named for is named for it still, with the same words
 pub names_same : (free : ℕ) (locals : List Local) (caller : ℕ) (l l' : Local) → slice_get locals caller ≡ Some l → l'.cells ≡ l.cells →
     KeepsNames free locals (set locals caller l')
 names_same free locals caller l l' at same d j ticket cell names live =

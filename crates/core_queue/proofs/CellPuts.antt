@@ -31,6 +31,7 @@ pub record Puts (instance : Instance) (words words' : List ℕ) (locals : List L
   pub seen_offer : l'.seen_offer ≡ l.seen_offer
   pub free : slice_index words' free_at ≡ slice_index words free_at
 
+-- where a caller puts its idle cell `k`, each cell that a live ticket is named for is named for it still, with the same words
 pub keeps_put : (instance : Instance) (words words' : List ℕ) (locals : List Local) (caller : ℕ) (l l' : Local) (k : ℕ) (old new : Cell) →
     Puts instance words words' locals caller l l' k old new → KeepsNames (slice_index words free_at) locals (set locals caller l')
 keeps_put instance words words' locals caller l l' k old new p =

@@ -132,6 +132,7 @@ module _ (instance : Instance) (history : List Entry) (scene : Scene) (locals : 
   abbrev After : Kind → Type 0
   After kind = QueueContinues instance history (words_after instance kind l scene.words) (set locals caller (local_after instance scene kind l))
 
+  -- writing the word `i` of an idle cell `j` keeps the parts on tickets, links, cells, fronts and the ring
   write_cell_kept : (j i v : ℕ) → Guard instance scene (WriteCell j i v) l → After (WriteCell j i v)
   write_cell_kept j i v guard =
       let words = scene.words in

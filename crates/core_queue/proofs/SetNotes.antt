@@ -123,6 +123,7 @@ record Readable (instance : Instance) (s : State) (history : List Entry) (k t : 
   good : IsWriteSetOf instance history t pairs
   words : (i : ℕ) → i < 513 → slice_index s.words (set_at instance.callers (named_cell instance s t) i) ≡ slice_index pairs i
 
+-- where a caller may read the word `i` of the set of the ticket `t` in the cell `k`, that cell is offered, and has a write set of the ticket
 readable : (instance : Instance) (s : State) (history : List Entry) (law : QueueLawful instance history s.words s.locals) (caller : ℕ) (l : Local) (at : slice_get s.locals caller ≡ Some l) (k t i : ℕ) →
     Guard instance (scene_of instance s) (ReadSet k t i) l → Readable instance s history k t
 readable instance s history law caller l at k t i guard =
@@ -188,6 +189,7 @@ notes_read instance s history law caller l at k t i notes guard hold = record {
         only zero x at_m = same_Some new x at_m
         only (suc m) x at_m = absurd (none-some x at_m)
 
+    -- a note of a ticket `u` that is not the ticket `t` just read was among the notes before the last one
     old_note : (u j w : ℕ) → u ≢ t → (n : ℕ) → slice_get (notes ++ new ∷ []) n ≡ Some (let x : SetNoted = record { ticket = u; index = j; word = w } in x) → (n : ℕ) × (slice_get notes n ≡ Some (let x : SetNoted = record { ticket = u; index = j; word = w } in x))
     old_note u j w ne n there = elim (slice_get-append notes (new ∷ []) n _ there) [
       | inl old ↦ (n, old)
