@@ -23,9 +23,11 @@ use Rattle.core_replica.specs.AnswerFrames.{OffAnswers, SameAnswers}
 abbrev pub IsAbove : Local → Local → SeenRead → Type 0
 IsAbove l l' x = (i : ℕ) (y : Linked) → slice_get l'.own i ≡ Some y → (slice_get l.own i ≡ Some y) ⊎ ((x.before ≤ i) × (x.place ≤ y.ticket))
 
+-- where the own entries of `l'` are those of `l`, none is new since the read `x`
 pub above_same : (l l' : Local) (x : SeenRead) → l'.own ≡ l.own → IsAbove l l' x
 above_same l l' x same i y at = inl (ap (λ (o : List Linked). slice_get o i) (sym same) ∙ at)
 
+-- an answer `x` stays true where more is durable, up to `end'`, and the caller's floor does not fall
 pub answer_stays : (instance : Instance) (history : List Entry) (end_ end' : ℕ) (l l' : Local) (x : Answer) → IsAnswer instance history end_ l x → end_ ≤ end' → l.floor ≤ l'.floor → IsAnswer instance history end' l' x
 answer_stays instance history end_ end' l l' x old up floor = record {
   reply = old.reply;
@@ -33,6 +35,7 @@ answer_stays instance history end_ end' l l' x old up floor = record {
   told = omega (arith, old.told);
 }
 
+-- an answered read `x` stays true where more is durable and answered, the floor does not fall, and new own entries are at or above its place
 pub read_stays : (instance : Instance) (history : List Entry) (end_ end' : ℕ) (l l' : Local) (x : SeenRead) → IsRead instance history end_ l x → end_ ≤ end' → l.floor ≤ l'.floor →
     length l.answered ≤ length l'.answered → IsAbove l l' x → IsRead instance history end' l' x
 read_stays instance history end_ end' l l' x old up floor more above = record {

@@ -41,6 +41,7 @@ one_way locals from (x ∷ xs) (y ∷ ys) to apart a b =
     let rest = one_way locals y xs ys to apart (subst (λ n. Leads locals n xs to) e a.2) b.2 in
     ap (λ n. n ∷ xs) e ∙ ap (λ zs. y ∷ zs) rest
 
+-- two chains of codes from DUR to CUR in one state are the same chain, since no two callers won over one code
 pub chain_only : (s : State) (codes others : List ℕ) → WinsApart s.locals → IsCodeChain s.words s.locals codes → IsCodeChain s.words s.locals others → codes ≡ others
 chain_only s [] others apart a b = absurd a
 chain_only s (x ∷ xs) [] apart a b = absurd b

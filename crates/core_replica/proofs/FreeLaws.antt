@@ -68,6 +68,7 @@ at_most_two : (f : Local → ℕ) (ls : List Local) → ((i : ℕ) (l : Local) �
 at_most_two f [] each = omega arith
 at_most_two f (x ∷ xs) each = let rest = at_most_two f xs (λ i l at. each (suc i) l at) in omega (arith, each 0 x refl)
 
+-- where `f` is at most 2 for each caller and 0 for the one at `i`, its total is at least 2 less than 2 for each caller
 one_with_none : (f : Local → ℕ) (ls : List Local) (i : ℕ) (l : Local) → ((k : ℕ) (x : Local) → slice_get ls k ≡ Some x → f x ≤ 2) → slice_get ls i ≡ Some l → f l ≡ 0 → total f ls + 2 ≤ 2 * length ls
 one_with_none f [] i l each at none = absurd (none-some l at)
 one_with_none f (x ∷ xs) zero l each at none =

@@ -29,6 +29,7 @@ pub record SameOn (callers q : ℕ) (l l' : Local) : Type 0 where
 won_same : (callers : ℕ) (l l' : Local) → l'.won ≡ l.won → won_on callers l' ≡ won_on callers l
 won_same callers l l' same = ap (λ (o : Option WonCode). option_map (λ (w : WonCode). root_replica_of callers w.before) o) same
 
+-- a caller whose rights are as before has the same rights on the replica `q` as before
 pub same_on : (callers q : ℕ) (l l' : Local) → SameRights l l' → SameOn callers q l l'
 same_on callers q l l' same = record {
   exclusive = ap (is_on q) same.exclusive;

@@ -51,6 +51,7 @@ gives_some instance history place x =
       })
     ]
   where
+    -- each item of the list of the answer `x` alone is that answer
     only : (x : Answer) (k : ℕ) (y : Answer) → slice_get (x ∷ []) k ≡ Some y → x ≡ y
     only x k y at = elim (slice_get-push [] x k y at) [ inl none ↦ absurd (none-some y none) | inr last ↦ last.1 ]
 

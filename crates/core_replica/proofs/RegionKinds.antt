@@ -169,6 +169,7 @@ module _ (instance : Instance) (history : List Entry) (scene : Scene) (locals : 
         ];
       }
 
+  -- where the word `i` of the replica held exclusively is stored, and the right notes the store, the part on regions is kept
   store_kept : (i v : ℕ) (l' : Local) (h : HeldExclusive) → i < region → l.exclusive ≡ Some h → l'.exclusive ≡ Some (stored_into i v h) → l'.shared ≡ l.shared →
       Regions instance history (set scene.words (vol_at callers region h.replica i) v) (set locals caller l')
   store_kept i v l' h below has has' shared =
@@ -198,6 +199,7 @@ module _ (instance : Instance) (history : List Entry) (scene : Scene) (locals : 
         dirty = All-with (λ n. n < region) h.dirty i old.dirty below;
       })
 
+  -- where the word `i` of the replica held exclusively is persisted, and the right notes it as such, the part on regions is kept
   persist_kept : (i : ℕ) (l' : Local) (h : HeldExclusive) → i < region → l.exclusive ≡ Some h → l'.exclusive ≡ Some (persisted i h) → l'.shared ≡ l.shared →
       Regions instance history (set scene.words (per_at callers region h.replica i) (slice_index h.words i)) (set locals caller l')
   persist_kept i l' h below has has' shared =
@@ -243,10 +245,12 @@ module _ (instance : Instance) (history : List Entry) (scene : Scene) (locals : 
         | inr e ↦ subst (λ b. All Was (cond b (m.0.loaded ++ (i, found) ∷ []) m.0.loaded)) (sym e) old
       ]))))
 
+  -- where the exclusive right on the replica `r` is released, with clean words that are a full image, the part on regions is kept
   given_kept : (r v : ℕ) (l' : Local) → scene.history ≡ history → CanGiveUp instance scene r l → l'.exclusive ≡ None → l'.shared ≡ l.shared → Regions instance history (set scene.words (lock_at callers r) v) (set locals caller l')
   given_kept r v l' same guard none shared =
       given_up r v l' guard.0.0 guard.0.1 guard.0.3 (subst (λ h. IsFull instance h (held_words l.exclusive)) same guard.1) none shared
 
+  -- a step that stores `v` into the word `i` of the replica `r` keeps the part on regions
   store_word_kept : (r i v : ℕ) → Guard instance scene (StoreWord r i v) l → After (StoreWord r i v)
   store_word_kept r i v guard =
       let l' = local_after instance scene (StoreWord r i v) l in

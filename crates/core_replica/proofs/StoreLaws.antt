@@ -59,6 +59,7 @@ module _ (instance : Instance) (scene : Scene) (locals : List Local) (caller : �
   leaves (Persist q i) guard = held_else q guard.0.2
   leaves kind guard = tt
 
+  -- a store to the word `i` of a replica `q` other than `r` leaves the words of `r` as they were, in both memories
   stored : (q i v : ℕ) → q < 2 * callers → i < region → q ≢ r → SameWords instance words (set words (vol_at callers region q i) v) r
   stored q i v small below ne = record {
     vol = λ j j_below. get_or-set_other words (vol_at callers region q i) (vol_at callers region r j) v 0 (vol_apart callers region r q j i j_below below (inl (λ e. ne (sym e))));
