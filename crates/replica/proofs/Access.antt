@@ -67,6 +67,7 @@ still_shared callers q before after held same of = record {
 
 -- ---- dirty words
 
+-- what holds of the word `i` and of each dirty word holds of each dirty word after a store into `i`
 pub dirty_stored : (P : ℕ → Type 0) (i v : ℕ) (o : Option HeldExclusive) → P i → All P (held_dirty o) → All P (held_dirty (option_map (stored_into i v) o))
 dirty_stored P i v None p all = all
 dirty_stored P i v (Some h) p all = by (is_in h.dirty i)

@@ -83,6 +83,7 @@ module _ {O : Type 0} (lines : ℕ) (r : Running O) (step : O → List ℕ → L
       both_still both s.seat (load_rest r step reads q at found before after s) fits
       (subst (λ (t : Seated). All (λ i. i < region_words lines) (held_dirty t.known.local.exclusive)) (sym s.made) both.exclusive.dirty)
 
+  -- after a store into a word within the region a seat that holds one replica exclusively and another shared still holds both
   pub both_store : (q at v : ℕ) → at < region_words lines → HoldsBoth lines r lawful (step r.object) before held source → Steps r step reads (StoreWord q at v) 0 before after → Fitting r.lines lawful r.base (step r.object) after.known → HoldsBoth lines r lawful (step r.object) after held source
   both_store q at v below both s fits =
       both_still both s.seat (store_rest r step reads q at v before after s) fits
@@ -185,9 +186,11 @@ on_ok_by (Err e) P Q f p = tt
 pub loads_most : (n : ℕ) (k k' : Known) → Counts n k k' → LoadsAtMost n k k'
 loads_most n k k' one = (let a = one.0 in let b = one.1 in omega (arith, a, b))
 
+-- fewer than `n` steps without a store are fewer than `n` beside one for each word stored
 pub loads_fewer : (n : ℕ) (k k' : Known) → (k'.local.steps < k.local.steps + n) × StoresAsMany k k' → LoadsFewer n k k'
 loads_fewer n k k' one = (let a = one.0 in let b = one.1 in omega (arith, a, b))
 
+-- at most `m` loads, and then at most `n`, each time beside the stores, are at most `l = m + n` beside the stores
 pub loads_on : (m n l : ℕ) (k k' k'' : Known) → m + n ≡ l → LoadsAtMost m k k' → LoadsAtMost n k' k'' → LoadsAtMost l k k''
 loads_on m n l k k' k'' all one two = omega (arith, all, one, two)
 

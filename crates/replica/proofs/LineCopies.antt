@@ -176,6 +176,7 @@ on_same us vs start from i n before k small same seen on skips region first belo
     subst (λ m. IsCopiedTo skips m region first k) next (copied_same (slice_index us i) (slice_index vs i) (from + i) region skips first k same (seen i (omega arith) small)
     (on skips region first (omega (arith, below)) (λ j least under. kept j least (omega (arith, under))) copied))
 
+-- a copy goes on past the word `i` of a line that differs in the two replicas, by a store of the source's word there
 pub on_over : (instance : Instance) (h : ℕ) (us vs : List ℕ) (start from i n : ℕ) (before k : Known) → start ≤ from + i → i < n → slice_index us i ≢ slice_index vs i → AreSeen from i n us vs k → CopiesOn start (from + i) before k →
     CopiesOn start (from + (i + 1)) before (known_after instance (StoreWord h (from + i) (slice_index vs i)) k 0)
 on_over instance h us vs start from i n before k behind small differ seen on skips region first below kept copied =

@@ -72,9 +72,11 @@ load_stores false accesses at v = refl
 abbrev pub Counts : ℕ → Known → Known → Type 0
 Counts n k k' = (k'.local.steps ≤ k.local.steps + n) × StoresAsMany k k'
 
+-- a load of one word of the replica `r` is at most one step, and no store
 pub load_counts : (instance : Instance) (r at v : ℕ) (k : Known) → Counts 1 k (known_after instance (LoadWord r at false) k v)
 load_counts instance r at v k = (omega arith, load_stores (is_at r (exclusive_on k.local)) k.accesses at v)
 
+-- at most `m` steps without a store, and then at most `n`, are at most `l = m + n` steps without a store
 pub counts_on : (m n l : ℕ) (k k' k'' : Known) → m + n ≡ l → Counts m k k' → Counts n k' k'' → Counts l k k''
 counts_on m n l k k' k'' all one two = (let a = one.0 in let b = two.0 in (omega (arith, all, a, b), two.1 ∙ one.1))
 
@@ -91,6 +93,7 @@ pub record AreLoaded (P : ℕ → Type 0) (k k' : Known) : Type 0 where
   pub exclusive : exclusive_on k'.local ≡ exclusive_on k.local
   pub shared : shared_on k'.local ≡ shared_on k.local
 
+-- a load of the word at `at` of the replica `r` is a load at that place alone
 one_load : (instance : Instance) (r at v : ℕ) (k : Known) → AreLoaded (λ i. i ≡ at) k (known_after instance (LoadWord r at false) k v)
 one_load instance r at v k = record {
   held = λ first now. held (is_at r (exclusive_on k.local)) first now;
@@ -169,6 +172,7 @@ pub record IsLoadOf (r at v : ℕ) (k k' : Known) : Type 0 where
   pub again : word_noted None at k.accesses ≡ Some v → word_noted None at k'.accesses ≡ Some v
   pub read : shared_on k.local ≡ Some r → word_noted None at (read_notes k') ≡ Some v
 
+-- a load that found `v` at the word `at` of the replica `r` has it noted with `v`, for whichever right the caller has on `r`
 load_of : (instance : Instance) (r at v : ℕ) (k : Known) → IsLoadOf r at v k (known_after instance (LoadWord r at false) k v)
 load_of instance r at v k =
     let here : exclusive_on k.local ≡ Some r → is_at r (exclusive_on k.local) ≡ true = λ held. (ap (is_at r) held ∙ eq-eqb r r refl) in
@@ -192,6 +196,7 @@ load_then P r at v k k' k'' apart one two = record {
   read = λ shared. two.unchanged_by_read at apart ∙ one.read shared;
 }
 
+-- a load of the word `at` of the replica `r` is that load also with loads at other places before it
 then_load : (P : ℕ → Type 0) (r at v : ℕ) (k k' k'' : Known) → ¬ P at → AreLoaded P k k' → IsLoadOf r at v k' k'' → IsLoadOf r at v k k''
 then_load P r at v k k' k'' apart one two = record {
   noted = λ held. two.noted (one.exclusive ∙ held);
@@ -215,6 +220,7 @@ pub record IsRunOf (r from : ℕ) (words : List ℕ) (k k' : Known) : Type 0 whe
 pub no_run : (r from : ℕ) (k : Known) → IsRunOf r from [] k k
 no_run r from k = record { loaded = no_load (IsIn from 0) k; each = λ i below. absurd (omega (arith, below)); count = (omega arith, refl) }
 
+-- a run of loads of the words of the replica `r`, from `from` on, is longer by a load of the next word, which found `found`
 pub longer_run : (instance : Instance) (r from found : ℕ) (words : List ℕ) (k k' : Known) → IsRunOf r from words k k' → IsRunOf r from (words ++ found ∷ []) k (known_after instance (LoadWord r (from + length words) false) k' found)
 longer_run instance r from found words k k' run =
     let at = from + length words in

@@ -150,6 +150,7 @@ module _ {O : Type 0} (o : Ghosts O) (r : Running O) (held source : Right) (befo
   pub listed_halts : (last : Seated) → HaltsUnchanged unchanged_by_copy after last → HaltsUnchanged unchanged_by_listed_copy before last
   listed_halts last halts = record { rest = ap unnoted halts.rest ∙ ap unchanged_by_listed_copy leaves.seat; limit = halts.limit }
 
+  -- at most `m` steps from `before` to `after`, and then at most `n` to `last`, are at most `l = m + n` in the copy of the listed lines
   pub listed_within : (m n l : ℕ) (last : Seated) → m + n ≡ l → StepsBy m before after → StepsWithin r n after last → StepsWithin r l before last
   listed_within m n l last all some within = record { seat = within.seat; since = on_then before after last leaves.since within.since; most = (let more = within.most in omega (arith, all, some, more)) }
 
