@@ -21,6 +21,7 @@ reached : (n s : ℕ) → s + n < max_word → steps_after n s ≡ s + n
 reached zero s h = omega arith
 reached (suc n) s h = ap one_more (reached n s (omega arith)) ∙ omega arith
 
+-- where the count of `s` steps and `n` more is the limit, and this is below 2^64 - 1, the limit is `s + n`
 ended : (n s limit : ℕ) → steps_after n s ≡ limit → limit < max_word → s + n ≡ limit
 ended zero s limit e h = omega (arith, e)
 ended (suc n) s limit e h =
@@ -31,6 +32,7 @@ ended (suc n) s limit e h =
 pub ends : (n : ℕ) (l : Local) → (steps_after n l.steps ≡ l.limit) × (l.limit < max_word) → EndsAfter n l
 ends n l at = (ended n l.steps l.limit at.0 at.1, at.1)
 
+-- a limit that is `n` above the steps is the count after `n` further steps
 pub at_end : (n : ℕ) (l : Local) → EndsAfter n l → (steps_after n l.steps ≡ l.limit) × (l.limit < max_word)
 at_end n l e = (let h = e.1 in (reached n l.steps (omega (arith, e.0)) ∙ e.0, e.1))
 
@@ -109,6 +111,7 @@ ends_after_look s looked n is e =
     let few = e.1 in
     let sum = e.0 in (omega (arith, steps, limit), omega (arith, limit))
 
+-- a limit that is reached `n` steps after the seat behind a look is reached one step later from the seat before it
 ends_before_look : (s looked : Seated) (n : ℕ) → looked ≡ with_look looked.known.local.seen_slot s → EndsAfter n looked.known.local → EndsAfter (suc n) s.known.local
 ends_before_look s looked n is e =
     let steps : looked.known.local.steps ≡ one_more s.known.local.steps = ap (λ (x : Seated). x.known.local.steps) is in
@@ -127,6 +130,7 @@ read_after_look caller ticket words s looked after look is =
     let seen : after.known.local.seen_slot ≡ looked.known.local.seen_slot = ap (λ (x : Seated). x.known.local.seen_slot) is in
     is ∙ ap (with_read caller ticket words) (look ∙ ap (λ x. with_look x s) (sym seen))
 
+-- a look that shows the ticket in a cell, and the reading of the 145 words there, read the entry from `s` on
 pub reads_entry : {O : Type 0} (o : Ghosts O) (r : Running O) (caller ticket cell : ℕ) (words : List ℕ) (s looked after : Seated) → LoadsLink r ticket cell s looked → ReadsWords o r caller ticket words looked after → length words ≡ 145 → ReadsEntry caller ticket words s after
 reads_entry o r caller ticket cell words s looked after l read long = record {
   seat = read_after_look caller ticket words s looked after l.seat read.seat;
@@ -134,6 +138,7 @@ reads_entry o r caller ticket cell words s looked after l read long = record {
   within = within_all s looked l.seat l.allowed read.within;
 }
 
+-- where the limit is reached among the words of an entry, behind the look at its slot, the reading of the entry halts
 pub halts_reading : {O : Type 0} (r : Running O) (caller ticket cell : ℕ) (s looked after : Seated) → LoadsLink r ticket cell s looked → HaltsAmong caller ticket looked after → HaltsReading ticket s after
 halts_reading r caller ticket cell s looked after l h =
     let fewer = h.fewer in record {

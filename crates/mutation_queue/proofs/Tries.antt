@@ -177,6 +177,7 @@ loss_is instance s j found ne =
     ∙ ap (seat_with s (lost instance.callers l found) (link_times s false)) (append-nil s.known.noted)
     ∙ ap (λ ts. seat_with s (lost instance.callers l found) (record s.known.times { linked = ts }) s.known.noted) (append-nil s.known.times.linked)
 
+-- a link step that found the word seen in the slot wins: the entry in the cell `j` is linked
 win_is : (instance : Instance) (s : Seated) (j found : ℕ) → found ≡ seen_word s.known.local.seen_slot → stepped instance (Link j) s found ≡ with_win j s
 win_is instance s j found e =
     let l = s.known.local in
@@ -211,6 +212,7 @@ pub finds_loss : (instance : Instance) (s t : Seated) (j seen found : ℕ) → s
 finds_loss instance s t j seen found word allowed is ne some past =
     record { allowed = allowed; found = found; seat = is ∙ loss_is instance s j found (λ e. ne (e ∙ word)); some = some; past = past }
 
+-- a try is won where its look found the slot open, and its compare-exchange found the word that was seen there
 pub wins : (instance : Instance) (s t u : Seated) (cell j seen found : ℕ) → FindsOpen instance.callers s t → seen_word t.known.local.seen_slot ≡ seen → ¬ IsAtLimit t.known.local → u ≡ stepped instance (Link j) t found → found ≡ seen → j ≡ cell → WinsTry instance.callers cell s u
 wins instance s t u cell j seen found finds word allowed is e same = record {
   mid = t;
@@ -260,6 +262,7 @@ leaves_linked r n s t of most same =
     let now : IsSeatOf r (except_linked t) = subst (IsSeatOf r) (sym same) (record { table = of.table; caller = of.caller; before = of.before; region = of.region }) in
     record { of = record { table = now.table; caller = now.caller; before = now.before; region = now.region }; rest = ap seat_number same; steps = most }
 
+-- where at most `n` steps linked nothing, the seat is still one of the table and of the same caller
 pub leaves_none : {O : Type 0} (r : Running O) (n : ℕ) (s t : Seated) → IsSeatOf r s → t.known.local.steps ≤ s.known.local.steps + n → LinksNone s t → KeepsSeatPart r seat_number n s t
 leaves_none r n s t of most none = leaves_linked r n s t of most (ap except_linked none.same)
 
@@ -278,9 +281,11 @@ still_may r cell s t none may =
 pub none_here : (s : Seated) → LinksNone s s
 none_here s = record { same = refl; front = omega arith; since = omega arith }
 
+-- where nothing was linked from `s` to `t` nor from `t` to `u`, nothing was from `s` to `u`
 pub none_then : (s t u : Seated) → LinksNone s t → LinksNone t u → LinksNone s u
 none_then s t u a b = record { same = b.same ∙ a.same; front = omega (arith, a.front, b.front); since = omega (arith, a.since, b.since) }
 
+-- where nothing was linked from `s` to `t`, and then the entry in the cell with this ticket, that entry and no other was linked from `s` to `u`
 pub none_at : (cell ticket : ℕ) (s t u : Seated) → LinksNone s t → LinksAt cell ticket t u → LinksAt cell ticket s u
 none_at cell ticket s t u none at = record {
   same = at.same ∙ ap except_linked none.same;

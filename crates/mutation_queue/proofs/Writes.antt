@@ -100,6 +100,7 @@ write_one instance s j n v cells cells' steps c =
     ap (λ x. wrote s x (one_more steps) (s.known.noted ++ [])) c
     ∙ ap (wrote s cells' (one_more steps)) (append-nil s.known.noted)
 
+-- writing the first word `v` of a list into the cell `j` is a step to the cells with that word, which notes nothing
 first_one : (instance : Instance) (s : Seated) (j v : ℕ) (cells' : List Cell) → written s.known.local j 0 v ≡ cells' →
     stepped instance (WriteCell j 0 v) s 0 ≡ wrote s cells' (one_more s.known.local.steps) s.known.noted
 first_one instance s j v cells' c =
