@@ -24,6 +24,7 @@ module _ {O : Type 0} (r : Running O) where
   pub as_many : (held : List Seated) (xs : List Handed) → Gathers r held xs → length xs ≡ length held
   as_many held xs g = omega (arith, units Handed xs, units Seated held, g.numbers (λ _. 1))
 
+  -- where `xs` gathers the callers held in `a`, and `ys` those in `b`, both lists one after the other gather the callers of both
   pub gathers_both : (a b : List Seated) (xs ys : List Handed) → Gathers r a xs → Gathers r b ys → Gathers r (a ++ b) (xs ++ ys)
   gathers_both a b xs ys g k = record {
     of = All-append (IsHandedOf r) xs ys g.of k.of;
@@ -65,6 +66,7 @@ module _ {O : Type 0} (r : Running O) where
       let l = subst (λ (o : Option Handed). Gathers r w.held (kept_list o)) some k in
       omega (arith, as_many v.held xs g, as_many w.held (x ∷ []) l, length-append v.held w.held, most)
 
+  -- a pass that gathers callers still does where it takes the idle caller `x` out of the queue, which is gathered as one more
   pub still_gathering : (before v w : LenderPass) (xs : List Handed) (x : Seated) → IsGathering r before v xs → IsCallerOf r x → w ≡ with_taken v x → IsGathering r before w (xs ++ Idle x ∷ [])
   still_gathering before v w xs x g is taken = subst (λ (u : LenderPass). IsGathering r before u (xs ++ Idle x ∷ [])) (sym taken) (record {
     home = g.home;
@@ -99,6 +101,7 @@ module _ {O : Type 0} (r : Running O) (table : TableId) where
   pub last_of : (all : List Lent) (v : LenderPass) (rest after : List Lent) (found : Option Lent) (x : Lent) (xs : List Handed) → IsTakingIn r table all v rest xs → rest ≡ after ++ option_to_list found → found ≡ Some x → IsLentOf r table x
   last_of all v rest after found x xs k popped some = (All-pop (IsLentOf r table) rest after (Some x) (popped ∙ ap (λ (o : Option Lent). after ++ option_to_list o) some) k.lents).1
 
+  -- one more of what was lent, `x`, is taken in: its pass is joined to `v`, and the caller that its client kept is gathered
   pub takes_more : (all : List Lent) (v w : LenderPass) (rest after : List Lent) (found : Option Lent) (x : Lent) (xs ys : List Handed) → IsTakingIn r table all v rest xs → rest ≡ after ++ option_to_list found → found ≡ Some x
       → w ≡ both v (view x.pass) → Gathers r w.held ys → ys ≡ xs ++ kept_list x.kept → IsTakingIn r table all w after ys
   takes_more all v w rest after found x xs ys k popped some same gathers more =

@@ -58,6 +58,7 @@ map_push : {A B : Type 0} (g : A → B) (xs : List A) (y : A) → map g (xs ++ y
 map_push g [] y = refl
 map_push g (x ∷ xs) y = ap (λ l. g x ∷ l) (map_push g xs y)
 
+-- a list weighs what its item at `i` weighs and what the list without that item does
 total_removed : {A : Type 0} (f : A → ℕ) (xs : List A) (i : ℕ) (d : A) → i < length xs → total_weight f xs ≡ f (get_or xs i d) + total_weight f (take i xs ++ drop (suc i) xs)
 total_removed f [] i d lt = absurd (omega (arith, lt))
 total_removed f (x ∷ xs) zero d lt = refl

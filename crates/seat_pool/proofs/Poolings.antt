@@ -59,6 +59,7 @@ module _ {A : Type 0} (f : A → ℕ) where
       let rest : total_weight f xs ≡ f v = total_whole p xs i v (λ j u at. idle (suc j) u at) at (omega (arith, part, all)) in
       omega (arith, here, rest)
     where
+      -- the item `v` at `i` of a list weighs at most what the whole list does
       part_of : (p : A → ℕ) (xs : List A) (i : ℕ) (v : A) → get_elem? xs i ≡ some v → p v ≤ total_weight p xs
       part_of p [] i v at = absurd (some-ne-none v (sym at))
       part_of p (y ∷ ys) zero v at = (let same : p y ≡ p v = ap p (some-injective y v at) in omega (arith, same))
@@ -106,6 +107,7 @@ to_service : {O : Type 0} (r : Running O) (s : Shown) (parts : ℕ) (home : Opti
 to_service r s parts None x of fits is = absurd of
 to_service r s parts (Some home) x of fits is = subst (λ (q : Shown). IsLentBy q x) fits is
 
+-- a caller `x` of the rule's service is a caller of the service that is the home of the pass
 from_service : {O : Type 0} (r : Running O) (s : Shown) (parts : ℕ) (home : Option ServiceView) (x : Seated) → IsHomeOf r home → FitsHome s parts home → IsLentBy s x → IsCallerAt home x
 from_service r s parts None x of fits is = absurd of
 from_service r s parts (Some home) x of fits is = subst (λ (q : Shown). IsLentBy q x) (sym fits) is
@@ -134,9 +136,11 @@ is_not_new r v views (suc pass) of new at = some-ne-none v (sym at ∙ ap (λ l.
 abbrev AllFit : Shown → List LenderPass → Type 0
 AllFit r views = (pass : ℕ) (v : LenderPass) → get_elem? views pass ≡ some v → FitsHand r v
 
+-- where each pass fits the rule's service, each still does after one view was replaced by `w`, which fits too
 fit_set : (r : Shown) (views : List LenderPass) (pass : ℕ) (w : LenderPass) → FitsHand r w → AllFit r views → AllFit r (set views pass w)
 fit_set r views pass w mine all j u e = ⊎_elim (λ x. subst (FitsHand r) x.1 mine) (λ x. all j u x.1) (at_set views pass j w u e)
 
+-- where each pass fits the rule's service, each still does after one view more was added, `w`, which fits too
 fit_snoc : (r : Shown) (views : List LenderPass) (w : LenderPass) → FitsHand r w → AllFit r views → AllFit r (views ++ w ∷ [])
 fit_snoc r views w mine all j u e = ⊎_elim (λ x. all j u x) (λ x. subst (FitsHand r) x mine) (at_snoc views w u j e)
 
@@ -151,6 +155,7 @@ record Balances (service : Shown) (items after : List Seated) (v w : LenderPass)
   pub calls : (h : AnsweredCall → ℕ) → total_weight h w.told + calls_weigh h v.held + calls_weigh h items ≡ total_weight h v.told + calls_weigh h w.held + calls_weigh h after
   pub reads : (h : SeenRead → ℕ) → total_weight h w.shown + reads_weigh h v.held + reads_weigh h items ≤ total_weight h v.shown + reads_weigh h w.held + reads_weigh h after
 
+-- where a pass goes from `v` to `w` and the queue from `items` to `after`, and both balance, the rule is kept
 moves : (items after : List Seated) (views : List LenderPass) (pass : ℕ) (v w : LenderPass) (k : KeepsCallers items views) → get_elem? views pass ≡ some v
     → FitsHand k.service w → All (IsLentBy k.service) after → total_weight (λ (u : LenderPass). length u.placed) (set views pass w) ≤ k.service.callers → Balances k.service items after v w → KeepsCallers after (set views pass w)
 moves items after views pass v w k at fits are room b = record {
@@ -195,6 +200,7 @@ has_room r v items views pass k of at =
     omega (arith, placed, mine, units Seated v.held, units Seated items, k.callers (λ _. 1), k.room, count)
 
 module _ {O : Type 0} where
+  -- a pass with a part that pops the queue takes a caller of its home out of it, and keeps the rule
   pub pops : (pass : ℕ) (r : Running O) (v : LenderPass) → IsHomeOf r v.home → 0 < v.parts → Pops Pools pass v (IsCallerTaken v)
   pops pass r v of some_part x items views (inl new) at = absurd (is_not_new r v views pass of new.1 at)
   pops pass r v of some_part x items views (inr k) at =

@@ -19,6 +19,7 @@ use Rattle.seat_pool.specs.declared.hand.LenderPass.{LenderPass}
 use Rattle.seat_pool.specs.declared.hand.AnsweredCall.{AnsweredCall}
 use Rattle.seat_pool.proofs.Poolings.{total_both}
 
+-- where each own entry is answered, one entry `x` more with its answer `a` is one answered call more, behind the others
 one_more_call : (n : ℕ) (own : List Linked) (answers : List Answer) (x : Linked) (a : Answer) → length own ≡ length answers → calls_from n (own ++ x ∷ []) (answers ++ a ∷ []) ≡ calls_from n own answers ++ told_with n x a ∷ []
 one_more_call n [] [] x a same = refl
 one_more_call n [] (b ∷ answers) x a same = absurd (omega (arith, same))
