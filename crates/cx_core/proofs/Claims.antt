@@ -35,12 +35,15 @@ unheld_none locals r none d x there held =
 
 -- a caller's rights are on replicas that there are, and a shared one on none that another holds exclusively
 module _ (callers : ℕ) (words : List ℕ) (locals : List Local) (locks : Locks callers words locals) where
+  -- a replica that the caller `d` holds exclusively is below twice the number of callers
   pub held_below : (d : ℕ) (x : Local) (h : HeldExclusive) → slice_get locals d ≡ Some x → x.exclusive ≡ Some h → h.replica < 2 * callers
   held_below d x h there has = (locks.few d x there).below h.replica (omega (arith, holds_one x h has))
 
+  -- a replica that the caller `d` holds shared is below twice the number of callers
   pub shared_below : (d : ℕ) (x : Local) (h : HeldShared) → slice_get locals d ≡ Some x → x.shared ≡ Some h → h.replica < 2 * callers
   shared_below d x h there has = (locks.few d x there).below h.replica (omega (arith, shared_one x h has))
 
+  -- a replica that the caller `d` holds shared is held exclusively by no caller
   pub shared_alone : (d : ℕ) (x : Local) (h : HeldShared) → slice_get locals d ≡ Some x → x.shared ≡ Some h → total (holds h.replica) locals ≡ 0
   shared_alone d x h there has =
       let word = locks.each h.replica (shared_below d x h there has) in
@@ -51,6 +54,7 @@ module _ (callers : ℕ) (words : List ℕ) (locals : List Local) (locks : Locks
         | inr some ↦ (let nobody = word.alone (omega (arith, some)) in absurd (omega arith))
       ]
 
+  -- the exclusive rights `h` and `k` of two callers `c` and `d` are on different replicas
   pub held_alone : (c d : ℕ) (l x : Local) (h k : HeldExclusive) → slice_get locals c ≡ Some l → l.exclusive ≡ Some h → slice_get locals d ≡ Some x → x.exclusive ≡ Some k → d ≢ c → k.replica ≢ h.replica
   held_alone c d l x h k at has there has_too apart same =
       let word = locks.each h.replica (held_below c l h at has) in

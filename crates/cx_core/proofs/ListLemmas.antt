@@ -9,6 +9,7 @@ slice_get-set_same [] i y within = absurd (omega arith)
 slice_get-set_same (x ∷ xs) zero y within = refl
 slice_get-set_same (x ∷ xs) (suc i) y within = slice_get-set_same xs i y (omega arith)
 
+-- putting an item at `i` leaves the item at any other index `k` as it was
 pub slice_get-set_other : {X : Type 0} (xs : List X) (i k : ℕ) (y : X) → k ≢ i → slice_get (set xs i y) k ≡ slice_get xs k
 slice_get-set_other [] i k y ne = refl
 slice_get-set_other (x ∷ xs) zero zero y ne = absurd (ne refl)

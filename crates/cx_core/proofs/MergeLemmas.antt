@@ -220,6 +220,7 @@ still_linked instance place history history' locals caller l l' before after at 
       | inr b ↦ (let past : length locals ≤ by = b.0 in absurd (omega arith))
     ]
   where
+    -- an entry `x` at `i` of the own list of the caller `by` is still there after the local state of `caller` went on from `l` to `l'`
     new_own : (locals : List Local) (caller by : ℕ) (l l' m : Local) (i : ℕ) (x : Linked) → slice_get locals caller ≡ Some l → slice_get locals by ≡ Some m → GoesOn l l' → slice_get m.own i ≡ Some x →
         (m' : Local) × (slice_get (set locals caller l') by ≡ Some m') × (slice_get m'.own i ≡ Some x)
     new_own locals caller by l l' m i x at there goes was =

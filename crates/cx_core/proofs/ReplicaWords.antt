@@ -30,12 +30,15 @@ module _ (callers region : ℕ) where
   pub vol_ends : (r i : ℕ) → r < 2 * callers → i < region → vol_at callers region r i < per_at callers region 0 0
   vol_ends r i small below = let gap = ends region r (2 * callers) small in omega (arith, gap)
 
+  -- the words that loads give of two replicas `q` and `r`, or at two indices `i` and `j`, stand at different places
   pub vol_apart : (q r i j : ℕ) → i < region → j < region → (q ≢ r) ⊎ (i ≢ j) → vol_at callers region q i ≢ vol_at callers region r j
   vol_apart q r i j i_within j_within other same = row_apart region q r i j i_within j_within other (omega (arith, same))
 
+  -- the words on the medium of two replicas `q` and `r`, or at two indices `i` and `j`, stand at different places
   pub per_apart : (q r i j : ℕ) → i < region → j < region → (q ≢ r) ⊎ (i ≢ j) → per_at callers region q i ≢ per_at callers region r j
   per_apart q r i j i_within j_within other same = row_apart region q r i j i_within j_within other (omega (arith, same))
 
+  -- no word that loads give, of a replica `q`, stands where a word on the medium does
   pub vol_per_apart : (q r i j : ℕ) → q < 2 * callers → i < region → vol_at callers region q i ≢ per_at callers region r j
   vol_per_apart q r i j small within same = let before = vol_ends q i small within in omega (arith, before, same)
 

@@ -41,6 +41,7 @@ pub total_parts : (callers r : ℕ) (ls : List Local) → total (marks callers r
 total_parts callers r [] = omega arith
 total_parts callers r (l ∷ ls) = let rest = total_parts callers r ls in omega arith
 
+-- a right on the replica `q` counts one for the replica `r`, where both are the same
 pub on_same : (q r : ℕ) → q ≡ r → is_on r (Some q) ≡ 1
 on_same q r e = ap (λ b. cond b 1 0) (eq-eqb q r e)
 
