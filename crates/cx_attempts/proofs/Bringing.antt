@@ -29,6 +29,7 @@ on_then s n u before m v (none_yet _ _ zero same) = on_later s n u before (n + m
 on_then s n u before m v (one_more _ _ first mid next ticket set more on stores kept) =
     one_more (n + m) v (n + first) mid next ticket set (omega (arith, more)) (on_then s n u before first mid on) stores kept
 
+-- the sets read from `s` to `u` and those read from `u` to `v`, one after another, are the sets read from `s` to `v`
 pub brings_then : (s u v : Seated) → BringsEntries s u → BringsEntries u v → BringsEntries s v
 brings_then s u v a b = record { count = a.count + b.count; on = on_then s a.count u a.on b.count v b.on; read = omega (arith, a.read, b.read) }
 
@@ -36,6 +37,7 @@ brings_then s u v a b = record { count = a.count + b.count; on = on_then s a.cou
 pub brings_around : (s t u v : Seated) → t.known.sets ≡ s.known.sets → BringsEntries t u → v.known.sets ≡ u.known.sets → BringsEntries s v
 brings_around s t u v before brought after = brings_then s u v (brings_then s t u (brings_none s t before) brought) (brings_none u v after)
 
+-- where no word of a set was read from `s` to `u`, and at most the set of this ticket from `u` to `v`, the sets read from `s` to `v` are counted
 pub brings_at : (ticket : ℕ) (s u v : Seated) → u.known.sets ≡ s.known.sets → BringsAtMost ticket u v → BringsEntries s v
 brings_at ticket s u v before (inl same) = brings_none s v (same ∙ before)
 brings_at ticket s u v before (inr (set, mid, same, stores)) = brings_then s mid v (brings_none s mid (same ∙ before)) (brings_one mid v ticket set stores)
@@ -59,5 +61,6 @@ counts_around taken now s t u v before counts after = record {
 pub counts_none : (taken now : ℕ) (s v : Seated) → now ≡ taken → v.known.sets ≡ s.known.sets → CountsEntries taken s now v
 counts_none taken now s v still same = record { counted = counted_same taken now s v still same; by_sets = brings_none s v same }
 
+-- where the sets of others stay counted from `s` to `u`, as `taken` and then `mid`, and from there to `v`, as `now`, they do from `s` to `v`
 pub counts_then : (taken mid now : ℕ) (s u v : Seated) → CountsEntries taken s mid u → CountsEntries mid u now v → CountsEntries taken s now v
 counts_then taken mid now s u v a b = record { counted = λ was. b.counted (a.counted was); by_sets = brings_then s u v a.by_sets b.by_sets }

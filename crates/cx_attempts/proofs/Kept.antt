@@ -42,6 +42,7 @@ attempt_refused before after same rest met = record {
   rest = rest;
 }
 
+-- of two equal numbers the second is not above the first
 not_above : (a b : ℕ) → a ≡ b → b ≤ a
 not_above a b e = omega (arith, e)
 

@@ -56,6 +56,7 @@ module _ {Key : Type 0} where
       by (Ok x) all = part_reads old new (λ part. (step part op).1 ≡ reply) 1168 len long unmoved (λ key part s. ap (λ p. p.1) (all key part s))
       by (Err e) all = tt
 
+-- two pairs of numbers are equal where the test says that they are
 same_pair : (x y : ℕ × ℕ) → is_same x y ≡ true → x ≡ y
 same_pair x y e =
     let both = and_parts (x.0 == y.0) (x.1 == y.1) e in

@@ -86,6 +86,7 @@ pub record IsNext (count first n r : ℕ) : Type 0 where
   pub above : count ≤ first + n → r + count ≡ first + n
 
 module _ (count first : ℕ) (within : first < count) where
+  -- a replica `x` among the first `n + 1` of a pass is the last of them, `r`, or among the first `n`
   passed_more : (n r x : ℕ) → n < count → IsNext count first n r → x < count → IsPassed count first (n + 1) x → (x ≡ r) ⊎ IsPassed count first n x
   passed_more n r x small next few passed =
       elim (cases_order x r) [

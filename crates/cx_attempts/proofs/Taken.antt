@@ -24,6 +24,7 @@ sized_running line_count lawful r running = record {
   region = running.base.size.long ∙ ap region_words running.lines;
 }
 
+-- a caller without any right that tried the replica `q` exclusively and got it has just taken it, and it is its only right
 pub took_one : {O : Type 0} (o : Ghosts O) (r : Running O) (q : ℕ) (before after : Seated) (tried : ExclusiveTried) (held : Right) →
     IsTableWithinLimits o.line_count o.lawful r → all_rights before ≡ no_rights → TriesExclusive r o.step o.only_reads q before after tried → tried ≡ Got held → Fitting r.lines (o.lawful r.object) r.base (o.step r.object) after.known → TakesOne o r before after held
 took_one o r q before after tried held running free tries is fits =
