@@ -61,6 +61,7 @@ apart_of z head store tree places given place node a e =
       self,
     )
 
+-- once the pair is written, its node is a leaf beside the tree, to be put where the walk to its key ended at nothing
 pub add_beside : (x : List ℕ) (pair : List ℕ × List ℕ) (nodes sides : List ℕ) (depth above version : ℕ) (store : Store) (s : StandsFor x version store) → IsWalkEnded nodes sides (order_in pair.0 x) depth 0 above s.tree →
     (z : List ℕ) (revision node : ℕ) → IsPairWritten x z (head_of version s.last) store s.tree s.places pair revision node → IsBeside z nodes sides (order_in pair.0 x) depth node s.tree
 add_beside x pair nodes sides depth above version store s e z revision node p = record {
@@ -165,12 +166,14 @@ can_write x nodes sides depth pair c =
     let s = c.index.stands in
     record { head = head_of 2 s.last; store = c.index.store; tree = s.tree; places = s.places; given = s.given; loose = []; arranged = s.arranged; room = add_room x 2 c.index.store s pair c.room }
 
+-- where a pair may be added and is written, its node can be put into the tree where the walk to its key ended
 pub can_put_node : (x z nodes sides : List ℕ) (depth revision node : ℕ) (pair : List ℕ × List ℕ) → CanAdd x nodes sides depth pair → PairWritten pair revision node x z → CanPutNode z nodes sides depth node
 can_put_node x z nodes sides depth revision node pair c w =
     let s = c.index.stands in
     let p = w (head_of 2 s.last) c.index.store s.tree s.places s.given s.arranged (add_room x 2 c.index.store s pair c.room) in
     record { order = order_in pair.0 x; tree = s.tree; beside = add_beside x pair nodes sides depth c.above 2 c.index.store s (c.spot 2 c.index.store s) z revision node p }
 
+-- the number of pairs in the header, `n`, once the node of a new pair was put and before it is raised by one, is at most 2^32
 pub add_few : (x z y nodes sides : List ℕ) (depth revision node n : ℕ) (pair : List ℕ × List ℕ) → CanAdd x nodes sides depth pair → PairWritten pair revision node x z → PutsNode nodes sides depth node z y → word_of y 0 5 ≡ n → n ≤ 2 ^ 32
 add_few x z y nodes sides depth revision node n pair c w t e =
     let s = c.index.stands in
@@ -185,6 +188,7 @@ add_few x z y nodes sides depth revision node n pair c w t e =
 pub plain_of : (pair : List ℕ × List ℕ) → IsKey pair.0 → IsDocument pair.1 → IsPlain pair
 plain_of pair k d = record { key_short = k.short; document_short = d.short; key_bytes = key_small pair.0 k; document_bytes = document_small pair.1 d }
 
+-- writing a new pair by the definition, where there is room, has it written with its revision, at the node `node`
 written_of : (x z : List ℕ) (revision node : ℕ) (pair : List ℕ × List ℕ) → IsKey pair.0 → IsDocument pair.1 → CanTake x (pair_lines pair) → with_new_pair pair revision x ≡ (node, z) → PairWritten pair revision node x z
 written_of x z revision node pair k d can e = subst (λ (q : ℕ × List ℕ). PairWritten pair revision q.0 x q.1) e (new_pair_is pair revision x (plain_of pair k d) can)
 

@@ -12,14 +12,17 @@ use Rattle.word_index.specs.declared.insertion.Inserted.TheVariants.{New, Replac
 use Rattle.word_index.proofs.ExactChanges.{removed_is}
 use Rattle.word_index.proofs.Inserting.{inserted_is}
 
+-- whichever an insertion does, to find no room, to add or to replace, the words after it stand for a store
 after_insert : (inserted : Inserted) (x y key document : List ℕ) → IsIndex x → Inserts key document inserted x y → IsIndex y
 after_insert NoRoom x y key document i r = subst IsIndex (sym (r i.store i.stands).1) i
 after_insert New x y key document i r = record { store = with_pair key document i.store; stands = (r i.store i.stands).2 }
 after_insert Replaced x y key document i r = record { store = with_pair key document i.store; stands = (r i.store i.stands).2 }
 
+-- words that stand for a store do so after the document of a key was put in
 pub index_after_insert : (x y key document : List ℕ) → IsKey key → IsDocument document → IsIndex x → y ≡ with_document key document x → IsIndex y
 index_after_insert x y key document k d i e = subst IsIndex (sym e) (after_insert _ x _ key document i (inserted_is key document x k d))
 
+-- words that stand for a store do so after a key was removed
 pub index_after_remove : (x y key : List ℕ) → IsIndex x → y ≡ with_key_removed key x → IsIndex y
 index_after_remove x y key i e = subst IsIndex (sym e) (record { store = without_key key i.store; stands = (removed_is key x i.store i.stands).after })
 

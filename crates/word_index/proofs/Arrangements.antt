@@ -49,9 +49,11 @@ pub record EmptySoFar (version at : ℕ) (before now : List ℕ) : Type 0 where
   pub front : take at now ≡ take at (version ∷ 0 ∷ 0 ∷ 1 ∷ replicate 4 0)
   pub behind : drop 8 now ≡ drop 8 before
 
+-- at the beginning no word of the empty header is stored
 pub empty_begins : (version : ℕ) (x y : List ℕ) → x ≡ y → EmptySoFar version 0 x y
 empty_begins version x y e = record { front = refl; behind = ap (drop 8) (sym e) }
 
+-- storing the word `v` of the empty header at `at` has one word more of it stored
 pub empty_more : (version at v : ℕ) (x y : List ℕ) → at < 8 → IsPartLength (length y) → v ≡ get_or (version ∷ 0 ∷ 0 ∷ 1 ∷ replicate 4 0) at 0 → EmptySoFar version at x y → EmptySoFar version (at + 1) x (set y at v)
 empty_more version at v x y below sized is so =
     let front : List ℕ = version ∷ 0 ∷ 0 ∷ 1 ∷ replicate 4 0 in
@@ -64,6 +66,7 @@ empty_more version at v x y below sized is so =
 whole_header : (version at : ℕ) (x y : List ℕ) → at ≡ 8 → EmptySoFar version at x y → take 8 y ≡ version ∷ 0 ∷ 0 ∷ 1 ∷ replicate 4 0
 whole_header version at x y e so = subst (λ n. take n y ≡ take n (version ∷ 0 ∷ 0 ∷ 1 ∷ replicate 4 0)) e so.front
 
+-- once all 8 words of the empty header are stored, with version 2, the words stand for the store without pairs
 pub empty_stands : (version at : ℕ) (x y : List ℕ) → version ≡ 2 → at ≡ 8 → IsPartLength (length y) → EmptySoFar version at x y → StandsFor y version []
 empty_stands version at x y two e sized so = stands_empty y version two sized (whole_header version at x y e so)
 

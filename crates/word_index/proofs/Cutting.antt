@@ -166,6 +166,7 @@ place_in : (ws key nodes sides : List ℕ) (depth node above version : ℕ) (sto
     HasPlace ws key s.places store (walk_end (order_in key ws) s.tree).0 (walk_end (order_in key ws) s.tree).1 node
 place_in ws key nodes sides depth node above version store s spot n = spot_place ws key version store s nodes sides depth node above (spot version store s) n
 
+-- the number of pairs in the header, `n`, once a node was taken out of the tree and before it is lowered by one, is at least 1
 pub cut_count : (x z nodes sides : List ℕ) (depth node n : ℕ) → CanCut x nodes sides depth node → TakesNode nodes sides depth node x z → word_of z 0 5 ≡ n → 1 ≤ n
 cut_count x z nodes sides depth node n c t e =
     let s = c.index.stands in
@@ -187,6 +188,7 @@ pub cut_is : (x key : List ℕ) (version : ℕ) (store : Store) (s : StandsFor x
 unfolding with_node_cut
 cut_is x key version store s = ap (λ u. with_one_less (with_tree (without (order_in key x) u) x)) (tree_in_is x s.tree (tree_of x version store s))
 
+-- once a node is cut out of the tree, its pair stands at a place of its own, beside the pairs that are left
 pub cut_pair : (x w nodes sides : List ℕ) (depth node : ℕ) → CanCut x nodes sides depth node → Cuts nodes sides depth node x w → HasLoosePair w node
 cut_pair x w nodes sides depth node c t =
     let s = c.index.stands in
@@ -224,6 +226,7 @@ no_removal_runs x y key nodes sides depth node above i e spot z =
     let here : false ≡ is_key_in key x = sym (ap is_some (spot_missing y key nodes sides depth node above spot z 2 i.store i.stands)) ∙ ap (λ st. is_some (document_at key st)) (sym (store_is y 2 i.store i.stands)) ∙ ap (is_key_in key) e in
     (here, e ∙ ap (λ b. cond b (with_pair_given (node_at key x) (with_node_cut key x)) x) here)
 
+-- the node at which the walk to a key ended, in words that stand for a store, can be cut out of the tree
 pub can_cut : (ws key nodes sides : List ℕ) (depth node above : ℕ) → AtSpot false key nodes sides depth node above ws → IsIndex ws → node ≢ 0 → CanCut ws nodes sides depth node
 can_cut ws key nodes sides depth node above s i n = record { key = key; above = above; spot = s; index = i; some = n }
 

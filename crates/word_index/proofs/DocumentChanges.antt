@@ -32,6 +32,7 @@ pub record IsNamed (x now : List ℕ) (node a b : ℕ) : Type 0 where
   pub first : word_of now node 5 ≡ a
   pub last : word_of now node 6 ≡ b
 
+-- storing `a` and `b` as the words 5 and 6 of a node leaves its other words and all other lines as they were
 pub named : (x : List ℕ) (node a b : ℕ) → IsWithin x node → IsNamed x (with_word node 6 b (with_word node 5 a x)) node a b
 named x node a b within =
     let y = with_word node 5 a x in
@@ -43,6 +44,7 @@ named x node a b within =
       last = get_or-set_same y (8 * node + 6) b 0 (let long = length-set x (8 * node + 5) a in omega arith);
     }
 
+-- storing the words 5 and 6 of a node leaves the word 0 of each line, the next line of its chain, as it was
 pub names_kept : (x : List ℕ) (node a b : ℕ) → SameNext x (with_word node 6 b (with_word node 5 a x))
 names_kept x node a b k = get_or-set_other (with_word node 5 a x) (8 * node + 6) (8 * k + 0) b 0 (omega arith) ∙ get_or-set_other x (8 * node + 5) (8 * k + 0) a 0 (omega arith)
 

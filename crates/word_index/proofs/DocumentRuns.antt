@@ -24,6 +24,7 @@ blocks_of_words len count words e = ap (λ n. (n + 55) / 56) (length_unpacked le
 pub refill_lines : (x : List ℕ) (node first len count : ℕ) (words : List ℕ) → IsOld x node first (blocks (unpacked len words)) (unpacked len words) → count ≡ div_ceil len 56 → HasLines x first count
 refill_lines x node first len count words o e = old_lines x node (unpacked len words) o.can first count o.first_is (o.counted ∙ blocks_of_words len count words e)
 
+-- the node is still there once the blocks of its document were filled with other words
 pub refill_here : (x y : List ℕ) (node first count more : ℕ) (words document : List ℕ) → IsOld x node first more document → y ≡ with_chain_filled words count 0 first x → IsWithin y node
 refill_here x y node first count more words document o e =
     subst (λ n. 8 * node + 8 ≤ n) (sym (ap length e ∙ filled_long words count 0 first x)) (node_here x node document o.can)
@@ -50,17 +51,20 @@ emptied_runs : (x z : List ℕ) (node first count : ℕ) (document : List ℕ) �
 unfolding with_emptied
 emptied_runs x z node first count document o e = e ∙ ap₂ (λ n f. with_chain_given n f (with_word node 6 0 (with_word node 5 0 x))) (sym o.counted) (sym o.first_is)
 
+-- once the blocks of the old document are given back, there is room for the `more` blocks of the new one
 pub renew_room : (x z : List ℕ) (node first count len more : ℕ) (words : List ℕ) → IsOld x node first count (unpacked len words) → z ≡ with_chain_given count first (with_word node 6 0 (with_word node 5 0 x)) → more ≡ div_ceil len 56 → CanTake z more
 renew_room x z node first count len more words o e m =
     let d = unpacked len words in
     subst (CanTake z) (blocks_of_words len more words m) (subst (λ u. CanTake u (blocks d)) (sym (emptied_runs x z node first count d o e)) (renew_can x node d o.can))
 
+-- the new document's text, written into the words `z` without the old blocks, is the one that the definition writes into the emptied words
 pub text_runs_on : (x z w : List ℕ) (node first count len more text : ℕ) (words : List ℕ) → IsPacked 128 len words → IsOld x node first count (unpacked len words) → z ≡ with_chain_given count first (with_word node 6 0 (with_word node 5 0 x)) → more ≡ div_ceil len 56 →
     with_text words more 0 z ≡ (text, w) → with_text (packed 128 (unpacked len words)) (blocks (unpacked len words)) 0 (with_emptied node x) ≡ (text, w)
 text_runs_on x z w node first count len more text words p o e m t =
     let d = unpacked len words in
     ap (with_text (packed 128 d) (blocks d) 0) (sym (emptied_runs x z node first count d o e)) ∙ ap₂ (λ s n. with_text s n 0 z) (sym p.unused) (blocks_of_words len more words m) ∙ t
 
+-- the node is still there once the new document's text was written into new blocks
 pub renew_node : (x z w : List ℕ) (node first count len more text : ℕ) (words : List ℕ) → IsPacked 128 len words → IsOld x node first count (unpacked len words) → z ≡ with_chain_given count first (with_word node 6 0 (with_word node 5 0 x)) → more ≡ div_ceil len 56 →
     with_text words more 0 z ≡ (text, w) → IsWithin w node
 renew_node x z w node first count len more text words p o e m t =
@@ -88,6 +92,7 @@ replaced_runs x w node revision document e = ap (with_word node 7 revision) e
 same_test : (n m : ℕ) → n ≡ m → (n == m) ≡ true
 same_test n m e = grind (arith, nat_tests)
 
+-- the test whether two numbers are equal is false where they differ
 other_test : (n m : ℕ) → (n ≡ m → ⊥) → (n == m) ≡ false
 other_test n m e = grind (arith, nat_tests)
 

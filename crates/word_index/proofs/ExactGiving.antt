@@ -19,11 +19,13 @@ given_words n ws line small few w =
 
 -- a chain
 module _ (first count : ℕ) (x : List ℕ) where
+  -- giving back the `n` lines that are left of a chain, after `i` of them, gives the whole chain back
   chain_goes : (n i line : ℕ) (y : List ℕ) → i + n ≡ count → ChainSoFar first count i line x y → ChainGiven first count x (with_chain_given n line y)
   chain_goes zero i line y e r = so_far_all first count i line x y (omega arith) r
   chain_goes (suc n) i line y e r =
       chain_goes n (i + 1) (word_of y line 0) (with_line_given line y) (omega arith) (so_far_more first count i line (word_of y line 0) x y (with_line_given line y) (omega arith) r refl refl)
 
+  -- giving back the `n` lines that are left of a loose chain leaves `k` words of 64 bits each
   chain_words_go : (k n i line : ℕ) (y : List ℕ) → i + n ≡ count → LooseChain x first count → ChainSoFar first count i line x y → line < 2 ^ 64 → Words k y → Words k (with_chain_given n line y)
   chain_words_go k zero i line y e h r small w = w
   chain_words_go k (suc n) i line y e h r small w =
@@ -34,6 +36,7 @@ module _ (first count : ℕ) (x : List ℕ) where
   pub chain_is_given : ChainGiven first count x (with_chain_given count first x)
   chain_is_given = chain_goes count 0 first x (omega arith) (so_far_none first count x x refl)
 
+  -- giving back a whole loose chain from the line `first` on leaves `k` words of 64 bits each
   pub chain_given_words : (k : ℕ) → LooseChain x first count → first < 2 ^ 64 → Words k x → Words k (with_chain_given count first x)
   chain_given_words k h small w = chain_words_go k count 0 first x (omega arith) h (so_far_none first count x x refl) small w
 

@@ -20,11 +20,13 @@ use Rattle.word_index.specs.Fresh.{IsBlock}
 pub chain_begins : (count first : ℕ) (x y : List ℕ) → x ≡ y → with_chain_given (count - 0) first y ≡ with_chain_given count first x
 chain_begins count first x y e = (let z : count - 0 ≡ count = omega arith in ap (λ n. with_chain_given n first y) z ∙ ap (with_chain_given count first) (sym e))
 
+-- where the code gives back one line more and goes on to `next`, the rest of the chain still leads to the defined words `target`
 pub chain_goes_on : (count i line next : ℕ) (y z target : List ℕ) → i < count → with_chain_given (count - i) line y ≡ target → word_of y line 0 ≡ next → z ≡ with_line_given line y → with_chain_given (count - (i + 1)) next z ≡ target
 chain_goes_on count i line next y z target l r word is =
     let less : count - i ≡ suc (count - (i + 1)) = omega arith in
     ap (λ n. with_chain_given (count - (i + 1)) n z) (sym word) ∙ ap (with_chain_given (count - (i + 1)) (word_of y line 0)) is ∙ ap (λ n. with_chain_given n line y) (sym less) ∙ r
 
+-- once the code gave back all `count` lines of a chain, its words are the defined ones, `target`
 pub chain_ends : (count i line : ℕ) (y target : List ℕ) → i ≡ count → with_chain_given (count - i) line y ≡ target → y ≡ target
 chain_ends count i line y target e r = (let none : count - i ≡ 0 = omega arith in ap (λ n. with_chain_given n line y) (sym none) ∙ r)
 
@@ -52,6 +54,7 @@ new_line_runs x y z head line e is none r =
           ∙ ap (λ b. cond b (with_word 0 3 (word_of x 0 3 + 1) x) (with_word 0 4 (word_of x 0 4 - 1) (with_word 0 2 (word_of x (word_of x 0 2) 0) x))) (sym test),
     )
 
+-- the test whether `n` is 0 is false where `n` equals a number `m` that is not 0
 not_zero : (n m : ℕ) → n ≡ m → (m ≡ 0 → ⊥) → (n == 0) ≡ false
 not_zero n m e some = (let other : n ≡ 0 → ⊥ = λ h. some (sym e ∙ h) in grind (arith, nat_tests))
 
@@ -82,6 +85,7 @@ block_exact next text from content b =
 pub text_begins : (text : List ℕ) (count : ℕ) (x y : List ℕ) → x ≡ y → with_text text (count - 0) 0 y ≡ with_text text count 0 x
 text_begins text count x y e = (let z : count - 0 ≡ count = omega arith in ap (λ n. with_text text n 0 y) z ∙ ap (with_text text count 0) (sym e))
 
+-- where the code writes one block more into the line that it took, the rest of the text still leads to the defined result `target`
 pub text_goes_on : (text : List ℕ) (count j next line : ℕ) (content y z w : List ℕ) (target : ℕ × List ℕ) → j < count → with_text text (count - j) next y ≡ target → (line ≡ line_to_take y) × (z ≡ with_line_taken y) →
     IsBlock next text (7 * (count - 1 - j)) content → w ≡ overwritten (8 * line) content z → with_text text (count - (j + 1)) line w ≡ target
 text_goes_on text count j next line content y z w target l r t b f =
@@ -92,6 +96,7 @@ text_goes_on text count j next line content y z w target l r t b f =
     f ∙ ap (λ s. overwritten (8 * line) s z) block ∙ ap₂ (λ n v. overwritten (8 * n) (block_words next text (7 * (count - (j + 1)))) v) t.0 t.1 in
     ap₂ (λ n v. with_text text (count - (j + 1)) n v) t.0 row ∙ ap (λ n. with_text text n next y) (sym less) ∙ r
 
+-- once the code wrote all `count` blocks of a text, the defined result is its first line `next` with the words `y`
 pub text_ends : (text : List ℕ) (count j next : ℕ) (y : List ℕ) (target : ℕ × List ℕ) → j ≡ count → with_text text (count - j) next y ≡ target → target ≡ (next, y)
 text_ends text count j next y target e r = (let none : count - j ≡ 0 = omega arith in sym r ∙ ap (λ n. with_text text n next y) none)
 

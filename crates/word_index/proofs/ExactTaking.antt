@@ -53,6 +53,7 @@ row_is_filled line content x long within = record {
   long = length-overwritten content x (8 * line);
 }
 
+-- eight words written one after another from the beginning of a line on fill that line
 pub filled_by_row : (line start : ℕ) (content x y z : List ℕ) → length content ≡ 8 → start ≡ 8 * line → (y ≡ x) × IsWithin y line → z ≡ overwritten start content y → LineFilled line content x z
 filled_by_row line start content x y z long at p e =
     subst (LineFilled line content x) (sym (e ∙ ap₂ (λ n w. overwritten n content w) at p.0)) (row_is_filled line content x long (subst (λ w. IsWithin w line) p.0 p.1))
@@ -68,6 +69,7 @@ block_is next text from = record {
 
 -- a text
 module _ (text : List ℕ) (count : ℕ) (x : List ℕ) (can : CanTake x count) where
+  -- writing the `n` blocks that are left of a text, after `j` of them, has the whole text written
   text_goes : (n j next : ℕ) (y : List ℕ) → j + n ≡ count → WrittenSoFar text count j next x y → TextWritten text count (with_text text n next y).0 x (with_text text n next y).1
   text_goes zero j next y e r = written_all text count j next x y (omega arith) r
   text_goes (suc n) j next y e r =
@@ -90,6 +92,7 @@ module _ (k : ℕ) (text : List ℕ) (count : ℕ) (x : List ℕ) (can : CanTake
   unfolding block_words
   block_fits next from l = All-cons (λ w. w < 2 ^ 64) next (map (λ i. get_or text (from + i) 0) (range_with_len 0 7)) l (All-map (λ w. w < 2 ^ 64) (λ i. get_or text (from + i) 0) (range_with_len 0 7) (λ i d m. small (from + get_or (range_with_len 0 7) i d)))
 
+  -- writing the `n` blocks that are left of a text leaves `k` words of 64 bits each, and the number of its first line is of 64 bits
   text_words_go : (n j next : ℕ) (y : List ℕ) → j + n ≡ count → WrittenSoFar text count j next x y → next < 2 ^ 64 → Words k y → ((with_text text n next y).0 < 2 ^ 64) × Words k (with_text text n next y).1
   text_words_go zero j next y e r l w = (l, w)
   text_words_go (suc n) j next y e r l w =

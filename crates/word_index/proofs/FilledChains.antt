@@ -19,6 +19,7 @@ use Rattle.word_index.proofs.Frames.{times, times_cons, times_self, same_then}
 abbrev pub SameNext : List ℕ → List ℕ → Type 0
 SameNext before now = (k : ℕ) → word_of now k 0 ≡ word_of before k 0
 
+-- a line that is filled with a content which begins with its own word 0 leaves each line naming the next line that it named
 pub next_kept : (x y content : List ℕ) (line : ℕ) → LineFilled line content x y → get_or content 0 0 ≡ word_of x line 0 → SameNext x y
 next_kept x y content line f e k =
     elim (cases_eq k line) [
@@ -26,10 +27,12 @@ next_kept x y content line f e k =
       | inr ne ↦ f.others k ne 0 (omega arith)
     ]
 
+-- a chain is one of the same lines still, where each line names the next line that it named
 pub chain_on : (x y lines : List ℕ) (first : ℕ) → SameNext x y → IsChain x first lines → IsChain y first lines
 chain_on x y [] first same c = c
 chain_on x y (line ∷ lines) first same c = (c.0, subst (λ n. IsChain y n lines) (sym (same line)) (chain_on x y lines (word_of x line 0) same c.1))
 
+-- lines that are there are there still, where the words are as many
 within_on : (x y lines : List ℕ) → length y ≡ length x → All (IsWithin x) lines → All (IsWithin y) lines
 within_on x y lines long w = λ k d l. subst (λ n. 8 * get_or lines k d + 8 ≤ n) (sym long) (w k d l)
 
@@ -40,6 +43,7 @@ pub record IsFilled (x now lines text : List ℕ) (from : ℕ) : Type 0 where
   pub others : (k : ℕ) → times k lines ≡ 0 → SameLine x now k
   pub content : (i : ℕ) → i < 7 * length lines → word_of now (get_or lines (i / 7) 0) (1 + i % 7) ≡ get_or text (from + i) 0
 
+-- filling the lines of a chain with a text from `from` on has 7 of its words in each, and leaves their next lines and all other lines as they were
 pub chain_filled : (text lines x : List ℕ) (from first : ℕ) → IsChain x first lines → All (IsWithin x) lines → ((k : ℕ) → times k lines ≤ 1) → IsFilled x (with_chain_filled text (length lines) from first x) lines text from
 chain_filled text [] x from first c w once = record {
   long = refl;
@@ -90,13 +94,16 @@ filled_long text (suc n) from line ws =
 pub line_there : (x : List ℕ) (line n count : ℕ) → HasLines x line n → n ≡ suc count → IsWithin x line
 line_there x line n count h e = by_lines h.lines h.chain h.within (sym h.counted ∙ e)
   where
+    -- the first line of a chain of one line or more is there
     by_lines : (lines : List ℕ) → IsChain x line lines → All (IsWithin x) lines → length lines ≡ suc count → IsWithin x line
     by_lines [] c w e = absurd (omega arith)
     by_lines (l ∷ lines) c w e = subst (IsWithin x) (sym c.0) (All-head (IsWithin x) l lines w)
 
+-- once the first line of a chain is filled, the `count` lines behind it are a chain from `next` on, and are there
 pub lines_on : (x y content text : List ℕ) (line n count next from : ℕ) → HasLines x line n → n ≡ suc count → word_of x line 0 ≡ next → IsBlock next text from content → LineFilled line content x y → HasLines y next count
 lines_on x y content text line n count next from h e word b f = by_lines h.lines h.chain h.within (sym h.counted ∙ e)
   where
+    -- behind the first line of these the other `count` lines are a chain from `next` on, and are there
     by_lines : (lines : List ℕ) → IsChain x line lines → All (IsWithin x) lines → length lines ≡ suc count → HasLines y next count
     by_lines [] c w e = absurd (omega arith)
     by_lines (l ∷ lines) c w e = record {
@@ -106,9 +113,11 @@ lines_on x y content text line n count next from h e word b f = by_lines h.lines
       within = within_on x y lines f.long (All-tail (IsWithin x) l lines w);
     }
 
+-- at the beginning all of the chain is left to fill, from the line `first` on
 pub fill_begins : (text : List ℕ) (count first : ℕ) (x y : List ℕ) → x ≡ y → with_chain_filled text (count - 0) (7 * 0) first y ≡ with_chain_filled text count 0 first x
 fill_begins text count first x y e = (let z : count - 0 ≡ count = omega arith in ap (λ n. with_chain_filled text n 0 first y) z ∙ ap (with_chain_filled text count 0 first) (sym e))
 
+-- where the code fills one line more and goes on to `next`, the rest of the chain still leads to the defined words `target`
 pub fill_goes_on : (text : List ℕ) (count j line next : ℕ) (content y z target : List ℕ) → j < count → with_chain_filled text (count - j) (7 * j) line y ≡ target → word_of y line 0 ≡ next → IsBlock next text (7 * j) content → z ≡ overwritten (8 * line) content y →
     with_chain_filled text (count - (j + 1)) (7 * (j + 1)) next z ≡ target
 fill_goes_on text count j line next content y z target l r word b f =
@@ -118,5 +127,6 @@ fill_goes_on text count j line next content y z target l r word b f =
     ap (λ m. with_chain_filled text (count - (j + 1)) m next z) at ∙ ap (λ m. with_chain_filled text (count - (j + 1)) (7 * j + 7) m z) (sym word)
     ∙ ap (with_chain_filled text (count - (j + 1)) (7 * j + 7) (word_of y line 0)) row ∙ ap (λ n. with_chain_filled text n (7 * j) line y) (sym less) ∙ r
 
+-- once the code filled all `count` lines of a chain, its words are the defined ones, `target`
 pub fill_ends : (text : List ℕ) (count j line : ℕ) (y target : List ℕ) → j ≡ count → with_chain_filled text (count - j) (7 * j) line y ≡ target → y ≡ target
 fill_ends text count j line y target e r = (let none : count - j ≡ 0 = omega arith in ap (λ n. with_chain_filled text n (7 * j) line y) (sym none) ∙ r)

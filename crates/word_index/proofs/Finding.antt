@@ -9,6 +9,7 @@ use Rattle.word_index.specs.Walk.{AtEnd}
 use Rattle.word_index.proofs.KeyPlaces.{spot_none, spot_place, spot_missing, spot_found}
 use Rattle.word_index.proofs.Triples.{revision_missing, revision_there}
 
+-- where the walk to a key ended at no node, the store has no pair of the key, and the words no revision of it
 pub found_none : (ws key : List ℕ) (node above : ℕ) → IsIndex ws → AtEnd false key node above ws → node ≡ 0 → IsFoundIn ws key None
 found_none ws key node above i e z =
     let s = i.stands in
@@ -19,6 +20,7 @@ found_none ws key node above i e z =
           (triples_read ws 2 i.store s ∙ ap₂ triples_of m.split.places_are m.split.store_is);
     }
 
+-- where the walk to a key ended at a node, that is the node of the key's pair, and its word 7 is the key's revision
 pub found_there : (ws key : List ℕ) (node above : ℕ) → IsIndex ws → AtEnd false key node above ws → node ≢ 0 → IsFoundIn ws key (Some node)
 found_there ws key node above i e n =
     let s = i.stands in

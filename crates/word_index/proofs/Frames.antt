@@ -28,6 +28,7 @@ times_cons line x xs = sum_by-cons (λ x. cond (eqb x line) 1 0) x xs
 pub times_self : (line : ℕ) → ◌≡◌ {A = ℕ} (cond (eqb line line) 1 0) 1
 times_self line = grind (arith, nat_tests)
 
+-- where the mark that `x` is the line, 1 or 0, is at most a number `n` that is 0, `x` is another line
 differs : (x line n : ℕ) → cond (eqb x line) 1 0 ≤ n → n ≡ 0 → x ≢ line
 differs x line n least e = λ same. absurd (let one = subst (λ y. cond (eqb y line) 1 0 ≤ n) same least in omega (arith, one, times_self line))
 
@@ -38,6 +39,7 @@ absent line lines e = λ k d l. differs (get_or lines k d) line (times line line
 pub stored_elsewhere : (ws : List ℕ) (line i v other : ℕ) → i < 8 → other ≢ line → SameLine ws (with_word line i v ws) other
 stored_elsewhere ws line i v other below ne = λ j l. get_or-set_other ws (8 * line + i) (8 * other + j) v 0 (let apart : other ≢ line = ne in omega arith)
 
+-- a line whose words are the same in `a` and `b`, and in `b` and `c`, has the same words in `a` and `c`
 pub same_then : (a b c : List ℕ) (line : ℕ) → SameLine a b line → SameLine b c line → SameLine a c line
 same_then a b c line p q = λ i l. q i l ∙ p i l
 
@@ -48,6 +50,7 @@ chain_same ws now (line ∷ lines) first same c =
     let here = All-head (SameLine ws now) line lines same in
     (c.0, subst (λ x. IsChain now x lines) (sym (here 0 (omega arith))) (chain_same ws now lines (word_of ws line 0) (All-tail (SameLine ws now) line lines same) c.1))
 
+-- the word `i` of the words in `n` blocks, 7 in each, stands in a block `i / 7` that is one of them
 word_line : (i n : ℕ) → i < 7 * n → i / 7 < n
 word_line i n l = omega arith
 

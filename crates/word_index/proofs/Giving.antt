@@ -150,6 +150,7 @@ ChainSoFar first count i line before now =
     (head : RevisionHead) (store : Store) (tree : Tree ℕ) (places : List PairLayout) (lines others : List ℕ) → IsLoose before head store tree places lines others → IsChain before first lines → count ≡ length lines →
     Partly before now head store tree places others i line count
 
+-- at the beginning no line of a chain is given back, and all lines are left, from `first` on
 pub so_far_none : (first count : ℕ) (x y : List ℕ) → x ≡ y → ChainSoFar first count 0 first x y
 so_far_none first count x y e head store tree places lines others loose chain counted =
     subst (λ w. Partly x w head store tree places others 0 first count) e (record {
@@ -169,6 +170,7 @@ part_within x y head store tree places others (r ∷ rest) given i line count l 
   few = few_given y head store tree places given (r ∷ (rest ++ others)) a;
 }
 
+-- where `i` lines of a loose chain are given back, fewer than all, the next one, `line`, can be given back
 pub next_can_be_given : (first count i line : ℕ) (x y : List ℕ) → i < count → LooseChain x first count → ChainSoFar first count i line x y → CanGive y line
 next_can_be_given first count i line x y l h r =
     let p = r h.head h.store h.tree h.places h.lines h.others h.loose h.chain h.counted in
@@ -178,6 +180,7 @@ next_can_be_given first count i line x y l h r =
 pub all_same_then : (x y z lines : List ℕ) → All (SameLine x y) lines → All (SameLine y z) lines → All (SameLine x z) lines
 all_same_then x y z lines p q = λ k d l. same_then x y z (get_or lines k d) (p k d l) (q k d l)
 
+-- where `rest` is left of a loose chain, from `line` on, giving back `line` leaves the lines behind it, from `next` on
 part_more : (x y z : List ℕ) (head : RevisionHead) (store : Store) (tree : Tree ℕ) (places : List PairLayout) (others rest given : List ℕ) (i line next count : ℕ) → i < count → i + length rest ≡ count →
     IsLaidOut y head store tree places given (rest ++ others) → IsChain y line rest → All (SameLine x y) others → word_of y line 0 ≡ next → z ≡ with_line_given line y →
     Partly x z head store tree places others (i + 1) next count
@@ -196,16 +199,19 @@ part_more x y z head store tree places others (r ∷ rest) given i line next cou
       same = all_same_then x y (with_line_given r y) others same others_same;
     })
 
+-- where `i` lines of a chain are given back and then `line` is, `i + 1` are, and the others are left from `next` on
 pub so_far_more : (first count i line next : ℕ) (x y z : List ℕ) → i < count → ChainSoFar first count i line x y → word_of y line 0 ≡ next → z ≡ with_line_given line y → ChainSoFar first count (i + 1) next x z
 so_far_more first count i line next x y z l r word is head store tree places lines others loose chain counted =
     let p = r head store tree places lines others loose chain counted in
     part_more x y z head store tree places others p.rest p.loose.given i line next count l p.left p.loose.arranged p.chain p.same word is
 
+-- where `count` lines of a chain of as many are given back, the loose lines are only the others
 none_left : (x y : List ℕ) (head : RevisionHead) (store : Store) (tree : Tree ℕ) (places : List PairLayout) (others rest given : List ℕ) (i count : ℕ) → i ≡ count → i + length rest ≡ count →
     IsLaidOut y head store tree places given (rest ++ others) → IsLaidOut y head store tree places given (others ++ [])
 none_left x y head store tree places others [] given i count e l a = subst (IsLaidOut y head store tree places given) (sym (append-nil others)) a
 none_left x y head store tree places others (r ∷ rest) given i count e l a = absurd (omega arith)
 
+-- where `count` lines of a chain of as many are given back, the whole chain is
 pub so_far_all : (first count i line : ℕ) (x y : List ℕ) → i ≡ count → ChainSoFar first count i line x y → ChainGiven first count x y
 so_far_all first count i line x y e r head store tree places lines others loose chain counted =
     let p = r head store tree places lines others loose chain counted in

@@ -21,14 +21,17 @@ unpacked_long n words = rw length-map (length-range_with_len 0 n)
 pub words_bytes : (left right : List ℕ) (whole : ℕ) → ((k : ℕ) → k < whole → get_or left k 0 ≡ get_or right k 0) → (k : ℕ) → k < 8 * whole → byte_at left k ≡ byte_at right k
 words_bytes left right whole same k below = ap (λ w. w / 2 ^ (8 * (k % 8)) % 256) (same (k / 8) (omega arith))
 
+-- two equal numbers compare as equal
 tie : (x y : ℕ) → x ≡ y → nat_cmp x y ≡ Equal
 tie x y e = sym (nat_cmp_is x y Equal e)
 
+-- the order `o` of two numbers that differ is decided, whatever the order of the rest
 apart_first : (x y : ℕ) (o rest : Ordering) → MatchOrdering o (x < y) (x ≡ y) (y < x) → x ≢ y → o ≡ ordering_then o rest
 apart_first x y Less rest m ne = refl
 apart_first x y Equal rest m ne = absurd (ne m)
 apart_first x y Greater rest m ne = refl
 
+-- the order `o` of two numbers with one added to each is that of the numbers
 one_less : (x y : ℕ) (o : Ordering) → MatchOrdering o (suc x < suc y) (suc x ≡ suc y) (suc y < suc x) → MatchOrdering o (x < y) (x ≡ y) (y < x)
 one_less x y Less m = omega (arith, m)
 one_less x y Equal m = omega (arith, m)
@@ -53,9 +56,11 @@ length_tells (x ∷ xs) (y ∷ ys) same =
     ∙ ap (λ o. ordering_then o (slice_cmp nat_cmp xs ys)) (sym (tie x y (same 0 (omega arith) (omega arith))))
 
 module _ (left right : List ℕ) (n m : ℕ) where
+  -- packed words with the same bytes below `i` unpack to lists with the same items below `i`
   alike_below : (i : ℕ) → i ≤ n → i ≤ m → ((k : ℕ) → k < i → byte_at left k ≡ byte_at right k) → (k : ℕ) → k < i → get_or (unpacked n left) k 0 ≡ get_or (unpacked m right) k 0
   alike_below i a b same k l = unpacked_at n left k (omega arith) ∙ same k l ∙ sym (unpacked_at m right k (omega arith))
 
+  -- where `x` and `y` are the first bytes that differ of two packed keys, at `i`, their order is the order of the keys
   pub apart_at : (i x y : ℕ) → i < n → i < m → ((k : ℕ) → k < i → byte_at left k ≡ byte_at right k) → x ≡ byte_at left i → y ≡ byte_at right i → x ≢ y → nat_cmp x y ≡ key_cmp (unpacked n left) (unpacked m right)
   apart_at i x y a b same f g ne =
       let long = unpacked_long n left in

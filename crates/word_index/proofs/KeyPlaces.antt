@@ -88,6 +88,7 @@ pub record IsSplit (ws : List ℕ) (places : List PairLayout) (store : Store) (x
   pub placed_front : Placed ws front lower
   pub placed_rest : Placed ws rest others
 
+-- two equal lists have the same first item and the same rest
 same_head : (x y : ℕ) (xs ys : List ℕ) → x ∷ xs ≡ y ∷ ys → (x ≡ y) × (xs ≡ ys)
 same_head x y xs ys e = (cc, cc)
 
@@ -155,6 +156,7 @@ pub record IsHere (ws : List ℕ) (places : List PairLayout) (store : Store) (xs
   pub is : IsAt ws place pair
   pub placed_rest : Placed ws rest after
 
+-- where placed pairs are split into `front` and `rest`, and the first node of `rest` is `x`, the pair of `x` stands there
 here_of : (ws : List ℕ) (places front rest : List PairLayout) (store lower others : Store) (xs : List ℕ) (x : ℕ) (ys : List ℕ) → places ≡ front ++ rest → store ≡ lower ++ others → nodes_of front ≡ xs → nodes_of rest ≡ x ∷ ys → Placed ws front lower → Placed ws rest others →
     IsHere ws places store xs x ys
 here_of ws places front [] store lower others xs x ys p s f r n m = absurd (let g : ⊥ = cc in g)
@@ -178,6 +180,7 @@ here_of ws places front (q ∷ rest) store lower (pair ∷ others) xs x ys p s f
       placed_rest = m.1;
     }
 
+-- where the nodes of placed pairs are `xs`, then `x`, then `ys`, the pair of `x` stands between the pairs of `xs` and those of `ys`
 pub here_at : (ws : List ℕ) (places : List PairLayout) (store : Store) (xs : List ℕ) (x : ℕ) (ys : List ℕ) → Placed ws places store → nodes_of places ≡ xs ++ x ∷ ys → IsHere ws places store xs x ys
 here_at ws places store xs x ys n e =
     let s = split_at ws places store xs (x ∷ ys) n e in
@@ -222,6 +225,7 @@ module _ (ws : List ℕ) (version : ℕ) (store : Store) (s : StandsFor ws versi
         let h = here_at ws s.places store (before way ++ items l) x (items r ++ behind way) s.arranged.nodes.pairs (sym s.arranged.nodes.in_order ∙ ap items (sym w) ∙ parted way l x r) in
         (h.pair, node_there ws (head_of version s.last) store h.lower h.after s.tree s.places h.front h.rest s.given [] node h.place h.pair s.arranged s.lawful h.places_are h.store_is (e ∙ h.node_is) h.is)
 
+    -- a node that a walk passes is the node of a pair of the store
     pub passing_node : (nodes sides : List ℕ) (d node above : ℕ) → IsPassing nodes sides (walk_order past key ws) d node above s.tree → node ≢ 0 → (pair : List ℕ × List ℕ) × IsNodeOf ws node pair
     passing_node nodes sides d node above o n = at_node o.on.way o.on.here node o.on.whole_is o.on.node_is n
 
@@ -235,6 +239,7 @@ module _ (ws : List ℕ) (version : ℕ) (store : Store) (s : StandsFor ws versi
     go_first_left : (node : ℕ) (xs rest : List ℕ) → xs ≡ node ∷ rest → IsFirst node xs
     go_first_left node xs rest e = subst (IsFirst node) (sym e) refl
 
+    -- a walk goes on from a node to the right where the order `o` of the node is less, and to the left where it is greater
     step_by : (nodes sides : List ℕ) (d node above next side after : ℕ) (o : Ordering) → IsPassing nodes sides (walk_order past key ws) d node above s.tree → d < 64 → length nodes ≡ 64 → length sides ≡ 64 → node ≢ 0 → walk_order past key ws node ≡ o →
         o ≢ Equal → (o ≡ Less → side ≡ 1) → (o ≡ Greater → side ≡ 0) → (side ≡ 0 → after ≡ node) → (side ≡ 1 → after ≡ above) → word_of ws node side ≡ next →
         IsPassing (set nodes d node) (set sides d side) (walk_order past key ws) (d + 1) next after s.tree
@@ -250,18 +255,21 @@ module _ (ws : List ℕ) (version : ℕ) (store : Store) (s : StandsFor ws versi
         subst (λ a. IsPassing (set nodes d node) (set sides d side) (walk_order past key ws) (d + 1) next a s.tree) (sym (left zero_side))
         (subst (λ v. IsPassing (set nodes d node) (set sides d v) (walk_order past key ws) (d + 1) next node s.tree) (sym zero_side) (record { on = r.on; above_is = go_first_left node (behind r.on.way) r.rest r.behind_is }))
 
+    -- a walk goes on from a node by the order of the key of the node's pair to the key looked for, as the code finds it
     pub step : (nodes sides : List ℕ) (d node above next side after : ℕ) (order : Ordering) → IsPassing nodes sides (walk_order past key ws) d node above s.tree → d < 64 → length nodes ≡ 64 → length sides ≡ 64 → node ≢ 0 →
         ((pair : List ℕ × List ℕ) → IsNodeOf ws node pair → order ≡ key_cmp pair.0 key) → toward past order ≢ Equal → (toward past order ≡ Less → side ≡ 1) → (toward past order ≡ Greater → side ≡ 0) → (side ≡ 0 → after ≡ node) → (side ≡ 1 → after ≡ above) →
         word_of ws node side ≡ next → IsPassing (set nodes d node) (set sides d side) (walk_order past key ws) (d + 1) next after s.tree
     step nodes sides d node above next side after order p room nl sl n is ne less more left right word =
         step_by nodes sides d node above next side after (toward past order) p room nl sl n (order_here node order (passing_node nodes sides d node above p n) is) ne less more left right word
 
+    -- a walk that is at no node has ended
     pub ends_none : (nodes sides : List ℕ) (d node above : ℕ) → IsPassing nodes sides (walk_order past key ws) d node above s.tree → node ≡ 0 → IsWalkEnded nodes sides (walk_order past key ws) d node above s.tree
     ends_none nodes sides d node above p z = record {
       at = way_ends ws (walk_order past key ws) s.tree tree_of nodes sides d node p.on z;
       above_is = subst (λ w. IsFirst above (behind w)) (sym (way_ended ws (walk_order past key ws) s.tree tree_of nodes sides d node p.on z)) p.above_is;
     }
 
+    -- a walk that is at the node of the key looked for has ended there
     pub ends_same : (nodes sides : List ℕ) (d node above : ℕ) (order : Ordering) → IsPassing nodes sides (walk_order past key ws) d node above s.tree → node ≢ 0 → ((pair : List ℕ × List ℕ) → IsNodeOf ws node pair → order ≡ key_cmp pair.0 key) → toward past order ≡ Equal →
         IsWalkEnded nodes sides (walk_order past key ws) d node above s.tree
     ends_same nodes sides d node above order p n is q =
@@ -275,6 +283,7 @@ module _ (ws : List ℕ) (version : ℕ) (store : Store) (s : StandsFor ws versi
     pub end_stands : RepresentsTree ws (spot (walk_order past key ws) [] s.tree).1
     end_stands = stands_at ws (spot (walk_order past key ws) [] s.tree).0 (spot (walk_order past key ws) [] s.tree).1 (subst (RepresentsTree ws) (sym (spot_whole (walk_order past key ws) [] s.tree)) s.arranged.nodes.shape)
 
+    -- a subtree whose root is no node has no nodes
     no_node : (here : Tree ℕ) (node : ℕ) → RepresentsTree ws here → node ≡ root here → node ≡ 0 → items here ≡ []
     no_node Empty node h e z = refl
     no_node (Node l x r) node h e z = absurd (let some = h.0.some in omega arith)
@@ -290,6 +299,7 @@ module _ (ws : List ℕ) (version : ℕ) (store : Store) (s : StandsFor ws versi
 
 -- the walk, in all the ways in which words stand for a store
 module _ (ws : List ℕ) (past : Bool) (key nodes sides : List ℕ) (d node above : ℕ) where
+  -- a walk begins at depth 0 at the root that the header names, with no node above
   pub passing_begins : word_of ws 0 1 ≡ node → above ≡ 0 → d ≡ 0 → OnWay past key nodes sides d node above ws
   passing_begins e a z version store s =
       subst (λ k. IsPassing nodes sides (walk_order past key ws) k node above s.tree) (sym z) (record {
@@ -301,16 +311,20 @@ module _ (ws : List ℕ) (past : Bool) (key nodes sides : List ℕ) (d node abov
   passing_few w version store s =
       subst (λ n. 2 ^ d ≤ 2 * ((n + 1) * (n + 1))) (pairs_counted ws version store s) (few_on_way ws (walk_order past key ws) s.tree (tree_of ws version store s) nodes sides d node (w version store s).on)
 
+  -- where a walk is at a node at depth `d`, `d + 1` visits are within the bound
   pub passing_few_node : OnWay past key nodes sides d node above ws → node ≢ 0 → FewVisits (d + 1) ws
   passing_few_node w n version store s =
       subst (λ m. 2 ^ (d + 1) ≤ 2 * ((m + 1) * (m + 1))) (pairs_counted ws version store s) (few_at_node ws (walk_order past key ws) s.tree (tree_of ws version store s) nodes sides d node (w version store s).on n)
 
+  -- a node that a walk passes is the node of some pair, in words that stand for a store
   pub passing_has_node : OnWay past key nodes sides d node above ws → node ≢ 0 → IsIndex ws → HasNode ws node
   passing_has_node w n i = (let p = passing_node ws 2 i.store i.stands past key nodes sides d node above (w 2 i.store i.stands) n in record { pair = p.0; is = p.1 })
 
+  -- a walk to a key that is at no node is at its end
   pub passing_ends : OnWay past key nodes sides d node above ws → node ≡ 0 → AtSpot past key nodes sides d node above ws
   passing_ends w z version store s = ends_none ws version store s past key nodes sides d node above (w version store s) z
 
+  -- a walk to a key that is at a node whose key compares as equal is at its end
   pub passing_ends_same : (order : Ordering) → OnWay past key nodes sides d node above ws → node ≢ 0 → ((pair : List ℕ × List ℕ) → IsNodeOf ws node pair → order ≡ key_cmp pair.0 key) → toward past order ≡ Equal → AtSpot past key nodes sides d node above ws
   passing_ends_same order w n is q version store s = ends_same ws version store s past key nodes sides d node above order (w version store s) n is q
 
@@ -318,6 +332,7 @@ module _ (ws : List ℕ) (past : Bool) (key nodes sides : List ℕ) (d node abov
   passing_deep w deep version store s =
       ends_none ws version store s past key nodes sides d node above (w version store s) (deep_none ws (walk_order past key ws) s.tree (tree_of ws version store s) nodes sides d node (w version store s).on deep)
 
+  -- a walk to a key goes on from a node to its child `next`, at the side that the order of the two keys says, and keeps the node and the side
   pub passing_on : (next side after : ℕ) (order : Ordering) → OnWay past key nodes sides d node above ws → d < 64 → length nodes ≡ 64 → length sides ≡ 64 → node ≢ 0 → ((pair : List ℕ × List ℕ) → IsNodeOf ws node pair → order ≡ key_cmp pair.0 key) →
       toward past order ≢ Equal → (toward past order ≡ Less → side ≡ 1) → (toward past order ≡ Greater → side ≡ 0) → (side ≡ 0 → after ≡ node) → (side ≡ 1 → after ≡ above) → word_of ws node side ≡ next →
       OnWay past key (set nodes d node) (set sides d side) (d + 1) next after ws
@@ -356,6 +371,7 @@ none_at ws key version store s e =
       above = above_pairs ws key sp.rest sp.others sp.placed_rest other_keys (subst (All (λ n. order_in key ws n ≡ Greater)) (sym sp.rest_nodes) b.higher);
     }
 
+-- where the walk to a key ended at no node, the key is missing: the pairs before the end are below it and those behind it above
 pub spot_none : (ws key nodes sides : List ℕ) (d node above version : ℕ) (store : Store) (s : StandsFor ws version store) → IsWalkEnded nodes sides (order_in key ws) d node above s.tree → node ≡ 0 → IsMissing ws key s.places store (spot (order_in key ws) [] s.tree).0
 spot_none ws key nodes sides d node above version store s e z = none_at ws key version store s (sym z ∙ e.at.node_is)
 
@@ -371,6 +387,7 @@ pub record HasPlace (ws key : List ℕ) (places : List PairLayout) (store : Stor
   pub above : All (λ p. key_cmp key p.0 ≡ Less) at.after
 
 module _ (ws key : List ℕ) (version : ℕ) (store : Store) (s : StandsFor ws version store) where
+  -- the node at which a way to a key ends has the key's pair, between the pairs below the key and those above it
   place_at : (way : List (Turn ℕ)) (here : Tree ℕ) (node : ℕ) → whole way here ≡ s.tree → node ≡ root here → node ≢ 0 → WayEnds (order_in key ws) here → HasPlace ws key s.places store way here node
   place_at way Empty node w e n ends = absurd (n e)
   place_at way (Node l x r) node w e n ends =
@@ -393,6 +410,7 @@ module _ (ws key : List ℕ) (version : ℕ) (store : Store) (s : StandsFor ws v
   pub place_is_at : (node : ℕ) → node ≡ root (spot (order_in key ws) [] s.tree).1 → node ≢ 0 → HasPlace ws key s.places store (spot (order_in key ws) [] s.tree).0 (spot (order_in key ws) [] s.tree).1 node
   place_is_at node e n = place_at (spot (order_in key ws) [] s.tree).0 (spot (order_in key ws) [] s.tree).1 node (spot_whole (order_in key ws) [] s.tree) e n (spot_ends (order_in key ws) [] s.tree)
 
+  -- where the walk to a key ended at a node, that node has the key's pair, between the pairs below the key and those above it
   pub spot_place : (nodes sides : List ℕ) (d node above : ℕ) → IsWalkEnded nodes sides (order_in key ws) d node above s.tree → node ≢ 0 → HasPlace ws key s.places store (spot (order_in key ws) [] s.tree).0 (spot (order_in key ws) [] s.tree).1 node
   spot_place nodes sides d node above e n = place_is_at node e.at.node_is n
 
@@ -428,6 +446,7 @@ pub place_node : (ws key : List ℕ) (version : ℕ) (store : Store) (s : Stands
 place_node ws key version store s way here node h =
     subst (IsNodeOf ws node) h.pair_is (node_there ws (head_of version s.last) store h.at.lower h.at.after s.tree s.places h.at.front h.at.rest s.given [] node h.at.place h.at.pair s.arranged s.lawful h.at.places_are h.at.store_is h.at.node_is h.at.is)
 
+-- where the walk to a key ended at a node, the store has a document of the key, and the node is that of their pair
 pub spot_found : (ws key nodes sides : List ℕ) (d node above : ℕ) → AtSpot false key nodes sides d node above ws → node ≢ 0 → (version : ℕ) (store : Store) → StandsFor ws version store → IsFound ws key (Some node) store
 spot_found ws key nodes sides d node above spot n version store s =
     let h = spot_place ws key version store s nodes sides d node above (spot version store s) n in
@@ -437,6 +456,7 @@ spot_found ws key nodes sides d node above spot n version store s =
       place_node ws key version store s (walk_end (order_in key ws) s.tree).0 (walk_end (order_in key ws) s.tree).1 node h,
     )
 
+-- the node at which the walk to a key ended is the node of some pair, in words that stand for a store
 pub spot_node : (ws key nodes sides : List ℕ) (d node above : ℕ) → AtSpot false key nodes sides d node above ws → node ≢ 0 → IsIndex ws → HasNode ws node
 spot_node ws key nodes sides d node above spot n i =
     let f = spot_found ws key nodes sides d node above spot n 2 i.store i.stands in

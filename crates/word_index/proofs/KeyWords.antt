@@ -51,9 +51,11 @@ word_in_first ws first at v low e lines bytes h some =
     ∙ sym (ap (λ j. word_of ws (get_or lines (at / 7) 0) (1 + j)) r)
     ∙ h.packed at (omega (arith, low, some))
 
+-- a packed word of a key at `at`, below 7, is the word `1 + at` of the key's first block
 pub word_of_first : (ws : List ℕ) (first at v : ℕ) → at < 7 → word_of ws first (1 + at) ≡ v → (lines bytes : List ℕ) → Holds ws first lines bytes → at < (length bytes + 7) / 8 → v ≡ packed_at bytes at
 word_of_first ws first at v low e lines bytes h used = word_in_first ws first at v low e lines bytes h (some_line at (length bytes) (length lines) used h.enough)
 
+-- the packed word of a key at 7 is the word 1 of the key's second block
 pub word_of_second : (ws : List ℕ) (first second at v : ℕ) → at ≡ 7 → word_of ws first 0 ≡ second → word_of ws second 1 ≡ v → (lines bytes : List ℕ) → Holds ws first lines bytes → at < (length bytes + 7) / 8 → v ≡ packed_at bytes at
 word_of_second ws first second at v seven s e lines bytes h used =
     let two = two_lines at (length bytes) (length lines) (omega (arith, seven)) used h.enough in

@@ -47,6 +47,7 @@ relaid_words ws t v header once there =
       other = λ line i some within l none. get_or-set_other w (8 * 0 + 5) (8 * line + i) v 0 (omega arith) ∙ tree_words_other t ws header once there line i some within l none;
     }
 
+-- a number that is 1 for a line from 1 to below `end`, and 0 for any other, is at most 1
 pub at_most_once : (x end n : ℕ) → n ≡ cond (leb 1 x && ltb x end) 1 0 → n ≤ 1
 at_most_once x end n e = grind (arith, nat_tests)
 

@@ -38,6 +38,7 @@ loose_within ws head store tree places given loose a = all_right (IsWithin ws) (
 block_count : (len count bytes lines : ℕ) → count ≡ len / 56 + min 1 (len % 56) → len ≡ bytes → lines ≡ (bytes + 55) / 56 → count ≡ lines
 block_count len count bytes lines c e l = omega arith
 
+-- where the chain that a node names by its words `at` and `at + 1` is given back, the text of the node is
 pub text_given : (node at first len count : ℕ) (x y z : List ℕ) → y ≡ x → word_of y node at ≡ first → word_of y node (at + 1) ≡ len → count ≡ div_ceil len 56 → ChainGiven first count y z → TextGiven node at x z
 text_given node at first len count x y z e first_is len_is counted given head store tree places lines others bytes loose text =
     let chain = subst (λ w. ChainGiven first count w z) e given in
@@ -77,6 +78,7 @@ key_first : (x : ℕ) (place : PairLayout) → times x (place.key_lines ++ (plac
 key_first x place =
     omega (arith, times_append x place.key_lines (place.node ∷ []), times_cons x place.node [], times_append x (place.node ∷ place.key_lines) [], times_cons x place.node place.key_lines)
 
+-- once the document of a loose pair is given back, the blocks of its key are loose, beside its node
 pub loose_key : (x y : List ℕ) (node : ℕ) (head : RevisionHead) (store : Store) (tree : Tree ℕ) (places : List PairLayout) (place : PairLayout) (pair : List ℕ × List ℕ) → LoosePair x node head store tree places place pair → TextGiven node 5 x y →
     IsLoose y head store tree places place.key_lines (place.node ∷ []) × IsTextAt y node 3 place.key_lines pair.0
 loose_key x y node head store tree places place pair p t =
@@ -95,12 +97,14 @@ loose_key x y node head store tree places place pair p t =
       }),
     )
 
+-- once the document and the key of a loose pair are given back, its node is the only line that is loose
 pub loose_node : (x y z : List ℕ) (node : ℕ) (head : RevisionHead) (store : Store) (tree : Tree ℕ) (places : List PairLayout) (place : PairLayout) (pair : List ℕ × List ℕ) → LoosePair x node head store tree places place pair →
     TextGiven node 5 x y → TextGiven node 3 y z → IsLoose z head store tree places (place.node ∷ []) []
 loose_node x y z node head store tree places place pair p t u =
     let k = loose_key x y node head store tree places place pair p t in
     (u head store tree places place.key_lines (place.node ∷ []) pair.0 k.0 k.1).loose
 
+-- once the document and the key of a loose pair are given back, its node can be given back
 pub node_can_be_given : (x y z : List ℕ) (node : ℕ) → HasLoosePair x node → TextGiven node 5 x y → TextGiven node 3 y z → CanGive z node
 node_can_be_given x y z node h t u =
     let l = loose_node x y z node h.head h.store h.tree h.places h.place h.pair h.there t u in
@@ -109,6 +113,7 @@ node_can_be_given x y z node h t u =
       few = few_given z h.head h.store h.tree h.places l.given (h.place.node ∷ []) l.arranged;
     }
 
+-- a loose pair is given back by giving back its document, its key and then its node
 pub pair_given : (x y z w : List ℕ) (node : ℕ) → TextGiven node 5 x y → TextGiven node 3 y z → w ≡ with_line_given node z → PairGiven node x w
 pair_given x y z w node t u is head store tree places place pair p =
     let l = loose_node x y z node head store tree places place pair p t u in
@@ -121,6 +126,7 @@ has_document_text ws node h =
     let d = loose_document ws node h.head h.store h.tree h.places h.place h.pair h.there in
     record { head = h.head; store = h.store; tree = h.tree; places = h.places; lines = h.place.document_lines; others = h.place.node ∷ h.place.key_lines; bytes = h.pair.1; loose = d.0; text = d.1 }
 
+-- once the document of a loose pair is given back, the blocks that its node names by the words 3 and 4 are all loose
 pub has_key_text : (x y : List ℕ) (node : ℕ) → HasLoosePair x node → TextGiven node 5 x y → LooseText y node 3
 has_key_text x y node h t =
     let k = loose_key x y node h.head h.store h.tree h.places h.place h.pair h.there t in

@@ -96,6 +96,7 @@ room_less ws more less l c = record {
   room = (let room = c.room in omega (arith, room));
 }
 
+-- with room for `1 + more` lines, there is room for `more` once one was taken
 pub room_after_line : (x y : List ℕ) (line more : ℕ) → CanTake x (1 + more) → LineTaken line x y → CanTake y more
 room_after_line x y line more c t =
     let room = c.room in
@@ -111,6 +112,7 @@ room_after_line x y line more c t =
       room = (let long = ap (λ n. n / 8) q.long in omega (arith, room, long));
     }
 
+-- with room for `count + more` lines, there is room for `more` once a text was written into `count` blocks
 pub room_after_text : (x y words : List ℕ) (count first more : ℕ) → CanTake x (count + more) → TextWritten words count first x y → CanTake y more
 room_after_text x y words count first more c t =
     let room = c.room in
@@ -143,6 +145,7 @@ place_order : (x node : ℕ) (key_lines doc_lines : List ℕ) → times x (node 
 place_order x node key_lines doc_lines =
     omega (arith, times_cons x node (key_lines ++ doc_lines), times_append x key_lines doc_lines, times_append x doc_lines (key_lines ++ (node ∷ [])), times_append x key_lines (node ∷ []), times_cons x node [])
 
+-- a pair is written where a line is taken for its node, its key and its document are written, and the node's words are filled in
 pub pair_written : (x y z w v : List ℕ) (node count other key_first doc_first key_len doc_len revision : ℕ) (key_words doc_words : List ℕ) → IsPacked 8 key_len key_words → IsPacked 128 doc_len doc_words →
     count ≡ div_ceil key_len 56 → other ≡ div_ceil doc_len 56 → LineTaken node x y → TextWritten key_words count key_first y z → TextWritten doc_words other doc_first z w →
     LineFilled node (0 ∷ 0 ∷ 1 ∷ key_first ∷ key_len ∷ doc_first ∷ doc_len ∷ revision ∷ []) w v → PairWritten (unpacked key_len key_words, unpacked doc_len doc_words) revision node x v

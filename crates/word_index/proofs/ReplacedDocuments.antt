@@ -39,6 +39,7 @@ pub record IsAround (ws : List ℕ) (front rest : List PairLayout) (lower after 
   pub is : IsAt ws place pair
   pub placed_rest : Placed ws rest after
 
+-- where pairs are placed and one of them is behind those of `front`, the pairs before it, itself and those behind it stand at their places
 pub around : (v ws : List ℕ) (front rest : List PairLayout) (lower after : Store) (place : PairLayout) (pair : List ℕ × List ℕ) → Placed v front lower → Placed ws (front ++ place ∷ rest) (lower ++ pair ∷ after) → IsAround ws front rest lower after place pair
 around v ws [] rest [] after place pair n m = record { placed_front = tt; is = m.0; placed_rest = m.1 }
 around v ws [] rest (q ∷ lower) after place pair n m = absurd n
@@ -72,6 +73,7 @@ module _ (v x : List ℕ) (head : RevisionHead) (lower after : Store) (pair : Li
   pub parts : (k : ℕ) → times k (lines_at place) ≡ cond (eqb place.node k) 1 0 + times k place.key_lines + times k place.document_lines
   parts k = omega (arith, times_cons k place.node (place.key_lines ++ place.document_lines), times_append k place.key_lines place.document_lines)
 
+  -- a line `k` that is marked as not being the node of the place is another line
   pub not_here : (k : ℕ) → ◌≡◌ {A = ℕ} (cond (eqb place.node k) 1 0) 0 → k ≢ place.node
   not_here k z e = absurd (let o = times_self k in let y = subst (λ n. ◌≡◌ {A = ℕ} (cond (eqb n k) 1 0) 0) (sym e) z in omega (arith, o, y))
 
@@ -121,6 +123,7 @@ module _ (v x : List ℕ) (head : RevisionHead) (lower after : Store) (pair : Li
       revised = c.told;
     }
 
+    -- the links of each node `k` of the tree are as they were
     linked : (k : ℕ) → tree_times k tree ≢ 0 → (i : ℕ) → i < 3 → word_of now k i ≡ word_of x k i
     linked k n i l =
         elim (cases_eq k place.node) [

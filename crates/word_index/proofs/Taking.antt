@@ -28,6 +28,7 @@ from_one ws said store tree places given loose a =
 pub header_stored : (ws : List ℕ) (i v : ℕ) (lines : List ℕ) → i < 8 → All (λ x. 1 ≤ x) lines → All (SameLine ws (with_word 0 i v ws)) lines
 header_stored ws i v lines l some = λ k d below. stored_elsewhere ws 0 i v (get_or lines k d) l (let s = some k d below in omega arith)
 
+-- whether a line `k` is from 1 to below `end`, or is `end`, is whether it is from 1 to below `end + 1`
 one_more_end : (k end m : ℕ) → 1 ≤ end → m ≡ cond (leb 1 k && ltb k end) 1 0 → m + cond (eqb end k) 1 0 ≡ cond (leb 1 k && ltb k (end + 1)) 1 0
 one_more_end k end m some e = grind (arith, nat_tests)
 
@@ -126,6 +127,7 @@ new_line x y z head line e is none r said store tree places given loose a room =
     let now : z ≡ with_word 0 3 (line + 1) x = subst (λ w. z ≡ with_word 0 3 (line + 1) w) e r.1 in
     subst (λ w. AreLinesTaken x w said store tree places (line ∷ []) loose) (sym now) (new_taken x said store tree places given loose line a room first last)
 
+-- taking the first line `head` of those given back, as the code does, takes that line
 pub given_line : (x y z : List ℕ) (head : ℕ) → y ≡ x → word_of y 0 2 ≡ head → (head ≡ 0 → ⊥) → z ≡ with_word 0 4 (word_of y 0 4 - 1) (with_word 0 2 (word_of y head 0) y) → LineTaken head x z
 given_line x y z head e is some r said store tree places given loose a room =
     let first : word_of x 0 2 ≡ head = subst (λ w. word_of w 0 2 ≡ head) e is in

@@ -121,6 +121,7 @@ pub record IsHeaded (before now : List ℕ) : Type 0 where
   pub header : (i : ℕ) → i ≢ 0 → i ≢ 6 → get_or now i 0 ≡ get_or before i 0
   pub lines : (lines : List ℕ) → All (λ x. 1 ≤ x) lines → All (SameLine before now) lines
 
+-- another version or last revision in the header leaves the pairs, the tree and the lines given back as they were
 pub headed_arranged : (x y : List ℕ) (head : RevisionHead) (store : Store) (tree : Tree ℕ) (places : List PairLayout) (given loose : List ℕ) → IsHeaded x y → IsLaidOut x head store tree places given loose → IsLaidOut y (head_in y) store tree places given loose
 headed_arranged x y head store tree places given loose h a =
     let some = from_one x head store tree places given loose a in

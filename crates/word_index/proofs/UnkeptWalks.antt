@@ -13,6 +13,7 @@ use Rattle.word_index.specs.Walk.{HasNode, FewVisits, OnSomeWay, AtEnd, toward}
 use Rattle.word_index.proofs.KeyPlaces.{passing_begins, passing_few, passing_few_node, passing_has_node, passing_ends, passing_ends_same, passing_deep, passing_on}
 
 module _ (ws : List ℕ) (past : Bool) (key : List ℕ) (d node above : ℕ) where
+  -- a walk of which no way is kept begins at depth 0 at the root that the header names, with no node above
   pub some_begins : word_of ws 0 1 ≡ node → above ≡ 0 → d ≡ 0 → OnSomeWay past key d node above ws
   some_begins e a z = record {
     nodes = replicate 64 0;
@@ -28,12 +29,14 @@ module _ (ws : List ℕ) (past : Bool) (key : List ℕ) (d node above : ℕ) whe
   pub some_few_node : OnSomeWay past key d node above ws → node ≢ 0 → FewVisits (d + 1) ws
   some_few_node w n = passing_few_node ws past key w.nodes w.sides d node above w.on n
 
+  -- a node that a walk passes, of which no way is kept, is the node of some pair, in words that stand for a store
   pub some_has_node : OnSomeWay past key d node above ws → node ≢ 0 → IsIndex ws → HasNode ws node
   some_has_node w n i = passing_has_node ws past key w.nodes w.sides d node above w.on n i
 
   pub some_ends : OnSomeWay past key d node above ws → node ≡ 0 → AtEnd past key node above ws
   some_ends w z = record { depth = d; nodes = w.nodes; sides = w.sides; at = passing_ends ws past key w.nodes w.sides d node above w.on z }
 
+  -- a walk to a key of which no way is kept, at a node whose key compares as equal, is at its end
   pub some_ends_same : (order : Ordering) → OnSomeWay past key d node above ws → node ≢ 0 → ((pair : List ℕ × List ℕ) → IsNodeOf ws node pair → order ≡ key_cmp pair.0 key) → toward past order ≡ Equal → AtEnd past key node above ws
   some_ends_same order w n is q = record { depth = d; nodes = w.nodes; sides = w.sides; at = passing_ends_same ws past key w.nodes w.sides d node above order w.on n is q }
 

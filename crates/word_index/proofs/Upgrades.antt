@@ -130,6 +130,7 @@ module _ (ws : List ℕ) (node : ℕ) where
   abbrev after : List ℕ
   after = with_word node 7 1 ws
 
+  -- storing a revision in a node leaves the words 0 to 2 of each line `k`, the links of the tree, as they were
   link_same : (k i : ℕ) → i < 3 → word_of after k i ≡ word_of ws k i
   link_same k i l = get_or-set_other ws (8 * node + 7) (8 * k + i) 1 0 (omega arith)
 

@@ -45,16 +45,19 @@ root_fits : (t : Tree ℕ) → ((k : ℕ) → tree_times k t ≢ 0 → k < 2 ^ 6
 root_fits Empty f = lit< tt
 root_fits (Node l x r) f = f x (λ z. absurd (let s = times_self x in omega (arith, z, s)))
 
+-- a choice between two words of 64 bits is of 64 bits
 cond_fits : (b : Bool) (a c : ℕ) → a < 2 ^ 64 → c < 2 ^ 64 → cond b a c < 2 ^ 64
 cond_fits true a c p q = p
 cond_fits false a c p q = q
 
+-- each word `i` that a node gets is of 64 bits, where its children, its height and its old word are
 node_fits : (left right high i old : ℕ) → left < 2 ^ 64 → right < 2 ^ 64 → high < 2 ^ 64 → old < 2 ^ 64 → node_word left right high i old < 2 ^ 64
 node_fits left right high zero old l r h o = l
 node_fits left right high (suc zero) old l r h o = r
 node_fits left right high (suc (suc zero)) old l r h o = h
 node_fits left right high (suc (suc (suc i))) old l r h o = o
 
+-- each word `i` that a line gets with the links of a tree is of 64 bits, where the tree's nodes, its size and the old word are
 link_fits : (t : Tree ℕ) (line i old : ℕ) → ((k : ℕ) → tree_times k t ≢ 0 → k < 2 ^ 64) → size t < 2 ^ 64 → old < 2 ^ 64 → link_of t line i old < 2 ^ 64
 link_fits Empty line i old f s o = o
 link_fits (Node l x r) line i old f s o =

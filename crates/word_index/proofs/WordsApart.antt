@@ -18,15 +18,19 @@ byte_bit x k i below =
     ∙ ap (λ n. bit_at n i) whole
     ∙ ap (λ n. n % 2) (div-div-eq-div-mul x (2 ^ (8 * k)) (2 ^ i) ∙ ap (λ n. x / n) (sym (pow-add 2 (8 * k) i)))
 
+-- two bits whose sum is even are the same
 sum_even : (a b c : ℕ) → c ≡ (a + b) % 2 → c ≡ 0 → a < 2 → b < 2 → a ≡ b
 sum_even a b c e none l m = omega (arith, e, none, l, m)
 
+-- two numbers whose sum is odd are not the same
 sum_odd : (a b c : ℕ) → c ≡ (a + b) % 2 → c ≡ 1 → a ≢ b
 sum_odd a b c e one same = omega (arith, e, one, same)
 
+-- where the bit `i` of the exclusive or of `x` and `y` is 0, both have the same bit there
 same_bit : (x y i : ℕ) → bit_at (bit_xor x y) i ≡ 0 → bit_at x i ≡ bit_at y i
 same_bit x y i none = sum_even (bit_at x i) (bit_at y i) (bit_at (bit_xor x y) i) (bit_at_xor x y i) none (bit_at-lt x i) (bit_at-lt y i)
 
+-- where the bit `i` of the exclusive or of `x` and `y` is 1, they have different bits there
 other_bit : (x y i : ℕ) → bit_at (bit_xor x y) i ≡ 1 → bit_at x i ≢ bit_at y i
 other_bit x y i one = sum_odd (bit_at x i) (bit_at y i) (bit_at (bit_xor x y) i) (bit_at_xor x y i) one
 

@@ -47,6 +47,7 @@ WrittenSoFar words count j next before now =
     (head : RevisionHead) (store : Store) (tree : Tree ℕ) (places : List PairLayout) (given loose : List ℕ) → IsLaidOut before head store tree places given loose → HasRoom before places loose count →
     IsChainWritten before now head store tree places next j (7 * (count - j)) words loose
 
+-- at the beginning no block of the words is written
 pub written_none : (words : List ℕ) (count : ℕ) (x y : List ℕ) → x ≡ y → WrittenSoFar words count 0 0 x y
 written_none words count x y e head store tree places given loose a room =
     subst (λ w. IsChainWritten x w head store tree places 0 0 (7 * (count - 0)) words loose) e (record {
@@ -72,6 +73,7 @@ can_take_next words count j next x y l c r =
       room = (let room = c.room in let long = ap (λ n. n / 8) p.taken.long in omega (arith, room, long, p.counted, length-append p.lines c.loose));
     }
 
+-- the line taken for the next block of a chain is there
 pub taken_within : (words : List ℕ) (count j next line : ℕ) (x y z : List ℕ) → j < count → CanTake x count → WrittenSoFar words count j next x y → LineTaken line y z → IsWithin z line
 taken_within words count j next line x y z l c r t =
     let n = can_take_next words count j next x y l c r in
@@ -84,6 +86,7 @@ place_in_front line lines i l =
     let place : i / 7 ≡ suc ((i - 7) / 7) = omega arith in
     ap (λ n. get_or (line ∷ lines) n 0) place
 
+-- where `j` blocks of a chain are written, the last ones first, and one more is filled into a line taken, `j + 1` are, from that line on
 pub written_more : (words : List ℕ) (count j next line : ℕ) (content x y z w : List ℕ) → j < count → WrittenSoFar words count j next x y → LineTaken line y z → IsBlock next words (7 * (count - 1 - j)) content → LineFilled line content z w →
     WrittenSoFar words count (j + 1) line x w
 written_more words count j next line content x y z w l r t b f head store tree places given loose a room =
@@ -122,6 +125,7 @@ written_more words count j next line content x y z w l r t b f head store tree p
           ]);
     }
 
+-- where all `count` blocks of a chain are written, the words stand in it from the line `next` on
 pub written_all : (words : List ℕ) (count j next : ℕ) (x y : List ℕ) → j ≡ count → WrittenSoFar words count j next x y → TextWritten words count next x y
 written_all words count j next x y e r head store tree places given loose a room =
     let p = r head store tree places given loose a room in
