@@ -273,7 +273,7 @@ module _ {O : Type 0} (r : Running O) where
           shows = λ h. (let same : total_weight h (view after.pass).shown ≡ total_weight h (v.shown ++ idle.more) = ap (λ (u : LenderPass). total_weight h u.shown) is ∙ ap (total_weight h) shown.2 in omega (arith, same, total_both h v.shown idle.more));
         }
 
-    -- a client that was told and shown nothing from `a` to `b`, nor from `b` to `c`, was told and shown nothing from `a` to `c`
+    -- a client that was told and shown nothing more from `a` to `b`, nor from `b` to `c`, was not from `a` to `c` either
     pub tells_on : (a b c : Lent) → TellsSame a b → TellsSame b c → TellsSame a c
     tells_on a b c s t = record { limits = t.limits ∙ s.limits; told = t.told ∙ s.told; shown = t.shown ∙ s.shown; returned = t.returned ∙ s.returned }
 
