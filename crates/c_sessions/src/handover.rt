@@ -81,7 +81,6 @@ impl<O: Object> ReturnQueue<O> {
         ensures old { IsPassIn service.now (drop 1 (view pass.old).due) self.now pass.new }
         ensures new { IsPassIn service.now (take 1 (view pass.old).due) self.now result }
     {
-        let _ = service;
         self.line.another::<Parts>(pass)
     }
 
