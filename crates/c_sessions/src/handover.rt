@@ -81,7 +81,6 @@ impl<O: Object> ReturnQueue<O> {
         ensures old { IsPassIn service.now (drop 1 (view pass.old).due) self.now pass.new }
         ensures new { IsPassIn service.now (take 1 (view pass.old).due) self.now result }
     {
-        let _ = service;
         // the rule's event `Parts`: the first caller that is due becomes a pass of its own
         self.line.another::<Parts>(pass)
     }

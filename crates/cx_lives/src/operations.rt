@@ -34,6 +34,5 @@ fn is_reading<O: TypedObject>(object: &O, op: &O::Op, words: &OpWords) -> bool
     requires value { (O.meaning object.now).is_op_value op.now }
     ensures { IsTrue result → IsTrue (O.only_reads object.now words.now) }
 {
-    let _ = words;
     object.is_reading(op)
 }

@@ -73,7 +73,6 @@ pub(crate) fn make<O: TypedObject, R: Wait>(
     ensures { IfOk result (IsCommandOutcome (O.meaning service.now.object) life.now service.now command.now.client number) }
 {
     let Progress { caller, mut lines } = progress;
-    let _ = life;
     let client = command.client;
     let object = service.object();
     let (op, reads_only) = service_words(service, &command.op);

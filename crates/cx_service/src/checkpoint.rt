@@ -5,6 +5,7 @@ ghost use Rattle.cx_service.specs.Callers.{IsCallerOf};
 ghost use Rattle.cx_service.specs.Checkpoints.{Checkpoints};
 
 use crate::callers::{Caller, Stopped};
+use crate::facts::refusals_fit;
 use crate::service::Service;
 use cx_attempts::try_checkpoint_once;
 use cx_base::{Halt, Object};
@@ -64,8 +65,7 @@ impl<O: Object> Service<O> {
     {
         let Caller { mut desk } = caller;
         let seat = &mut desk.seat;
-        // refusals are counted in a word
-        let _met = seat.met();
+        refusals_fit(seat);
         match try_checkpoint_once(&self.shared, seat, into) {
             Ok(Some(place)) => Checkpointed::Taken(Caller { desk }, place),
             Ok(None) => Checkpointed::Pending(Caller { desk }),

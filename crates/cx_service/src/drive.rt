@@ -5,6 +5,7 @@ ghost use Rattle.cx_service.specs.Callers.{IsLinkedOf};
 ghost use Rattle.cx_service.specs.Drives.{Drives};
 
 use crate::callers::{Caller, CallerState, Linked, Stopped};
+use crate::facts::refusals_fit;
 use crate::service::Service;
 use cx_attempts::try_update_once;
 use cx_base::{Halt, Object, OpWords};
@@ -62,8 +63,7 @@ impl<O: Object> Service<O> {
         let ticket = linked.ticket();
         let Linked { mut desk } = linked;
         let CallerState { seat, scratch } = &mut *desk;
-        // refusals are counted in a word
-        let _met = seat.met();
+        refusals_fit(seat);
         match try_update_once(&self.shared, seat, ticket, scratch, reply) {
             Ok(true) => Driven::Done(Caller { desk }, ticket),
             Ok(false) => Driven::Pending(Linked { desk }),

@@ -33,6 +33,7 @@ mod checkpoint;
 mod close;
 pub mod closed_order;
 mod drive;
+mod facts;
 mod lookup;
 pub mod seen;
 mod service;

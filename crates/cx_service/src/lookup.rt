@@ -5,6 +5,7 @@ ghost use Rattle.cx_service.specs.Callers.{IsCallerOf};
 ghost use Rattle.cx_service.specs.Lookups.{Looks};
 
 use crate::callers::{Caller, Stopped};
+use crate::facts::refusals_fit;
 use crate::service::Service;
 use cx_attempts::try_read_once;
 use cx_base::{Halt, Object, OpWords};
@@ -57,8 +58,7 @@ impl<O: Object> Service<O> {
     {
         let Caller { mut desk } = caller;
         let seat = &mut desk.seat;
-        // refusals are counted in a word
-        let _met = seat.met();
+        refusals_fit(seat);
         match try_read_once(&self.shared, seat, op, reply) {
             Ok(Some(place)) => ReadTried::Read(Caller { desk }, place),
             Ok(None) => ReadTried::Pending(Caller { desk }),

@@ -111,8 +111,6 @@ fn find_cell<O: Object>(
     ensures found { IfOk result (FindsCell shared.now.callers seat.old seat.new) }
     ensures halted { OnErr result (HaltsLooking (shared.now.callers + 3) seat.old seat.new) }
 {
-    // scans are counted in a word
-    let _scans = seat.scans();
     if let Some(cell) = idle_cell(seat) {
         return Ok(Ok(cell));
     }

@@ -19,7 +19,7 @@ use Rattle.table_invariant.specs.Seats.{Seated, known_of}
 use Rattle.table_invariant.proofs.Offering.{learns_offer}
 use Rattle.cx_table.specs.OwnCells.{HasTicketAs}
 use Rattle.caller_cache.specs.declared.summary.CachedLocal.{CachedLocal}
-use Rattle.caller_cache.specs.Summaries.{HasSummary}
+use Rattle.caller_cache.specs.Summaries.{HasSummary, OwnCells}
 use Rattle.caller_cache.proofs.FollowedSteps.{ticket_at}
 use Rattle.caller_cache.proofs.SetNumbers.{part_at}
 
@@ -30,10 +30,9 @@ no_cell = record { words = []; ticket = None; set = []; offer = 0 }
 pub offer_at : (me : Me ℕ (List Known)) (summary : CachedLocal) (before j : ℕ) → HasSummary me summary before → slice_index summary.offers j ≡ (cell_of (known_of me.0).local j).offer
 offer_at me summary before j has = ap (λ (m : CachedLocal). slice_index m.offers j) has.is ∙ part_at (λ (c : Cell). c.offer) (known_of me.0).local.cells j
 
-pub can_write : (me : Me ℕ (List Known)) (summary : CachedLocal) (before j t : ℕ) → HasSummary me summary before → j < 16 → (cell_of (known_of me.0).local j).ticket ≡ Some t → (cell_of (known_of me.0).local j).offer ≢ t + 1 → CanWriteSet (known_of me.0).local j
-can_write me summary before j t has small named apart =
-    let l = (known_of me.0).local in
-    let own = (has.own j t small named).own in
+pub can_write : (l : Local) (j t : ℕ) → OwnCells l → j < 16 → (cell_of l j).ticket ≡ Some t → (cell_of l j).offer ≢ t + 1 → CanWriteSet l j
+can_write l j t cells small named apart =
+    let own = (cells j t small named).own in
     (small, subst (λ o. IsUnoffered l.own o (cell_of l j).offer) (sym named) (record { i = own.i; entry = record { ticket = t; entry = entry_in l j }; at = own.at; is = refl }, apart))
 
 -- where no cell is offered with the ticket, there is no own set of it
@@ -47,9 +46,9 @@ no_own_set l t None count none = λ set own.
     })
 
 -- a cell that has the ticket and is not offered with it may be written, and no other with that ticket
-pub cell_to_write : (me : Me ℕ (List Known)) (summary : CachedLocal) (before t : ℕ) (o : Option ℕ) → HasSummary me summary before → (let l = (known_of me.0).local in IfSome o (λ j. (j < 16) × HasTicketAs l j t false) → IfSome o (λ j. CanWriteSet l j × ((cell_of l j).ticket ≡ Some t)))
-cell_to_write me summary before t None has is = tt
-cell_to_write me summary before t (Some j) has is = (can_write me summary before j t has is.0 is.1.named (λ offered. false≢true (is.1.offers.1 offered)), is.1.named)
+pub cell_to_write : (l : Local) (t : ℕ) (o : Option ℕ) → OwnCells l → IfSome o (λ j. (j < 16) × HasTicketAs l j t false) → IfSome o (λ j. CanWriteSet l j × ((cell_of l j).ticket ≡ Some t))
+cell_to_write l t None own is = tt
+cell_to_write l t (Some j) own is = (can_write l j t own is.0 is.1.named (λ offered. false≢true (is.1.offers.1 offered)), is.1.named)
 
 pub no_cell_to_write : (l : Local) (t : ℕ) (o : Option ℕ) → IfNone o ((j : ℕ) → j < 16 → ¬ HasTicketAs l j t false) → IfNone o ((j : ℕ) → CanWriteSet l j → (cell_of l j).ticket ≢ Some t)
 no_cell_to_write l t (Some j) none = tt

@@ -3,7 +3,9 @@
 ghost use Rattle.std.specs.Prelude.{◌≡◌, ◌≢◌, ◌+◌, ◌<◌, ◌↔◌, ℕ, List, IfNone, IfSome, IsTrue, Some, slice_index};
 ghost use Rattle.cx_core.specs.QueueEvents.{cell_of};
 ghost use Rattle.cx_core.specs.SetEvents.{CanWriteSet};
+ghost use Rattle.caller_cache.specs.Summaries.{OwnCells};
 ghost use Rattle.table_invariant.specs.Fitting.{IsOwnSet};
+ghost use Rattle.table_invariant.specs.Seats.{HasCells};
 ghost use Rattle.cx_table.specs.OwnCells.{HasTicketAs};
 
 use crate::seat::CallerSeat;
@@ -28,6 +30,16 @@ impl CallerSeat {
         self.copy.set_word(j, i)
     }
 
+    /// A caller has 16 cells, and the entry in a cell with a ticket is the caller's own one with that ticket. This does nothing: a call that reads no
+    /// field of the seat has the fact from here, since a proof learns what a type promises of a value only where a field is read, or by a contract.
+    #[inline(always)]
+    fn own_cells_are_lawful(&self)
+        ensures cells { HasCells self.now.known.local }
+        ensures own { OwnCells self.now.known.local }
+    {
+        let _seat = &self.seat;
+    }
+
     /// The cell and the ticket of the offer word last loaded, and that word.
     pub fn seen_offer(&self) -> Option<SeenOffer>
         ensures { result ≡ self.now.known.local.seen_offer }
@@ -41,8 +53,7 @@ impl CallerSeat {
         ensures some { IfSome result (λ j. (j < 16) × IsOwnSet self.now.known.local.cells ticket (cell_of self.now.known.local j).set) }
         ensures none { IfNone result ((set : List ℕ) → ¬ IsOwnSet self.now.known.local.cells ticket set) }
     {
-        // the proof reads what the seat knows of its cells: all there are, and as they are kept in plain memory
-        let _ = &self.seat;
+        self.own_cells_are_lawful();
         self.ticket_cell_as(ticket, true)
     }
 
@@ -52,8 +63,7 @@ impl CallerSeat {
         ensures some { IfSome result (λ j. CanWriteSet self.now.known.local j × ((cell_of self.now.known.local j).ticket ≡ Some ticket)) }
         ensures none { IfNone result ((j : ℕ) → CanWriteSet self.now.known.local j → (cell_of self.now.known.local j).ticket ≢ Some ticket) }
     {
-        // the proof reads what the seat knows of its cells: all there are, and as they are kept in plain memory
-        let _ = &self.seat;
+        self.own_cells_are_lawful();
         self.ticket_cell_as(ticket, false)
     }
 

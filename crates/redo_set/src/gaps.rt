@@ -86,7 +86,6 @@ fn note_each<O: Object>(
 {
     // a running table is within its limits
     let _lines = shared.lines();
-    let _ = set;
     let callers = shared.callers();
     let slot = gap_slot(callers, ticket);
     let mut from = 0;

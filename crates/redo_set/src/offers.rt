@@ -27,7 +27,6 @@ pub fn offer<O: Object>(
     ensures leaves { KeepsOffering shared.now seat.old seat.new }
     ensures halts { OnErr result (WritesSet cell seat.old seat.new × IsAtLimit seat.new.known.local) }
 {
-    let _ = ticket;
     // a caller has 16 cells, each with room for a set
     let _ = seat.number();
     for i in 0..2 * set.len() + 1 {

@@ -61,8 +61,6 @@ fn mark_listed<O: Object>(
     ensures steps { StepsBy (16 * min (to - noted_place seat.old) (gap_slots shared.now.callers)) seat.old seat.new }
     ensures both { HoldsBothIn O.Object shared.now seat.new held.now source.now }
 {
-    let _ = held;
-    let _ = source;
     if !keeps_gaps(shared) {
         return false;
     }
@@ -92,7 +90,6 @@ fn renew_marked<O: Object>(
     ensures halted { OnErr result (HaltsUnchanged unchanged_by_copy seat.old seat.new) }
     ensures within { StepsWithin shared.now (3 * region_words (O.line_count shared.now.object) + 1) seat.old seat.new }
 {
-    let _ = to;
     let place = copy_marked(shared, seat, held, &source, marks, false)?;
     shared.release_listed(seat, held, source)?;
     Ok(place)

@@ -276,7 +276,6 @@ pub(crate) fn store_copied<O: Object>(
     ensures halted { OnErr result (Halts shared.now seat.old seat.new) }
     ensures leaves { KeepsCopied O.Object shared.now held.now source.now seat.old seat.new }
 {
-    let _ = source;
     shared.store_word(seat, held.replica() as u64, at, word)?;
     Ok(())
 }

@@ -106,7 +106,6 @@ pub fn in_order<O: Object>(
     ensures all { AreSeats service.now (seats_of result.items) × All (IsHandedOf service.now) result.items }
     ensures same { AreSame result.items gathered.items }
 {
-    let _ = service;
     let mut gathered = gathered;
     let mut out = out;
     while !gathered.is_empty() {

@@ -20,30 +20,22 @@ use cx_service::Service;
 pub fn answers_are_told<O: Object>(service: &Service<O>)
     ensures { (op : List ℕ) (taken before after : Seated) (rest : List Seated) (answer : local_answer.Answer) (v : hand_hand.LenderPass) → v.held ≡ taken ∷ rest → StaysIdle service.now taken before → UpdateDone service.now op before after answer →
         IsFirstOf v.held after × (hand_told v after ≡ v.told ++ told_with before.known.local.number (next_entry service.now before.known.local op answer.ticket) answer ∷ []) }
-{
-    let _ = service;
-}
+{}
 
 /// A caller without an answered call since it was taken may be given back too: the pass is told nothing in that push, and shown the reads that the caller has
 /// more.
 pub fn reads_are_shown<O: Object>(service: &Service<O>)
     ensures { (taken now : Seated) (rest : List Seated) (v : hand_hand.LenderPass) → v.held ≡ taken ∷ rest → (idle : StaysIdle service.now taken now) →
         IsFirstOf v.held now × (hand_told v now ≡ v.told) × ((with_given v now).shown ≡ v.shown ++ idle.more) }
-{
-    let _ = service;
-}
+{}
 
 /// Such a caller is one that its client may keep until the closing.
 pub fn idle_are_kept<O: Object>(service: &Service<O>)
     ensures { (taken now : Seated) → StaysIdle service.now taken now → Gathers service.now (taken ∷ []) (handed_cases.Idle now ∷ []) }
-{
-    let _ = service;
-}
+{}
 
 /// A caller that an update or a read stopped is one that its client may keep until the closing: of its answered calls at most one was told to nobody.
 pub fn stopped_are_kept<O: Object>(service: &Service<O>)
     ensures { (op : List ℕ) (taken before : Seated) (stopped : StoppedSeat) → StaysIdle service.now taken before → UpdateHalted service.now op before stopped ⊎ ReadHalted service.now op before stopped →
         Gathers service.now (taken ∷ []) (handed_cases.Stopped stopped ∷ []) }
-{
-    let _ = service;
-}
+{}

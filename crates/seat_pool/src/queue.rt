@@ -38,7 +38,6 @@ fn open_for<O: Object, K: Known>(
     requires home { IsSameTable (shown_by K.home) service.now }
     ensures { IfOk result (λ q. IsPassOf q.0 q.1 × (ruled_capacity q.0 ≡ length callers.now) × (view q.1 ≡ opened_pass K.home)) }
 {
-    let _ = service;
     let (line, mut pass) = LenderQueue::ruled(alloc, callers.len())?;
     // the rule's event `Opens`: the pass knows its service from here on, and the right to open is used up
     let _spent = line.another::<Opens<K>>(&mut pass);
@@ -58,7 +57,6 @@ pub fn place<O: Object, R: Wait>(
     requires caller { IsCallerOf service.now caller × HasLimit (limits_at (view pass.old).home) caller × (calls_of caller ≡ []) }
     ensures { IsPassOf line.now pass.new × (view pass.new ≡ with_placed (view pass.old) caller) }
 {
-    let _ = service;
     match line.push_as::<Places, R>(rt, pass, caller) {
         Ok(()) => (),
         Err(_) => unreachable!(),
@@ -76,7 +74,6 @@ pub fn take<O: Object, R: Wait>(
     ensures pass { IsPassOf line.now pass.new }
     ensures caller { MatchOption result ((view pass.new ≡ view pass.old) × Held 0 (TellsRoom (view pass.old))) (λ x. IsCallerOf service.now x × HasLimit (limits_at (view pass.old).home) x × (view pass.new ≡ with_taken (view pass.old) x) × (length (view pass.old).held < service.now.callers)) }
 {
-    let _ = service;
     line.pop_as::<Takes, R>(rt, pass)
 }
 
@@ -94,7 +91,6 @@ pub fn give<O: Object, R: Wait>(
     requires caller { IsCallerOf service.now caller × HasLimit (limits_at (view pass.old).home) caller × IsFirstOf (view pass.old).held caller }
     ensures { IsPassOf line.now pass.new × (view pass.new ≡ with_given (view pass.old) caller) }
 {
-    let _ = service;
     match line.push_as::<Gives, R>(rt, pass, caller) {
         Ok(()) => (),
         Err(_) => unreachable!(),
@@ -111,7 +107,6 @@ pub fn share<O: Object>(
     ensures old { IsPassOf line.now pass.new × (view pass.new ≡ cut_left (view pass.old)) }
     ensures new { IsPassOf line.now result × (view result ≡ cut_right (view pass.old)) }
 {
-    let _ = service;
     // the rule's event `Parted`: one part of the pass becomes a pass of its own
     line.another::<Parted>(pass)
 }
@@ -127,7 +122,6 @@ pub fn merge<O: Object>(
     requires other { IsPassOf line.now other }
     ensures { IsPassOf line.now pass.new × (view pass.new ≡ both (view pass.old) (view other)) }
 {
-    let _ = service;
     line.absorb::<Parted>(pass, other);
 }
 
@@ -141,6 +135,5 @@ pub fn learn<O: Object>(
     ensures same { IsPassOf line.now pass.new × (view pass.new ≡ view pass.old) }
     ensures room { length (view pass.old).held ≤ service.now.callers }
 {
-    let _ = service;
     line.learn_as::<Takes>(pass);
 }

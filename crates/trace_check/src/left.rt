@@ -23,11 +23,10 @@ pub(crate) fn place_left<O: Object>(
     requires { Lawful (instance_of core.now (O.step object.now) (O.only_reads object.now)) core.now.state }
     ensures { IfOk result (λ place. LeavesPlace (instance_of core.now (O.step object.now) (O.only_reads object.now)) core.now.state choice place) }
 {
-    // callers are some, by which a code has a place
-    let _callers = core.callers();
+    let callers = core.callers();
     let codes = codes_of(alloc, object, core)?;
     let code = codes[(choice % codes.len() as u64) as usize];
-    Ok(root_place(core.callers(), code))
+    Ok(root_place(callers, code))
 }
 
 /// The codes published from the durable one on. `Err` means out of memory.

@@ -33,4 +33,4 @@ returns-in-Ok-None-clause-taken g c =
     let e = c.in-Ok-None.ensures in
     subst (λ (x : Seated). ReadPending c.args.self.now 1 x v) is
     (image_refused o c.args.self.now s v (subst (IsCallerOf c.args.self.now) (sym is) c.requires.caller) e.attempts.attempts.rest e.attempts.attempts.front (subst (λ (t : Running _). IsSeatOf t v) c.self.view_is e.attempts.attempts.seat) e.attempts.rises e.attempts.attempts.since
-    e.attempted.allowed (omega (arith, c.met-met.ensures)) (subst (IsCheckpointAttempt o c.self.inside.shared words s v) c.in-Ok-None.field-0-is e.attempted.attempted))
+    e.attempted.allowed (omega (arith, c.refusals_fit.ensures)) (subst (IsCheckpointAttempt o c.self.inside.shared words s v) c.in-Ok-None.field-0-is e.attempted.attempted))

@@ -32,7 +32,7 @@ returns-in-Ok-false g c =
     let v = c.try_update_once.new.seat in
     subst (λ (x : Seated). DrivePending c.args.self.now 1 x v) is
     (attempt_refused c.args.self.now s v (subst (IsLinkedOf c.args.self.now) (sym is) c.requires) c.try_update_once.ensures.attempts.rest c.try_update_once.ensures.attempts.front (subst (λ (t : Running _). IsSeatOf t v) c.self.view_is c.try_update_once.ensures.attempts.seat) c.try_update_once.ensures.attempts.since
-    c.in-Ok-false.ensures.attempted.allowed (omega (arith, c.met-met.ensures)) (subst (BringsInAttempt s v) c.in-Ok-false.field-0-test c.in-Ok-false.ensures.counted.by_sets) (subst (IsUpdateAttempt c.ticket-ticket.result c.try_update_once.new.reply s v) c.in-Ok-false.field-0-test c.in-Ok-false.ensures.attempted.attempted))
+    c.in-Ok-false.ensures.attempted.allowed (omega (arith, c.refusals_fit.ensures)) (subst (BringsInAttempt s v) c.in-Ok-false.field-0-test c.in-Ok-false.ensures.counted.by_sets) (subst (IsUpdateAttempt c.ticket-ticket.result c.try_update_once.new.reply s v) c.in-Ok-false.field-0-test c.in-Ok-false.ensures.attempted.attempted))
 
 pub returns-in-Err : goal.returns-in-Err
 returns-in-Err g c =

@@ -36,7 +36,7 @@ returns-in-Ok-None g c =
     let v = c.try_read_once.new.seat in
     subst (λ (x : Seated). ReadPending c.args.self.now 1 x v) is
     (read_refused c.args.self.now c.args.op.now s v (subst (IsCallerOf c.args.self.now) (sym is) c.requires.caller) c.try_read_once.ensures.attempts.attempts.rest c.try_read_once.ensures.attempts.attempts.front (subst (λ (t : Running _). IsSeatOf t v) c.self.view_is c.try_read_once.ensures.attempts.attempts.seat) c.try_read_once.ensures.attempts.rises c.try_read_once.ensures.attempts.attempts.since
-    c.in-Ok-None.ensures.attempted.allowed (omega (arith, c.met-met.ensures)) (subst (λ o. LooksUp c.args.op.now s v (seen_at c.try_read_once.new.reply o)) c.in-Ok-None.field-0-is c.in-Ok-None.ensures.attempted.attempted))
+    c.in-Ok-None.ensures.attempted.allowed (omega (arith, c.refusals_fit.ensures)) (subst (λ o. LooksUp c.args.op.now s v (seen_at c.try_read_once.new.reply o)) c.in-Ok-None.field-0-is c.in-Ok-None.ensures.attempted.attempted))
 
 pub returns-in-Err : goal.returns-in-Err
 returns-in-Err g c =
