@@ -1,6 +1,6 @@
 -- A bounded queue of texts in a ring of lines: the images that stand for one, and the step as a function of words. Line 0 has the
 -- version, the head and the count; place s is line s + 1, and the items stand at places head, head + 1 and so on, in turn.
-use Rattle.std.specs.Prelude.{◌≡◌, ◌==◌, ◌||◌, ◌⊎◌, ◌+◌, ◌-◌, ◌*◌, ◌%◌, ◌<◌, ◌≤◌, nat_le, ℕ, Bool, true, List, ◌∷◌, map, replicate, slice_index, slice_set, if◌then◌else◌}
+use Rattle.std.specs.Prelude.{◌≡◌, ◌==◌, ◌||◌, ◌⊎◌, ◌+◌, ◌-◌, ◌*◌, ◌%◌, ◌<◌, ◌≤◌, nat_le, ℕ, Bool, true, IsTrue, List, ◌∷◌, map, replicate, slice_index, slice_set, if◌then◌else◌}
 use Rattle.std.specs.List.{range_with_len}
 use Rattle.cx_base.specs.Memory.{Always, Words, overwritten}
 use Rattle.cx_base.specs.declared.memory.Memory.{Ghosts}
@@ -44,6 +44,22 @@ pub record IsFifo (lines : ℕ) (image : List ℕ) : Type 0 where
 pub record HoldsFifo {Memory : Type 0} (m : Ghosts Memory) (lines : ℕ) (mem : Memory) : Type 0 where
   pub size : m.size mem ≡ 8 * lines
   pub lawful : Always (m.stands mem) (IsFifo lines)
+
+-- what telling some of its words needs: a memory of the given number of lines, and a reply whose words are 0
+pub record MayTell {Memory : Type 0} (m : Ghosts Memory) (lines : ℕ) (mem : Memory) (reply : List ℕ) : Type 0 where
+  pub size : m.size mem ≡ 8 * lines
+  pub zero : reply ≡ replicate 144 0
+
+-- what answering needs: a memory that holds a queue, and such a reply
+pub record MayAnswerQueue {Memory : Type 0} (m : Ghosts Memory) (lines : ℕ) (mem : Memory) (reply : List ℕ) : Type 0 where
+  pub holds : HoldsFifo m lines mem
+  pub zero : reply ≡ replicate 144 0
+
+-- the same of a change, which stores into the memory
+pub record MayChangeQueue {Memory : Type 0} (m : Ghosts Memory) (lines : ℕ) (mem : Memory) (reply : List ℕ) : Type 0 where
+  pub holds : HoldsFifo m lines mem
+  pub writable : IsTrue (m.writable mem)
+  pub zero : reply ≡ replicate 144 0
 
 -- the image of the empty queue
 abbrev pub fifo_opening : ℕ → List ℕ

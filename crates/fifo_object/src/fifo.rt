@@ -4,7 +4,7 @@ ghost use Rattle.std.specs.Prelude.{◌≡◌, ◌+◌, ◌-◌, ◌*◌, ◌^�
 ghost use Rattle.cx_base.specs.Calls.{Changes, Finds};
 ghost use Rattle.cx_base.specs.OldFormat.{no_old_format, takes_over_nothing};
 ghost use Rattle.fifo_object.specs.Words as spec;
-ghost use Rattle.fifo_object.specs.Fifo.{HasItems, HoldsFifo, IsFifo, IsQueueHeader, count_in, fifo_opening, fifo_reads, fifo_step, front_words, queue_head, item_at, pop_step, push_step};
+ghost use Rattle.fifo_object.specs.Fifo.{HasItems, HoldsFifo, IsFifo, IsQueueHeader, MayAnswerQueue, MayChangeQueue, MayTell, count_in, fifo_opening, fifo_reads, fifo_step, front_words, queue_head, item_at, pop_step, push_step};
 ghost use Rattle.fifo_object.specs.FifoLaws as laws;
 
 use crate::words::{is_item, item_of_number, kind_in};
@@ -60,10 +60,8 @@ impl Fifo {
 
     /// Puts an item behind the last.
     fn push<M: Memory>(&self, mem: &mut M, item: &[u64], reply: &mut OpWords) -> Result<(), Halt>
-        requires holds { HoldsFifo M.Memory self.now.lines mem.old }
-        requires writable { IsTrue (M.writable mem.old) }
+        requires may { MayChangeQueue M.Memory self.now.lines mem.old reply.old }
         requires item { length item.now ≡ 8 }
-        requires zero { reply.old ≡ replicate OP_WORDS 0 }
         ensures { Changes M.Memory mem.old mem.new result (λ _ before now. push_step self.now.lines item.now before ≡ (now, reply.new)) }
     {
         let ends = self.ends(mem)?;
@@ -80,9 +78,7 @@ impl Fifo {
 
     /// Takes the item at the front.
     fn pop<M: Memory>(&self, mem: &mut M, reply: &mut OpWords) -> Result<(), Halt>
-        requires holds { HoldsFifo M.Memory self.now.lines mem.old }
-        requires writable { IsTrue (M.writable mem.old) }
-        requires zero { reply.old ≡ replicate OP_WORDS 0 }
+        requires { MayChangeQueue M.Memory self.now.lines mem.old reply.old }
         ensures { Changes M.Memory mem.old mem.new result (λ _ before now. pop_step self.now.lines before ≡ (now, reply.new)) }
     {
         let ends = self.ends(mem)?;
@@ -98,8 +94,7 @@ impl Fifo {
 
     /// Tells the item at the front.
     fn peek<M: Memory>(&self, mem: &mut M, reply: &mut OpWords) -> Result<(), Halt>
-        requires holds { HoldsFifo M.Memory self.now.lines mem.old }
-        requires zero { reply.old ≡ replicate OP_WORDS 0 }
+        requires { MayAnswerQueue M.Memory self.now.lines mem.old reply.old }
         ensures { Finds M.Memory mem.old mem.new result (λ _ now. reply.new ≡ front_words now) }
     {
         let ends = self.ends(mem)?;
@@ -117,9 +112,8 @@ impl Fifo {
         place: u64,
         reply: &mut OpWords,
     ) -> Result<(), Halt>
-        requires size { M.size mem.old ≡ 8 * self.now.lines }
+        requires may { MayTell M.Memory self.now.lines mem.old reply.old }
         requires place { place < self.now.lines - 1 }
-        requires zero { reply.old ≡ replicate OP_WORDS 0 }
         ensures { Finds M.Memory mem.old mem.new result (λ _ now. reply.new ≡ spec.words_of_item 3 (item_at now place)) }
     {
         let mut item = [0; 8];
@@ -130,8 +124,7 @@ impl Fifo {
 
     /// Tells the number of items.
     fn len<M: Memory>(&self, mem: &mut M, reply: &mut OpWords) -> Result<(), Halt>
-        requires size { M.size mem.old ≡ 8 * self.now.lines }
-        requires zero { reply.old ≡ replicate OP_WORDS 0 }
+        requires { MayTell M.Memory self.now.lines mem.old reply.old }
         ensures { Finds M.Memory mem.old mem.new result (λ _ now. reply.new ≡ spec.words_of_item 5 (spec.number_item (count_in now))) }
     {
         let count = mem.load(COUNT_AT)?;
@@ -141,9 +134,8 @@ impl Fifo {
 
     /// Answers an operation that only reads.
     fn answer<M: Memory>(&self, mem: &mut M, op: &OpWords, reply: &mut OpWords) -> Result<(), Halt>
-        requires holds { HoldsFifo M.Memory self.now.lines mem.old }
+        requires may { MayAnswerQueue M.Memory self.now.lines mem.old reply.old }
         requires reads { IsTrue (fifo_reads op.now) }
-        requires zero { reply.old ≡ replicate OP_WORDS 0 }
         ensures { Finds M.Memory mem.old mem.new result (λ _ now. fifo_step self.now.lines now op.now ≡ (now, reply.new)) }
     {
         match kind_in(op) {

@@ -1,6 +1,10 @@
 -- Good traces: their events are a run, and after each crash the named place is recovered.
-use Rattle.std.specs.Prelude.{◌≡◌, ◌++◌, ℕ, List, [], ◌∷◌, Some, slice_get, take}
+use Rattle.std.specs.Prelude.{◌≡◌, ◌≤◌, ◌++◌, ℕ, List, [], ◌∷◌, Some, slice_get, take}
+use Rattle.cx_base.specs.Callers.{AreCallers}
 use Rattle.cx_base.specs.OldFormat.{no_old_format}
+use Rattle.cx_base.specs.declared.object.Object.{Ghosts}
+use Rattle.cx_core.specs.Base.{LawfulBase}
+use Rattle.cx_core.specs.declared.entry.Base.{Base}
 use Rattle.cx_core.specs.declared.entry.Image.{Image}
 use Rattle.cx_core.specs.declared.kinds.Event.{Event as CoreEvent}
 use Rattle.cx_core.specs.Events.{Run}
@@ -12,6 +16,13 @@ use Rattle.trace_text.specs.declared.trace.TraceLine.{TraceLine}
 use Rattle.trace_text.specs.declared.trace.TraceWhat.{TraceWhat}
 use Rattle.trace_text.specs.declared.trace.TraceWhat.TheVariants.{Event, Crash}
 use Rattle.trace_check.specs.Images.{IsImageOf}
+
+-- what checking a trace of this many callers needs: there may be this many, the object's lines are within the limits, and the base is a lawful one
+pub record MayCheckTrace {O : Type 0} (o : Ghosts O) (object : O) (from : Base) (count : ℕ) : Type 0 where
+  pub callers : AreCallers count
+  pub enough : 64 ≤ o.line_count object
+  pub small : o.line_count object ≤ 16384
+  pub base : LawfulBase (o.line_count object) (o.lawful object) from
 
 -- the events among lines
 abbrev pub events_of_line : TraceWhat → List CoreEvent

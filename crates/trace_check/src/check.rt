@@ -1,10 +1,8 @@
 //! The check of a trace.
 
-ghost use Rattle.std.specs.Prelude.{◌≤◌, IfOk};
-ghost use Rattle.cx_base.specs.Callers.{AreCallers};
-ghost use Rattle.cx_core.specs.Base.{LawfulBase};
+ghost use Rattle.std.specs.Prelude.{IfOk};
 ghost use Rattle.cx_core.specs.State.{Instance, opening_state};
-ghost use Rattle.trace_check.specs.GoodTraces.{IsSafeTrace};
+ghost use Rattle.trace_check.specs.GoodTraces.{IsSafeTrace, MayCheckTrace};
 ghost use Rattle.trace_check.specs.Lines.{IsVerdict};
 ghost use Rattle.trace_check.specs.Verdicts.{IsOnlyFound, OnYes};
 
@@ -34,10 +32,7 @@ pub fn check_trace<O: Object>(
     base: &Base,
     trace: &Trace,
 ) -> Result<Verdict, AllocError>
-    requires callers { AreCallers trace.now.callers }
-    requires enough { 64 ≤ O.line_count object.now }
-    requires small { O.line_count object.now ≤ 16384 }
-    requires base { LawfulBase (O.line_count object.now) (O.lawful object.now) base.now }
+    requires { MayCheckTrace O.Object object.now base.now trace.now.callers }
     // The verdict is of the first line that fails, or that there is none, and no other is: so it is `Yes` exactly where the trace is good.
     ensures found { let instance : Instance = record { callers = trace.now.callers; base = base.now; step = O.step object.now; reads = O.only_reads object.now } in
         IfOk result (IsOnlyFound (O.line_count object.now) (O.version_number object.now) (O.lawful object.now) instance (opening_state trace.now.callers base.now) trace.now.steps) }
@@ -55,10 +50,7 @@ fn walk_trace<O: Object>(
     base: &Base,
     trace: &Trace,
 ) -> Result<Verdict, AllocError>
-    requires callers { AreCallers trace.now.callers }
-    requires enough { 64 ≤ O.line_count object.now }
-    requires small { O.line_count object.now ≤ 16384 }
-    requires base { LawfulBase (O.line_count object.now) (O.lawful object.now) base.now }
+    requires { MayCheckTrace O.Object object.now base.now trace.now.callers }
     ensures { let instance : Instance = record { callers = trace.now.callers; base = base.now; step = O.step object.now; reads = O.only_reads object.now } in
         IfOk result (IsVerdict instance (opening_state trace.now.callers base.now) trace.now.steps) }
 {

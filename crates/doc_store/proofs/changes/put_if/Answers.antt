@@ -12,11 +12,14 @@ use Rattle.doc_store.proofs.ExactSteps.{stale_runs, current_runs}
 use Rattle.avl_words.proofs.Memories.{changed, storable}
 use Rattle.doc_store.proofs.changes.put_if.Goals as goal
 
-pub set-requires-clause-may : goal.set-requires-clause-may
-set-requires-clause-may g c = record {
-  memory = storable (search rules) (search rules) (always_read c.requires.may.memory.all c.in_ok-standing.ensures.done (λ ws i n. i));
-  lines_are = search rules;
-  zero = search rules;
+pub set-requires : goal.set-requires
+set-requires g c = record {
+  may = record {
+    memory = storable (search rules) (search rules) (always_read c.requires.may.memory.all c.in_ok-standing.ensures.done (λ ws i n. i));
+    lines_are = search rules;
+    zero = search rules;
+  };
+  pair = c.requires.pair;
 }
 
 pub returns-then-standing-revision : goal.returns-then-standing-revision
