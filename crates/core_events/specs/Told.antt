@@ -1,9 +1,11 @@
 -- What a step is told of the history before it is made.
-use Rattle.std.specs.Prelude.{◌≡◌, ◌+◌, ◌↔◌, ℕ, Bool, IsTrue, List, Option, None, Some, length}
+use Rattle.std.specs.Prelude.{◌≡◌, ◌+◌, ◌<◌, ◌↔◌, ℕ, Bool, IsTrue, List, Option, None, Some, length}
 use Rattle.std.specs.Option.{option_to_list}
 use Rattle.core_events.specs.declared.replies.Acknowledged.{Acknowledged}
 use Rattle.core_events.specs.declared.events.HistoryFacts.{HistoryFacts}
 use Rattle.cx_base.specs.Codes.{root_place_of}
+use Rattle.cx_base.specs.declared.object.Object.{Ghosts}
+use Rattle.cx_core.specs.Base.{LawfulBase}
 use Rattle.cx_core.specs.declared.kinds.Kind.{Kind}
 use Rattle.cx_core.specs.declared.kinds.Kind.TheVariants.{Downgrade, ReleaseExclusive, Raise, Offer, NoteGap}
 use Rattle.cx_core.specs.declared.local.Local.{Local}
@@ -12,7 +14,12 @@ use Rattle.cx_core.specs.Gaps.{CanNoteGap}
 use Rattle.cx_core.specs.QueueEvents.{cell_of}
 use Rattle.cx_core.specs.RootEvents.{CanRaise, answers_below, reads_at, unanswered}
 use Rattle.cx_core.specs.SetEvents.{CanOffer, offer_of}
-use Rattle.cx_core.specs.State.{Instance, Scene}
+use Rattle.cx_core.specs.State.{Core, Instance, Scene}
+
+-- a core has a caller of this number, and a base that is a lawful one of the object
+pub record HasCallerIn {O : Type 0} (o : Ghosts O) (object : O) (core : Core) (number : ℕ) : Type 0 where
+  pub base : LawfulBase (o.line_count object) (o.lawful object) core.base
+  pub caller : number < length core.state.locals
 
 -- of a raise, whether it is allowed, and what it then answers
 abbrev pub TellsRaise : Option Acknowledged → Instance → Scene → ℕ → Option (List ℕ) → Local → Type 0

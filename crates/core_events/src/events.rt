@@ -1,10 +1,10 @@
 //! One step of the core, executable: the guard of each kind, its step on one word, and the change of its caller's
 //! local state.
 
-ghost use Rattle.std.specs.Prelude.{◌≡◌, ◌<◌, ◌↔◌, length, slice_get, false, IsTrue, IfOk, OnErr, None, Some};
+ghost use Rattle.std.specs.Prelude.{◌≡◌, ◌<◌, ◌↔◌, slice_get, false, IsTrue, IfOk, OnErr, None, Some};
 ghost use Rattle.core_events.specs.Tables.{HasRegions};
 ghost use Rattle.core_events.specs.Codes.{HasCode};
-ghost use Rattle.core_events.specs.Told.{Tells, TellsRaise, AllowsGapNote, TellsOfferWord};
+ghost use Rattle.core_events.specs.Told.{HasCallerIn, Tells, TellsRaise, AllowsGapNote, TellsOfferWord};
 ghost use Rattle.cx_core.specs.Base.{LawfulBase};
 ghost use Rattle.core_events.specs.Tries.{TriesEvent};
 ghost use Rattle.cx_core.specs.Events.{IsMadeOrRefused, Did};
@@ -142,8 +142,7 @@ fn tells<O: Object>(
     caller: usize,
     kind: &Kind,
 ) -> Result<HistoryFacts, AllocError>
-    requires base { LawfulBase (O.line_count object.now) (O.lawful object.now) state.now.base }
-    requires caller { caller < length state.now.state.locals }
+    requires { HasCallerIn O.Object object.now state.now caller }
     ensures { let instance = instance_of state.now (O.step object.now) (O.only_reads object.now) in IfOk result (λ told. (l : Local) → slice_get state.now.state.locals caller ≡ Some l → Tells told instance (scene_of instance state.now.state) kind.now l) }
 {
     match *kind {
@@ -194,8 +193,7 @@ fn answers_of<O: Object>(
     code: u64,
     read: &Option<OpWords>,
 ) -> Result<Option<Acknowledged>, AllocError>
-    requires base { LawfulBase (O.line_count object.now) (O.lawful object.now) state.now.base }
-    requires caller { caller < length state.now.state.locals }
+    requires { HasCallerIn O.Object object.now state.now caller }
     ensures { let instance = instance_of state.now (O.step object.now) (O.only_reads object.now) in IfOk result (λ told. (l : Local) → slice_get state.now.state.locals caller ≡ Some l → TellsRaise told instance (scene_of instance state.now.state) code read.now l) }
 {
     let local = &state.locals[caller];
@@ -219,8 +217,7 @@ fn offer_of<O: Object>(
     caller: usize,
     j: u64,
 ) -> Result<Option<u64>, AllocError>
-    requires base { LawfulBase (O.line_count object.now) (O.lawful object.now) state.now.base }
-    requires caller { caller < length state.now.state.locals }
+    requires { HasCallerIn O.Object object.now state.now caller }
     ensures { let instance = instance_of state.now (O.step object.now) (O.only_reads object.now) in IfOk result (λ told. (l : Local) → slice_get state.now.state.locals caller ≡ Some l → TellsOfferWord told instance (scene_of instance state.now.state) j l) }
 {
     let local = &state.locals[caller];
@@ -258,8 +255,7 @@ fn holds_full<O: Object>(
     state: &CoreState,
     caller: usize,
 ) -> Result<bool, AllocError>
-    requires base { LawfulBase (O.line_count object.now) (O.lawful object.now) state.now.base }
-    requires caller { caller < length state.now.state.locals }
+    requires { HasCallerIn O.Object object.now state.now caller }
     ensures { let instance = instance_of state.now (O.step object.now) (O.only_reads object.now) in IfOk result (λ full. (l : Local) → slice_get state.now.state.locals caller ≡ Some l → IsTrue full ↔ IsFull instance (scene_of instance state.now.state).history (held_words l.exclusive)) }
 {
     let words = held_words(&state.locals[caller]);

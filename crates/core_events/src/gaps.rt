@@ -2,10 +2,9 @@
 //! words in the lines of its gap.
 
 ghost use Rattle.std.specs.Prelude.{◌↔◌, ℕ, Bool, List, IsTrue, IfOk};
-ghost use Rattle.cx_core.specs.Base.{LawfulBase};
+ghost use Rattle.core_events.specs.Images.{HoldsHistory};
 ghost use Rattle.cx_core.specs.Gaps.{CanNoteGap};
 ghost use Rattle.cx_core.specs.Merge.{history_of};
-ghost use Rattle.cx_core.specs.State.{HasEntries};
 
 use crate::images::{full_image, merged};
 use core_guards::callers::Callers;
@@ -25,8 +24,7 @@ pub(crate) fn is_gap_of<O: Object>(
     i: u64,
     v: u64,
 ) -> Result<bool, AllocError>
-    requires base { LawfulBase (O.line_count object.now) (O.lawful object.now) base.now }
-    requires entries { HasEntries locals.now }
+    requires { HoldsHistory O.Object object.now base.now locals.now }
     ensures { (reads : List ℕ → Bool) → IfOk result (λ gap. IsTrue gap ↔ CanNoteGap (record { callers = callers.number; base = base.now; step = O.step object.now; reads = reads }) (history_of base.now.place locals.now) s i v) }
 {
     if !can_load_gap(callers, s, i) {

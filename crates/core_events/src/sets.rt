@@ -2,11 +2,9 @@
 //! next.
 
 ghost use Rattle.std.specs.Prelude.{◌^◌, ◌<◌, ◌↔◌, ℕ, Bool, List, IsTrue, IfOk, Some};
-ghost use Rattle.core_events.specs.Images.{HasTickets};
+ghost use Rattle.core_events.specs.Images.{HasTickets, HoldsHistory};
 ghost use Rattle.core_events.specs.Told.{TellsOfferWord};
-ghost use Rattle.cx_core.specs.Base.{LawfulBase};
 ghost use Rattle.cx_core.specs.Merge.{history_of};
-ghost use Rattle.cx_core.specs.State.{HasEntries};
 ghost use Rattle.cx_core.specs.WriteSet.{IsWriteSetOf};
 
 use crate::images::{full_image, merged};
@@ -24,8 +22,7 @@ pub(crate) fn offered_word<O: Object>(
     local: &Local,
     j: u64,
 ) -> Result<Option<u64>, AllocError>
-    requires base { LawfulBase (O.line_count object.now) (O.lawful object.now) base.now }
-    requires entries { HasEntries locals.now }
+    requires history { HoldsHistory O.Object object.now base.now locals.now }
     requires tickets { HasTickets local.now.own }
     ensures { (callers : ℕ) (reads : List ℕ → Bool) (words : List ℕ) → IfOk result (λ told. TellsOfferWord told (record { callers = callers; base = base.now; step = O.step object.now; reads = reads }) (record { history = history_of base.now.place locals.now; words = words }) j local.now) }
 {
@@ -51,8 +48,7 @@ fn is_set_of<O: Object>(
     ticket: u64,
     set: &[u64; SET_WORDS],
 ) -> Result<bool, AllocError>
-    requires base { LawfulBase (O.line_count object.now) (O.lawful object.now) base.now }
-    requires entries { HasEntries locals.now }
+    requires history { HoldsHistory O.Object object.now base.now locals.now }
     requires ticket { ticket < 2 ^ 40 }
     ensures { (callers : ℕ) (reads : List ℕ → Bool) → IfOk result (λ is. IsTrue is ↔ IsWriteSetOf (record { callers = callers; base = base.now; step = O.step object.now; reads = reads }) (history_of base.now.place locals.now) ticket set.now) }
 {
