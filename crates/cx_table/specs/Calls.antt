@@ -1,12 +1,13 @@
 -- What a step call needs of its seat, and what it leaves.
-use Rattle.std.specs.Prelude.{◌≡◌, ◌<◌, ℕ, IfOk, OnErr, OnOk, Result}
+use Rattle.std.specs.Prelude.{◌≡◌, ◌^◌, ◌<◌, ◌≤◌, ℕ, IfOk, OnErr, OnOk, Result}
 use Rattle.caller_cache.specs.Following.{IsFollowed}
 use Rattle.cx_base.specs.declared.object.Object.{Ghosts}
 use Rattle.cx_core.specs.declared.kinds.Kind.{Kind}
+use Rattle.cx_core.specs.declared.local.Local.{Local}
 use Rattle.cx_core.specs.Events.{step_word}
 use Rattle.table_invariant.specs.Fitting.{Fitting}
 use Rattle.table_invariant.specs.Running.{IsSeatOf, Running, instance_at}
-use Rattle.table_invariant.specs.Seats.{IsByShown, Seated, SeenGuard, WordFits}
+use Rattle.table_invariant.specs.Seats.{IsByShown, IsWithinLimit, Seated, SeenGuard, WordFits}
 use Rattle.table_invariant.specs.Steps.{Halts}
 
 -- the seat is one of this table, and as far as it shows, its caller may make a step of this kind
@@ -37,3 +38,13 @@ pub record MakesFittingStep {O A E : Type 0} (o : Ghosts O) (r : Running O) (bef
   pub made : IfOk result Made
   pub fits : OnOk result (Fitting r.lines (o.lawful r.object) r.base (o.step r.object) after.known)
   pub halted : OnErr result (Halts r before after)
+
+-- what a caller tells as the number of its steps, which its limit leaves
+pub record TellsSteps (l : Local) (told : ℕ) : Type 0 where
+  pub value : told ≡ l.steps
+  pub within : IsWithinLimit l
+
+-- what it tells as its front, which is at most the last place
+pub record TellsFront (l : Local) (told : ℕ) : Type 0 where
+  pub value : told ≡ l.front
+  pub small : told ≤ 2 ^ 40

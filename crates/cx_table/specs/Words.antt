@@ -1,5 +1,5 @@
 -- The instructions of seats on words of a table.
-use Rattle.std.specs.Prelude.{◌≡◌, ◌+◌, ◌-◌, ◌%◌, ◌^◌, ◌<◌, ◌==◌, if◌then◌else◌, ℕ, max, List, [], ◌∷◌}
+use Rattle.std.specs.Prelude.{◌≡◌, ◌+◌, ◌-◌, ◌%◌, ◌^◌, ◌<◌, ◌==◌, if◌then◌else◌, ℕ, max, List, [], ◌∷◌, length}
 use Rattle.atomic_table.specs.Seated.{TableId}
 use Rattle.atomic_table.specs.Table.{Me}
 use Rattle.table_invariant.specs.declared.rule.Known.{Known}
@@ -31,3 +31,9 @@ pub record IsOnWord {O : Type 0} (r : Running O) (word : ℕ) (table : TableId) 
 pub record KeepsTableKnowing (before after : TableId) (lesson : Type 0) : Type 0 where
   pub table : after ≡ before
   pub taught : lesson
+
+-- the same of a call that loads into words, which are as many as before
+pub record FillsKnowing (before after : TableId) (old new : List ℕ) (lesson : Type 0) : Type 0 where
+  pub table : after ≡ before
+  pub taught : lesson
+  pub length : length new ≡ length old

@@ -13,7 +13,7 @@ ghost use Rattle.cx_table.specs.Calls.{MakesFittingStep, MayStep};
 ghost use Rattle.cx_table.specs.Gaps.{IsListedFrom, gaps_from};
 ghost use Rattle.cx_table.specs.Runs.{Runs, TeachesRun};
 ghost use Rattle.cx_table.specs.Tokens.{IsExclusiveOf};
-ghost use Rattle.cx_table.specs.Words.{IsOfOne, KeepsTableKnowing};
+ghost use Rattle.cx_table.specs.Words.{FillsKnowing, IsOfOne};
 
 use crate::events::Instruction;
 use crate::seat::CallerSeat;
@@ -68,8 +68,7 @@ impl<O: Object> Shared<O> {
         requires one { IsOfOne self.now seat.old.table_id seat.old.me }
         requires within { from + length into.old ≤ 16 }
         requires slot { s < gap_slots self.now.callers }
-        ensures taught { KeepsTableKnowing seat.old.table_id seat.new.table_id (TeachesRun (instance_at self.now O.step O.only_reads) (gaps_from s from) into.new seat.old.me seat.new.me) }
-        ensures length { length into.new ≡ length into.old }
+        ensures { FillsKnowing seat.old.table_id seat.new.table_id into.old into.new (TeachesRun (instance_at self.now O.step O.only_reads) (gaps_from s from) into.new seat.old.me seat.new.me) }
     {
         let callers = self.callers.number;
         for i in 0..into.len() {

@@ -10,7 +10,7 @@ ghost use Rattle.table_invariant.specs.declared.rule.Known.{Known};
 ghost use Rattle.table_invariant.specs.Running.{IsSeatOf, instance_at};
 ghost use Rattle.table_invariant.specs.Seats.{known_of, unseen};
 ghost use Rattle.cx_table.specs.Runs.{AreLoaded, Runs, StartsAt, TeachesRun, loads_from, reads_of, set_reads_from};
-ghost use Rattle.cx_table.specs.Words.{IsOfOne, KeepsTableKnowing};
+ghost use Rattle.cx_table.specs.Words.{FillsKnowing, IsOfOne, KeepsTableKnowing};
 
 use crate::events::Instruction;
 use crate::seat::CallerSeat;
@@ -72,8 +72,7 @@ impl<O: Object> Shared<O> {
         requires one { IsOfOne self.now seat.old.table_id seat.old.me }
         requires start { StartsAt self.now r start }
         requires guard { (i : ℕ) → i < length into.old → CanLoad self.now.callers (length self.now.base.words) r (from + i) (known_of seat.old.me.0).local }
-        ensures taught { KeepsTableKnowing seat.old.table_id seat.new.table_id (TeachesRun (instance_at self.now O.step O.only_reads) (loads_from r from) into.new seat.old.me seat.new.me) }
-        ensures length { length into.new ≡ length into.old }
+        ensures { FillsKnowing seat.old.table_id seat.new.table_id into.old into.new (TeachesRun (instance_at self.now O.step O.only_reads) (loads_from r from) into.new seat.old.me seat.new.me) }
     {
         let turns = into.len() / TURN;
         for i in 0..turns {
@@ -99,8 +98,7 @@ impl<O: Object> Shared<O> {
         requires start { StartsAt self.now r start }
         requires within { at + count ≤ length into.old }
         requires loaded { (begun : Me ℕ (List Known)) × AreLoaded (instance_at self.now O.step O.only_reads) r from begun at into.old seat.old.me }
-        ensures taught { KeepsTableKnowing seat.old.table_id seat.new.table_id ((begun : Me ℕ (List Known)) → AreLoaded (instance_at self.now O.step O.only_reads) r from begun at into.old seat.old.me → AreLoaded (instance_at self.now O.step O.only_reads) r from begun (at + count) into.new seat.new.me) }
-        ensures length { length into.new ≡ length into.old }
+        ensures { FillsKnowing seat.old.table_id seat.new.table_id into.old into.new ((begun : Me ℕ (List Known)) → AreLoaded (instance_at self.now O.step O.only_reads) r from begun at into.old seat.old.me → AreLoaded (instance_at self.now O.step O.only_reads) r from begun (at + count) into.new seat.new.me) }
     {
         self.table_is_running();
         for j in 0..count {
@@ -180,8 +178,7 @@ impl<O: Object> Shared<O> {
         requires one { IsOfOne self.now seat.old.table_id seat.old.me }
         requires within { from + length into.old ≤ SET_WORDS }
         requires guard { (i : ℕ) → i < SET_WORDS → Guard (instance_at self.now O.step O.only_reads) unseen (ReadSet k t i) (known_of seat.old.me.0).local }
-        ensures taught { KeepsTableKnowing seat.old.table_id seat.new.table_id (TeachesRun (instance_at self.now O.step O.only_reads) (set_reads_from k t from) into.new seat.old.me seat.new.me) }
-        ensures length { length into.new ≡ length into.old }
+        ensures { FillsKnowing seat.old.table_id seat.new.table_id into.old into.new (TeachesRun (instance_at self.now O.step O.only_reads) (set_reads_from k t from) into.new seat.old.me seat.new.me) }
     {
         let callers = self.callers.number;
         for i in 0..into.len() {

@@ -1,10 +1,11 @@
 //! A caller's seat: its right to step, and the numbers of its local state that code reads.
 
-ghost use Rattle.std.specs.Prelude.{◌≡◌, ◌≢◌, ◌+◌, ◌^◌, ◌<◌, ◌≤◌, ◌↔◌, ℕ, IfNone, IfSome, IsTrue, Some, length, slice_index};
+ghost use Rattle.std.specs.Prelude.{◌≡◌, ◌≢◌, ◌+◌, ◌<◌, ◌≤◌, ◌↔◌, ℕ, IfNone, IfSome, IsTrue, Some, length, slice_index};
 ghost use Rattle.std.specs.List.{Contains};
 ghost use Rattle.cx_core.specs.Rights.{held_dirty};
 ghost use Rattle.cx_core.specs.QueueEvents.{cell_of};
-ghost use Rattle.table_invariant.specs.Seats.{HasCells, IsWithinLimit, place_noted, unanswered_ticket};
+ghost use Rattle.table_invariant.specs.Seats.{HasCells, place_noted, unanswered_ticket};
+ghost use Rattle.cx_table.specs.Calls.{TellsFront, TellsSteps};
 ghost use Rattle.caller_cache.specs.Summaries.{IsOwnEntry};
 
 use atomic_table::Seat;
@@ -63,8 +64,7 @@ impl CallerSeat {
 
     /// The steps made, of which there are no more than the limit allows. This stays at 2^64 - 1 once there.
     pub fn steps(&self) -> u64
-        ensures value { result ≡ self.now.known.local.steps }
-        ensures within { IsWithinLimit self.now.known.local }
+        ensures { TellsSteps self.now.known.local result }
     {
         self.summary.steps
     }
@@ -78,8 +78,7 @@ impl CallerSeat {
 
     /// Every ticket from the base's place to below it is linked.
     pub fn front(&self) -> u64
-        ensures value { result ≡ self.now.known.local.front }
-        ensures small { result ≤ 2 ^ 40 }
+        ensures { TellsFront self.now.known.local result }
     {
         self.summary.front
     }

@@ -12,12 +12,13 @@ loop-i-init g c = record {
   length = refl;
 }
 
-pub returns-clause-taught : goal.returns-clause-taught
-returns-clause-taught g c =
+pub returns : goal.returns
+returns g c =
     let instance = instance_at c.args.self.now g.O.Object.step g.O.Object.only_reads in
     let into = c.load_part-2.new.into in
-    let loaded = c.load_part-2.ensures.taught.taught c.args.seat.now.me (subst (λ n. AreLoaded instance c.args.r c.args.from c.args.seat.now.me n c.loop-i.into c.loop-i.seat.me) (omega (arith, c.loop-i-test.false, c.loop-i.auto.i-end)) c.loop-i.invariant.loaded) in
+    let loaded = c.load_part-2.ensures.taught c.args.seat.now.me (subst (λ n. AreLoaded instance c.args.r c.args.from c.args.seat.now.me n c.loop-i.into c.loop-i.seat.me) (omega (arith, c.loop-i-test.false, c.loop-i.auto.i-end)) c.loop-i.invariant.loaded) in
     record {
-      table = c.load_part-2.ensures.taught.table ∙ c.loop-i.invariant.table ∙ sym c.requires.one.table_is;
+      table = c.load_part-2.ensures.table ∙ c.loop-i.invariant.table ∙ sym c.requires.one.table_is;
       taught = subst (λ ws. TeachesRun instance (loads_from c.args.r c.args.from) ws c.args.seat.now.me c.load_part-2.new.seat.me) (take_all _ into (omega (arith, c.load_part-2.ensures.length, c.loop-i.invariant.length))) loaded.taught;
+      length = c.load_part-2.ensures.length ∙ c.loop-i.invariant.length;
     }

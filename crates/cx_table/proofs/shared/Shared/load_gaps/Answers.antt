@@ -30,7 +30,7 @@ loads_lead g c =
     (λ k i v. refl)
     (λ k i v copy. refl)
     c.seat.inside.seat.me c.seat.inside.summary c.seat.inside.copy c.seat.inside.seat.table_id c.seat.inside.before c.args.seat.now words c.load_gaps_each.new.seat.me c.load_gaps_each.new.seat.table_id c.count.new.self c.seat.view_is
-    ((counted.counted refl).0 ∙ ap (λ k. record c.seat.inside.summary { steps = c.seat.inside.summary.steps + k }) (sym long)) c.load_gaps_each.ensures.taught.table (omega (arith)) (omega (arith, long, (counted.counted refl).1)) (omega (arith, long, (counted.counted refl).2)) c.seat.invariant tt c.requires.seat.0 c.load_gaps_each.ensures.taught.taught
+    ((counted.counted refl).0 ∙ ap (λ k. record c.seat.inside.summary { steps = c.seat.inside.summary.steps + k }) (sym long)) c.load_gaps_each.ensures.table (omega (arith)) (omega (arith, long, (counted.counted refl).1)) (omega (arith, long, (counted.counted refl).2)) c.seat.invariant tt c.requires.seat.0 c.load_gaps_each.ensures.taught
 
 pub invariant_of-seat-2 : goal.invariant_of-seat-2
 invariant_of-seat-2 g c = (loads_lead g c).0

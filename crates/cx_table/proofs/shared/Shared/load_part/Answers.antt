@@ -44,10 +44,11 @@ loop-j-preserved g c =
       length = length-set c.loop-j.into i c.learned.result ∙ c.loop-j.invariant.length;
     }
 
-pub returns-clause-taught : goal.returns-clause-taught
-returns-clause-taught g c =
+pub returns : goal.returns
+returns g c =
     let end : c.loop-j.j ≡ c.args.count = omega (arith, c.loop-j-test.false, c.loop-j.auto.j-end) in
     record {
       table = c.loop-j.invariant.table ∙ sym c.requires.table;
       taught = λ begun first. subst (λ n. AreLoaded (instance_at c.args.self.now g.O.Object.step g.O.Object.only_reads) c.args.r c.args.from begun (c.args.at + n) c.loop-j.into c.loop-j.seat.me) end (c.loop-j.invariant.loaded begun first);
+      length = c.loop-j.invariant.length;
     }

@@ -37,7 +37,7 @@ reads_lead g c =
     (λ k i v. refl)
     (λ k i v copy. refl)
     c.seat.inside.seat.me c.seat.inside.summary c.seat.inside.copy c.seat.inside.seat.table_id c.seat.inside.before c.args.seat.now words c.read_set_each.new.seat.me c.read_set_each.new.seat.table_id c.count.new.self c.seat.view_is
-    ((counted.counted refl).0 ∙ ap (λ k. record c.seat.inside.summary { steps = c.seat.inside.summary.steps + k }) (sym long)) c.read_set_each.ensures.taught.table (omega (arith)) (omega (arith, long, (counted.counted refl).1)) (omega (arith, long, (counted.counted refl).2)) c.seat.invariant c.requires.guard c.requires.seat.0 c.read_set_each.ensures.taught.taught
+    ((counted.counted refl).0 ∙ ap (λ k. record c.seat.inside.summary { steps = c.seat.inside.summary.steps + k }) (sym long)) c.read_set_each.ensures.table (omega (arith)) (omega (arith, long, (counted.counted refl).1)) (omega (arith, long, (counted.counted refl).2)) c.seat.invariant c.requires.guard c.requires.seat.0 c.read_set_each.ensures.taught
 
 pub invariant_of-seat-2 : goal.invariant_of-seat-2
 invariant_of-seat-2 g c = (reads_lead g c).0
