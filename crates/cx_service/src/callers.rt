@@ -1,9 +1,10 @@
 //! The callers of a service. Contracts see of each its seat: what it knows, linked and was answered. A seat and the room that its attempts
 //! work in lie in memory of their own, so that callers are handed on by a word.
 
-ghost use Rattle.std.specs.Prelude.{◌≡◌, ◌+◌, ◌^◌, ◌<◌, ◌≤◌, Some, length, min};
+ghost use Rattle.std.specs.Prelude.{◌≡◌, ◌+◌, ◌<◌, Some, length, min};
 ghost use Rattle.cx_core.specs.Layout.{max_word};
-ghost use Rattle.table_invariant.specs.Seats.{IsWithinLimit, unanswered_ticket};
+ghost use Rattle.table_invariant.specs.Seats.{unanswered_ticket};
+ghost use Rattle.cx_table.specs.Calls.{TellsFront, TellsSteps};
 ghost use Rattle.redo_set.specs.Taking.{sets_read};
 
 use cx_attempts::Scratch;
@@ -83,16 +84,14 @@ impl Caller {
 
     /// The steps made, of which there are no more than the limit allows. This stays at 2^64 - 1 once there.
     pub fn steps(&self) -> u64
-        ensures value { result ≡ self.now.known.local.steps }
-        ensures within { IsWithinLimit self.now.known.local }
+        ensures { TellsSteps self.now.known.local result }
     {
         self.desk.seat.steps()
     }
 
     /// Every ticket from the base's place to below it is linked.
     pub fn front(&self) -> u64
-        ensures value { result ≡ self.now.known.local.front }
-        ensures small { result ≤ 2 ^ 40 }
+        ensures { TellsFront self.now.known.local result }
     {
         self.desk.seat.front()
     }
@@ -134,16 +133,14 @@ impl Linked {
 
     /// The steps made, of which there are no more than the limit allows. This stays at 2^64 - 1 once there.
     pub fn steps(&self) -> u64
-        ensures value { result ≡ self.now.known.local.steps }
-        ensures within { IsWithinLimit self.now.known.local }
+        ensures { TellsSteps self.now.known.local result }
     {
         self.desk.seat.steps()
     }
 
     /// Every ticket from the base's place to below it is linked.
     pub fn front(&self) -> u64
-        ensures value { result ≡ self.now.known.local.front }
-        ensures small { result ≤ 2 ^ 40 }
+        ensures { TellsFront self.now.known.local result }
     {
         self.desk.seat.front()
     }
@@ -181,8 +178,7 @@ impl Stopped {
 
     /// Every ticket from the base's place to below it is linked.
     pub fn front(&self) -> u64
-        ensures value { result ≡ self.now.seat.known.local.front }
-        ensures small { result ≤ 2 ^ 40 }
+        ensures { TellsFront self.now.seat.known.local result }
     {
         self.desk.seat.front()
     }
