@@ -1,5 +1,5 @@
 -- What is recovered from an image, and the checks that it has to pass.
-use Rattle.std.specs.Prelude.{◌≡◌, ◌≢◌, ◌^◌, ◌<◌, ◌≤◌, ◌⊎◌, ℕ, List, Result, Ok, Err, Some, replicate}
+use Rattle.std.specs.Prelude.{◌≡◌, ◌≢◌, ◌^◌, ◌<◌, ◌≤◌, ◌⊎◌, ℕ, List, Result, Ok, Err, Some, length, replicate}
 use Rattle.cx_base.specs.Codes.{root_place_of}
 use Rattle.cx_base.specs.OldFormat.{OldFormat}
 use Rattle.cx_core.specs.declared.entry.Base.{Base}
@@ -20,6 +20,11 @@ HasSize image = image.count ≡ image_size image.callers image.lines
 
 abbrev pub HasRootPlace : Image → Type 0
 HasRootPlace image = place_in_root image ≤ 2 ^ 40
+
+-- a region's words have a slot of this caller
+pub record HasSlot (caller : ℕ) (words : List ℕ) : Type 0 where
+  pub caller_is : caller < 8
+  pub long : 1168 ≤ length words
 
 -- a caller's slot without a number has no reply
 abbrev pub IsLawfulSlot : ℕ → List ℕ → Type 0

@@ -1,5 +1,5 @@
 -- What a medium is made for the next life.
-use Rattle.std.specs.Prelude.{◌≡◌, ◌≢◌, ◌+◌, ◌*◌, ◌%◌, ◌<◌, ◌≤◌, ◌⊎◌, ℕ, Bool, true, false, length, slice_index}
+use Rattle.std.specs.Prelude.{◌≡◌, ◌≢◌, ◌+◌, ◌*◌, ◌^◌, ◌%◌, ◌<◌, ◌≤◌, ◌⊎◌, ℕ, Bool, true, false, length, slice_index}
 use Rattle.cx_base.specs.Codes.{root_replica_of}
 use Rattle.pmem_model.specs.Medium.{MediumState, IsDirtyMark, fenced, medium_word}
 use Rattle.pmem_model.specs.declared.medium.Mark.TheVariants.{Dirty}
@@ -47,6 +47,13 @@ pub record HoldsRegion (image : Image) (m : MediumState) : Type 0 where
   pub replicas : HasReplicas image.callers image.lines m
   pub values : (replica i : ℕ) → replica < 2 * image.callers → i < region_words image.lines → value_at m (region_words image.lines * replica + i) ≡ slice_index (region_of image) i
   pub clean : (at : ℕ) → ¬ IsDirtyMark (medium_word m at).mark
+
+-- a medium has both of these lines, and eight words to each of its lines, of which there are below 2^60
+pub record HasBothLines (source line : ℕ) (m : MediumState) : Type 0 where
+  pub words : length m.words ≡ 8 * length m.stores
+  pub small : length m.stores < 2 ^ 60
+  pub source_within : source < length m.stores
+  pub line_within : line < length m.stores
 
 -- The first words of a line have the values of another's, those that differed by a store, and no other word changed. The medium is as
 -- it was where none differed.

@@ -9,6 +9,7 @@ ghost use Rattle.table_invariant.specs.Seats.{Seated};
 ghost use Rattle.cx_table.specs.Remains.{ClosingWitness};
 ghost use Rattle.recovery.specs.Kept.{IsKeptBy, IsOpened};
 ghost use Rattle.recovery.specs.Outcomes.{TellsOutcome, outcome_of};
+ghost use Rattle.recovery.specs.Recovery.{HasSlot};
 ghost use Rattle.recovery.specs.Results.{HasResultsFrom};
 
 use crate::applied::Outcome;
@@ -33,8 +34,7 @@ pub fn outcome(base: &Base, caller: u32) -> Outcome
 
 /// The reply in the slot of a caller.
 fn reply_of(words: &[u64], caller: u32) -> OpWords
-    requires caller { caller < 8 }
-    requires words { OBJECT_START ≤ length words.now }
+    requires { HasSlot caller words.now }
     ensures { result ≡ slot_reply caller words.now }
 {
     let mut reply = [0; OP_WORDS];

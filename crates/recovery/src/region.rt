@@ -2,7 +2,7 @@
 
 ghost use Rattle.std.specs.Prelude.{◌≡◌, ◌+◌, ◌*◌, ◌<◌, ◌≤◌, ◌↔◌, All, IfOk, IsTrue, length};
 ghost use Rattle.cx_core.specs.Region.{LawfulResults, object_part, region_words, slot_reply};
-ghost use Rattle.recovery.specs.Recovery.{IsLawfulSlot};
+ghost use Rattle.recovery.specs.Recovery.{HasSlot, IsLawfulSlot};
 ghost use Rattle.recovery.specs.Images.{IsReadable, RiseFrom, image_size, region_of, words_from};
 
 use cx_base::{OP_WORDS, root_replica};
@@ -66,8 +66,7 @@ pub(crate) fn object_words(words: &[u64]) -> &[u64]
 
 /// The reply in the slot of a caller.
 pub(crate) fn reply_words(words: &[u64], caller: u32) -> &[u64]
-    requires size { OBJECT_START ≤ length words.now }
-    requires caller { caller < 8 }
+    requires { HasSlot caller words.now }
     ensures reply { result.now ≡ slot_reply caller words.now }
     ensures long { length result.now ≡ OP_WORDS }
 {
@@ -84,8 +83,7 @@ fn is_blank(words: &[u64]) -> bool
 
 /// Whether a slot without a number has no reply.
 fn has_lawful_slot(words: &[u64], caller: u32) -> bool
-    requires size { OBJECT_START ≤ length words.now }
-    requires caller { caller < 8 }
+    requires { HasSlot caller words.now }
     ensures { IsTrue result ↔ IsLawfulSlot caller words.now }
 {
     words[slot_start(caller) as usize] != 0 || is_blank(reply_words(words, caller))

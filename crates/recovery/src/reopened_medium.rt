@@ -1,9 +1,9 @@
 //! All regions made equal to the root's.
 
-ghost use Rattle.std.specs.Prelude.{◌≡◌, ◌*◌, ◌^◌, ◌<◌, IfOk, length};
+ghost use Rattle.std.specs.Prelude.{◌*◌, IfOk};
 ghost use Rattle.recovery.specs.Images.{IsReadable};
 ghost use Rattle.recovery.specs.Recovery.{HasSize};
-ghost use Rattle.recovery.specs.Reopened.{HasReplicas, HoldsRegion, IsLineCopied, IsReopened, IsStoredFrom, region_lines, root_line};
+ghost use Rattle.recovery.specs.Reopened.{HasBothLines, HasReplicas, HoldsRegion, IsLineCopied, IsReopened, IsStoredFrom, region_lines, root_line};
 
 use crate::region::read_words;
 use cx_base::root_replica;
@@ -40,10 +40,7 @@ pub fn reopen_image(alloc: Global, image: &Image) -> Result<Medium, AllocError>
 
 /// Makes a line equal to another, and writes it back where it stored to it.
 fn copy_line(medium: &mut Medium, source: u64, line: u64)
-    requires words { length medium.old.words ≡ 8 * length medium.old.stores }
-    requires small { length medium.old.stores < 2 ^ 60 }
-    requires source { source < length medium.old.stores }
-    requires line { line < length medium.old.stores }
+    requires { HasBothLines source line medium.old }
     ensures { IsLineCopied source line medium.old medium.new }
 {
     if store_differing(medium, source, line) {
@@ -53,10 +50,7 @@ fn copy_line(medium: &mut Medium, source: u64, line: u64)
 
 /// Stores to a line the words of another where they differ. Gives whether any did.
 fn store_differing(medium: &mut Medium, source: u64, line: u64) -> bool
-    requires words { length medium.old.words ≡ 8 * length medium.old.stores }
-    requires small { length medium.old.stores < 2 ^ 60 }
-    requires source { source < length medium.old.stores }
-    requires line { line < length medium.old.stores }
+    requires { HasBothLines source line medium.old }
     ensures { IsStoredFrom source line 8 result medium.old medium.new }
 {
     let mut differs = false;
