@@ -11,8 +11,14 @@ use Rattle.cx_service.specs.declared.submit.Submitted.TheVariants.{Linked as Ent
 use Rattle.cx_service.specs.Drives.{Drives}
 use Rattle.cx_service.specs.Lookups.{Looks}
 use Rattle.cx_service.specs.Submits.{Submits}
+use Rattle.seat_pool.specs.Gathering.{IsHandedOf}
 use Rattle.c_sessions.specs.declared.steps.Called.{Called}
 use Rattle.c_sessions.specs.declared.steps.Called.TheVariants.{Done, Pending, Again, Full, Worn, Stopped as CalledStopped, OutOfTurn}
+
+-- what a call gives back stands of a caller of this service, and this was done
+pub record HandsBack {O : Type 0} (r : Running O) (handed : Handed) (Done : Type 0) : Type 0 where
+  pub ready : IsHandedOf r handed
+  pub done : Done
 
 -- the place that a session tells after a call, which told this one before
 abbrev pub place_after : Called → ℕ → ℕ

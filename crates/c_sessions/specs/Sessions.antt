@@ -32,6 +32,11 @@ pub record IsSessionOpen {O : Type 0} (s : Session O) : Type 0 where
   pub seen : HasSeenPlace (arc_value s.service) s.place handed
   pub exit : IsExitOf (arc_value s.service) (handed_number handed ∷ []) s.exit
 
+-- a call leaves the session ready, and this was done
+pub record LeavesOpen {O : Type 0} (after : Session O) (Done : Type 0) : Type 0 where
+  pub ready : IsSessionOpen after
+  pub done : Done
+
 -- a session of this service, ready
 pub record IsOpenSessionOf {O : Type 0} (r : Running O) (s : Session O) : Type 0 where
   pub same : arc_value s.service ≡ r

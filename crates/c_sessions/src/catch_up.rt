@@ -2,6 +2,7 @@
 
 ghost use Rattle.std.specs.Prelude.{◌≡◌};
 ghost use Rattle.seat_pool.specs.Gathering.{IsHandedOf};
+ghost use Rattle.c_sessions.specs.Calls.{HandsBack};
 ghost use Rattle.c_sessions.specs.Places.{CatchesUpFrom, place_seen};
 
 use cx_base::Object;
@@ -39,8 +40,7 @@ pub(crate) fn catch_up_idle<O: Object>(
     place: u64,
 ) -> (Handed, SessionCatchUp)
     requires ready { IsHandedOf service.now handed }
-    ensures ready { IsHandedOf service.now result.0 }
-    ensures sees { CatchesUpFrom service.now place handed result.1 result.0 }
+    ensures { HandsBack service.now result.0 (CatchesUpFrom service.now place handed result.1 result.0) }
 {
     match handed {
         Handed::Idle(caller) => match service.catch_up(caller, place) {

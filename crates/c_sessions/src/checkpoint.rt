@@ -2,6 +2,7 @@
 
 ghost use Rattle.std.specs.Prelude.{◌≡◌, length};
 ghost use Rattle.seat_pool.specs.Gathering.{IsHandedOf};
+ghost use Rattle.c_sessions.specs.Calls.{HandsBack};
 ghost use Rattle.c_sessions.specs.Images.{TakesFrom, place_taken};
 
 use crate::tries::Tries;
@@ -42,8 +43,7 @@ pub(crate) fn take_image<O: Object>(
 ) -> (Handed, SessionCheckpoint)
     requires ready { IsHandedOf service.now handed }
     requires words { length into.old ≡ length service.now.base.words }
-    ensures ready { IsHandedOf service.now result.0 }
-    ensures takes { TakesFrom O.Object service.now into.new tries.count handed result.1 result.0 }
+    ensures takes { HandsBack service.now result.0 (TakesFrom O.Object service.now into.new tries.count handed result.1 result.0) }
     ensures length { length into.new ≡ length into.old }
 {
     match handed {

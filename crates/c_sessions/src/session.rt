@@ -5,7 +5,7 @@ ghost use Rattle.std.specs.Arc.{arc_value};
 ghost use Rattle.table_invariant.specs.Running.{IsTableWithinLimits};
 ghost use Rattle.seat_pool.specs.Gathering.{IsHandedOf, handed_number};
 ghost use Rattle.c_sessions.specs.Handing.{IsExitOf};
-ghost use Rattle.c_sessions.specs.Sessions.{CallsIn, FinishesIn, IsSessionOpen, SeesIn, TakesIn};
+ghost use Rattle.c_sessions.specs.Sessions.{CallsIn, FinishesIn, IsSessionOpen, LeavesOpen, SeesIn, TakesIn};
 
 use crate::catch_up::{SessionCatchUp, catch_up_idle};
 use crate::checkpoint::{SessionCheckpoint, take_image};
@@ -58,8 +58,7 @@ impl<O: Object> Session<O> {
     /// ```
     pub fn call(&mut self, op: &OpWords, reply: &mut OpWords, tries: Tries) -> Called
         requires ready { IsSessionOpen self.old }
-        ensures ready { IsSessionOpen self.new }
-        ensures calls { CallsIn O.only_reads op.now tries.count self.old result self.new reply.new }
+        ensures { LeavesOpen self.new (CallsIn O.only_reads op.now tries.count self.old result self.new reply.new) }
     {
         let Some(handed) = self.handed.take() else {
             unreachable!()
@@ -73,8 +72,7 @@ impl<O: Object> Session<O> {
     /// Drives the linked entry to its answer, in at most the given number of attempts.
     pub fn finish(&mut self, reply: &mut OpWords, tries: Tries) -> Called
         requires ready { IsSessionOpen self.old }
-        ensures ready { IsSessionOpen self.new }
-        ensures finishes { FinishesIn tries.count self.old result self.new reply.new }
+        ensures { LeavesOpen self.new (FinishesIn tries.count self.old result self.new reply.new) }
     {
         let Some(handed) = self.handed.take() else {
             unreachable!()
@@ -97,8 +95,7 @@ impl<O: Object> Session<O> {
     /// the place. `Behind` comes only where the current place was found below it, which is where nobody was answered at it.
     pub fn catch_up(&mut self, place: u64) -> SessionCatchUp
         requires ready { IsSessionOpen self.old }
-        ensures ready { IsSessionOpen self.new }
-        ensures sees { SeesIn place self.old result self.new }
+        ensures { LeavesOpen self.new (SeesIn place self.old result self.new) }
     {
         let Some(handed) = self.handed.take() else {
             unreachable!()
@@ -114,8 +111,7 @@ impl<O: Object> Session<O> {
     pub fn checkpoint(&mut self, into: &mut [u64], tries: Tries) -> SessionCheckpoint
         requires ready { IsSessionOpen self.old }
         requires words { length into.old ≡ length (arc_value self.old.service).base.words }
-        ensures ready { IsSessionOpen self.new }
-        ensures takes { TakesIn O.Object into.new tries.count self.old result self.new }
+        ensures takes { LeavesOpen self.new (TakesIn O.Object into.new tries.count self.old result self.new) }
         ensures length { length into.new ≡ length into.old }
     {
         let Some(handed) = self.handed.take() else {

@@ -3,7 +3,7 @@
 ghost use Rattle.std.specs.Prelude.{◌≡◌, IsTrue};
 ghost use Rattle.cx_service.specs.Callers.{IsCallerOf, IsLinkedOf};
 ghost use Rattle.seat_pool.specs.Gathering.{IsHandedOf};
-ghost use Rattle.c_sessions.specs.Calls.{Calls, CallsFrom, DrivesTo, EntersTo, FinishesFrom, LooksTo, place_after};
+ghost use Rattle.c_sessions.specs.Calls.{Calls, CallsFrom, DrivesTo, EntersTo, FinishesFrom, HandsBack, LooksTo, place_after};
 
 use crate::tries::Tries;
 use cx_base::{Object, OpWords};
@@ -49,8 +49,7 @@ pub(crate) fn call_idle<O: Object>(
     tries: Tries,
 ) -> (Handed, Called)
     requires ready { IsHandedOf service.now handed }
-    ensures ready { IsHandedOf service.now result.0 }
-    ensures calls { CallsFrom O.only_reads service.now op.now tries.count handed result.1 result.0 reply.new }
+    ensures { HandsBack service.now result.0 (CallsFrom O.only_reads service.now op.now tries.count handed result.1 result.0 reply.new) }
 {
     match handed {
         Handed::Idle(caller) => read_or_enter(service, caller, op, reply, tries),
@@ -66,8 +65,7 @@ pub(crate) fn finish_linked<O: Object>(
     tries: Tries,
 ) -> (Handed, Called)
     requires ready { IsHandedOf service.now handed }
-    ensures ready { IsHandedOf service.now result.0 }
-    ensures finishes { FinishesFrom service.now tries.count handed result.1 result.0 reply.new }
+    ensures { HandsBack service.now result.0 (FinishesFrom service.now tries.count handed result.1 result.0 reply.new) }
 {
     match handed {
         Handed::Linked(linked) => drive(service, linked, reply, tries),
@@ -84,8 +82,7 @@ fn read_or_enter<O: Object>(
     tries: Tries,
 ) -> (Handed, Called)
     requires caller { IsCallerOf service.now caller }
-    ensures ready { IsHandedOf service.now result.0 }
-    ensures calls { Calls O.only_reads service.now op.now tries.count caller result.1 result.0 reply.new }
+    ensures { HandsBack service.now result.0 (Calls O.only_reads service.now op.now tries.count caller result.1 result.0 reply.new) }
 {
     if service.object().reads(op) {
         read_idle(service, caller, op, reply, tries)
@@ -104,8 +101,7 @@ fn read_idle<O: Object>(
 ) -> (Handed, Called)
     requires caller { IsCallerOf service.now caller }
     requires reads { IsTrue (O.only_reads service.now.object op.now) }
-    ensures ready { IsHandedOf service.now result.0 }
-    ensures looks { LooksTo service.now op.now tries.count caller result.1 result.0 reply.new }
+    ensures { HandsBack service.now result.0 (LooksTo service.now op.now tries.count caller result.1 result.0 reply.new) }
 {
     match service.try_read(caller, op, reply, tries.count) {
         ReadTried::Read(back, place) => (Handed::Idle(back), Called::Done(place)),
@@ -123,8 +119,7 @@ fn enter<O: Object>(
     tries: Tries,
 ) -> (Handed, Called)
     requires caller { IsCallerOf service.now caller }
-    ensures ready { IsHandedOf service.now result.0 }
-    ensures enters { EntersTo service.now op.now tries.count caller result.1 result.0 reply.new }
+    ensures { HandsBack service.now result.0 (EntersTo service.now op.now tries.count caller result.1 result.0 reply.new) }
 {
     match service.submit(caller, op, tries.count) {
         Submitted::Linked(linked) => drive(service, linked, reply, tries),
@@ -143,8 +138,7 @@ fn drive<O: Object>(
     tries: Tries,
 ) -> (Handed, Called)
     requires linked { IsLinkedOf service.now linked }
-    ensures ready { IsHandedOf service.now result.0 }
-    ensures drives { DrivesTo service.now tries.count linked result.1 result.0 reply.new }
+    ensures { HandsBack service.now result.0 (DrivesTo service.now tries.count linked result.1 result.0 reply.new) }
 {
     match service.drive(linked, reply, tries.count) {
         Driven::Done(back, ticket) => {

@@ -1,5 +1,5 @@
-use Rattle.std.proofs.Common.{inr}
+use Rattle.std.proofs.Common.{inr, rules}
 use Rattle.c_sessions.proofs.steps.enter.Goals as goal
 
-pub returns-in-Halted-clause-enters : goal.returns-in-Halted-clause-enters
-returns-in-Halted-clause-enters g c = inr c.in-Halted.ensures
+pub returns-in-Halted : goal.returns-in-Halted
+returns-in-Halted g c = record { ready = search rules; done = inr c.in-Halted.ensures }

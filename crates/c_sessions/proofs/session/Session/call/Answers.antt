@@ -12,11 +12,8 @@ left g c =
     let service = c.deref.result.now in
     let b = c.in-Some.handed in
     let h = c.call_idle-handed.result.0 in
-    left_by _ s b h service _ _ c.deref.ensures c.requires.ready (sym c.take.ensures.value ∙ c.in-Some.is) c.place_after-self.ensures c.call_idle-handed.ensures.ready c.call_idle-handed.ensures.calls
-    (λ of seen. calls_go service s.place g.O.Object.only_reads c.args.op.now c.args.tries.count b c.call_idle-handed.result.1 h c.call_idle-handed.new.reply of seen c.call_idle-handed.ensures.calls)
+    left_by _ s b h service _ _ c.deref.ensures c.requires.ready (sym c.take.ensures.value ∙ c.in-Some.is) c.place_after-self.ensures c.call_idle-handed.ensures.ready c.call_idle-handed.ensures.done
+    (λ of seen. calls_go service s.place g.O.Object.only_reads c.args.op.now c.args.tries.count b c.call_idle-handed.result.1 h c.call_idle-handed.new.reply of seen c.call_idle-handed.ensures.done)
 
-pub returns-clause-ready : goal.returns-clause-ready
-returns-clause-ready g c = (left g c).ready
-
-pub returns-clause-calls : goal.returns-clause-calls
-returns-clause-calls g c = (left g c).stands
+pub returns : goal.returns
+returns g c = record { ready = (left g c).ready; done = (left g c).stands }

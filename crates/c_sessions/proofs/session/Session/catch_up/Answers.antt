@@ -12,11 +12,8 @@ left g c =
     let service = c.deref.result.now in
     let b = c.in-Some.handed in
     let h = c.catch_up_idle-handed.result.0 in
-    left_by _ s b h service _ _ c.deref.ensures c.requires.ready (sym c.take.ensures.value ∙ c.in-Some.is) c.place_seen-self.ensures c.catch_up_idle-handed.ensures.ready c.catch_up_idle-handed.ensures.sees
-    (λ of seen. sees_go service s.place c.args.place b c.catch_up_idle-handed.result.1 h of seen c.catch_up_idle-handed.ensures.sees)
+    left_by _ s b h service _ _ c.deref.ensures c.requires.ready (sym c.take.ensures.value ∙ c.in-Some.is) c.place_seen-self.ensures c.catch_up_idle-handed.ensures.ready c.catch_up_idle-handed.ensures.done
+    (λ of seen. sees_go service s.place c.args.place b c.catch_up_idle-handed.result.1 h of seen c.catch_up_idle-handed.ensures.done)
 
-pub returns-clause-ready : goal.returns-clause-ready
-returns-clause-ready g c = (left g c).ready
-
-pub returns-clause-sees : goal.returns-clause-sees
-returns-clause-sees g c = (left g c).stands
+pub returns : goal.returns
+returns g c = record { ready = (left g c).ready; done = (left g c).stands }
