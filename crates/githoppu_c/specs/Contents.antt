@@ -60,6 +60,16 @@ IsContentCallable o replies Gone = Unit {0}
 abbrev pub IsCallable : AnyHandleState → Type 0
 IsCallable = OfAny (IsContentCallable store_ghosts Document) (IsContentCallable queue_ghosts QueueReplies) (IsContentCallable program_ghosts ProgramReplies)
 
+-- a call leaves what C may call, and this was done
+pub record LeavesContentCallable {O : Type 0} (o : Ghosts O) (replies : ReplyKind) (after : HandleState O) (Done : Type 0) : Type 0 where
+  pub callable : IsContentCallable o replies after
+  pub done : Done
+
+-- the same of a content of any object
+pub record LeavesCallable (after : AnyHandleState) (Done : Type 0) : Type 0 where
+  pub callable : IsCallable after
+  pub done : Done
+
 -- a session of a store, of a queue, or of a program's object, as C has it
 abbrev pub store_session : SessionOf DocStore → AnyHandleState
 store_session session = Documents (Session session)

@@ -1,5 +1,5 @@
 -- What became of a session's last operation, as the words of an image say.
-use Rattle.std.specs.Prelude.{◌≡◌, ◌==◌, ◌⊎◌, ◌+◌, ◌*◌, ◌<◌, ◌≤◌, ℕ, ℤ, pos, List, replicate, slice_index, if◌then◌else◌}
+use Rattle.std.specs.Prelude.{◌≡◌, ◌==◌, ◌⊎◌, ◌+◌, ◌*◌, ◌<◌, ◌≤◌, ℕ, ℤ, pos, List, IfOk, MatchResult, Result, length, replicate, slice_index, if◌then◌else◌}
 use Rattle.cx_base.specs.Codes.{root_replica_of}
 use Rattle.cx_base.specs.OldFormat.{no_old_format}
 use Rattle.cx_core.specs.declared.entry.Base.{Base}
@@ -45,6 +45,11 @@ IsOutcomeIn words session outcome = (session < 8) × ((base : Base) × IsBaseIn 
 -- the words are refused, with the number of their fault
 abbrev pub RefusesBase : List ℕ → ℤ → Type 0
 RefusesBase words code = (fault : WordsFault) × IsBaseFault words fault × (code ≡ fault_code fault)
+
+-- the base that words say, which has a region's words before the object part, or why they say none
+pub record TellsBase (words : List ℕ) (answer : Result Base ℤ) : Type 0 where
+  pub told : MatchResult answer (IsBaseIn words) (RefusesBase words)
+  pub long : IfOk answer (λ base. 1168 ≤ length base.words)
 
 -- why nothing is told: there is no such session, or the words are refused
 abbrev pub RefusesOutcome : List ℕ → ℕ → ℤ → Type 0

@@ -5,7 +5,7 @@ ghost use Rattle.githoppu_c.specs.Again.{ComesBack, ContentComesBack, ContentTak
 ghost use Rattle.githoppu_c.specs.Checkpoints.{CheckpointsSession, ContentCheckpoints};
 ghost use Rattle.githoppu_c.specs.Closings.{ClosesAs, ContentCloses, ContentImages, Images, content_left};
 ghost use Rattle.githoppu_c.specs.Codes.{closing_code};
-ghost use Rattle.githoppu_c.specs.Contents.{CallHasResult, ContentCalls, ContentFinishes, FinishesSession, IsCallable, IsContentCallable};
+ghost use Rattle.githoppu_c.specs.Contents.{CallHasResult, ContentCalls, ContentFinishes, FinishesSession, IsCallable, IsContentCallable, LeavesCallable, LeavesContentCallable};
 ghost use Rattle.githoppu_c.specs.Places.{ContentMayHavePlace, ContentSees, MayHavePlace, ContentCatchesUp};
 
 use crate::checkpoint::take_to;
@@ -51,8 +51,7 @@ impl<O: OfC> HandleState<O> {
     /// Does an operation, in at most the given number of tries.
     pub fn call(&mut self, op: &OpWords, reply: &mut OpWords, tries: Tries) -> Called
         requires callable { IsContentCallable O.Object O.replies_kept self.old }
-        ensures callable { IsContentCallable O.Object O.replies_kept self.new }
-        ensures calls { ContentCalls O.Object op.now tries.count result reply.new self.old self.new }
+        ensures { LeavesContentCallable O.Object O.replies_kept self.new (ContentCalls O.Object op.now tries.count result reply.new self.old self.new) }
     {
         match self {
             HandleState::Session(session) => session.call(op, reply, tries),
@@ -63,8 +62,7 @@ impl<O: OfC> HandleState<O> {
     /// Drives the linked entry to its answer, in at most the given number of turns.
     pub fn finish(&mut self, reply: &mut OpWords, tries: Tries) -> Called
         requires callable { IsContentCallable O.Object O.replies_kept self.old }
-        ensures callable { IsContentCallable O.Object O.replies_kept self.new }
-        ensures finishes { ContentFinishes tries.count result reply.new self.old self.new }
+        ensures { LeavesContentCallable O.Object O.replies_kept self.new (ContentFinishes tries.count result reply.new self.old self.new) }
     {
         match self {
             HandleState::Session(session) => session.finish(reply, tries),
@@ -85,8 +83,7 @@ impl<O: OfC> HandleState<O> {
     /// Has a session see a place that another one told.
     pub fn catch_up(&mut self, place: u64) -> SessionCatchUp
         requires callable { IsContentCallable O.Object O.replies_kept self.old }
-        ensures callable { IsContentCallable O.Object O.replies_kept self.new }
-        ensures sees { ContentSees place result self.old self.new }
+        ensures { LeavesContentCallable O.Object O.replies_kept self.new (ContentSees place result self.old self.new) }
     {
         match self {
             HandleState::Session(session) => session.catch_up(place),
@@ -98,8 +95,7 @@ impl<O: OfC> HandleState<O> {
     /// up again where its results keep replies. What is no session is called out of turn, and `needed` is 0.
     pub fn checkpoint(&mut self, words: &mut [u64], needed: &mut u64) -> i32
         requires callable { IsContentCallable O.Object O.replies_kept self.old }
-        ensures callable { IsContentCallable O.Object O.replies_kept self.new }
-        ensures checkpoints { ContentCheckpoints O.Object O.KIND words.old words.new needed.new result self.old self.new }
+        ensures checkpoints { LeavesContentCallable O.Object O.replies_kept self.new (ContentCheckpoints O.Object O.KIND words.old words.new needed.new result self.old self.new) }
         ensures back { ContentTakenBack O.Object O.KIND words.new result self.old }
     {
         match self {
@@ -117,8 +113,7 @@ impl<O: OfC> HandleState<O> {
     /// Closes a session, or what is still to be closed.
     pub fn close(&mut self, alloc: Global) -> i32
         requires callable { IsContentCallable O.Object O.replies_kept self.old }
-        ensures callable { IsContentCallable O.Object O.replies_kept self.new }
-        ensures closes { ContentCloses O.Object result self.old self.new }
+        ensures { LeavesContentCallable O.Object O.replies_kept self.new (ContentCloses O.Object result self.old self.new) }
     {
         let (after, code) = mem::replace(self, HandleState::Gone).closed(alloc);
         *self = after;
@@ -182,8 +177,7 @@ impl AnyHandleState {
     /// Does an operation, in at most the given number of tries.
     pub fn call(&mut self, op: &OpWords, reply: &mut OpWords, tries: Tries) -> Called
         requires callable { IsCallable self.old }
-        ensures callable { IsCallable self.new }
-        ensures calls { CallHasResult op.now tries.count self.old result self.new reply.new }
+        ensures { LeavesCallable self.new (CallHasResult op.now tries.count self.old result self.new reply.new) }
     {
         match self {
             AnyHandleState::Documents(content) => content.call(op, reply, tries),
@@ -195,8 +189,7 @@ impl AnyHandleState {
     /// Drives the linked entry to its answer, in at most the given number of turns.
     pub fn finish(&mut self, reply: &mut OpWords, tries: Tries) -> Called
         requires callable { IsCallable self.old }
-        ensures callable { IsCallable self.new }
-        ensures finishes { FinishesSession tries.count self.old result self.new reply.new }
+        ensures { LeavesCallable self.new (FinishesSession tries.count self.old result self.new reply.new) }
     {
         match self {
             AnyHandleState::Documents(content) => content.finish(reply, tries),
@@ -219,8 +212,7 @@ impl AnyHandleState {
     /// Has a session see a place that another one told.
     pub fn catch_up(&mut self, place: u64) -> SessionCatchUp
         requires callable { IsCallable self.old }
-        ensures callable { IsCallable self.new }
-        ensures sees { ContentCatchesUp place self.old result self.new }
+        ensures { LeavesCallable self.new (ContentCatchesUp place self.old result self.new) }
     {
         match self {
             AnyHandleState::Documents(content) => content.catch_up(place),
@@ -232,8 +224,7 @@ impl AnyHandleState {
     /// Has a session take an image while others go on.
     pub fn checkpoint(&mut self, words: &mut [u64], needed: &mut u64) -> i32
         requires callable { IsCallable self.old }
-        ensures callable { IsCallable self.new }
-        ensures checkpoints { CheckpointsSession self.old self.new words.old words.new needed.new result }
+        ensures checkpoints { LeavesCallable self.new (CheckpointsSession self.old self.new words.old words.new needed.new result) }
         ensures back { TakenComesBack self.old words.new result }
     {
         match self {
@@ -249,8 +240,7 @@ impl AnyHandleState {
     /// Closes a session, or what is still to be closed.
     pub fn close(&mut self, alloc: Global) -> i32
         requires callable { IsCallable self.old }
-        ensures callable { IsCallable self.new }
-        ensures closes { ClosesAs self.old self.new result }
+        ensures { LeavesCallable self.new (ClosesAs self.old self.new result) }
     {
         match self {
             AnyHandleState::Documents(content) => content.close(alloc),

@@ -1,8 +1,8 @@
 //! What became of a session's last operation, as the words of an image say.
 
-ghost use Rattle.std.specs.Prelude.{◌≡◌, ◌≢◌, ◌≤◌, IfOk, MatchResult, length};
+ghost use Rattle.std.specs.Prelude.{◌≡◌, ◌≢◌, MatchResult};
 ghost use Rattle.c_images.specs.Words.{IsHeaded, IsSaid, object_kind_in};
-ghost use Rattle.githoppu_c.specs.Outcomes.{IsBaseIn, IsOutcomeIn, RefusesBase, RefusesOutcome};
+ghost use Rattle.githoppu_c.specs.Outcomes.{IsOutcomeIn, RefusesOutcome, TellsBase};
 ghost use Rattle.githoppu_c.specs.Outcomes as spec;
 
 use crate::codes::{BAD_SIZE, fault_code};
@@ -31,8 +31,7 @@ pub fn outcome_in(alloc: Global, words: &[u64], session: u64) -> Result<Outcome,
 
 /// The base that words say, of whichever object.
 fn any_base(alloc: Global, words: &[u64]) -> Result<Base, i32>
-    ensures told { MatchResult result (IsBaseIn words.now) (RefusesBase words.now) }
-    ensures long { IfOk result (λ base. OBJECT_START ≤ length base.words) }
+    ensures { TellsBase words.now result }
 {
     match head_of(words, DOCUMENTS) {
         Ok(head) => base_in(
@@ -51,8 +50,7 @@ fn any_base(alloc: Global, words: &[u64]) -> Result<Base, i32>
 fn other_base(alloc: Global, words: &[u64]) -> Result<Base, i32>
     requires headed { IsHeaded words.now }
     requires other { object_kind_in words.now ≢ 1 }
-    ensures told { MatchResult result (IsBaseIn words.now) (RefusesBase words.now) }
-    ensures long { IfOk result (λ base. OBJECT_START ≤ length base.words) }
+    ensures { TellsBase words.now result }
 {
     match head_of(words, QUEUE) {
         Ok(head) => base_in(alloc, &Fifo::of(head.lines), ReplyKind::Queue, words, head),
@@ -66,8 +64,7 @@ fn program_base(alloc: Global, words: &[u64]) -> Result<Base, i32>
     requires headed { IsHeaded words.now }
     requires no_store { object_kind_in words.now ≢ 1 }
     requires no_queue { object_kind_in words.now ≢ 2 }
-    ensures told { MatchResult result (IsBaseIn words.now) (RefusesBase words.now) }
-    ensures long { IfOk result (λ base. OBJECT_START ≤ length base.words) }
+    ensures { TellsBase words.now result }
 {
     match head_of(words, PROGRAM) {
         Ok(head) => {

@@ -13,4 +13,4 @@ returns-else-code-eq-OTHERS c =
     let after = c.close-code.new.self in
     let same : c.deref_mut.result.now ≡ c.args.session.content = search rules in
     let code : c.close-code.result ≡ to_z w32 (of_z w32 c.close-code.result) = search rules in
-    (after, c.close-code.ensures.callable, subst (λ (before : AnyHandleState). ClosesAs before after (to_z w32 (of_z w32 c.close-code.result))) same (subst (ClosesAs c.deref_mut.result.now after) code c.close-code.ensures.closes))
+    (after, c.close-code.ensures.callable, subst (λ (before : AnyHandleState). ClosesAs before after (to_z w32 (of_z w32 c.close-code.result))) same (subst (ClosesAs c.deref_mut.result.now after) code c.close-code.ensures.done))

@@ -13,7 +13,7 @@ returns-in-At-clause-takes g c =
     let part = c.checkpoint.new.into in
     let place = c.in-At.place in
     let takes : TakesIn g.O.Object part 16 s (At place) c.checkpoint.new.self = search rules in
-    let base = taken_base g.O.Object part 16 place s c.checkpoint.new.self c.requires.ready c.checkpoint.ensures.ready takes in
+    let base = taken_base g.O.Object part 16 place s c.checkpoint.new.self c.requires.ready c.checkpoint.ensures.takes.ready takes in
     let all : length c.args.words.now ≡ region_words r.lines + 8 = search rules in
     record {
       told = c.base_image_words-count.ensures ∙ ap (λ n. region_words n + 8) c.lines-lines.ensures.value;
