@@ -6,7 +6,7 @@ use Rattle.cx_core.specs.declared.entry.Image.{Image}
 use Rattle.cx_core.specs.Region.{region_words}
 use Rattle.cx_table.specs.declared.remains.Remains.{Remains}
 use Rattle.recovery.specs.Crashes.{left_root, left_word}
-use Rattle.recovery.specs.Images.{Gives, image_size, region_of}
+use Rattle.recovery.specs.Images.{Gives, IsReadable, image_size, region_of}
 use Rattle.recovery.specs.Recovery.{HasSize, IsFaultOf, IsRecovered, NumbersWithin}
 use Rattle.recovery.specs.declared.recovered_base.ImageFault.{ImageFault}
 use Rattle.recovery.specs.declared.recovered_base.ImageFault.TheVariants.{Memory}
@@ -94,6 +94,11 @@ pub record SaysImage (words : List ℕ) (image : Image) : Type 0 where
   pub root : image.root ≡ root_in words
   pub replicas : format_in words ≡ 1 → SaysReplicas words image
   pub one : format_in words ≡ 2 → SaysRegion words image
+
+-- the same, and the image can be read as one of this many lines
+pub record SaysReadable (words : List ℕ) (lines : ℕ) (image : Image) : Type 0 where
+  pub said : SaysImage words image
+  pub readable : IsReadable lines image
 
 -- up to an end, the words after the head are those that a crash leaves; there are as many in all as the other number says
 pub record AreLeftWords (r : Remains) (choice end_ count : ℕ) (words : List ℕ) : Type 0 where

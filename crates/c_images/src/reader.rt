@@ -3,9 +3,9 @@
 ghost use Rattle.std.specs.Prelude.{◌≡◌, ◌+◌, ◌-◌, ◌<◌, ◌≤◌, ◌^◌, ◌↔◌, IfOk, IsTrue, MatchResult, length};
 ghost use Rattle.cx_core.specs.Base.{LawfulBase};
 ghost use Rattle.cx_core.specs.Region.{slot_number};
-ghost use Rattle.recovery.specs.Images.{Gives, IsReadable};
+ghost use Rattle.recovery.specs.Images.{Gives};
 ghost use Rattle.recovery.specs.Recovery.{NumbersWithin};
-ghost use Rattle.c_images.specs.Words.{IsSaid, IsTakenUp, IsWordsFault, SaysImage, format_in, word_from};
+ghost use Rattle.c_images.specs.Words.{IsSaid, IsTakenUp, IsWordsFault, SaysReadable, format_in, word_from};
 ghost use Rattle.c_images.specs.declared.reader.WordsFault.TheVariants.{Numbers};
 
 use crate::head::{HEAD, Head, ONE_REGION};
@@ -55,8 +55,7 @@ pub fn base_of<O: Object>(
 /// The image that words say.
 fn image_of(alloc: Global, words: &[u64], head: Head) -> Result<Image, AllocError>
     requires { IsSaid words.now head }
-    ensures said { IfOk result (SaysImage words.now) }
-    ensures readable { IfOk result (IsReadable head.lines) }
+    ensures { IfOk result (SaysReadable words.now head.lines) }
 {
     if head.format == ONE_REGION {
         region_image(alloc, words, head)
@@ -69,8 +68,7 @@ fn image_of(alloc: Global, words: &[u64], head: Head) -> Result<Image, AllocErro
 fn replicas_image(alloc: Global, words: &[u64], head: Head) -> Result<Image, AllocError>
     requires said { IsSaid words.now head }
     requires format { format_in words.now ≡ 1 }
-    ensures said { IfOk result (SaysImage words.now) }
-    ensures readable { IfOk result (IsReadable head.lines) }
+    ensures { IfOk result (SaysReadable words.now head.lines) }
 {
     let pairs = pairs_from(alloc, words, 0)?;
     Ok(Image {
@@ -86,8 +84,7 @@ fn replicas_image(alloc: Global, words: &[u64], head: Head) -> Result<Image, All
 fn region_image(alloc: Global, words: &[u64], head: Head) -> Result<Image, AllocError>
     requires said { IsSaid words.now head }
     requires format { format_in words.now ≡ 2 }
-    ensures said { IfOk result (SaysImage words.now) }
-    ensures readable { IfOk result (IsReadable head.lines) }
+    ensures { IfOk result (SaysReadable words.now head.lines) }
 {
     let region = base_words(head.lines);
     let start = region * u64::from(root_replica(head.callers, head.root));
