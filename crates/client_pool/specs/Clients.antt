@@ -1,5 +1,5 @@
 -- A client of a pool, and the results of its calls.
-use Rattle.std.specs.Prelude.{◌≡◌, ◌+◌, ◌<◌, ◌≤◌, ◌⊎◌, ℕ, max, List, [], ◌∷◌, ◌++◌, None, length, map, vec_capacity, vec_len}
+use Rattle.std.specs.Prelude.{◌≡◌, ◌+◌, ◌<◌, ◌≤◌, ◌⊎◌, ℕ, Bool, true, max, List, [], ◌∷◌, ◌++◌, None, length, map, vec_capacity, vec_len}
 use Rattle.atomic_table.specs.Seated.{TableId}
 use Rattle.crossbeam_queue.specs.Passes.{view}
 use Rattle.cx_core.specs.declared.local.Answer.{Answer}
@@ -21,13 +21,14 @@ use Rattle.client_pool.specs.declared.call.Answered.TheVariants.{Updated, Read}
 use Rattle.client_pool.specs.declared.call.Call.{Call}
 use Rattle.client_pool.specs.declared.call.Call.TheVariants.{Entry, Look}
 use Rattle.client_pool.specs.declared.client.Client.{Client}
+use Rattle.client_pool.specs.declared.pool.Pool.{Pool}
 use Rattle.client_pool.specs.declared.pool.PooledCatchUp.{PooledCatchUp}
 use Rattle.client_pool.specs.declared.pool.PooledCatchUp.TheVariants.{Caught, Behind, Stopped as StoppedCatchUp}
 use Rattle.client_pool.specs.declared.pool.Pooled.{Pooled}
 use Rattle.client_pool.specs.declared.pool.Pooled.TheVariants.{Done, Full, Worn, Stopped, Memory}
 use Rattle.client_pool.specs.declared.pool.PooledRead.{PooledRead}
 use Rattle.client_pool.specs.declared.pool.PooledRead.TheVariants.{Read as ReadSeen, Queued, Full as FullRead, Worn as WornRead, Stopped as StoppedRead, Memory as MemoryRead}
-use Rattle.client_pool.specs.Lending.{ComesFrom, HaltsBesideQueue, IsLentTo, IsReadRefused, KeepsFull, KeepsStopped, KeepsWorn, ReturnsFirst, limits_of}
+use Rattle.client_pool.specs.Lending.{ComesFrom, HaltsBesideQueue, IsLentTo, IsPool, IsReadRefused, KeepsFull, KeepsStopped, KeepsWorn, ReturnsFirst, is_live, limits_of}
 
 -- what its client sees of a call
 abbrev pub answered_by : Call → Answered
@@ -76,6 +77,12 @@ pub record HasCalls {O : Type 0} (r : Running O) (client : Client) (calls : List
 -- a client between its calls
 abbrev pub IsClientOf : {O : Type 0} → Running O → TableId → Client → Type 0
 IsClientOf r table client = IsLentTo r table client.lent
+
+-- a client of the pool may call: its caller is not stopped
+pub record MayCall {O : Type 0} (reads : O → List ℕ → Bool) (pool : Pool O) (client : Client) : Type 0 where
+  pub pool_is : IsPool reads pool
+  pub client_is : IsClientOf pool.service pool.line.table.shared.table_id client
+  pub live : is_live client.lent.kept ≡ true
 
 -- its number, the limits of its service's callers, and what it has for the closing
 pub record IsSameClient (before after : Client) : Type 0 where

@@ -198,6 +198,12 @@ pub record IsPool {O : Type 0} (reads : O → List ℕ → Bool) (pool : Pool O)
   pub room : ruled_capacity pool.line ≡ pool.service.callers
   pub probe : IsTrue (reads pool.service.object pool.probe)
 
+-- a call may begin with what the pool lent: it is lent to a client of the pool, and its caller is not stopped
+pub record MayLend {O : Type 0} (reads : O → List ℕ → Bool) (pool : Pool O) (lent : Lent) : Type 0 where
+  pub pool_is : IsPool reads pool
+  pub lent_is : IsLentTo pool.service pool.line.table.shared.table_id lent
+  pub live : is_live lent.kept ≡ true
+
 -- The caller that the call begins with is out, and has seen all below a floor.
 pub record IsBegun {O : Type 0} (r : Running O) (table : TableId) (floor : ℕ) (before after : Lent) (caller : Seated) : Type 0 where
   pub out : IsOut r table after caller

@@ -1,8 +1,8 @@
 //! A client catches up with what another one was answered.
 
 ghost use Rattle.std.specs.Prelude.{◌≡◌, true};
-ghost use Rattle.client_pool.specs.Clients.{ClientCatchesUp, IsClientOf};
-ghost use Rattle.client_pool.specs.Lending.{IsLentTo, IsPool, ClientSees, is_live};
+ghost use Rattle.client_pool.specs.Clients.{ClientCatchesUp, MayCall};
+ghost use Rattle.client_pool.specs.Lending.{ClientSees, MayLend};
 
 use crate::client::Client;
 use crate::lend::{keep_stopped, take_for};
@@ -19,8 +19,7 @@ fn catch_up_lent<O: Object, R: Wait>(
     lent: &mut Lent,
     place: u64,
 ) -> PooledCatchUp
-    requires pool { IsPool O.only_reads pool.now }
-    requires lent { IsLentTo pool.now.service pool.now.line.table.shared.table_id lent.old × (is_live lent.old.kept ≡ true) }
+    requires { MayLend O.only_reads pool.now lent.old }
     ensures { ClientSees pool.now.service pool.now.line.table.shared.table_id place lent.old lent.new result }
 {
     let caller = take_for(rt, &pool.service, &pool.line, lent);
@@ -47,8 +46,7 @@ impl<O: Object> Pool<O> {
     /// nothing is changed then. It waits for a caller. `Stopped` comes only where the caller's step limit was reached: the client keeps it,
     /// and makes no further call.
     pub fn catch_up<R: Wait>(&self, rt: &R, client: &mut Client, place: u64) -> PooledCatchUp
-        requires pool { IsPool O.only_reads self.now }
-        requires client { IsClientOf self.now.service self.now.line.table.shared.table_id client.old × (is_live client.old.lent.kept ≡ true) }
+        requires { MayCall O.only_reads self.now client.old }
         ensures { ClientCatchesUp self.now.service self.now.line.table.shared.table_id place client.old client.new result }
     {
         match catch_up_lent(rt, self, &mut client.lent, place) {

@@ -5,7 +5,7 @@ ghost use Rattle.crossbeam_queue.specs.Passes.{view, IsPassOf};
 ghost use Rattle.cx_service.specs.Callers.{IsCallerOf};
 ghost use Rattle.cx_service.specs.declared.close.Handed.TheVariants as handed_cases;
 ghost use Rattle.seat_pool.specs.Pooling.{HasLimit, IsHomeOf, limits_at, with_taken};
-ghost use Rattle.client_pool.specs.Lending.{Begins, CatchesUpToFloor, IsFirstCaller, IsLentTo, IsOut, IsPart, IsPool, MaySettle, Settles, TellsSame, is_live};
+ghost use Rattle.client_pool.specs.Lending.{Begins, CatchesUpToFloor, IsFirstCaller, IsLentTo, IsOut, IsPart, IsPool, MayLend, MaySettle, Settles, TellsSame, is_live};
 
 use crate::pool::Pool;
 use crossbeam_queue::Pass;
@@ -130,8 +130,7 @@ pub(crate) fn begin<O: Object, R: Wait>(
     floor: u64,
     buffer: &mut OpWords,
 ) -> Result<Caller, Option<u64>>
-    requires pool { IsPool O.only_reads pool.now }
-    requires lent { IsLentTo pool.now.service pool.now.line.table.shared.table_id lent.old × (is_live lent.old.kept ≡ true) }
+    requires { MayLend O.only_reads pool.now lent.old }
     ensures { Begins pool.now.service pool.now.line.table.shared.table_id floor lent.old lent.new result }
 {
     let caller = take_for(rt, &pool.service, &pool.line, lent);

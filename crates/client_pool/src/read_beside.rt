@@ -1,8 +1,8 @@
 //! A read of a client.
 
 ghost use Rattle.std.specs.Prelude.{◌≡◌, ◌≤◌, IsTrue, true};
-ghost use Rattle.client_pool.specs.Clients.{IsClientOf, ReadsForClient};
-ghost use Rattle.client_pool.specs.Lending.{IsOut, IsPool, ReadsBesideQueue, is_live};
+ghost use Rattle.client_pool.specs.Clients.{MayCall, ReadsForClient};
+ghost use Rattle.client_pool.specs.Lending.{IsOut, IsPool, ReadsBesideQueue};
 
 use crate::call::Answered;
 use crate::client::Client;
@@ -71,8 +71,7 @@ impl<O: Object> Pool<O> {
         op: &OpWords,
         reply: &mut OpWords,
     ) -> PooledRead
-        requires pool { IsPool O.only_reads self.now }
-        requires client { IsClientOf self.now.service self.now.line.table.shared.table_id client.old × (is_live client.old.lent.kept ≡ true) }
+        requires may { MayCall O.only_reads self.now client.old }
         requires reads { IsTrue (O.only_reads self.now.service.object op.now) }
         ensures { ReadsForClient self.now.service self.now.line.table.shared.table_id op.now reply.new client.old client.new result }
     {

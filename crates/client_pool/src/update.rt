@@ -1,8 +1,7 @@
 //! An update of a client.
 
 ghost use Rattle.std.specs.Prelude.{◌≡◌, true};
-ghost use Rattle.client_pool.specs.Clients.{IsClientOf, UpdatesForClient};
-ghost use Rattle.client_pool.specs.Lending.{IsPool, is_live};
+ghost use Rattle.client_pool.specs.Clients.{MayCall, UpdatesForClient};
 
 use crate::call::Answered;
 use crate::client::Client;
@@ -36,8 +35,7 @@ impl<O: Object> Pool<O> {
         op: &OpWords,
         reply: &mut OpWords,
     ) -> Pooled
-        requires pool { IsPool O.only_reads self.now }
-        requires client { IsClientOf self.now.service self.now.line.table.shared.table_id client.old × (is_live client.old.lent.kept ≡ true) }
+        requires { MayCall O.only_reads self.now client.old }
         ensures { UpdatesForClient self.now.service self.now.line.table.shared.table_id op.now reply.new client.old client.new result }
     {
         if client.answers.reserve(1).is_err() {
