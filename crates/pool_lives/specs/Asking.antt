@@ -1,5 +1,5 @@
 -- The result of an operation that a client asks for.
-use Rattle.std.specs.Prelude.{◌≡◌, ◌^◌, ◌-◌, ℕ, true, List, Option, None, Some, slice_get}
+use Rattle.std.specs.Prelude.{◌≡◌, ◌^◌, ◌-◌, ℕ, Bool, true, IsTrue, List, Option, None, Some, slice_get}
 use Rattle.atomic_table.specs.Seated.{TableId}
 use Rattle.table_invariant.specs.Running.{Running}
 use Rattle.table_invariant.specs.Seats.{Seated}
@@ -7,8 +7,9 @@ use Rattle.cx_service.specs.Drives.{answer_with}
 use Rattle.cx_service.specs.Lookups.{seen_with}
 use Rattle.cx_service.specs.declared.close.Handed.TheVariants.{Idle}
 use Rattle.client_pool.specs.Clients.{HasNoMore, HasRead, HasUpdated, IsClientOf}
-use Rattle.client_pool.specs.Lending.{is_live, limits_of}
+use Rattle.client_pool.specs.Lending.{IsPool, is_live, limits_of}
 use Rattle.client_pool.specs.declared.client.Client.{Client}
+use Rattle.client_pool.specs.declared.pool.Pool.{Pool}
 use Rattle.pool_lives.specs.declared.calls.CallOutcome.{CallOutcome}
 use Rattle.pool_lives.specs.declared.calls.CallOutcome.TheVariants.{Done, Read, Worn}
 
@@ -21,6 +22,12 @@ pub record MayAsk {O : Type 0} (r : Running O) (table : TableId) (client : Clien
   pub is : IsClientOf r table client
   pub live : is_live client.lent.kept ≡ true
   pub unlimited : AreUnlimited (limits_of client.lent)
+
+-- a client of the pool may ask for this operation, beside the queue only where it only reads
+pub record MayAskFor {O : Type 0} (only_reads : O → List ℕ → Bool) (of : Pool O) (asking : Client) (beside : Bool) (op : List ℕ) : Type 0 where
+  pub pool : IsPool only_reads of
+  pub client : MayAsk of.service of.line.table.shared.table_id asking
+  pub reads : IsTrue beside → IsTrue (only_reads of.service.object op)
 
 -- it keeps a caller for which there is no further ticket
 pub record KeepsLast (client : Client) : Type 0 where

@@ -1,8 +1,7 @@
 //! A client's calls of its pool, each made again while others keep the cells that it needs.
 
-ghost use Rattle.std.specs.Prelude.{IfOk, IsTrue};
-ghost use Rattle.client_pool.specs.Lending.{IsPool};
-ghost use Rattle.pool_lives.specs.Asking.{ClientAsksOnce, ClientRequestEnds, MayAsk};
+ghost use Rattle.std.specs.Prelude.{IfOk};
+ghost use Rattle.pool_lives.specs.Asking.{ClientAsksOnce, ClientRequestEnds, MayAskFor};
 
 use client_pool::{Client, Pool, Pooled, PooledRead};
 use cx_base::{Object, OpWords};
@@ -31,9 +30,7 @@ pub(crate) fn ask<O: Object, R: Wait>(
     reply: &mut OpWords,
     reads: bool,
 ) -> Result<CallOutcome, AllocError>
-    requires pool { IsPool O.only_reads pool.now }
-    requires client { MayAsk pool.now.service pool.now.line.table.shared.table_id client.old }
-    requires reads { IsTrue reads → IsTrue (O.only_reads pool.now.service.object op.now) }
+    requires { MayAskFor O.only_reads pool.now client.old reads op.now }
     ensures { IfOk result (ClientRequestEnds pool.now.service pool.now.line.table.shared.table_id op.now reply.new client.old client.new) }
 {
     for _ in rt.forever() {
@@ -54,9 +51,7 @@ fn ask_once<O: Object, R: Wait>(
     reply: &mut OpWords,
     reads: bool,
 ) -> Result<Option<CallOutcome>, AllocError>
-    requires pool { IsPool O.only_reads pool.now }
-    requires client { MayAsk pool.now.service pool.now.line.table.shared.table_id client.old }
-    requires reads { IsTrue reads → IsTrue (O.only_reads pool.now.service.object op.now) }
+    requires { MayAskFor O.only_reads pool.now client.old reads op.now }
     ensures { IfOk result (ClientAsksOnce pool.now.service pool.now.line.table.shared.table_id op.now reply.new client.old client.new) }
 {
     if reads {
