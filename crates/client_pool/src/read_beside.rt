@@ -1,6 +1,6 @@
 //! A read of a client.
 
-ghost use Rattle.std.specs.Prelude.{◌≡◌, ◌≤◌, IsTrue, true};
+ghost use Rattle.std.specs.Prelude.{◌≤◌, IsTrue};
 ghost use Rattle.client_pool.specs.Clients.{MayCall, ReadsForClient};
 ghost use Rattle.client_pool.specs.Lending.{IsOut, IsPool, ReadsBesideQueue};
 
