@@ -1,6 +1,5 @@
 //! A client catches up with what another one was answered.
 
-ghost use Rattle.std.specs.Prelude.{true};
 ghost use Rattle.client_pool.specs.Clients.{ClientCatchesUp, MayCall};
 ghost use Rattle.client_pool.specs.Lending.{ClientSees, MayLend};
 

@@ -1,6 +1,5 @@
 //! An update of a client.
 
-ghost use Rattle.std.specs.Prelude.{true};
 ghost use Rattle.client_pool.specs.Clients.{MayCall, UpdatesForClient};
 
 use crate::call::Answered;
