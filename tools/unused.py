@@ -36,8 +36,8 @@ class Part(NamedTuple):
 
 
 def parts_of(name):
-    """What has to stand in a text that uses a name: one of these."""
-    return [part for part in name.split("◌") if part]
+    """What has to stand in a text that uses a name: one of these. An operator may also stand as a whole, as an argument."""
+    return [name, *(part for part in name.split("◌") if part and part != name)]
 
 
 def brought_by(path, braces, alias):

@@ -161,6 +161,7 @@ class Names(unittest.TestCase):
             ("use A.B as C\n\na = B.law\n", ["1: C"]),
             ("use A.{◌by◌, ◌+◌, []}\n\na = n by n\n", ["1: ◌+◌", "1: []"]),
             ("use A.{if◌then◌else◌, []}\n\na = f[] then\n", []),
+            ("use A.{◌by◌, ◌+◌}\n\na = fold ◌by◌\n", ["1: ◌+◌"]),
             ("use A.{Way.left}\n\na = left\n", []),
             ("pub use A.{law}\npub use A.B\nunfoldable pub use A.{two}\n", []),
         ]

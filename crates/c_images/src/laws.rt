@@ -49,8 +49,9 @@ pub fn written_images_tell_outcomes<O: Object>()
     kept_bases_tell_outcomes::<O>();
 }
 
-/// What is taken up of words that `write_image` wrote of a closed service keeps replies of a kind where the service was opened with such replies and its
-/// object's step answers by none but those.
+/// A base that is taken up of words that `write_image` wrote of a closed service has replies of one kind only, where those that the service was opened
+/// with are of that kind and its object's step answers by no others. Each result in such a base is one that the service was opened with, or a reply of the
+/// step.
 pub fn written_images_keep_replies<O: Object>()
     ensures { (replies : ReplyKind) (table : Running O) (seats : List Seated) (r : _) (kind choice : ℕ) (words : List ℕ) (base : _) →
         IsOpened O.line_count O.lawful table → ClosingWitness table (instance_at table O.step O.only_reads) seats r → AreRemainsWritten kind r choice words →

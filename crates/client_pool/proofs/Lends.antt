@@ -325,7 +325,7 @@ module _ {O : Type 0} (r : Running O) where
         worn = worn;
       }
 
-      -- one is stopped, which was asked and may have met refusals since
+      -- a caller that was stopped in its call is kept: it had been asked, and may have met refusals since
       pub stopped_kept : (halts : Seated → StoppedSeat → Type 0) (op : List ℕ) (a x : Seated) (s : StoppedSeat) → ComesFrom r first a → halts a s → IsOut r table mid x → UpdateHalted r op x s ⊎ ReadHalted r op x s → after.kept ≡ Some (Stopped s)
           → KeepsStopped r table halts before after s.linked
       stopped_kept halts op a x s since halted out how keeps =

@@ -50,6 +50,7 @@ fn read_beside<O: Object, R: Wait>(
                 caller = back;
                 continue;
             }
+            // a read that was answered as an entry of the queue is settled as an update is
             ReadDone::Queued(back, ticket) => Updated::Done(back, ticket),
             ReadDone::Full(back, note) => Updated::Full(back, note),
             ReadDone::Worn(back) => Updated::Worn(back),

@@ -139,7 +139,7 @@ module _ (instance : Instance) (from to : State) (events : List Event) (law : La
     ahead = ahead;
   })
 
-  -- such a moment is the later one of the end of the prefix and of the moment at which the other operation had not begun
+  -- where `a` ends in a prefix in which `b` has not begun, `a` is before `b`: the moment to look at is the later of the prefix's end and the beginning of `b`
   in_call_order : (a b : Operation) (m n : ℕ) (p q : Point) → EndsAt instance from events (caller_of a) a m → BeginsAt instance from events (caller_of b) b n → m < max_word → IsBy events (caller_of a) m (caller_of b) n →
       IsPointOf to a p → IsPointOf to b q → IsBefore p q
   in_call_order a b m n p q ends begins small by =
@@ -232,7 +232,7 @@ module _ (instance : Instance) (from to : State) (events : List Event) (law : La
       let answered = answered_by end_.before end_.after begin.before begin.after end_.moment begin.moment a (sym end_.are ∙ begin.are) end_.run begin.run (omega (arith, m_is, small, made)) ends.answered in
       below_point begin.moment begin.after x.place a p (runs_on instance begin.before begin.after from begin.moment to begin.run (subst (λ es. Run instance from es to) begin.are run)) begins.below answered at
 
-  -- and its place stays durable
+  -- a crash after that many steps of the caller recovers no place below the one that was durable by then
   stays_durable : (c : ℕ) (x : ImageTimes) (before after : List Event) (s : State) (image : CrashImage) → DurableAt instance from events c x.durable x.ended → x.ended < max_word → events ≡ before ++ after → Run instance from before s →
       x.ended ≤ steps_of c before → IsCrashImage instance s image → x.durable ≤ (recovered instance image).place
   stays_durable c x before after s image at small are come made crash =
@@ -246,6 +246,7 @@ module _ (instance : Instance) (from to : State) (events : List Event) (law : La
       let kept = (crash_kept instance s (run_kept instance from before s law come) image crash).durable in
       let durable = at.durable in
       elim (one_begins before after front (event ∷ by.after) whole) [
+        -- the events cannot end before that step: the caller would not have made so many
         | inl more ↦ (let adds = ap (steps_of c) more.1 ∙ steps_of-append c before more.0 in absurd (omega (arith, adds, count, own, is, small, made)))
         | inr more ↦ (
             let rest : more.0 ++ after ≡ event ∷ by.after = append_cancel_left front (more.0 ++ after) (event ∷ by.after) (sym (append_assoc front more.0 after) ∙ ap (λ es. es ++ after) (sym more.1) ∙ whole) in

@@ -36,7 +36,8 @@ pub record ClientHasImpossibleEnd {Op Reply Store : Type 0} (m : Meaning Op Repl
   pub of_client : slice_get calls number ≡ Some own
   pub cannot : CannotBeLeft m life number client own
 
--- the clients, from client 0 on, with the calls that each made, and the lines of all, where no client has what none can have
+-- the clients, from client 0 on, with the calls that each made, and the lines of all, where no client has what none can have; the last one has what
+-- closing the pool takes
 pub record AreClientsGathered {O Op Reply Store : Type 0} (m : Meaning Op Reply Store) (life : Life Op) (r : Running O) (table : TableId) (g : GatheredClients Reply) : Type 0 where
   pub each : All (MayAsk r table) g.clients.items
   pub numbers : map (λ (c : Client). c.number) g.clients.items ≡ range_with_len 0 (length g.clients.items)

@@ -78,8 +78,9 @@ fn order_of_all<M: Memory>(mem: &mut M, node: u64, key: &Key) -> Result<Ordering
     Ok(len.cmp(&key.len))
 }
 
-/// Compares a key with that of a node, which is one visit: a walk sees the keys of nodes in no other way. The length is loaded only where the other key ends before a byte
-/// differs, which saves a load at most visits; a key of more than 56 bytes is then compared anew. `Halt` comes only where no access is left.
+/// Compares a key with that of a node, which is one visit: a walk sees the keys of nodes in no other way. The length is loaded only where the other key
+/// ends before a byte differs, which saves a load at most visits; a key of more than 56 bytes is then compared anew. `Halt` comes only where no access is
+/// left.
 #[inline(always)]
 pub fn order_at<M: Memory, L: Ledger>(
     mem: &mut M,

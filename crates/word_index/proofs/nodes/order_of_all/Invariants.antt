@@ -1,3 +1,4 @@
+use Rattle.std.proofs.Common.{◌≡◌}
 use Rattle.cx_base.specs.Memory.{Becomes, Framed, Reads}
 use Rattle.avl_words.specs.Lines.{IsPartLength}
 use Rattle.word_index.proofs.KeyWords.{Compared}
