@@ -18,7 +18,7 @@ use Rattle.cx_core.specs.Base.{LawfulBase}
 use Rattle.cx_lives.proofs.Impossible.{impossible}
 use Rattle.cx_lives.proofs.life.run_life.Goals as goal
 
-pub finish_and_gather-requires-clause-works : goal.gather-requires-clause-works
+pub finish_and_gather-requires-clause-works : goal.finish_and_gather-requires-clause-works
 finish_and_gather-requires-clause-works g c = λ κs lives.
     let callers = c.args.callers in
     let works = c.in_ok-works.works in
