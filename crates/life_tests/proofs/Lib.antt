@@ -1,4 +1,2 @@
 mod ClientsBack
-mod CountersAlone
 mod NewCallers
-mod QueuesAlone
