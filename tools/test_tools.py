@@ -39,6 +39,7 @@ import random_queues
 import record_trace
 import stacks
 import stopped_clients
+import whole_lives
 from bpf_tests import Interpreter, Programs
 from build_tests import Builds, Runs, Unproved
 from check_tests import QuickChecks
@@ -60,9 +61,10 @@ from queue_tests import ProgramOnQueues, QueueTexts
 from queue_text import read_queue_script
 from report_text import Fault, read_report, split_reply
 from script_text import Refusal, TooLong, read_pool_script, read_script
+from text_tests import ProgramOnTexts, Texts
 from trace_tests import PlainTraces, ProgramOnTraces
 from tutorial_tests import Tutorial
-from wrong_reports import ROWS, WRONG, legal_rows, row
+from wrong_reports import NUMBERED, RIGHT_NUMBERS, ROWS, WRONG, WRONG_NUMBERS, legal_rows, numbered_report, row
 
 MUST_RUN = FOR_THE_GATE in sys.argv
 if not MUST_RUN:
@@ -329,6 +331,12 @@ class WrongReports(unittest.TestCase):
                     judged(script, wrong)
                 self.assertIn(why, caught.exception.why)
                 self.assertEqual(line, caught.exception.line)
+
+    def test_one_number_wrong(self):
+        self.assertIsNone(why_refused(NUMBERED, numbered_report(*RIGHT_NUMBERS)))
+        for numbers in WRONG_NUMBERS:
+            with self.subTest(numbers):
+                self.assertIsNotNone(why_refused(NUMBERED, numbered_report(*numbers)))
 
     def test_line_that_is_not_utf8(self):
         script, report = row("written_read_back")
@@ -651,6 +659,13 @@ class Program(unittest.TestCase):
         tables = stopped_clients.run_tables()
         self.assertEqual([[], []], [table.wrong for table in tables])
         self.assertEqual([], [table for table in tables if table.stopped() < 100])
+
+    def test_whole_lives(self):
+        found = whole_lives.run_tables()
+        self.assertGreaterEqual(len(found), 20)
+        for name, wrong in found.items():
+            with self.subTest(name):
+                self.assertIsNone(wrong)
 
     def test_examples(self):
         for example in EXAMPLES.glob("*.script"):

@@ -144,3 +144,36 @@ WRONG = [
         "the report ends before life 1",
     ),
 ]
+
+# the life of this script in numbers: the commands of the two entries, the second one's ticket and sum, the read's place and count, and how many entries and
+# documents are kept; and the same with one number wrong each
+NUMBERED = b"lines 64\nlife 1 power 0\n0 put a 1\n0 add a 4\n0 count\n"
+RIGHT_NUMBERS = (1, 2, 1, 5, 2, 1, 2, 1)
+WRONG_NUMBERS = [
+    (2, 1, 1, 5, 2, 1, 2, 1),
+    (1, 1, 1, 5, 2, 1, 2, 1),
+    (1, 3, 1, 5, 2, 1, 2, 1),
+    (1, 2, 2, 5, 2, 1, 2, 1),
+    (1, 2, 1, 6, 2, 1, 2, 1),
+    (1, 2, 1, None, 2, 1, 2, 1),
+    (1, 2, 1, 5, 1, 1, 2, 1),
+    (1, 2, 1, 5, 3, 1, 2, 1),
+    (1, 2, 1, 5, 2, 2, 2, 1),
+    (1, 2, 1, 5, 2, 1, 1, 1),
+    (1, 2, 1, 5, 2, 1, 3, 1),
+    (1, 2, 1, 5, 2, 1, 2, 2),
+]
+
+
+def numbered_report(first, second, ticket, total, place, count, kept, documents):
+    """The report of that life by its numbers; where there is no sum, the second entry is unanswered."""
+    asked = {1: "put a 1", 2: "add a 4", 3: "count"}
+    reply = "unanswered" if total is None else f"sum {total}"
+    lines = [
+        "life 0 clients 1 from 0",
+        f"0 0.{first} {asked[first]} = new",
+        f"{ticket} 0.{second} {asked[second]} = {reply}",
+        f"read 0.3 at {place} count = count {count}",
+        f"power 0 kept {kept} of 2 documents {documents}",
+    ]
+    return "".join(line + "\n" for line in lines).encode()

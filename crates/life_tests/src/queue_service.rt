@@ -5,11 +5,10 @@ ghost use Rattle.cx_service.specs.Callers.{IsCallerOf};
 ghost use Rattle.fifo_object.specs.Queue.{IsOp};
 
 use crate::holds::holds;
-use crate::queue_lives::{is_reply, op_of};
 use cx_base::OP_WORDS;
 use cx_core::Base;
 use cx_service::{Caller, Service, Updated};
-use fifo_object::{Fifo, FifoFault, FifoOp, FifoReply, fifo_reply_of, fifo_words};
+use fifo_object::{Fifo, FifoFault, FifoOp, FifoReply, fifo_of, fifo_reply_of, fifo_words};
 use std::alloc::{AllocError, Global};
 use std::sync::Wait;
 use std::test::Fail;
@@ -61,6 +60,38 @@ fn asked<R: Wait>(
             Err(FifoFault::BadOp) => Ok(None),
         },
         Updated::Full(_, _) | Updated::Worn(_) | Updated::Halted(_) => Ok(None),
+    }
+}
+
+/// The operation of a row, its kind and the byte of a text of one; one without a text where the row has none.
+fn op_of(alloc: Global, row: &(u64, u64)) -> Result<FifoOp, AllocError>
+    ensures { IfOk result IsOp }
+{
+    let (kind, byte) = *row;
+    let mut words = [0; 144];
+    words[0] = kind;
+    if kind == 1 {
+        words[1] = 1;
+        words[2] = byte;
+    }
+    match fifo_of(alloc, &words) {
+        Ok(op) => Ok(op),
+        Err(FifoFault::BadOp) => Ok(FifoOp::Len),
+        Err(FifoFault::Memory) => Err(AllocError),
+    }
+}
+
+/// Whether a reply is of a kind, with the byte of a text of one, or with a number.
+fn is_reply(reply: &FifoReply, kind: u64, value: u64) -> bool {
+    match reply {
+        FifoReply::Pushed => kind == 1,
+        FifoReply::Full => kind == 2,
+        FifoReply::Item(text) => match text.as_slice() {
+            [byte] => kind == 3 && *byte as u64 == value,
+            _ => false,
+        },
+        FifoReply::Empty => kind == 4,
+        FifoReply::Length(number) => kind == 5 && *number == value,
     }
 }
 

@@ -1,8 +1,8 @@
-//! Texts of images, and texts that are none.
+//! Texts of images.
 
 use crate::holds::holds;
 use cx_base::Items;
-use image_text::{Image, ImageReason, TextFault, image_text, read_image};
+use image_text::{Image, image_text, read_image};
 use std::alloc::{AllocError, Global};
 use std::test::Fail;
 
@@ -11,9 +11,6 @@ type Numbers = (u32, u64, u64, u64, &'static [(u64, u64)]);
 
 /// Images, and the texts with `|` between two that are read as each.
 type ImageRow = (Numbers, &'static [u8]);
-
-/// The line refused and why, and texts with `|` between two.
-type FaultRow = (u64, ImageReason, &'static [u8]);
 
 const ONE_DOCUMENT: &[(u64, u64)] = &[
     (1680, 1),
@@ -62,92 +59,9 @@ static IMAGES: [ImageRow; 5] = [
     ),
 ];
 
-static FAULTS: [FaultRow; 14] = [
-    // nothing, comments and empty lines
-    (
-        1,
-        ImageReason::Image,
-        b"|\n|\r\n|# an image\nimage 1 64 1\nroot 0|\xff|root 0\nimage 1 64 1",
-    ),
-    // too few, too many
-    (
-        1,
-        ImageReason::Image,
-        b"image 0 64 1|image 9 64 1|image 4294967297 64 1\nroot 0|image 1 63 1|image 1 16385 1",
-    ),
-    (
-        1,
-        ImageReason::Image,
-        b"image 1 64 18446744073709551616|image 1 64 99999999999999999999999999999999999999999",
-    ),
-    // another form
-    (
-        1,
-        ImageReason::Image,
-        b"image|image |image 1|image 1 64|image 1 64 |image 1 64 1 |image 1 64 1 1| image 1 64 1|image  1 64 1|Image 1 64 1",
-    ),
-    (
-        1,
-        ImageReason::Image,
-        b"image 01 64 1|image 1 +64 1|image 1 64 -1|image 1 64 0x1|image 1 64 1\r|image 1 64 1\r\r\n",
-    ),
-    (
-        2,
-        ImageReason::Root,
-        b"image 1 64 3360|image 1 64 3360\n|image 1 64 3360\r\n|image 1 64 3360\n\n|image 1 64 3360\n\nroot 0",
-    ),
-    (
-        2,
-        ImageReason::Root,
-        b"image 1 64 1\nroot 18446744073709551616|image 1 64 1\nroot 00|image 1 64 1\nroot -0|image 1 64 1\nroot 0\r",
-    ),
-    (
-        2,
-        ImageReason::Root,
-        b"image 1 64 1\nroot|image 1 64 1\nroot |image 1 64 1\nroot 0 |image 1 64 1\nroot  0|image 1 64 1\n0 1|image 1 64 1\nimage 1 64 1",
-    ),
-    // an address that is not below the number of words, a word 0, 2^64
-    (
-        3,
-        ImageReason::Word,
-        b"image 1 64 3360\nroot 0\n3360 1|image 1 64 0\nroot 0\n0 1\n|image 1 64 3360\nroot 0\n0 0|image 1 64 3360\nroot 0\n0 0\n0 1",
-    ),
-    (
-        3,
-        ImageReason::Word,
-        b"image 1 64 3360\nroot 0\n0 18446744073709551616|image 1 64 18446744073709551615\nroot 0\n18446744073709551616 1|image 1 64 18446744073709551615\nroot 0\n18446744073709551615 1",
-    ),
-    (
-        3,
-        ImageReason::Word,
-        b"image 1 64 9\nroot 0\n0|image 1 64 9\nroot 0\n0 |image 1 64 9\nroot 0\n0  1|image 1 64 9\nroot 0\n 0 1|image 1 64 9\nroot 0\n0 1 2|image 1 64 9\nroot 0\n0 1 ",
-    ),
-    (
-        3,
-        ImageReason::Word,
-        b"image 1 64 9\nroot 0\n00 1|image 1 64 9\nroot 0\n0 01|image 1 64 9\nroot 0\n0 -1|image 1 64 9\nroot 0\n0 1\r|image 1 64 9\nroot 0\n\n|image 1 64 9\nroot 0\n# 0 1\n|image 1 64 9\nroot 0\nroot 0",
-    ),
-    // an address again, and one below the last
-    (
-        4,
-        ImageReason::Word,
-        b"image 1 64 9\nroot 0\n1 1\n1 1|image 1 64 9\nroot 0\n1 1\n1 2\n2 1|image 1 64 9\nroot 0\n5 1\n4 1|image 1 64 9\nroot 0\n5 1\n0 1",
-    ),
-    (
-        5,
-        ImageReason::Word,
-        b"image 1 64 9\nroot 0\n1 1\n5 1\n2 1|image 1 64 9\nroot 0\n1 1\n2 1\n9 1|image 1 64 9\nroot 0\n1 1\n2 1\n\n",
-    ),
-];
-
 #[test]
 fn image_texts_are_read(rt: HostRuntime) {
     holds(&rt, first_other(rt.alloc(), &IMAGES).is_none());
-}
-
-#[test]
-fn other_texts_are_refused(rt: HostRuntime) {
-    holds(&rt, first_taken(rt.alloc(), &FAULTS).is_none());
 }
 
 /// The first row with a text that is read as something else.
@@ -175,25 +89,6 @@ fn is_image(image: &Image, want: &Numbers) -> bool {
         && image.count == want.2
         && image.root == want.3
         && image.pairs.as_slice() == want.4
-}
-
-/// The first row with a text that is read, or refused otherwise.
-fn first_taken(alloc: Global, rows: &[FaultRow]) -> Option<usize> {
-    for (i, (line, reason, texts)) in rows.iter().enumerate() {
-        for text in texts.split(|b| *b == b'|') {
-            if !is_refused(alloc, text, *line, *reason) {
-                return Some(i);
-            }
-        }
-    }
-    None
-}
-
-fn is_refused(alloc: Global, text: &[u8], at: u64, why: ImageReason) -> bool {
-    match read_image(alloc, text) {
-        Err(TextFault::Refused { line, reason }) => line == at && reason == why,
-        _ => false,
-    }
 }
 
 /// Pairs of an image of one caller with root 7, and its text.

@@ -1,9 +1,0 @@
-use Rattle.std.proofs.Common.{◌≡◌, All, vec_len}
-use Rattle.fifo_object.specs.Queue.{IsOp}
-use Rattle.life_tests.proofs.queue_lives.commands.Given as goal
-
-abbrev pub invariant-loop-row : goal.invariant-loop-row
-invariant-loop-row l = record {
-  each : All (λ c. (c.client ≡ 0) × IsOp c.op) l.commands.items;
-  count : vec_len l.commands ≡ l.row-index;
-}
