@@ -3,7 +3,7 @@
 
 `rt ci` proves a static library and leaves none, and `rt lib` after it would prove all that stands below once more. So this calls the compiler,
 `rattle build`, which proves the crate itself and loads what `rt ci` proved below it; that takes some two minutes. Where a library below is not built it
-says so at once and ends with 2: then `rt lib` in the crate's folder proves all, in an hour of processor time, and `tools/build --library` builds the
+says so at once and ends with 2: then `rt lib` in the crate's folder proves all, in 40 minutes of processor time, and `tools/build --library` builds the
 library without a proof, in one minute.
 
 Example: python3 tools/build_library.py githoppu_c

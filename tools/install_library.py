@@ -20,7 +20,7 @@ No path is written into a file, so the folder can be moved. Where DESTDIR is set
 each file at once: a program that runs keeps the library that it began with. The shared library has the soname libgithoppu.so.X.Y: as long as X is 0, another
 Y may have other calls, and a program that was linked with one is not to begin with the other.
 
-It takes seconds where the library is built; tools/build --library takes one minute more, and a proof of all below it an hour of processor time.
+It takes seconds where the library is built; tools/build --library takes one minute more, and a proof of all below it 40 minutes of processor time.
 
 Example: tools/install ~/githoppu
 Status 0 where it is installed, 1 where there is no library or a file cannot be written, 2 where the words are others.
@@ -71,7 +71,7 @@ def exports():
 def proved_library():
     """The proved archive, built over what the gate left where it does not stand there."""
     if not build_program.is_fresh(LIBRARY, list(build_program.sources(LIBRARY_CRATE))) and build_library.build(LIBRARY_CRATE.name) != 0:
-        raise NotInstalled("no proved library: the gate, .ci/run, or rt lib in crates/githoppu_c proves what is below it, in an hour of processor time")
+        raise NotInstalled("no proved library: the gate, .ci/run, or rt lib in crates/githoppu_c proves what is below it, in 40 minutes of processor time")
     return LIBRARY, PROVED
 
 
