@@ -5,7 +5,7 @@ ghost use Rattle.cx_core.specs.Base.{LawfulBase, fresh_region};
 ghost use Rattle.cx_core.specs.Region.{region_words};
 
 use crate::entry::Base;
-use crate::region::{HEAD_LINES, LINE_WORDS};
+use crate::layout::{HEAD_LINES, LINE_WORDS};
 use crate::step::format_part;
 use cx_base::{Items, Object, VecMemory};
 use std::alloc::{AllocError, Global};

@@ -30,8 +30,6 @@ mod history;
 mod kinds;
 pub mod layout;
 mod local;
-mod part;
-mod region;
 mod step;
 
 pub use entry::{Base, Entry, Image, op_fits};
@@ -40,11 +38,9 @@ pub use history::{
     full_regions_go_on, full_step_keeps,
 };
 pub use kinds::{Event, Kind};
-pub use layout::EXCLUSIVE_MARK;
+pub use layout::{EXCLUSIVE_MARK, HEAD_LINES, LINE_WORDS, OBJECT_START, slot_start};
 pub use local::{
     Answer, Cell, FullNote, HeldDowngraded, HeldExclusive, HeldShared, Linked, Local, Protection,
     Scan, SeenLock, SeenNeed, SeenOffer, SeenRead, SeenSlot, WonCode,
 };
-pub use part::Part;
-pub use region::{HEAD_LINES, LINE_WORDS, OBJECT_START, slot_start};
-pub use step::{format_part, full_step, full_step_into};
+pub use step::{Part, format_part, full_step, full_step_into};

@@ -11,7 +11,7 @@ ghost use Rattle.table_invariant.specs.Seats.{kind_found, known_of};
 ghost use Rattle.table_invariant.specs.Steps.{IsBlind, IsEventOn, MayStepKnowing, Puts, KnowledgeAfter};
 ghost use Rattle.cx_table.specs.Words.{IsOnWord, KeepsTableKnowing, put_by};
 
-use crate::raise_step::AnsweredRead;
+use crate::root_steps::AnsweredRead;
 use crate::shared::Shared;
 use atomic_table::{Play, Seat};
 use cx_base::Object;

@@ -47,33 +47,25 @@
 #![tactic(auto)]
 
 mod events;
-mod gap_marks;
-mod gap_steps;
-mod gap_words;
+mod gaps;
 mod gather;
-mod kept_sets;
 mod lock_steps;
 mod made;
 mod make;
-mod own_sets;
-mod raise_step;
+mod queue_steps;
 mod region_steps;
 mod remains;
-mod ring_steps;
 mod root_steps;
-mod run_steps;
 mod seat;
 mod set_steps;
 mod shared;
-mod steps;
 mod threads;
 mod tokens;
 
-pub use gap_marks::{keeps_gaps, mark_changed, piece_of};
-pub use gap_words::{gap_end, gap_slot, gap_word, lines_told};
+pub use gaps::{gap_end, gap_slot, gap_word, keeps_gaps, lines_told, mark_changed, piece_of};
 pub use gather::{KeptTable, Room};
-pub use raise_step::AnsweredRead;
 pub use remains::{Remains, Trail};
+pub use root_steps::AnsweredRead;
 pub use seat::CallerSeat;
 pub use shared::Shared;
 pub use table_invariant::{CoreRule, Key, Known, Noted, View};

@@ -8,8 +8,8 @@ use Rattle.cx_core.specs.RingEvents.{IsUnprotected, confirmed, stated}
 use Rattle.cx_core.specs.State.{one_more}
 use Rattle.cx_table.specs.Running.{IsSeatOf, Running}
 use Rattle.cx_table.specs.Seats.{IsAtLimit, Seated}
-use Rattle.mutation_queue.specs.declared.protection.Protected.{Protected}
-use Rattle.mutation_queue.specs.declared.protection.Protected.TheVariants.{Behind, Kept}
+use Rattle.mutation_queue.specs.declared.reclamation.Protected.{Protected}
+use Rattle.mutation_queue.specs.declared.reclamation.Protected.TheVariants.{Behind, Kept}
 
 -- a seat but for its protection, the greatest LOW found, whether what was seen of CUR is fresh, and the counts of steps and refusals
 abbrev pub except_protected : Seated → Seated

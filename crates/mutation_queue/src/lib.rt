@@ -33,15 +33,11 @@
 #![tactic(auto)]
 
 mod announcement;
-mod cells;
 mod entries;
 mod links;
-mod protection;
 mod reclamation;
 
-pub use announcement::announce;
-pub use cells::idle_cell;
+pub use announcement::{announce, idle_cell};
 pub use entries::entry;
 pub use links::{LinkTried, link};
-pub use protection::{Protected, protect, unprotect};
-pub use reclamation::{Collected, collect};
+pub use reclamation::{Collected, Protected, collect, protect, unprotect};

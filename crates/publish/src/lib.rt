@@ -15,8 +15,6 @@
 //!   `made`).
 #![tactic(auto)]
 
-mod durable;
 mod publication;
 
-pub use durable::{make_durable, retire};
-pub use publication::{Published, publish};
+pub use publication::{Published, make_durable, publish, retire};

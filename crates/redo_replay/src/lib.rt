@@ -21,11 +21,7 @@
 
 mod facts;
 mod noted_region;
-mod offered;
-mod own;
-mod stored_set;
+mod set_replay;
 
 pub use noted_region::{KnowledgeAtStart, NotingRegion, apply_noting};
-pub use offered::replay_offered;
-pub use own::{replay_own, step_and_offer};
-pub use stored_set::{store_own_set, store_set};
+pub use set_replay::{replay_offered, replay_own, step_and_offer, store_own_set, store_set};

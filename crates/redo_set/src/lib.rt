@@ -31,14 +31,12 @@
 
 mod apply;
 mod gaps;
-mod kept;
 mod offers;
 mod set;
 mod taken;
 
 pub use apply::apply_set;
 pub use gaps::note_gaps;
-pub use kept::{keep, take_kept};
-pub use offers::offer;
+pub use offers::{keep, offer, take_kept};
 pub use set::WriteSet;
 pub use taken::take;

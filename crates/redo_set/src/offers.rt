@@ -1,11 +1,13 @@
-//! The write set of an own entry is written beside the entry's cell and offered.
+//! The write set of an own entry: it is offered beside the entry's cell, or, where no other caller reads it, kept in its caller's own memory.
 
-ghost use Rattle.std.specs.Prelude.{◌+◌, ◌*◌, OnErr, OnOk};
+ghost use Rattle.std.specs.Prelude.{◌+◌, ◌*◌, OnErr, OnOk, ◌≡◌, IsTrue};
 ghost use Rattle.cx_core.specs.declared.kinds.Kind.TheVariants.{WriteSet as WritesWord};
 ghost use Rattle.table_invariant.specs.Offers.{TellsSet};
 ghost use Rattle.cx_table.specs.Calls.{MakesStep, MayStep};
 ghost use Rattle.cx_table.specs.Seats.{IsAtLimit};
-ghost use Rattle.redo_set.specs.Offering.{KeepsOffering, MayOffer, OffersFitting, WritesDiffering, WritesSet};
+ghost use Rattle.redo_set.specs.Offering.{KeepsOffering, MayOffer, OffersFitting, WritesDiffering, WritesSet, KeepsFitting};
+ghost use Rattle.table_invariant.specs.Fitting.{IsKeptSet, IsSetWithin};
+ghost use Rattle.table_invariant.specs.Running.{IsSeatOf};
 
 use crate::set::WriteSet;
 use cx_base::{Halt, Object};
@@ -51,4 +53,24 @@ fn write_differing<O: Object>(
         return Ok(());
     }
     shared.write_set(seat, j, i, v)
+}
+
+/// Keeps the set of the caller's own entry with a ticket, in place of the one in the seat's memory: whatever fits what the caller noted tells that it
+/// is a write set of the ticket. No step is made. What the set then has is left open.
+pub fn keep<O: Object>(shared: &Shared<O>, seat: &mut CallerSeat, ticket: u64, set: &mut WriteSet)
+    requires of { IsSeatOf shared.now seat.old }
+    requires told { TellsSet shared.now.lines (O.lawful shared.now.object) shared.now.base (O.step shared.now.object) seat.old.known ticket set.old }
+    ensures kept { KeepsFitting O.Object shared.now ticket set.old seat.old seat.new }
+    ensures leaves { KeepsOffering shared.now seat.old seat.new }
+{
+    shared.keep_set(seat, ticket, &mut set.words);
+}
+
+/// Whether the set in the seat's memory is that of the caller's own entry with a ticket; if so it is handed out, and is in the seat's memory no more. Where
+/// it is not, what the set given has is left open.
+pub fn take_kept(seat: &mut CallerSeat, ticket: u64, into: &mut WriteSet) -> bool
+    ensures same { seat.new ≡ seat.old }
+    ensures taken { IsTrue result → IsKeptSet seat.old.known.kept ticket into.new × IsSetWithin seat.old.region into.new }
+{
+    seat.take_kept(ticket, &mut into.words)
 }

@@ -39,7 +39,6 @@
 //! each over 100 tables, after which all replicas have the words of the plain model.
 #![tactic(auto)]
 
-mod by_lines;
 mod copy;
 mod flushes;
 mod outcomes;
@@ -48,8 +47,7 @@ mod region;
 mod replay;
 mod words;
 
-pub use by_lines::renew_listed;
-pub use copy::{copy_from, renew_from};
+pub use copy::{copy_from, renew_from, renew_listed};
 pub use flushes::flush;
 pub use outcomes::{outcome, place};
 pub use read_region::ReadRegion;

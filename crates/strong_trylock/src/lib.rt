@@ -22,8 +22,9 @@
 //! other caller then finds; each limit from 0 to 2 of a shared try that is refused, and the mark that is left with a limit of 1.
 #![tactic(auto)]
 
-mod releases;
 mod try_lock;
 
-pub use releases::{downgrade, release, release_downgraded, release_shared};
-pub use try_lock::{ExclusiveTried, SharedTried, try_exclusive, try_shared};
+pub use try_lock::{
+    ExclusiveTried, SharedTried, downgrade, release, release_downgraded, release_shared,
+    try_exclusive, try_shared,
+};

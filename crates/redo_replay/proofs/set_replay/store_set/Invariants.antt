@@ -1,0 +1,16 @@
+use Rattle.std.proofs.Common.{◌≡◌, ◌≤◌, ◌++◌, slice_index}
+use Rattle.cx_base.specs.Memory.{Becomes}
+use Rattle.cx_core.specs.WriteSet.{stored}
+use Rattle.table_invariant.specs.Stores.{FitsIn}
+use Rattle.replica.specs.Replays.{IsAfterFullStep}
+use Rattle.redo_replay.specs.Storing.{stores_to}
+use Rattle.redo_replay.proofs.set_replay.store_set.Given as goal
+
+abbrev pub invariant-loop-m : goal.invariant-loop-m
+invariant-loop-m g l = record {
+  end : l.m-end ≡ slice_index l.set 0;
+  few : l.m-end ≤ 256;
+  done : Becomes (FitsIn g.O.Object l.shared l.fn.seat.known) (FitsIn g.O.Object l.shared l.seat.known) (λ before now. now ≡ stored l.m l.set before);
+  stores : l.seat.known.accesses ≡ l.fn.seat.known.accesses ++ stores_to l.m l.set;
+  leaves : IsAfterFullStep g.O.Object l.shared l.held l.fn.seat l.seat;
+}
