@@ -52,7 +52,6 @@ fn text_of_life(
     requires { HaveStoresLived 1024 (generated_life from clients ops ∷ []) lived.now }
     ensures { (told : record_life.LifeRecord Reply) → lived.now.records ≡ told ∷ [] → IfOk result (λ text. text.items ≡ summary_text told (store_left 1024 (generated_life from clients ops) told).triples) }
 {
-    let _ = (from, clients, ops);
     let [told] = lived.records.as_slice() else {
         unreachable!()
     };

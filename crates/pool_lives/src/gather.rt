@@ -52,9 +52,6 @@ pub(crate) fn gather<O: TypedObject>(
     ensures gathered { IfOk result (AreClientsGathered (O.meaning object.now) life.now pool.now.service pool.now.line.table.shared.table_id) }
     ensures all { IfOk result (λ g. length g.clients.items ≡ vec_len works) }
 {
-    let _ = object;
-    let _ = pool;
-    let _ = life;
     works_begin::<O::Op, O::Reply>();
     works_go_on::<O::Op, O::Reply>();
     let clients = Vec::new(alloc);

@@ -34,8 +34,6 @@ pub(crate) fn make<O: TypedObject, R: Wait>(
     requires op { (O.meaning object.now).is_op command.now.op }
     ensures { IfOk result (MakesCommand (O.meaning object.now) life.now pool.now.service pool.now.line.table.shared.table_id clients command.now.client number client.new lines.new) }
 {
-    let _ = life;
-    let _ = clients;
     let (op, reads) = words_of(object, &command.op);
     let mut reply = [0; OP_WORDS];
     let asked = ask(rt, pool, client, &op, &mut reply, reads)?;
