@@ -130,9 +130,9 @@ dur_within running = (let words = running.words in omega (arith, words))
 pub raise_learned : {O : Type 0} (line_count : O → ℕ) (lawful : O → List ℕ → Type 0) (step : O → List ℕ → List ℕ → List ℕ × List ℕ) (reads : O → List ℕ → Bool) (r : Running O) (code : ℕ) (read : Option (List ℕ × List ℕ)) (known : Known) (old : Seated) →
     IsTableWithinLimits line_count lawful r → ObjectLaws r.lines (lawful r.object) (step r.object) → known ≡ old.known → CanRaise (instance_at r step reads) code (read_op_in read) old.known.local → TellsReads r.lines (lawful r.object) r.base (step r.object) old.known read →
     (answers : List Answer) → TellsAnswers r.lines (lawful r.object) r.base (step r.object) old.known (root_place_of r.callers code) answers → IsRaiseLearned (instance_at r step reads) code answers read known dur_at
-raise_learned line_count lawful step reads r code read known old running laws same guard told answers tells =
+raise_learned line_count lawful step reads r code read known old running laws same guard tells_read answers tells =
     subst (λ (k : Known). IsRaiseLearned (instance_at r step reads) code answers read k dur_at) (sym same)
-    (learns_raise r.lines (lawful r.object) (instance_at r step reads) laws running.base code answers read old.known dur_at guard refl tells told)
+    (learns_raise r.lines (lawful r.object) (instance_at r step reads) laws running.base code answers read old.known dur_at guard refl tells tells_read)
 
 -- what really is there fits what was noted
 pub raised_fits : {O : Type 0} (line_count : O → ℕ) (lawful : O → List ℕ → Type 0) (step : O → List ℕ → List ℕ → List ℕ × List ℕ) (reads : O → List ℕ → Bool) (r : Running O) (code : ℕ) (answers : List Answer) (read : Option (List ℕ × List ℕ)) (known : Known) (me' : Me ℕ (List Known)) →

@@ -208,7 +208,7 @@ module _ {O : Type 0} (r : Running O) (step : O → List ℕ → List ℕ → Li
           made = λ i. record { table = same_table i; before = before; region = region i; known = known i };
           lawful = taught.lawful;
           lawful_after = subst (λ (k : Known). IsLawfulLocal instance k.local) (sym known) taught.lawful_after;
-          told = taught.told;
+          found_word = taught.found_word;
           within = new.within;
           seat = record {
             table = same_table ∙ of.table;

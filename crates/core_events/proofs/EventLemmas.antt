@@ -6,7 +6,7 @@ use Rattle.std.proofs.lemmas.List.{length-set}
 use Rattle.std.proofs.lemmas.Option.{none-some, same_Some, slice_get_within}
 use Rattle.std.specs.List.{slice_get}
 use Rattle.core_events.specs.Codes.{HasCode, IsSoundCore}
-use Rattle.core_events.specs.Told.{Tells}
+use Rattle.core_events.specs.StepFacts.{Tells}
 use Rattle.core_events.specs.declared.events.HistoryFacts.{HistoryFacts}
 use Rattle.cx_core.specs.declared.entry.Base.{Base}
 use Rattle.cx_core.specs.declared.kinds.Event.{Event}
@@ -202,15 +202,15 @@ pub IfOk-then : {X E : Type 0} (r : Result X E) (P Q : X → Type 0) → IfOk r 
 IfOk-then (Ok x) P Q p f = f x p
 IfOk-then (Err e) P Q p f = tt
 
--- a step that is told what holds of its state is the caller's step there, where the words are read from elsewhere
-pub did_here : {E : Type 0} (core : Core) (step : List ℕ → List ℕ → List ℕ × List ℕ) (reads : List ℕ → Bool) (told : HistoryFacts) (event : Event) (words words' : List ℕ) (l l' : Local) (r : Result Bool E) →
+-- a step that was made by facts that hold in its state is the caller's step there, where the words are read from elsewhere
+pub did_here : {E : Type 0} (core : Core) (step : List ℕ → List ℕ → List ℕ × List ℕ) (reads : List ℕ → Bool) (facts : HistoryFacts) (event : Event) (words words' : List ℕ) (l l' : Local) (r : Result Bool E) →
     words ≡ core.state.words → slice_get core.state.locals event.caller ≡ Some l →
-    ((x : Local) → slice_get core.state.locals event.caller ≡ Some x → Tells told (instance_of core step reads) (scene_of (instance_of core step reads) core.state) event.kind x) →
-    IfOk r (λ made. EachScene core.callers core.base words (λ instance scene. Tells told instance scene event.kind l → Did made instance scene event.kind l l' words')) →
+    ((x : Local) → slice_get core.state.locals event.caller ≡ Some x → Tells facts (instance_of core step reads) (scene_of (instance_of core step reads) core.state) event.kind x) →
+    IfOk r (λ made. EachScene core.callers core.base words (λ instance scene. Tells facts instance scene event.kind l → Did made instance scene event.kind l l' words')) →
     IfOk r (λ made. Did made (instance_of core step reads) (scene_of (instance_of core step reads) (record { words = words; locals = core.state.locals })) event.kind l l' words')
-did_here core step reads told event words words' l l' r same at tells did =
+did_here core step reads facts event words words' l l' r same at tells did =
     let instance = instance_of core step reads in
     let before : List ℕ → State = λ ws. record { words = ws; locals = core.state.locals } in
     let scene = scene_of instance (before words) in
-    let here : Tells told instance scene event.kind l = subst (λ ws. Tells told instance (scene_of instance (before ws)) event.kind l) (sym same) (tells l at) in
+    let here : Tells facts instance scene event.kind l = subst (λ ws. Tells facts instance (scene_of instance (before ws)) event.kind l) (sym same) (tells l at) in
     IfOk-then r _ (λ made. Did made instance scene event.kind l l' words') did (λ made d. d step reads scene.history here)

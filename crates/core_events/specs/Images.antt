@@ -18,7 +18,7 @@ abbrev pub HasTickets : List Linked → Type 0
 HasTickets own = (i : ℕ) (x : Linked) → slice_get own i ≡ Some x → x.ticket < 2 ^ 40
 
 -- the base is a lawful one of the object, and the callers' entries may stand behind it
-pub record HoldsHistory {O : Type 0} (o : Ghosts O) (object : O) (from : Base) (locals : List Local) : Type 0 where
+pub record CanReplayHistory {O : Type 0} (o : Ghosts O) (object : O) (from : Base) (locals : List Local) : Type 0 where
   pub base : LawfulBase (o.line_count object) (o.lawful object) from
   pub entries : HasEntries locals
 

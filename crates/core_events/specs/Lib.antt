@@ -1,5 +1,5 @@
 pub mod Codes
 pub mod Images
 pub mod Tables
-pub mod Told
+pub mod StepFacts
 pub mod Tries

@@ -4,7 +4,7 @@
 ghost use Rattle.std.specs.Prelude.{◌≡◌, ◌<◌, ◌↔◌, slice_get, false, IsTrue, IfOk, OnErr, None, Some};
 ghost use Rattle.core_events.specs.Tables.{HasRegions};
 ghost use Rattle.core_events.specs.Codes.{HasCode};
-ghost use Rattle.core_events.specs.Told.{HasCallerIn, Tells, TellsRaise, AllowsGapNote, TellsOfferWord};
+ghost use Rattle.core_events.specs.StepFacts.{HasBaseAndCaller, Tells, TellsRaise, AllowsGapNote, TellsOfferWord};
 ghost use Rattle.cx_core.specs.Base.{LawfulBase};
 ghost use Rattle.core_events.specs.Tries.{TriesEvent};
 ghost use Rattle.cx_core.specs.Events.{IsMadeOrRefused, Did};
@@ -45,7 +45,7 @@ pub fn apply<O: Object>(
     if caller >= state.locals.len() {
         return Ok(false);
     }
-    let told = tells(alloc, object, state, caller, &event.kind)?;
+    let facts = tells(alloc, object, state, caller, &event.kind)?;
     let local = &mut state.locals[caller];
     step(
         alloc,
@@ -54,11 +54,11 @@ pub fn apply<O: Object>(
         &mut state.words,
         local,
         &event.kind,
-        &told,
+        &facts,
     )
 }
 
-/// What a step is told of the history: of a kind that ends an exclusive right, whether the words held are the full image
+/// What a step has to know of the history: of a kind that ends an exclusive right, whether the words held are the full image
 /// after their place; of a raise what it answers, and of an offer the offer word, where these are allowed; of a note of a gap
 /// whether it is allowed.
 #[derive(Drop)]
@@ -69,7 +69,7 @@ pub(crate) struct HistoryFacts {
     gap: bool,
 }
 
-/// Whether the caller with this local state may make a step of this kind; if so the step is made. `told` is what it has to know of the history. Where the
+/// Whether the caller with this local state may make a step of this kind; if so the step is made. `facts` is what it has to know of the history. Where the
 /// guard fails, which is `Ok(false)`, and where `Err` says that memory ran out, nothing changed.
 fn step(
     alloc: Global,
@@ -78,12 +78,12 @@ fn step(
     words: &mut [u64],
     local: &mut Local,
     kind: &Kind,
-    told: &HistoryFacts,
+    facts: &HistoryFacts,
 ) -> Result<bool, AllocError>
     requires regions { HasRegions callers.number base.now words.old }
     requires caller { local.old.number < callers.number }
     requires code { HasCode callers.number local.old.downgraded }
-    ensures { TriesEvent result (λ made. EachScene callers.number base.now words.old (λ instance scene. Tells told.now instance scene kind.now local.old → Did made instance scene kind.now local.old local.new words.new)) ((local.new ≡ local.old) × (words.new ≡ words.old)) }
+    ensures { TriesEvent result (λ made. EachScene callers.number base.now words.old (λ instance scene. Tells facts.now instance scene kind.now local.old → Did made instance scene kind.now local.old local.new words.new)) ((local.new ≡ local.old) × (words.new ≡ words.old)) }
 {
     match *kind {
         Kind::WriteCell { j, i, v } => {
@@ -98,9 +98,9 @@ fn step(
         }
         Kind::TryShared { r } => Ok(lock_events::try_shared(alloc, callers, words, local, r)),
         Kind::BackOff { r } => Ok(lock_events::back_off(callers, words, local, r)),
-        Kind::Downgrade { r } => Ok(lock_events::downgrade(callers, words, local, r, told.full)),
+        Kind::Downgrade { r } => Ok(lock_events::downgrade(callers, words, local, r, facts.full)),
         Kind::ReleaseExclusive { r } => {
-            Ok(lock_events::release_exclusive(callers, words, local, r, told.full))
+            Ok(lock_events::release_exclusive(callers, words, local, r, facts.full))
         }
         Kind::LoadWord { r, i, refused } => {
             region_events::load_word(callers, base, words, local, r, i, refused)
@@ -114,7 +114,7 @@ fn step(
         Kind::LoadCur => Ok(root_events::load_cur(callers, words, local)),
         Kind::Publish => Ok(root_events::publish(callers, words, local)),
         Kind::Raise { code, read: _ } => {
-            root_events::raise(alloc, callers, words, local, code, told.answers)
+            root_events::raise(alloc, callers, words, local, code, facts.answers)
         }
         Kind::Retire => Ok(root_events::retire(callers, words, local)),
         Kind::Protect { p } => Ok(ring_events::protect(callers, words, local, p)),
@@ -124,17 +124,17 @@ fn step(
         Kind::Scan { d } => Ok(ring_events::scan(callers, words, local, d)),
         Kind::OpenFree => Ok(ring_events::open_free(callers, words, local)),
         Kind::WriteSet { j, i, v } => Ok(set_events::write_set(callers, words, local, j, i, v)),
-        Kind::Offer { j } => Ok(set_events::offer(callers, words, local, j, told.offer)),
+        Kind::Offer { j } => Ok(set_events::offer(callers, words, local, j, facts.offer)),
         Kind::LoadOffer { k, t } => Ok(set_events::load_offer(callers, words, local, k, t)),
         Kind::ReadSet { k, t, i } => Ok(set_events::read_set(callers, words, local, k, t, i)),
         Kind::NoteGap { s, i, v } => {
-            Ok(gap_events::note_gap(callers, words, local, s, i, v, told.gap))
+            Ok(gap_events::note_gap(callers, words, local, s, i, v, facts.gap))
         }
         Kind::LoadGap { s, i } => Ok(gap_events::load_gap(callers, words, local, s, i)),
     }
 }
 
-/// What a step of a caller is told of the history. `Err` says that memory ran out.
+/// What a step of a caller has to know of the history. `Err` says that memory ran out.
 fn tells<O: Object>(
     alloc: Global,
     object: &O,
@@ -142,8 +142,8 @@ fn tells<O: Object>(
     caller: usize,
     kind: &Kind,
 ) -> Result<HistoryFacts, AllocError>
-    requires { HasCallerIn O.Object object.now state.now caller }
-    ensures { let instance = instance_of state.now (O.step object.now) (O.only_reads object.now) in IfOk result (λ told. (l : Local) → slice_get state.now.state.locals caller ≡ Some l → Tells told instance (scene_of instance state.now.state) kind.now l) }
+    requires { HasBaseAndCaller O.Object object.now state.now caller }
+    ensures { let instance = instance_of state.now (O.step object.now) (O.only_reads object.now) in IfOk result (λ facts. (l : Local) → slice_get state.now.state.locals caller ≡ Some l → Tells facts instance (scene_of instance state.now.state) kind.now l) }
 {
     match *kind {
         Kind::Downgrade { r: _ } => Ok(only_full(holds_full(alloc, object, state, caller)?)),
@@ -172,7 +172,7 @@ fn tells<O: Object>(
     }
 }
 
-/// What a step is told that answers nothing.
+/// What a step has to know that answers nothing, offers no set and notes no gap.
 fn only_full(full: bool) -> HistoryFacts
     ensures { result ≡ record { full = full; answers = None; offer = None; gap = false } }
 {
@@ -193,8 +193,8 @@ fn answers_of<O: Object>(
     code: u64,
     read: &Option<OpWords>,
 ) -> Result<Option<Acknowledged>, AllocError>
-    requires { HasCallerIn O.Object object.now state.now caller }
-    ensures { let instance = instance_of state.now (O.step object.now) (O.only_reads object.now) in IfOk result (λ told. (l : Local) → slice_get state.now.state.locals caller ≡ Some l → TellsRaise told instance (scene_of instance state.now.state) code read.now l) }
+    requires { HasBaseAndCaller O.Object object.now state.now caller }
+    ensures { let instance = instance_of state.now (O.step object.now) (O.only_reads object.now) in IfOk result (λ answers. (l : Local) → slice_get state.now.state.locals caller ≡ Some l → TellsRaise answers instance (scene_of instance state.now.state) code read.now l) }
 {
     let local = &state.locals[caller];
     replies_of(
@@ -217,8 +217,8 @@ fn offer_of<O: Object>(
     caller: usize,
     j: u64,
 ) -> Result<Option<u64>, AllocError>
-    requires { HasCallerIn O.Object object.now state.now caller }
-    ensures { let instance = instance_of state.now (O.step object.now) (O.only_reads object.now) in IfOk result (λ told. (l : Local) → slice_get state.now.state.locals caller ≡ Some l → TellsOfferWord told instance (scene_of instance state.now.state) j l) }
+    requires { HasBaseAndCaller O.Object object.now state.now caller }
+    ensures { let instance = instance_of state.now (O.step object.now) (O.only_reads object.now) in IfOk result (λ word. (l : Local) → slice_get state.now.state.locals caller ≡ Some l → TellsOfferWord word instance (scene_of instance state.now.state) j l) }
 {
     let local = &state.locals[caller];
     offered_word(alloc, object, &state.base, &state.locals, local, j)
@@ -255,7 +255,7 @@ fn holds_full<O: Object>(
     state: &CoreState,
     caller: usize,
 ) -> Result<bool, AllocError>
-    requires { HasCallerIn O.Object object.now state.now caller }
+    requires { HasBaseAndCaller O.Object object.now state.now caller }
     ensures { let instance = instance_of state.now (O.step object.now) (O.only_reads object.now) in IfOk result (λ full. (l : Local) → slice_get state.now.state.locals caller ≡ Some l → IsTrue full ↔ IsFull instance (scene_of instance state.now.state).history (held_words l.exclusive)) }
 {
     let words = held_words(&state.locals[caller]);

@@ -1,7 +1,7 @@
 //! The steps on the ring of gaps: a word is noted, and loaded.
 
 ghost use Rattle.core_events.specs.Tables.{HasTableWords};
-ghost use Rattle.core_events.specs.Told.{AllowsGapNote};
+ghost use Rattle.core_events.specs.StepFacts.{AllowsGapNote};
 ghost use Rattle.cx_core.specs.declared.kinds.Kind.TheVariants.{NoteGap, LoadGap};
 ghost use Rattle.cx_core.specs.Events.{Did};
 ghost use Rattle.cx_core.specs.State.{EachScene};
@@ -10,7 +10,7 @@ use core_guards::callers::Callers;
 use core_guards::gaps::{can_load_gap, gap_at};
 use cx_core::Local;
 
-/// Whether a caller may note the word `v` as word `i` of slot `s` of the ring of gaps, which is `told`; if so the word is stored there and the step is
+/// Whether a caller may note the word `v` as word `i` of slot `s` of the ring of gaps, which is `is_gap`; if so the word is stored there and the step is
 /// counted.
 pub(crate) fn note_gap(
     callers: Callers,
@@ -19,12 +19,12 @@ pub(crate) fn note_gap(
     s: u64,
     i: u64,
     v: u64,
-    told: bool,
+    is_gap: bool,
 ) -> bool
     requires table { HasTableWords callers.number words.old }
-    ensures { (base : _) → EachScene callers.number base words.old (λ instance scene. AllowsGapNote told instance scene s i v → Did result instance scene (NoteGap s i v) local.old local.new words.new) }
+    ensures { (base : _) → EachScene callers.number base words.old (λ instance scene. AllowsGapNote is_gap instance scene s i v → Did result instance scene (NoteGap s i v) local.old local.new words.new) }
 {
-    if !told || !can_load_gap(callers, s, i) {
+    if !is_gap || !can_load_gap(callers, s, i) {
         return false;
     }
     words[gap_at(callers.number, s, i)] = v;

@@ -2,7 +2,7 @@
 //! words in the lines of its gap.
 
 ghost use Rattle.std.specs.Prelude.{◌↔◌, ℕ, Bool, List, IsTrue, IfOk};
-ghost use Rattle.core_events.specs.Images.{HoldsHistory};
+ghost use Rattle.core_events.specs.Images.{CanReplayHistory};
 ghost use Rattle.cx_core.specs.Gaps.{CanNoteGap};
 ghost use Rattle.cx_core.specs.Merge.{history_of};
 
@@ -24,7 +24,7 @@ pub(crate) fn is_gap_of<O: Object>(
     i: u64,
     v: u64,
 ) -> Result<bool, AllocError>
-    requires { HoldsHistory O.Object object.now base.now locals.now }
+    requires { CanReplayHistory O.Object object.now base.now locals.now }
     ensures { (reads : List ℕ → Bool) → IfOk result (λ gap. IsTrue gap ↔ CanNoteGap (record { callers = callers.number; base = base.now; step = O.step object.now; reads = reads }) (history_of base.now.place locals.now) s i v) }
 {
     if !can_load_gap(callers, s, i) {

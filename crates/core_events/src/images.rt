@@ -4,7 +4,7 @@ ghost use Rattle.std.specs.Prelude.{◌≡◌, ◌+◌, ◌-◌, ◌^◌, ◌<�
 ghost use Rattle.cx_base.specs.VecMemory.{words_of};
 ghost use Rattle.cx_core.specs.Base.{LawfulBase};
 ghost use Rattle.cx_core.specs.History.{IsFull, full_image, image_from};
-ghost use Rattle.core_events.specs.Images.{HoldsHistory, IsRegion, OfCallers};
+ghost use Rattle.core_events.specs.Images.{CanReplayHistory, IsRegion, OfCallers};
 ghost use Rattle.cx_core.specs.Merge.{all_own, entry_at, history_of};
 ghost use Rattle.cx_core.specs.Region.{place_of};
 ghost use Rattle.cx_core.specs.Step.{full_step_of};
@@ -21,7 +21,7 @@ pub(crate) fn is_full<O: Object>(
     locals: &[Local],
     region: &[u64],
 ) -> Result<bool, AllocError>
-    requires { HoldsHistory O.Object object.now base.now locals.now }
+    requires { CanReplayHistory O.Object object.now base.now locals.now }
     ensures { (callers : ℕ) (reads : List ℕ → Bool) → IfOk result (λ full. IsTrue full ↔ IsFull (record { callers = callers; base = base.now; step = O.step object.now; reads = reads }) (history_of base.now.place locals.now) region.now) }
 {
     let place = region.first().copied().unwrap_or(0);

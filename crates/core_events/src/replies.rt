@@ -2,7 +2,7 @@
 
 ghost use Rattle.std.specs.Prelude.{◌≡◌, ◌+◌, ◌↔◌, ℕ, Bool, List, None, length, IsTrue, IfOk};
 ghost use Rattle.std.specs.Option.{option_to_list};
-ghost use Rattle.core_events.specs.Told.{TellsRaise};
+ghost use Rattle.core_events.specs.StepFacts.{TellsRaise};
 ghost use Rattle.cx_base.specs.VecMemory.{words_of};
 ghost use Rattle.cx_core.specs.Base.{LawfulBase};
 ghost use Rattle.cx_core.specs.History.{image_after};
@@ -57,7 +57,7 @@ pub(crate) fn replies_of<O: Object>(
     read: &Option<OpWords>,
 ) -> Result<Option<Acknowledged>, AllocError>
     requires base { LawfulBase (O.line_count object.now) (O.lawful object.now) base.now }
-    ensures { (words : List ℕ) → IfOk result (λ told. TellsRaise told (record { callers = callers.number; base = base.now; step = O.step object.now; reads = O.only_reads object.now }) (record { history = history_of base.now.place locals.now; words = words }) code read.now local.now) }
+    ensures { (words : List ℕ) → IfOk result (λ answers. TellsRaise answers (record { callers = callers.number; base = base.now; step = O.step object.now; reads = O.only_reads object.now }) (record { history = history_of base.now.place locals.now; words = words }) code read.now local.now) }
 {
     if !can_raise(object, callers, local, code, read) {
         return Ok(None);

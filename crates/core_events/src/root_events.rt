@@ -4,7 +4,7 @@ ghost use Rattle.std.specs.Prelude.{◌≡◌, ◌∷◌, ◌++◌, [], ℕ, Lis
 ghost use Rattle.std.specs.Option.{option_to_list};
 ghost use Rattle.core_events.specs.Tables.{HasTableWords};
 ghost use Rattle.core_events.specs.Codes.{HasCode};
-ghost use Rattle.core_events.specs.Told.{TellsRaise};
+ghost use Rattle.core_events.specs.StepFacts.{TellsRaise};
 ghost use Rattle.cx_base.specs.Codes.{root_place_of};
 ghost use Rattle.cx_core.specs.declared.kinds.Kind.TheVariants.{LoadCur, Publish, Raise, Retire};
 ghost use Rattle.core_events.specs.Tries.{TriesEvent};
@@ -99,7 +99,7 @@ fn lose(callers: Callers, local: &mut Local, found: u64)
     local.fresh = false;
 }
 
-/// Whether a caller may raise DUR by a code; if so DUR is raised, and the caller is given the answers in `told`, which is `None` where the guard fails.
+/// Whether a caller may raise DUR by a code; if so DUR is raised, and the caller is given the answers in `acknowledged`, which is `None` where the guard fails.
 /// `Err` says that memory ran out, and nothing changed.
 pub(crate) fn raise(
     alloc: Global,
@@ -107,12 +107,12 @@ pub(crate) fn raise(
     words: &mut [u64],
     local: &mut Local,
     code: u64,
-    told: Option<Acknowledged>,
+    acknowledged: Option<Acknowledged>,
 ) -> Result<bool, AllocError>
     requires table { HasTableWords callers.number words.old }
-    ensures { TriesEvent result (λ made. (base : _) → EachScene callers.number base words.old (λ instance scene. (read : Option (List ℕ)) → TellsRaise told instance scene code read local.old → Did made instance scene (Raise code read) local.old local.new words.new)) ((local.new ≡ local.old) × (words.new ≡ words.old)) }
+    ensures { TriesEvent result (λ made. (base : _) → EachScene callers.number base words.old (λ instance scene. (read : Option (List ℕ)) → TellsRaise acknowledged instance scene code read local.old → Did made instance scene (Raise code read) local.old local.new words.new)) ((local.new ≡ local.old) × (words.new ≡ words.old)) }
 {
-    let Some(answers) = told else {
+    let Some(answers) = acknowledged else {
         return Ok(false);
     };
     acknowledge(alloc, local, root_place(callers.number, code), answers)?;
@@ -128,18 +128,18 @@ fn acknowledge(
     alloc: Global,
     local: &mut Local,
     place: u64,
-    told: Acknowledged,
+    acknowledged: Acknowledged,
 ) -> Result<(), AllocError>
-    ensures { let answers = option_to_list told.entry in let reads = option_to_list told.read in TriesEvent result (λ _. local.new ≡ record local.old { answered = local.old.answered ++ answers; seen_reads = local.old.seen_reads ++ reads; floor = raised_floor local.old.floor place answers reads }) (local.new ≡ local.old) }
+    ensures { let answers = option_to_list acknowledged.entry in let reads = option_to_list acknowledged.read in TriesEvent result (λ _. local.new ≡ record local.old { answered = local.old.answered ++ answers; seen_reads = local.old.seen_reads ++ reads; floor = raised_floor local.old.floor place answers reads }) (local.new ≡ local.old) }
 {
     push_both(
         alloc,
         &mut local.answered,
-        told.entry,
+        acknowledged.entry,
         &mut local.seen_reads,
-        told.read,
+        acknowledged.read,
     )?;
-    if told.entry.is_some() || told.read.is_some() {
+    if acknowledged.entry.is_some() || acknowledged.read.is_some() {
         local.floor = local.floor.max(place);
     }
     Ok(())

@@ -1,7 +1,7 @@
 //! The steps on write sets: a set is written and offered, and its offer word and its words are loaded.
 
 ghost use Rattle.core_events.specs.Tables.{HasCaller, HasTableWords};
-ghost use Rattle.core_events.specs.Told.{TellsOfferWord};
+ghost use Rattle.core_events.specs.StepFacts.{TellsOfferWord};
 ghost use Rattle.cx_core.specs.declared.kinds.Kind.TheVariants.{WriteSet, Offer, LoadOffer, ReadSet};
 ghost use Rattle.cx_core.specs.Events.{Did};
 ghost use Rattle.cx_core.specs.State.{EachScene};
@@ -33,18 +33,18 @@ pub(crate) fn write_set(
     true
 }
 
-/// Whether a caller may offer the write set in its cell `j`; if so the offer word is stored, which is `told`: `None` where the guard fails.
+/// Whether a caller may offer the write set in its cell `j`; if so the offer word is stored, which is `offer_word`: `None` where the guard fails.
 pub(crate) fn offer(
     callers: Callers,
     words: &mut [u64],
     local: &mut Local,
     j: u64,
-    told: Option<u64>,
+    offer_word: Option<u64>,
 ) -> bool
     requires table { HasCaller callers.number words.old local.old }
-    ensures { (base : _) → EachScene callers.number base words.old (λ instance scene. TellsOfferWord told instance scene j local.old → Did result instance scene (Offer j) local.old local.new words.new) }
+    ensures { (base : _) → EachScene callers.number base words.old (λ instance scene. TellsOfferWord offer_word instance scene j local.old → Did result instance scene (Offer j) local.old local.new words.new) }
 {
-    let Some(word) = told else {
+    let Some(word) = offer_word else {
         return false;
     };
     if j >= CELLS {

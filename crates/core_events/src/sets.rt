@@ -2,8 +2,8 @@
 //! next.
 
 ghost use Rattle.std.specs.Prelude.{◌^◌, ◌<◌, ◌↔◌, ℕ, Bool, List, IsTrue, IfOk, Some};
-ghost use Rattle.core_events.specs.Images.{HasTickets, HoldsHistory};
-ghost use Rattle.core_events.specs.Told.{TellsOfferWord};
+ghost use Rattle.core_events.specs.Images.{CanReplayHistory, HasTickets};
+ghost use Rattle.core_events.specs.StepFacts.{TellsOfferWord};
 ghost use Rattle.cx_core.specs.Merge.{history_of};
 ghost use Rattle.cx_core.specs.WriteSet.{IsWriteSetOf};
 
@@ -22,9 +22,9 @@ pub(crate) fn offered_word<O: Object>(
     local: &Local,
     j: u64,
 ) -> Result<Option<u64>, AllocError>
-    requires history { HoldsHistory O.Object object.now base.now locals.now }
+    requires history { CanReplayHistory O.Object object.now base.now locals.now }
     requires tickets { HasTickets local.now.own }
-    ensures { (callers : ℕ) (reads : List ℕ → Bool) (words : List ℕ) → IfOk result (λ told. TellsOfferWord told (record { callers = callers; base = base.now; step = O.step object.now; reads = reads }) (record { history = history_of base.now.place locals.now; words = words }) j local.now) }
+    ensures { (callers : ℕ) (reads : List ℕ → Bool) (words : List ℕ) → IfOk result (λ word. TellsOfferWord word (record { callers = callers; base = base.now; step = O.step object.now; reads = reads }) (record { history = history_of base.now.place locals.now; words = words }) j local.now) }
 {
     if !can_write_set(local, j) {
         return Ok(None);
@@ -48,7 +48,7 @@ fn is_set_of<O: Object>(
     ticket: u64,
     set: &[u64; SET_WORDS],
 ) -> Result<bool, AllocError>
-    requires history { HoldsHistory O.Object object.now base.now locals.now }
+    requires history { CanReplayHistory O.Object object.now base.now locals.now }
     requires ticket { ticket < 2 ^ 40 }
     ensures { (callers : ℕ) (reads : List ℕ → Bool) → IfOk result (λ is. IsTrue is ↔ IsWriteSetOf (record { callers = callers; base = base.now; step = O.step object.now; reads = reads }) (history_of base.now.place locals.now) ticket set.now) }
 {

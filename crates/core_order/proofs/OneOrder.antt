@@ -290,10 +290,10 @@ module _ (instance : Instance) where
             tt,
             (λ reply has. (
                 let mine : has.0 ≡ one.local = same_Some has.0 one.local (sym has.1 ∙ one.of) in
-                let told = reply_own instance history to.words to.locals one.caller has.0 law.answers has.1 law.tickets one.index has.2 has.3 in
-                let same : (let z : Linked = record { ticket = has.2.ticket; entry = told.entry } in z) ≡ x =
-                same_Some (record { ticket = has.2.ticket; entry = told.entry }) x (sym told.own ∙ ap (λ (y : Local). slice_get y.own one.index) mine ∙ one.own) in
-                has.4 ∙ told.reply ∙ ap (λ (z : Linked). (instance.step (image_to z.ticket) z.entry.op).1) same)),
+                let own_answer = reply_own instance history to.words to.locals one.caller has.0 law.answers has.1 law.tickets one.index has.2 has.3 in
+                let same : (let z : Linked = record { ticket = has.2.ticket; entry = own_answer.entry } in z) ≡ x =
+                same_Some (record { ticket = has.2.ticket; entry = own_answer.entry }) x (sym own_answer.own ∙ ap (λ (y : Local). slice_get y.own one.index) mine ∙ one.own) in
+                has.4 ∙ own_answer.reply ∙ ap (λ (z : Linked). (instance.step (image_to z.ticket) z.entry.op).1) same)),
             rest,
           ) in
           replays_reads place (only_at key k all) (only_at key (k + 1) all ++ layers key (k + 1 + 1) (odd m) all) (layer_reads k place is)

@@ -187,37 +187,37 @@ module _ (instance : Instance) (history : List Entry) (scene : Scene) (locals : 
 pub queue_kept : (instance : Instance) (history : List Entry) (scene : Scene) (locals : List Local) (caller : ℕ) (l : Local) (kind : Kind) → QueueLawful instance history scene.words locals →
     RootBounds instance history scene.words locals → scene.history ≡ history → slice_get locals caller ≡ Some l → Guard instance scene kind l →
     QueueContinues instance history (words_after instance kind l scene.words) (set locals caller (local_after instance scene kind l))
-queue_kept instance history scene locals caller l (WriteCell j i v) law bounds told at guard = write_cell_kept instance history scene locals caller l law at j i v guard
-queue_kept instance history scene locals caller l (Link j) law bounds told at guard = link_kept instance history scene locals caller l law at j guard
-queue_kept instance history scene locals caller l (Look slot) law bounds told at guard = look_kept instance history scene locals caller l law at slot guard
-queue_kept instance history scene locals caller l (ReadCell t k i) law bounds told at guard = same_history (queue_found instance history scene.words locals _ caller l _ law at (same_but l _ _ _ _ _ _ _ _ _))
-queue_kept instance history scene locals caller l LoadFree law bounds told at guard = load_free_kept instance history scene locals caller l law at
-queue_kept instance history scene locals caller l (TryExclusive r) law bounds told at guard =
+queue_kept instance history scene locals caller l (WriteCell j i v) law bounds of_history at guard = write_cell_kept instance history scene locals caller l law at j i v guard
+queue_kept instance history scene locals caller l (Link j) law bounds of_history at guard = link_kept instance history scene locals caller l law at j guard
+queue_kept instance history scene locals caller l (Look slot) law bounds of_history at guard = look_kept instance history scene locals caller l law at slot guard
+queue_kept instance history scene locals caller l (ReadCell t k i) law bounds of_history at guard = same_history (queue_found instance history scene.words locals _ caller l _ law at (same_but l _ _ _ _ _ _ _ _ _))
+queue_kept instance history scene locals caller l LoadFree law bounds of_history at guard = load_free_kept instance history scene locals caller l law at
+queue_kept instance history scene locals caller l (TryExclusive r) law bounds of_history at guard =
     apart_kept instance history scene locals caller l law at (TryExclusive r) (off_lock instance r guard.0) (either (SameQueue l) _ _ _ (same_but l _ _ _ _ _ _ _ _ _) (same_but l _ _ _ _ _ _ _ _ _))
-queue_kept instance history scene locals caller l (TryShared r) law bounds told at guard =
+queue_kept instance history scene locals caller l (TryShared r) law bounds of_history at guard =
     apart_kept instance history scene locals caller l law at (TryShared r) (off_lock instance r guard.0) (either (SameQueue l) _ _ _ (same_but l _ _ _ _ _ _ _ _ _) (same_but l _ _ _ _ _ _ _ _ _))
-queue_kept instance history scene locals caller l (BackOff r) law bounds told at guard =
+queue_kept instance history scene locals caller l (BackOff r) law bounds of_history at guard =
     apart_kept instance history scene locals caller l law at (BackOff r) (off_lock instance r guard.0)
     (either (SameQueue l) (is_at r (shared_on l)) _ _ (same_but l _ _ _ _ _ _ _ _ _) (either (SameQueue l) (is_at r l.passer) _ _ (same_but l _ _ _ _ _ _ _ _ _) (same_but l _ _ _ _ _ _ _ _ _)))
-queue_kept instance history scene locals caller l (Downgrade r) law bounds told at guard =
+queue_kept instance history scene locals caller l (Downgrade r) law bounds of_history at guard =
     apart_kept instance history scene locals caller l law at (Downgrade r) (off_lock instance r guard.0.0) (same_but l _ _ _ _ _ _ _ _ _)
-queue_kept instance history scene locals caller l (ReleaseExclusive r) law bounds told at guard =
+queue_kept instance history scene locals caller l (ReleaseExclusive r) law bounds of_history at guard =
     apart_kept instance history scene locals caller l law at (ReleaseExclusive r) (off_lock instance r guard.0.0) (same_but l _ _ _ _ _ _ _ _ _)
-queue_kept instance history scene locals caller l LoadCur law bounds told at guard = same_history (load_cur_kept instance history scene locals caller l law bounds at)
-queue_kept instance history scene locals caller l Publish law bounds told at guard = same_history (publish_kept instance history scene locals caller l law bounds at guard)
-queue_kept instance history scene locals caller l (Raise code read) law bounds told at guard = same_history (raise_kept instance history scene locals caller l law bounds at code read guard)
-queue_kept instance history scene locals caller l Retire law bounds told at guard = same_history (retire_kept instance history scene locals caller l law bounds at)
-queue_kept instance history scene locals caller l (Protect p) law bounds told at guard = same_history (protect_kept instance history scene locals caller l law bounds at p)
-queue_kept instance history scene locals caller l Confirm law bounds told at guard = same_history (confirm_kept instance history scene locals caller l law bounds at)
-queue_kept instance history scene locals caller l Unprotect law bounds told at guard = same_history (unprotect_kept instance history scene locals caller l law bounds at)
-queue_kept instance history scene locals caller l (CloseLow target) law bounds told at guard = same_history (close_low_kept instance history scene locals caller l law bounds at target guard)
-queue_kept instance history scene locals caller l (Scan d) law bounds told at guard = same_history (scan_kept instance history scene locals caller l law bounds at d guard)
-queue_kept instance history scene locals caller l OpenFree law bounds told at guard = same_history (open_free_kept instance history scene locals caller l law bounds at guard)
-queue_kept instance history scene locals caller l (WriteSet j i v) law bounds told at guard = same_history (write_set_kept instance history scene locals caller l law at j i v guard)
-queue_kept instance history scene locals caller l (Offer j) law bounds told at guard = same_history (offer_kept instance history scene locals caller l law at j told guard)
-queue_kept instance history scene locals caller l (LoadOffer k t) law bounds told at guard = same_history (load_offer_kept instance history scene locals caller l law at k t guard)
-queue_kept instance history scene locals caller l (ReadSet k t i) law bounds told at guard = same_history (queue_found instance history scene.words locals _ caller l _ law at (same_but l _ _ _ _ _ _ _ _ _))
-queue_kept instance history scene locals caller l kind law bounds told at guard =
+queue_kept instance history scene locals caller l LoadCur law bounds of_history at guard = same_history (load_cur_kept instance history scene locals caller l law bounds at)
+queue_kept instance history scene locals caller l Publish law bounds of_history at guard = same_history (publish_kept instance history scene locals caller l law bounds at guard)
+queue_kept instance history scene locals caller l (Raise code read) law bounds of_history at guard = same_history (raise_kept instance history scene locals caller l law bounds at code read guard)
+queue_kept instance history scene locals caller l Retire law bounds of_history at guard = same_history (retire_kept instance history scene locals caller l law bounds at)
+queue_kept instance history scene locals caller l (Protect p) law bounds of_history at guard = same_history (protect_kept instance history scene locals caller l law bounds at p)
+queue_kept instance history scene locals caller l Confirm law bounds of_history at guard = same_history (confirm_kept instance history scene locals caller l law bounds at)
+queue_kept instance history scene locals caller l Unprotect law bounds of_history at guard = same_history (unprotect_kept instance history scene locals caller l law bounds at)
+queue_kept instance history scene locals caller l (CloseLow target) law bounds of_history at guard = same_history (close_low_kept instance history scene locals caller l law bounds at target guard)
+queue_kept instance history scene locals caller l (Scan d) law bounds of_history at guard = same_history (scan_kept instance history scene locals caller l law bounds at d guard)
+queue_kept instance history scene locals caller l OpenFree law bounds of_history at guard = same_history (open_free_kept instance history scene locals caller l law bounds at guard)
+queue_kept instance history scene locals caller l (WriteSet j i v) law bounds of_history at guard = same_history (write_set_kept instance history scene locals caller l law at j i v guard)
+queue_kept instance history scene locals caller l (Offer j) law bounds of_history at guard = same_history (offer_kept instance history scene locals caller l law at j of_history guard)
+queue_kept instance history scene locals caller l (LoadOffer k t) law bounds of_history at guard = same_history (load_offer_kept instance history scene locals caller l law at k t guard)
+queue_kept instance history scene locals caller l (ReadSet k t i) law bounds of_history at guard = same_history (queue_found instance history scene.words locals _ caller l _ law at (same_but l _ _ _ _ _ _ _ _ _))
+queue_kept instance history scene locals caller l kind law bounds of_history at guard =
     apart_kept instance history scene locals caller l law at kind (off_region instance _ (omega arith)) (same_but l _ _ _ _ _ _ _ _ _)
 
 -- an event

@@ -289,7 +289,7 @@ module _ (instance : Instance) (caller : ℕ) (history : List Entry) (l0 : Local
   here_linked = record {
     law = keeps instance caller s l link here.law (makes instance caller s l link here.at can_link);
     at = there instance caller s l link here.at ∙ ap Some is_linked;
-    told = linked_history;
+    of_history = linked_history;
   }
 
   abbrev at_end : Linked

@@ -68,7 +68,7 @@ module _ (instance : Instance) (caller : ℕ) (history : List Entry) (l0 : Local
     freed_state = made instance i s m Unprotect
 
     here_other : Here instance i history s m
-    here_other = record { law = here.law; at = other.1; told = here.told }
+    here_other = record { law = here.law; at = other.1; of_history = here.of_history }
 
     is_i : m.number ≡ i
     is_i = (here.law.shape.each i m other.1).number
@@ -94,7 +94,7 @@ module _ (instance : Instance) (caller : ℕ) (history : List Entry) (l0 : Local
                 let same : l ≡ m = same_Some l m (sym here.at ∙ ap (slice_get s.locals) e ∙ other.1) in
                 let quiet = subst (Quiet l0) same unneeded.quiet in (
                   freed,
-                  record { law = here_freed.law; at = ap (slice_get freed_state.locals) e ∙ here_freed.at; told = here_freed.told },
+                  record { law = here_freed.law; at = ap (slice_get freed_state.locals) e ∙ here_freed.at; of_history = here_freed.of_history },
                   record { own = quiet.own; answered = quiet.answered; cells = quiet.cells; seen = quiet.seen },
                 ))
             | inr ne ↦ (
@@ -102,7 +102,7 @@ module _ (instance : Instance) (caller : ℕ) (history : List Entry) (l0 : Local
               record {
                 law = here_freed.law;
                 at = slice_get-set_other s.locals i caller (local_after instance (scene_of instance s) Unprotect m) ne ∙ here.at;
-                told = here_freed.told;
+                of_history = here_freed.of_history;
               },
               unneeded.quiet,
             )

@@ -180,7 +180,7 @@ pub reaches_read : (instance : Instance) (s : State) (caller : ℕ) (l : Local) 
     IsTrue (instance.reads op) → Words 144 op → ReachesRead instance s caller l op
 reaches_read instance s caller l op law at some reads op_words =
     let history = history_in instance s in
-    let first = settles instance caller history s l (record { law = law; at = at; told = refl }) some in
+    let first = settles instance caller history s l (record { law = law; at = at; of_history = refl }) some in
     let then_ = reads_at_rest instance first.to caller first.after op first.here.law first.here.at first.holds.rests some reads op_words in
     record {
       events = first.events ++ then_.events;

@@ -207,16 +207,16 @@ answered_all instance caller history s l here all =
     let law = here.law in
     let same = history_same instance caller history s l here in
     let answer = answer_to instance law.history in
-    let each : (i : ℕ) (x : Answer) → slice_get l.answered i ≡ Some x → slice_get (map answer l.own) i ≡ Some x = λ i x told.
-    (let own = answered_own instance law.history s.locals caller l law.tickets here.at i x told in
+    let each : (i : ℕ) (x : Answer) → slice_get l.answered i ≡ Some x → slice_get (map answer l.own) i ≡ Some x = λ i x item.
+    (let own = answered_own instance law.history s.locals caller l law.tickets here.at i x item in
     let y = own.0 in
     let mine = own_reply instance law.history s.locals caller l law.tickets here.at i y own.1 in
     let reply : x.reply ≡ reply_after instance law.history y.ticket y.entry.op =
-    same_Some _ _ (sym ((law.answers.each caller l here.at).entries i x told).reply ∙ ap (reply_at instance.step instance.base.place (object_part instance.base.words) law.history) (sym own.2) ∙ mine) in
+    same_Some _ _ (sym ((law.answers.each caller l here.at).entries i x item).reply ∙ ap (reply_at instance.step instance.base.place (object_part instance.base.words) law.history) (sym own.2) ∙ mine) in
     let answer_is : answer y ≡ x =
     ap (λ (t : ℕ). record { ticket = t; reply = reply_after instance law.history y.ticket y.entry.op }) own.2 ∙ ap (λ (r : List ℕ). record { ticket = x.ticket; reply = r }) (sym reply) in
     slice_get-map answer l.own i ∙ ap (option_map answer) own.1 ∙ ap Some answer_is) in
     same_lists l.answered (map answer l.own) (all ∙ sym (length-map l.own answer)) (λ k d within.
-    (let told = item_below l.answered k within in
-    get_or_from_slice_get l.answered k told.0 d told.1 ∙ sym (get_or_from_slice_get (map answer l.own) k told.0 d (each k told.0 told.1))))
+    (let item = item_below l.answered k within in
+    get_or_from_slice_get l.answered k item.0 d item.1 ∙ sym (get_or_from_slice_get (map answer l.own) k item.0 d (each k item.0 item.1))))
     ∙ ap (λ (h : List Entry). map (answer_to instance h) l.own) same

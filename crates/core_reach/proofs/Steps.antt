@@ -20,7 +20,7 @@ use Rattle.cx_core.specs.declared.local.Local.{Local}
 pub record Here (instance : Instance) (caller : ℕ) (history : List Entry) (s : State) (l : Local) : Type 0 where
   pub law : Lawful instance s
   pub at : slice_get s.locals caller ≡ Some l
-  pub told : history_of instance.base.place s.locals ≡ history
+  pub of_history : history_of instance.base.place s.locals ≡ history
 
 -- some run leads from a state to such a one, of which something holds
 pub record Reached (instance : Instance) (caller : ℕ) (history : List Entry) (from : State) (P : State → Local → Type 0) : Type 0 where
@@ -50,11 +50,11 @@ module _ (instance : Instance) (caller : ℕ) where
 
   -- the history is that of the invariant
   pub history_same : (history : List Entry) (s : State) (l : Local) (here : Here instance caller history s l) → here.law.history ≡ history
-  history_same history s l here = sym (history_is instance.base.place here.law.history s.locals here.law.tickets.merged) ∙ here.told
+  history_same history s l here = sym (history_is instance.base.place here.law.history s.locals here.law.tickets.merged) ∙ here.of_history
 
   -- a step that leaves the own list leaves the history
-  untold : (s : State) (l l' : Local) (history : List Entry) → Here instance caller history s l → l'.own ≡ l.own → history_of instance.base.place (set s.locals caller l') ≡ history
-  untold s l l' history here own =
+  history_left : (s : State) (l l' : Local) (history : List Entry) → Here instance caller history s l → l'.own ≡ l.own → history_of instance.base.place (set s.locals caller l') ≡ history
+  history_left s l l' history here own =
       let place = instance.base.place in
       let merged = here.law.tickets.merged in
       let after : IsHistory place here.law.history (set s.locals caller l') = record {
@@ -69,7 +69,7 @@ module _ (instance : Instance) (caller : ℕ) where
   stepped s l l' kind history here guard is own = record {
     law = keeps s l kind here.law (makes s l kind here.at guard);
     at = there s l kind here.at ∙ ap Some is;
-    told = ap (λ (x : Local). history_of instance.base.place (set s.locals caller x)) is ∙ untold s l l' history here own;
+    of_history = ap (λ (x : Local). history_of instance.base.place (set s.locals caller x)) is ∙ history_left s l l' history here own;
   }
 
 -- one run after another

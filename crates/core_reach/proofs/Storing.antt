@@ -173,7 +173,7 @@ module _ (instance : Instance) (caller : ℕ) (history : List Entry) (l0 : Local
     can_give_up : Guard instance (scene_of instance s) give l
     can_give_up = (
       (storing.small, ap held_on storing.exclusive, subst IsNone (sym storing.downgraded) refl, ap held_dirty storing.exclusive ∙ all_clean),
-      subst (λ h. IsFull instance h (held_words l.exclusive)) (sym here.told) (subst (IsFull instance history) (sym (ap held_words storing.exclusive ∙ is_image)) full),
+      subst (λ h. IsFull instance h (held_words l.exclusive)) (sym here.of_history) (subst (IsFull instance history) (sym (ap held_words storing.exclusive ∙ is_image)) full),
     )
 
     here_given : Here instance caller history (made instance caller s l give) given_local

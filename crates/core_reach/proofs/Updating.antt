@@ -45,7 +45,7 @@ answers instance s caller history own run = record {
   events = run.events;
   to = run.to;
   ran = run.ran;
-  told = run.here.told;
+  of_history = run.here.of_history;
   after = run.after;
   of_caller = run.here.at;
   linked = run.holds.linked;
@@ -57,7 +57,7 @@ pub reaches_answers : (instance : Instance) (s : State) (caller : ℕ) (l : Loca
     ReachesAnswers instance s caller (history_in instance s) l.own
 reaches_answers instance s caller l law at some =
     let history = history_in instance s in
-    answers instance s caller history l.own (is_answered instance caller history l.own s l (record { law = law; at = at; told = refl }) refl some)
+    answers instance s caller history l.own (is_answered instance caller history l.own s l (record { law = law; at = at; of_history = refl }) refl some)
 
 -- a caller has no more entries than the history
 own_short : (caller ticket : ℕ) (history : List Entry) → length (own_of caller ticket history) ≤ length history
@@ -91,7 +91,7 @@ reaches_update instance s caller l op law at room some numbered op_words =
     let own = l.own ++ x ∷ [] in
     let small = number_small instance s caller l law at numbered in
     let fit : Words 145 (number ∷ op) = record { long = ap suc op_words.long; fit = All-cons (λ w. w < 2 ^ 64) number op small op_words.fit } in
-    let here : Here instance caller history s l = record { law = law; at = at; told = refl } in
+    let here : Here instance caller history s l = record { law = law; at = at; of_history = refl } in
     let end_ = next_ticket instance s in
     answers instance s caller longer own
     (andthen instance caller s history longer (settles instance caller history s l here some) (λ s0 l0 here0 settled.

@@ -47,7 +47,7 @@ pub record ReachesAnswers (instance : Instance) (from : State) (caller : ℕ) (h
   pub events : List Event
   pub to : State
   pub ran : Run instance from events to
-  pub told : history_in instance to ≡ history
+  pub of_history : history_in instance to ≡ history
   pub after : Local
   pub of_caller : slice_get to.locals caller ≡ Some after
   pub linked : after.own ≡ own

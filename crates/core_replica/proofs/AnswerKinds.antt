@@ -40,7 +40,7 @@ module _ (instance : Instance) (history : List Entry) (scene : Scene) (locals : 
         | inl before ↦ inl before
         | inr e ↦ (
             let is_last : i ≡ length l.own = e.0 in
-            inr (omega (arith, was.before), subst (λ z. x.place ≤ z.ticket) e.1 (omega (arith, was.told))))
+            inr (omega (arith, was.before), subst (λ z. x.place ≤ z.ticket) e.1 (omega (arith, was.up_to_floor))))
       ])
 
   link_kept : (j : ℕ) → length l.answered ≤ length l.own → l.floor ≤ l.front → After (Link j)

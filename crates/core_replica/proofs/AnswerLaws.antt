@@ -32,7 +32,7 @@ pub answer_stays : (instance : Instance) (history : List Entry) (end_ end' : ℕ
 answer_stays instance history end_ end' l l' x old up floor = record {
   reply = old.reply;
   durable = omega (arith, old.durable);
-  told = omega (arith, old.told);
+  below_floor = omega (arith, old.below_floor);
 }
 
 -- an answered read `x` stays true where more is durable and answered, the floor does not fall, and new own entries are at or above its place
@@ -44,7 +44,7 @@ read_stays instance history end_ end' l l' x old up floor more above = record {
   reply = old.reply;
   from = old.from;
   durable = omega (arith, old.durable);
-  told = omega (arith, old.told);
+  up_to_floor = omega (arith, old.up_to_floor);
   before = omega (arith, old.before);
   below = λ i y at counted. elim (above i y at) [
     | inl was ↦ old.below i y was counted
@@ -101,13 +101,13 @@ pub reply_stays : (instance : Instance) (history more : List Entry) (ticket : �
     reply_at instance.step instance.base.place (object_part instance.base.words) (history ++ more) ticket ≡ Some reply
 reply_stays instance history more ticket reply is =
     let n = ticket - instance.base.place in
-    let told = λ (front : List Entry) (o : Option Entry). option_map (λ (e : Entry). (instance.step (image_after instance.step (object_part instance.base.words) front) e.op).1) o in
+    let reply_in = λ (front : List Entry) (o : Option Entry). option_map (λ (e : Entry). (instance.step (image_after instance.step (object_part instance.base.words) front) e.op).1) o in
     elim (slice_get_cases history n).1 [
       | inl a ↦ (
           let within : n ≤ length history = (let below : n < length history = a.1 in omega arith) in
           let there : slice_get (history ++ more) n ≡ slice_get history n = slice_get-append_left history more n a.0 a.2 ∙ sym a.2 in
-          ap (λ front. told front (slice_get (history ++ more) n)) (take-append-le n history more within) ∙ ap (told (take n history)) there ∙ is)
-      | inr b ↦ absurd (none-some reply (ap (told (take n history)) (sym b.1) ∙ is))
+          ap (λ front. reply_in front (slice_get (history ++ more) n)) (take-append-le n history more within) ∙ ap (reply_in (take n history)) there ∙ is)
+      | inr b ↦ absurd (none-some reply (ap (reply_in (take n history)) (sym b.1) ∙ is))
     ]
 
 -- so does the object's reply after a place that the history reaches
@@ -124,7 +124,7 @@ answers_longer instance history history' more words locals is within old =
       each = EachLocal-then locals (λ _ x. AreAnswers instance history (durable_place instance words) x) (λ _ x. AreAnswers instance (history ++ more) (durable_place instance words) x) old.each (λ d l there are. record {
         entries = λ i x at. (
             let was = are.entries i x at in
-            record { reply = reply_stays instance history more x.ticket x.reply was.reply; durable = was.durable; told = was.told });
+            record { reply = reply_stays instance history more x.ticket x.reply was.reply; durable = was.durable; below_floor = was.below_floor });
         reads = λ i x at. (
             let was = are.reads i x at in
             record {
@@ -133,7 +133,7 @@ answers_longer instance history history' more words locals is within old =
               reply = was.reply ∙ sym (after_stays instance history more x.place x.op (omega (arith, was.durable)));
               from = was.from;
               durable = was.durable;
-              told = was.told;
+              up_to_floor = was.up_to_floor;
               before = was.before;
               below = was.below;
               above = was.above;

@@ -74,8 +74,8 @@ module _ (instance : Instance) (history : List Entry) (s : State) (image : Crash
             ∙ crash.settled replica i small below (unheld_clean s.locals replica i stands.unheld)
             ∙ there.per i below
             ∙ ap (λ p. slice_index (full p) i) stands.placed;
-        answered = λ c l at i x told. (let is = (answers.each c l at).entries i x told in omega (arith, is.durable, stands.durable));
-        reads = λ c l at i x told. (let is = (answers.each c l at).reads i x told in omega (arith, is.durable, stands.durable));
+        answered = λ c l at i x item. (let is = (answers.each c l at).entries i x item in omega (arith, is.durable, stands.durable));
+        reads = λ c l at i x item. (let is = (answers.each c l at).reads i x item in omega (arith, is.durable, stands.durable));
       }
 
 -- a sum that is not 0 has a local state that adds to it

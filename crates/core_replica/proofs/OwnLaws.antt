@@ -62,16 +62,16 @@ module _ (instance : Instance) (history : List Entry) (locals : List Local) (cal
 
   -- the own entry that an answer is to
   pub answered_own : (i : ℕ) (x : Answer) → slice_get l.answered i ≡ Some x → (y : Linked) × (slice_get l.own i ≡ Some y) × (y.ticket ≡ x.ticket)
-  answered_own i x told =
-      let first : slice_get (map answered_at l.answered) i ≡ Some x.ticket = slice_get-map answered_at l.answered i ∙ ap (option_map answered_at) told in
+  answered_own i x there =
+      let first : slice_get (map answered_at l.answered) i ≡ Some x.ticket = slice_get-map answered_at l.answered i ∙ ap (option_map answered_at) there in
       let second : slice_get (map ticket_of l.own) i ≡ Some x.ticket =
       slice_get-take (length l.answered) (map ticket_of l.own) i x.ticket (ap (λ ts. slice_get ts i) (sym (tickets.each caller l at).answered) ∙ first) in
       mapped ticket_of (slice_get l.own i) x.ticket (sym (slice_get-map ticket_of l.own i) ∙ second)
 
   -- the tickets of answers rise
   pub answers_rise : (i j : ℕ) (x y : Answer) → slice_get l.answered i ≡ Some x → slice_get l.answered j ≡ Some y → i < j → x.ticket < y.ticket
-  answers_rise i j x y told_i told_j order =
-      let own_i = answered_own i x told_i in
-      let own_j = answered_own j y told_j in
+  answers_rise i j x y at_i at_j order =
+      let own_i = answered_own i x at_i in
+      let own_j = answered_own j y at_j in
       let turn = λ (k : ℕ) (z : Linked) (there : slice_get l.own k ≡ Some z). ap (λ (o : List Linked). slice_get o k) (sym (tickets.merged.own caller l at)) ∙ there in
       omega (arith, own_i.2, own_j.2, own_rises caller base history i j own_i.0 own_j.0 (turn i own_i.0 own_i.1) (turn j own_j.0 own_j.1) order)

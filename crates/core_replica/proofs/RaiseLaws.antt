@@ -100,10 +100,10 @@ module _ (instance : Instance) (history : List Entry) (words : List ℕ) (locals
   answered_below : (i : ℕ) (y : Linked) → slice_get l.own i ≡ Some y → i < length l.answered → y.ticket < l.floor
   answered_below i y there counted =
       let x = item_below l.answered i counted in
-      let told = ((old.each caller l at).entries i x.0 x.1).told in
+      let below_floor = ((old.each caller l at).entries i x.0 x.1).below_floor in
       let own = answered_own instance history locals caller l grounds.tickets at i x.0 x.1 in
       let same = ap (λ (z : Linked). z.ticket) (same_Some y own.0 (sym there ∙ own.1)) in
-      omega (arith, told, own.2, same)
+      omega (arith, below_floor, own.2, same)
 
   -- the place of a code whose replica is held shared at that place is from the base's on
   shown_from : (code : ℕ) → ShowsPlace instance.callers code l.shared → instance.base.place ≤ root_place_of instance.callers code
@@ -150,7 +150,7 @@ module _ (instance : Instance) (history : List Entry) (words : List ℕ) (locals
         subst (IsAnswer instance history end_ l') (sym g.2) (let a : IsAnswer instance history end_ l' answer = record {
           reply = own_reply instance history locals caller l grounds.tickets at (length l.answered) y g.1;
           durable = omega (arith, durable_code, below);
-          told = omega (arith, is, below);
+          below_floor = omega (arith, is, below);
         } in a)
 
     -- the answers that stand after the raise
@@ -220,7 +220,7 @@ module _ (instance : Instance) (history : List Entry) (words : List ℕ) (locals
         reply = ap (λ h. reply_after instance h place op) same;
         from = shown_from code guard.1.3;
         durable = durable_code;
-        told = reaches;
+        up_to_floor = reaches;
         before = omega (arith, length-append l.answered answers);
         below = λ i y there counted. is_counted i y there counted;
         above = λ i y there past. is_later i y there past;
@@ -238,7 +238,7 @@ module _ (instance : Instance) (history : List Entry) (words : List ℕ) (locals
             ];
             rise = rise_push l.seen_reads (read_now op) mine.rise (λ i x there. (
                 let was = mine.reads i x there in
-                (omega (arith, was.told, floor_below), omega (arith, was.before))));
+                (omega (arith, was.up_to_floor, floor_below), omega (arith, was.before))));
           }
 
 -- a raise keeps the part on answers

@@ -104,7 +104,8 @@ unheld_before locals caller l l' r at stays nobody d x there holds =
       | inr ne ↦ nobody d x (slice_get-set_other locals caller d l' ne ∙ there) holds
     ]
 
--- a caller's local state put, with the same words: what it then holds is told
+-- A caller's local state is put and no word changes: the part on replicas stays, where each replica that then nobody holds is an image, and the words that
+-- the caller then holds or has loaded are the replica's.
 pub regions_local : (instance : Instance) (history : List Entry) (words : List ℕ) (locals : List Local) (caller : ℕ) (l l' : Local) → Regions instance history words locals → slice_get locals caller ≡ Some l →
     ((r : ℕ) → r < 2 * instance.callers → IsUnheld (set locals caller l') r → IsReplicaImage instance history words r) →
     ((h : HeldExclusive) → l'.exclusive ≡ Some h → HasWords instance words h) →

@@ -21,16 +21,16 @@ module _ (instance : Instance) (history : List Entry) (words : List ℕ) (locals
       let y : Linked = record { ticket = x.ticket; entry = own.0.entry } in
       let mine : slice_get l.own i ≡ Some y = own.1 ∙ ap (λ t. Some (let z : Linked = record { ticket = t; entry = own.0.entry } in z)) own.2 in
       let linked = own_linked instance history locals caller l tickets at i y mine in
-      let told = (answers.each caller l at).entries i x there in
+      let answer = (answers.each caller l at).entries i x there in
       record {
         entry = own.0.entry;
         own = mine;
         linked = record { from = linked.0; at = linked.1 };
-        reply = same_Some x.reply _ (sym told.reply ∙ own_reply instance history locals caller l tickets at i y mine);
+        reply = same_Some x.reply _ (sym answer.reply ∙ own_reply instance history locals caller l tickets at i y mine);
       }
 
   -- a read is above those of its caller's own entries that it counts, and no others
   pub read_counts : (n i : ℕ) (x : SeenRead) (y : Linked) → slice_get l.seen_reads n ≡ Some x → slice_get l.own i ≡ Some y → (y.ticket < x.place) ↔ (i < x.before)
-  read_counts n i x y told own =
-      let is = (answers.each caller l at).reads n x told in
+  read_counts n i x y there own =
+      let is = (answers.each caller l at).reads n x there in
       (λ lower. elim (cases_lt i x.before) [ inl counted ↦ counted | inr past ↦ (let higher = is.above i y own past in absurd (omega arith)) ], λ counted. is.below i y own counted)

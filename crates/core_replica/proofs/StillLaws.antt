@@ -72,8 +72,8 @@ has_run instance (event ∷ events) from to caller l run there =
       local = rest.local;
       of_caller = rest.of_caller;
       has = record {
-        answered = λ i x told. rest.has.answered i x (one.has.answered i x told);
-        reads = λ i x told. rest.has.reads i x (one.has.reads i x told);
+        answered = λ i x item. rest.has.answered i x (one.has.answered i x item);
+        reads = λ i x item. rest.has.reads i x (one.has.reads i x item);
         floor = omega (arith, one.has.floor, rest.has.floor);
       };
     }

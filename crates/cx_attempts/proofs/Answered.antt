@@ -39,8 +39,8 @@ downgraded_place callers (Some h) q on few = code_place callers h.place h.replic
 
 module _ {O : Type 0} (o : Ghosts O) (r : Running O) (ticket : ℕ) (reply : List ℕ) where
   -- what stays as it is beside a publication
-  still_told : (before after : Seated) → unchanged_by_publish after ≡ unchanged_by_publish before → TellsReply r.lines (o.lawful r.object) r.base (o.step r.object) before.known ticket reply → TellsReply r.lines (o.lawful r.object) r.base (o.step r.object) after.known ticket reply
-  still_told before after rest tells =
+  still_tells : (before after : Seated) → unchanged_by_publish after ≡ unchanged_by_publish before → TellsReply r.lines (o.lawful r.object) r.base (o.step r.object) before.known ticket reply → TellsReply r.lines (o.lawful r.object) r.base (o.step r.object) after.known ticket reply
+  still_tells before after rest tells =
       reply_still r.lines (o.lawful r.object) r.base (o.step r.object) before.known after.known ticket reply (ap (λ (s : Seated). has_of s.known) rest) (ap (λ (s : Seated). s.known.accesses) rest) (ap (λ (s : Seated). s.known.local.number) rest) tells
 
   still_last : (before after : Seated) → unchanged_by_publish after ≡ unchanged_by_publish before → unanswered_ticket before.known.local ≡ Some ticket → unanswered_ticket after.known.local ≡ Some ticket
@@ -57,7 +57,7 @@ module _ {O : Type 0} (o : Ghosts O) (r : Running O) (ticket : ℕ) (reply : Lis
     ended = ended;
     seen = sym seen;
     above = subst (λ n. ticket < n) (sym (ap (root_place_of r.callers) is ∙ downgraded_place r.callers before.known.local.downgraded q on few)) ready.above;
-    tells = still_told before after rest ready.tells;
+    tells = still_tells before after rest ready.tells;
     last = still_last before after rest ready.last;
   }
 
@@ -70,13 +70,13 @@ module _ {O : Type 0} (o : Ghosts O) (r : Running O) (ticket : ℕ) (reply : Lis
         ended = passed.ended;
         seen = sym passed.seen;
         above = omega (arith, above, below);
-        tells = still_told before after rest ready.tells;
+        tells = still_tells before after rest ready.tells;
         last = still_last before after rest ready.last;
       }
 
-  -- so the raise is told what it answers
-  pub told_answers : (code : ℕ) (seat : Seated) → IsPublishedFor o r code ticket reply seat → TellsAnswers r.lines (o.lawful r.object) r.base (o.step r.object) seat.known (root_place_of r.callers code) (record { ticket = ticket; reply = reply } ∷ [])
-  told_answers code seat p =
+  -- what was published above the entry's ticket tells the answer with which a raise by its code answers the entry
+  pub answers_known : (code : ℕ) (seat : Seated) → IsPublishedFor o r code ticket reply seat → TellsAnswers r.lines (o.lawful r.object) r.base (o.step r.object) seat.known (root_place_of r.callers code) (record { ticket = ticket; reply = reply } ∷ [])
+  answers_known code seat p =
       let last = some_of (λ (x : Linked). x.ticket) (unanswered seat.known.local) ticket p.last in
       let x = last.0 in
       let is = last.2 in

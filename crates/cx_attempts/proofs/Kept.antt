@@ -140,7 +140,7 @@ module _ {O : Type 0} (o : Ghosts O) (r : Running O) (before after : Seated) (he
           image = image_same (o.line_count r.object) (o.lawful r.object) r.base (o.step r.object) before.known after.known has accesses was.image;
           alone = ap (λ (t : Seated). others t.known.local) s.made ∙ was.alone;
         };
-        apart = λ e. s.told.apart (was.is_held.right.holds ∙ ap Some (e ∙ ap (root_replica_of r.callers) cur));
+        apart = λ e. s.found_word.apart (was.is_held.right.holds ∙ ap Some (e ∙ ap (root_replica_of r.callers) cur));
         fresh = ap (λ (t : Seated). t.known.local.fresh) s.made;
         protection = ap (λ (t : Seated). t.known.local.protection) s.made;
         accesses = accesses;

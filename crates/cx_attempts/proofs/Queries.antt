@@ -44,13 +44,13 @@ module _ {Key : Type 0} where
       Becomes (Inside old 1168 len) (Inside new from' len') ◌≡◌ → OnOk result (Always (Inside new from' len') (λ now. step now op ≡ (now, reply))) →
       Becomes old new ◌≡◌ × OnOk result (Reads old new (λ region. (step (object_part region) op).1 ≡ reply))
   unfolding object_part
-  part_queried {A = A} {E = E} old new step op reply result len from' len' f l long kept done = (unmoved, by result told)
+  part_queried {A = A} {E = E} old new step op reply result len from' len' f l long kept done = (unmoved, by result queried)
     where
       unmoved : Becomes old new ◌≡◌
       unmoved = part_unmoved old new 1168 len long (subst (λ m. Becomes (Inside old 1168 len) (Inside new 1168 m) ◌≡◌) l (subst (λ n. Becomes (Inside old 1168 len) (Inside new n len') ◌≡◌) f kept))
 
-      told : OnOk result (Always (Inside new 1168 len) (λ now. step now op ≡ (now, reply)))
-      told = subst (λ m. OnOk result (Always (Inside new 1168 m) (λ now. step now op ≡ (now, reply)))) l (subst (λ n. OnOk result (Always (Inside new n len') (λ now. step now op ≡ (now, reply)))) f done)
+      queried : OnOk result (Always (Inside new 1168 len) (λ now. step now op ≡ (now, reply)))
+      queried = subst (λ m. OnOk result (Always (Inside new 1168 m) (λ now. step now op ≡ (now, reply)))) l (subst (λ n. OnOk result (Always (Inside new n len') (λ now. step now op ≡ (now, reply)))) f done)
 
       by : (r : Result A E) → OnOk r (Always (Inside new 1168 len) (λ now. step now op ≡ (now, reply))) → OnOk r (Reads old new (λ region. (step (drop 1168 region) op).1 ≡ reply))
       by (Ok x) all = part_reads old new (λ part. (step part op).1 ≡ reply) 1168 len long unmoved (λ key part s. ap (λ p. p.1) (all key part s))

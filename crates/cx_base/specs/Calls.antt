@@ -17,8 +17,8 @@ pub record Stores {Memory T E : Type 0} (m : Ghosts Memory) (old new : Memory) (
   pub framed : Framed m.size m.fixed m.writable m.left old new
 
 -- Loads: what their answer tells of the words, which stay as they are, also where a load halts.
-pub record Finds {Memory T E : Type 0} (m : Ghosts Memory) (old new : Memory) (result : Result T E) (Told : T → List ℕ → Type 0) : Type 0 where
-  pub done : IfOk result (λ v. Reads (m.stands old) (m.stands new) (Told v))
+pub record Finds {Memory T E : Type 0} (m : Ghosts Memory) (old new : Memory) (result : Result T E) (Found : T → List ℕ → Type 0) : Type 0 where
+  pub done : IfOk result (λ v. Reads (m.stands old) (m.stands new) (Found v))
   pub kept : Becomes (m.stands old) (m.stands new) ◌≡◌
   pub halts : OnErr result (m.left new ≡ Some 0)
   pub framed : Framed m.size m.fixed m.writable m.left old new

@@ -68,16 +68,16 @@ shows_store n notes at v small = record {
 }
 
 -- the words that are really there stand, whatever is noted
-abbrev pub IsToldByNotes : List Note → List ℕ → Type 0
-IsToldByNotes notes words = ∥ ((first : List ℕ) × NotesShow (length words) notes first words) ∥₁
+abbrev pub IsShownByNotes : List Note → List ℕ → Type 0
+IsShownByNotes notes words = ∥ ((first : List ℕ) × NotesShow (length words) notes first words) ∥₁
 
-pub some_shown : (notes : List Note) (words : List ℕ) → IsToldByNotes notes words → ∥ ((first : List ℕ) × (now : List ℕ) × NotesShow (length words) notes first now) ∥₁
+pub some_shown : (notes : List Note) (words : List ℕ) → IsShownByNotes notes words → ∥ ((first : List ℕ) × (now : List ℕ) × NotesShow (length words) notes first now) ∥₁
 some_shown notes words shown = ∥∥₁_map shown (λ p. (p.0, words, p.1))
 
-pub shown_after_load : (notes : List Note) (words : List ℕ) (at v : ℕ) → slice_index words at ≡ v → IsToldByNotes notes words → IsToldByNotes (notes ++ (false, at, v) ∷ []) words
+pub shown_after_load : (notes : List Note) (words : List ℕ) (at v : ℕ) → slice_index words at ≡ v → IsShownByNotes notes words → IsShownByNotes (notes ++ (false, at, v) ∷ []) words
 shown_after_load notes words at v e shown = ∥∥₁_map shown (λ p. (p.0, (shows_load (length words) notes at v).on p.0 words p.1 e))
 
-pub shown_after_store : (notes : List Note) (words : List ℕ) (at v : ℕ) → v < 2 ^ 64 → IsToldByNotes notes words → IsToldByNotes (notes ++ (true, at, v) ∷ []) (slice_set words at v)
+pub shown_after_store : (notes : List Note) (words : List ℕ) (at v : ℕ) → v < 2 ^ 64 → IsShownByNotes notes words → IsShownByNotes (notes ++ (true, at, v) ∷ []) (slice_set words at v)
 shown_after_store notes words at v small shown =
     subst (λ n. ∥ ((first : List ℕ) × NotesShow n (notes ++ (true, at, v) ∷ []) first (slice_set words at v)) ∥₁) (sym (length-set words at v))
     (∥∥₁_map shown (λ p. (p.0, (shows_store (length words) notes at v small).on p.0 words p.1)))

@@ -12,11 +12,11 @@ pub record GivesBytes (n : ℕ) (bytes buffer : List ℕ) (rest : Option (List �
   pub left : rest ≡ Some (drop n bytes)
   pub end : n ≡ 0 → bytes ≡ []
 
--- n bytes came from the front of the bytes that were left, where these are told, to the front of a buffer; 0 is the end of the input
+-- n bytes came from the front of the bytes that were left, where these are known, to the front of a buffer; 0 is the end of the input
 abbrev pub Gave : ℕ → Option (List ℕ) → List ℕ → Option (List ℕ) → Type 0
 Gave n before buffer after = IfSome before (λ bytes. GivesBytes n bytes buffer after)
 
--- the first n bytes of a piece were appended, where the bytes written are told
+-- the first n bytes of a piece were appended, where the bytes written are known
 abbrev pub Took : ℕ → List ℕ → Option (List ℕ) → Option (List ℕ) → Type 0
 Took n piece before after = IfSome before (λ written. after ≡ Some (written ++ take n piece))
 
@@ -47,24 +47,24 @@ pub record Holding : Type 0 where
 
 -- what a source in memory has left, or a sink in memory holds; how many bytes go at most in a call; the numbers of the calls that
 -- fail; how many calls were made; how often it has failed
-pub record Telling : Type 0 where
+pub record ByteStream : Type 0 where
   pub bytes : List ℕ
   pub chunk : ℕ
   pub fails : List ℕ
   pub calls : ℕ
   pub faults : ℕ
 
--- what a sink in memory holds and how its calls go (`Telling`), and its room
+-- a sink in memory: what it holds and how its calls go, and its room
 pub record Filling : Type 0 where
-  pub told : Telling
+  pub stream : ByteStream
   pub room : ℕ
 
 -- the number of the next call; a count stays at 2^64 - 1 once there
 abbrev pub next_call : ℕ → ℕ
 next_call made = min (made + 1) (2 ^ 64 - 1)
 
--- a call leaves what was chosen, and is counted
-pub record TellsCall (old new : Telling) : Type 0 where
+-- a call leaves how many bytes go in one and which calls fail as they were chosen, and it is counted
+pub record CountsCall (old new : ByteStream) : Type 0 where
   pub chunk : new.chunk ≡ old.chunk
   pub fails : new.fails ≡ old.fails
   pub calls : new.calls ≡ next_call old.calls

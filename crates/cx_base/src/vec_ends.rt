@@ -1,7 +1,7 @@
 //! A source and a sink in memory with a limit on the bytes of one call, which fail at chosen calls.
 
 ghost use Rattle.std.specs.Prelude.{◌≡◌, ◌↔◌, ◌⊎◌, ◌<◌, ◌≤◌, length, vec_capacity, Contains, IfOk, IsErr, IsTrue, Some};
-ghost use Rattle.cx_base.specs.Outside.{IsSourceRead, IsWritten, TellsCall, next_call};
+ghost use Rattle.cx_base.specs.Outside.{IsSourceRead, IsWritten, CountsCall, next_call};
 
 use crate::outside::{Failed, Sink, Source};
 use std::marker::Model;
@@ -62,9 +62,9 @@ pub struct VecSource {
 
 impl Model for VecSource {
     ghost use Rattle.std.specs.Prelude.{◌≤◌, drop, vec_len};
-    ghost use Rattle.cx_base.specs.Outside.{Telling};
+    ghost use Rattle.cx_base.specs.Outside.{ByteStream};
 
-    ghost Value = { Telling };
+    ghost Value = { ByteStream };
 
     ghost view = { λ s. record { bytes = drop s.at s.bytes.items; chunk = s.chunk; fails = s.calls.fails.items; calls = s.calls.made; faults = s.calls.faults } };
 
@@ -101,7 +101,7 @@ impl Source for VecSource {
         // It gives at most `chunk` bytes, and fails exactly at the calls chosen.
         ensures chunk { IfOk result (λ n. n ≤ self.old.chunk) }
         ensures chosen { IsErr result ↔ Contains self.old.fails (next_call self.old.calls) }
-        ensures kept { TellsCall self.old self.new }
+        ensures kept { CountsCall self.old self.new }
     {
         if self.calls.begin() {
             return Err(self.calls.fail());
@@ -129,7 +129,7 @@ impl Model for VecSink {
 
     ghost Value = { Filling };
 
-    ghost view = { λ s. record { told = record { bytes = s.bytes.items; chunk = s.chunk; fails = s.calls.fails.items; calls = s.calls.made; faults = s.calls.faults }; room = s.room } };
+    ghost view = { λ s. record { stream = record { bytes = s.bytes.items; chunk = s.chunk; fails = s.calls.fails.items; calls = s.calls.made; faults = s.calls.faults }; room = s.room } };
 
     ghost invariant = { λ s. (1 ≤ s.chunk) × (vec_len s.bytes ≤ s.room) × (s.room ≤ vec_capacity s.bytes) };
 }
@@ -139,7 +139,7 @@ impl VecSink {
     /// The calls whose numbers stand in `fails` fail.
     pub fn new(room: Vec<u8>, chunk: usize, fails: Vec<u64>) -> Self
         requires { 1 ≤ chunk }
-        ensures { result ≡ record { told = record { bytes = room.items; chunk = chunk; fails = fails.items; calls = 0; faults = 0 }; room = vec_capacity room } }
+        ensures { result ≡ record { stream = record { bytes = room.items; chunk = chunk; fails = fails.items; calls = 0; faults = 0 }; room = vec_capacity room } }
     {
         let reserved = room.capacity();
         VecSink {
@@ -152,7 +152,7 @@ impl VecSink {
 
     /// The bytes that the vector held at first and those written since.
     pub fn written(&self) -> &[u8]
-        ensures { result.now ≡ self.now.told.bytes }
+        ensures { result.now ≡ self.now.stream.bytes }
     {
         &self.bytes
     }
@@ -161,17 +161,17 @@ impl VecSink {
 impl Sink for VecSink {
     ghost use Rattle.std.specs.Prelude.{Some};
 
-    ghost written = { λ s. Some s.told.bytes };
+    ghost written = { λ s. Some s.stream.bytes };
 
-    ghost faults = { λ s. s.told.faults };
+    ghost faults = { λ s. s.stream.faults };
 
     fn write(&mut self, piece: &[u8]) -> Result<usize, Failed>
         requires { 0 < length piece.now }
-        ensures written { IsWritten piece.now result (Some self.old.told.bytes) (Some self.new.told.bytes) self.old.told.faults self.new.told.faults }
+        ensures written { IsWritten piece.now result (Some self.old.stream.bytes) (Some self.new.stream.bytes) self.old.stream.faults self.new.stream.faults }
         // It takes at most `chunk` bytes, and fails exactly at the calls chosen and where no room is left.
-        ensures chunk { IfOk result (λ n. n ≤ self.old.told.chunk) }
-        ensures chosen { IsErr result ↔ (Contains self.old.told.fails (next_call self.old.told.calls) ⊎ (self.old.room ≤ length self.old.told.bytes)) }
-        ensures kept { TellsCall self.old.told self.new.told }
+        ensures chunk { IfOk result (λ n. n ≤ self.old.stream.chunk) }
+        ensures chosen { IsErr result ↔ (Contains self.old.stream.fails (next_call self.old.stream.calls) ⊎ (self.old.room ≤ length self.old.stream.bytes)) }
+        ensures kept { CountsCall self.old.stream self.new.stream }
         ensures room { self.new.room ≡ self.old.room }
     {
         if self.calls.begin() {

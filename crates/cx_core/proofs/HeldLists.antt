@@ -20,7 +20,7 @@ at_true r (Some q) is = ap Some (eqb-true q r is)
 pub at_false : (r : ℕ) (o : Option ℕ) → is_at r o ≡ false → o ≡ Some r → ⊥
 at_false r o is there = (let on : is_at r o ≡ true = ap (is_at r) there ∙ eq-eqb r r refl in cc)
 
--- what an option holds of which something is told
+-- what an option holds, where a function of it is known
 pub mapped : {X Y : Type 0} (f : X → Y) (o : Option X) (y : Y) → option_map f o ≡ Some y → (x : X) × (o ≡ Some x) × (f x ≡ y)
 mapped f None y is = absurd (none-some y is)
 mapped f (Some x) y is = (x, refl, same y is)

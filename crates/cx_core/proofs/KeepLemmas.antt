@@ -12,7 +12,7 @@ use Rattle.cx_core.specs.Step.{full_step_of}
 use Rattle.cx_core.specs.declared.entry.Base.{Base}
 use Rattle.cx_core.specs.declared.entry.Entry.{Entry}
 
--- a word of those put, at a place that is said otherwise
+-- words `vs` were put into words `ws` from place `at` on: at the place `i` of word k of them that word stands
 overwritten_at : (vs ws : List ℕ) (at k i : ℕ) → k < length vs → i ≡ at + k → i < length ws → slice_index (overwritten at vs ws) i ≡ slice_index vs k
 overwritten_at vs ws at k i below e inside = ap (λ n. slice_index (overwritten at vs ws) n) e ∙ overwritten_within vs ws at k below (omega (arith, e, inside))
 

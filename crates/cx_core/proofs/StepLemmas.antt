@@ -87,7 +87,7 @@ step_of_changes : (step : List ℕ → List ℕ → List ℕ × List ℕ) (entry
     b ≡ slice_set a (slot_start entry.caller) entry.number → c ≡ overwritten (slot_start entry.caller + 1) reply b → d ≡ slice_set c 0 (place + 1) →
     IsStepped step entry reply ws d
 unfolding overwritten full_step_of object_part
-step_of_changes step entry place reply ws a b c d at_place done number told last =
+step_of_changes step entry place reply ws a b c d at_place done number reply_put last =
     let slot = slot_start entry.caller in
     let image : drop 1168 a ≡ (step (drop 1168 ws) entry.op).0 = ap (λ p. p.0) (sym done.part) in
     let answer : reply ≡ (step (drop 1168 ws) entry.op).1 = ap (λ p. p.1) (sym done.part) in
@@ -96,7 +96,7 @@ step_of_changes step entry place reply ws a b c d at_place done number told last
       words =
           last
           ∙ ap (λ n. slice_set c 0 (n + 1)) (sym at_place)
-          ∙ ap (λ xs. slice_set xs 0 (place_of ws + 1)) (told ∙ ap (overwritten (slot + 1) reply) number ∙ ap (λ vs. overwritten (slot + 1) vs (slice_set a slot entry.number)) answer ∙ ap (λ xs. overwritten (slot + 1) (step (drop 1168 ws) entry.op).1 (slice_set xs slot entry.number)) object);
+          ∙ ap (λ xs. slice_set xs 0 (place_of ws + 1)) (reply_put ∙ ap (overwritten (slot + 1) reply) number ∙ ap (λ vs. overwritten (slot + 1) vs (slice_set a slot entry.number)) answer ∙ ap (λ xs. overwritten (slot + 1) (step (drop 1168 ws) entry.op).1 (slice_set xs slot entry.number)) object);
       replied = answer;
     }
 
@@ -110,14 +110,14 @@ module _ {Key : Type 0} where
       Becomes m₃ m₄ (λ before now. now ≡ overwritten (slot + 1) reply before) →
       Stored 0 (place + 1) m₄ new →
       Becomes old new (IsStepped step entry reply)
-  full_step_done step entry place slot reply there loaded object number told stored = record {
+  full_step_done step entry place slot reply there loaded object number reply_put stored = record {
     from = λ first now s. (
         let d = stored.back first now s in
-        let c = told.from first d.0 d.1 in
+        let c = reply_put.from first d.0 d.1 in
         let b = number.from first c.0 c.1 in
         let a = object.from first b.0 b.1 in
         let l = loaded.back first a.0 a.1 in
         let number_at : c.0 ≡ slice_set b.0 (slot_start entry.caller) entry.number = b.2 ∙ ap (λ n. slice_set b.0 n entry.number) there in
-        let told_at : d.0 ≡ overwritten (slot_start entry.caller + 1) reply c.0 = c.2 ∙ ap (λ n. overwritten (n + 1) reply c.0) there in
-        (a.0, l.0, step_of_changes step entry place reply a.0 b.0 c.0 d.0 now l.1 a.2 number_at told_at d.2));
+        let reply_put_at : d.0 ≡ overwritten (slot_start entry.caller + 1) reply c.0 = c.2 ∙ ap (λ n. overwritten (n + 1) reply c.0) there in
+        (a.0, l.0, step_of_changes step entry place reply a.0 b.0 c.0 d.0 now l.1 a.2 number_at reply_put_at d.2));
   }

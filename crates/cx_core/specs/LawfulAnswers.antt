@@ -21,7 +21,7 @@ durable_place instance words = root_place_of instance.callers (slice_index words
 pub record IsAnswer (instance : Instance) (history : List Entry) (end_ : ℕ) (l : Local) (x : Answer) : Type 0 where
   pub reply : reply_at instance.step instance.base.place (object_part instance.base.words) history x.ticket ≡ Some x.reply
   pub durable : x.ticket < end_
-  pub told : x.ticket < l.floor
+  pub below_floor : x.ticket < l.floor
 
 -- an answered read's operation is words and only reads, and it has the object's reply after the entries below its place. The place
 -- is from the base's on and durable, and at most the caller's floor. As many of the caller's own entries as are counted have tickets below it,
@@ -32,7 +32,7 @@ pub record IsRead (instance : Instance) (history : List Entry) (end_ : ℕ) (l :
   pub reply : x.reply ≡ reply_after instance history x.place x.op
   pub from : instance.base.place ≤ x.place
   pub durable : x.place ≤ end_
-  pub told : x.place ≤ l.floor
+  pub up_to_floor : x.place ≤ l.floor
   pub before : x.before ≤ length l.answered
   pub below : (i : ℕ) (y : Linked) → slice_get l.own i ≡ Some y → i < x.before → y.ticket < x.place
   pub above : (i : ℕ) (y : Linked) → slice_get l.own i ≡ Some y → x.before ≤ i → x.place ≤ y.ticket

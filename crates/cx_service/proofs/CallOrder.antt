@@ -114,8 +114,8 @@ module _ (instance : Instance) (from to : State) (events : List Event) (law : La
       let l = item_below from.locals caller (omega (arith, within, count, count')) in
       let none = unmoved caller l.0 l.1 in
       let is = counts_run instance from by.before by.moment caller l.0 by.local by.run l.1 by.of_caller (omega (arith, none)) in
-      let told = by.count in
-      omega (arith, is, none, told)
+      let by_count = by.count in
+      omega (arith, is, none, by_count)
 
   -- what was answered at one moment was answered at each at which its caller has made as many steps, also at an earlier one
   answered_by : (x x' y y' : List Event) (s t : State) (a : Operation) → x ++ x' ≡ y ++ y' → Run instance from x s → Run instance from y t → steps_of (caller_of a) x ≤ steps_of (caller_of a) y → IsAnswered s a → IsAnswered t a

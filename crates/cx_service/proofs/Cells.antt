@@ -99,9 +99,9 @@ answered_below instance l law count i x at =
     elim (slice_get_cases l.answered i).1 [
       | inl a ↦ (
           let y = a.0 in
-          let told : slice_get (map (λ (z : Answer). z.ticket) l.answered) i ≡ Some y.ticket = slice_get-map (λ (z : Answer). z.ticket) l.answered i ∙ ap (option_map (λ (z : Answer). z.ticket)) a.2 in
+          let answered : slice_get (map (λ (z : Answer). z.ticket) l.answered) i ≡ Some y.ticket = slice_get-map (λ (z : Answer). z.ticket) l.answered i ∙ ap (option_map (λ (z : Answer). z.ticket)) a.2 in
           let own : slice_get (map (λ (z : Linked). z.ticket) l.own) i ≡ Some x.ticket = slice_get-map (λ (z : Linked). z.ticket) l.own i ∙ ap (option_map (λ (z : Linked). z.ticket)) at in
-          let taken = slice_get-take (length l.answered) (map (λ (z : Linked). z.ticket) l.own) i y.ticket (ap (λ (ts : List ℕ). slice_get ts i) (sym law.tickets.answered) ∙ told) in
+          let taken = slice_get-take (length l.answered) (map (λ (z : Linked). z.ticket) l.own) i y.ticket (ap (λ (ts : List ℕ). slice_get ts i) (sym law.tickets.answered) ∙ answered) in
           let same = same_Some y.ticket x.ticket (sym taken ∙ own) in
           let below = law.answered i y a.2 in
           omega (arith, same, below, law.floor_cur))

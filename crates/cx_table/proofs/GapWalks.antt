@@ -10,20 +10,20 @@ use Rattle.table_invariant.specs.Listed.{HasGap}
 use Rattle.cx_table.specs.GapMarks.{AreMarked, IsMarked, MarksChanged, MarksTicket}
 use Rattle.cx_table.specs.GapWords.{IsNamed, TellsLines, lines_from, start_at}
 
-told_from : (callers slot ticket lines : ℕ) (words : List ℕ) (n k m : ℕ) → k + n ≡ m → TellsLines callers slot ticket lines words m →
+lines_walk_from : (callers slot ticket lines : ℕ) (words : List ℕ) (n k m : ℕ) → k + n ≡ m → TellsLines callers slot ticket lines words m →
     Walk (IsNamed callers slot words) ticket (start_at words k) (lines_from k n words) lines
-told_from callers slot ticket lines words zero k m is tells =
+lines_walk_from callers slot ticket lines words zero k m is tells =
     let same : m ≡ k = omega (arith, is) in
     (k, omega (arith, same, tells.within), subst (λ j. gap_of callers slot (slice_index words j) ≡ record { ticket = ticket; from = start_at words j; to = lines }) same tells.last)
-told_from callers slot ticket lines words (suc n) k m is tells =
+lines_walk_from callers slot ticket lines words (suc n) k m is tells =
     let next : k + 1 ≡ suc k = omega arith in (
       (k, omega (arith, is, tells.within), tells.each k (omega (arith, is))),
-      subst (λ f. Walk (IsNamed callers slot words) ticket f (lines_from (k + 1) n words) lines) (ap (start_at words) next) (told_from callers slot ticket lines words n (k + 1) m (omega (arith, is)) tells),
+      subst (λ f. Walk (IsNamed callers slot words) ticket f (lines_from (k + 1) n words) lines) (ap (start_at words) next) (lines_walk_from callers slot ticket lines words n (k + 1) m (omega (arith, is)) tells),
     )
 
-pub told_walk : (callers slot ticket lines : ℕ) (words : List ℕ) (n : ℕ) → TellsLines callers slot ticket lines words n →
+pub lines_walk : (callers slot ticket lines : ℕ) (words : List ℕ) (n : ℕ) → TellsLines callers slot ticket lines words n →
     Walk (IsNamed callers slot words) ticket 0 (lines_from 0 n words) lines
-told_walk callers slot ticket lines words n tells = told_from callers slot ticket lines words n 0 n (omega arith) tells
+lines_walk callers slot ticket lines words n tells = lines_walk_from callers slot ticket lines words n 0 n (omega arith) tells
 
 -- gaps that are had in another way lead over as many lines
 pub walk_by : (G H : Gap → Type 0) → ((g : Gap) → G g → H g) → (ticket from : ℕ) (list : List ℕ) (last : ℕ) → Walk G ticket from list last → Walk H ticket from list last

@@ -32,9 +32,9 @@ copy_kept k k' c kept local accesses good is =
     } in
     subst (λ l. IsCopied (record k' { local = l }) (record c { kept = kept })) (sym local) (subst (λ xs. IsCopied (record k' { local = k.local; accesses = xs }) (record c { kept = kept })) (sym accesses) before)
 
--- the addresses of a set that is told are those of a region's words
-pub told_within : (lines : ℕ) (lawful : List ℕ → Type 0) (step : List ℕ → List ℕ → List ℕ × List ℕ) {O : Type 0} (r : Running O) (known : Known) (ticket : ℕ) (pairs : List ℕ) (region : ℕ) → region ≡ length r.base.words → TellsSet lines lawful r.base step known ticket pairs → IsSetWithin region pairs
-told_within lines lawful step r known ticket pairs region is tells = subst (λ n. IsSetWithin n pairs) (sym is) (record { few = tells.few; within = tells.within })
+-- the addresses of a set that whatever fits tells to be one of a ticket are those of a region's words
+pub pairs_within : (lines : ℕ) (lawful : List ℕ → Type 0) (step : List ℕ → List ℕ → List ℕ × List ℕ) {O : Type 0} (r : Running O) (known : Known) (ticket : ℕ) (pairs : List ℕ) (region : ℕ) → region ≡ length r.base.words → TellsSet lines lawful r.base step known ticket pairs → IsSetWithin region pairs
+pairs_within lines lawful step r known ticket pairs region is tells = subst (λ n. IsSetWithin n pairs) (sym is) (record { few = tells.few; within = tells.within })
 
 module _ {O : Type 0} (r : Running O) (step : O → List ℕ → List ℕ → List ℕ × List ℕ) (reads : O → List ℕ → Bool) (ticket : ℕ) (pairs : List ℕ) (me me' : Me ℕ (List Known)) (summary : CachedLocal) (copy copy' : Copied) (table table' : TableId) (before : ℕ) where
   -- a set that was noted, and is in plain memory, is kept

@@ -56,7 +56,7 @@ no_cell_to_write l t None none = λ j can named.
     let apart = (subst (λ o. IsUnoffered l.own o (cell_of l j).offer) named can.1).1 in
     none j can.0 (record { named = named; offers = (λ no. absurd (false≢true no), λ offered. absurd (apart offered)) })
 
--- a set that is told is offered
+-- a set that whatever fits tells to be one of its ticket is offered
 pub learns_offering : {O : Type 0} (line_count : O → ℕ) (lawful : O → List ℕ → Type 0) (step : O → List ℕ → List ℕ → List ℕ × List ℕ) (reads : O → List ℕ → Bool) (r : Running O) (j word new : ℕ) (me : Me ℕ (List Known)) (summary : CachedLocal) (before : ℕ) (old : Seated) →
     IsTableWithinLimits line_count lawful r → ObjectLaws r.lines (lawful r.object) (step r.object) → HasSummary me summary before → known_of me.0 ≡ old.known → CanWriteSet old.known.local j → TellsOffer r.lines (lawful r.object) r.base (step r.object) old.known j →
     word ≡ step_word (instance_at r step reads) (Offer j) old.known.local → new ≡ offer_of (slice_index_or summary.tickets j None) (slice_index summary.offers j) →

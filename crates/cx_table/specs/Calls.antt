@@ -40,11 +40,11 @@ pub record MakesFittingStep {O A E : Type 0} (o : Ghosts O) (r : Running O) (bef
   pub halted : OnErr result (Halts r before after)
 
 -- what a caller tells as the number of its steps, which its limit leaves
-pub record TellsSteps (l : Local) (told : ℕ) : Type 0 where
-  pub value : told ≡ l.steps
+pub record TellsSteps (l : Local) (steps : ℕ) : Type 0 where
+  pub value : steps ≡ l.steps
   pub within : IsWithinLimit l
 
 -- what it tells as its front, which is at most the last place
-pub record TellsFront (l : Local) (told : ℕ) : Type 0 where
-  pub value : told ≡ l.front
-  pub small : told ≤ 2 ^ 40
+pub record TellsFront (l : Local) (front : ℕ) : Type 0 where
+  pub value : front ≡ l.front
+  pub small : front ≤ 2 ^ 40

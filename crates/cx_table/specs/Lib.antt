@@ -1,6 +1,6 @@
 pub use Rattle.table_invariant.specs.Seats
 pub use Rattle.table_invariant.specs.Running
-pub use Rattle.table_invariant.specs.Told
+pub use Rattle.table_invariant.specs.FoundWords
 pub use Rattle.table_invariant.specs.Rule
 pub use Rattle.table_invariant.specs.Steps
 pub use Rattle.table_invariant.specs.Raises

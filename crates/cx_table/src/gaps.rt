@@ -70,7 +70,7 @@ pub fn gap_end(callers: u32, slot: u64, word: u64, ticket: u64, from: u64) -> Op
 
 /// How many lines the words of a slot name for a ticket, where they lead from line 0 to the end of a region of `lines` lines. None where they
 /// do not.
-pub fn lines_told(callers: u32, slot: u64, words: &[u64], ticket: u64, lines: u64) -> Option<usize>
+pub fn named_lines(callers: u32, slot: u64, words: &[u64], ticket: u64, lines: u64) -> Option<usize>
     requires callers { AreCallers callers }
     requires slot { slot < gap_slots callers }
     ensures { IfSome result (λ n. TellsLines callers slot ticket lines words.now n) }
@@ -93,7 +93,7 @@ impl<O: Object> Shared<O> {
     /// no address of which is in the lines between. `Halt` comes only where the limit leaves no step.
     pub fn note_gap(&self, seat: &mut CallerSeat, s: u64, i: u64, v: u64) -> Result<(), Halt>
         requires may { MayStep O.Object self.now (NoteGap s i v) seat.old }
-        requires told { (pairs : List ℕ) × TellsGap self.now.lines (O.lawful self.now.object) self.now.base (O.step self.now.object) seat.old.known (gap_of self.now.callers s v) pairs }
+        requires gap { (pairs : List ℕ) × TellsGap self.now.lines (O.lawful self.now.object) self.now.base (O.step self.now.object) seat.old.known (gap_of self.now.callers s v) pairs }
         ensures { MakesFittingStep O.Object self.now seat.old seat.new result (λ _. Steps self.now O.step O.only_reads (NoteGap s i v) 0 seat.old seat.new) }
     {
         let word = gap_at(self.callers.number, s, i);
@@ -225,7 +225,7 @@ fn mark_ticket<O: Object>(
     if !shared.load_gaps(seat, slot, 0, &mut words) {
         return false;
     }
-    match lines_told(callers, slot, &words, ticket, lines) {
+    match named_lines(callers, slot, &words, ticket, lines) {
         Some(count) => mark_all(&words[..count], marks),
         None => false,
     }

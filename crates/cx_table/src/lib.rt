@@ -39,7 +39,7 @@
 //!
 //! - A word of the slot of a ticket names a gap of it, from one line to another: `gap_slot`, `gap_word`. Whether a word names a gap of a ticket from a
 //!   line on, and where that ends, is read off it: `gap_end`. So the words of a slot lead from line 0 to the end of a region, or they tell
-//!   nothing: `lines_told` (`TellsLines`).
+//!   nothing: `named_lines` (`TellsLines`).
 //! - The lines that the entries between two places changed are marked, by pieces of 8 lines, where the words of each ticket's slot lead to the end;
 //!   what was loaded then tells that all others are in a gap, of each ticket: `mark_changed` (`read`: `MarksChanged`). It makes 16 steps a ticket at
 //!   most and never halts: where the limit leaves fewer, the lists are lost.
@@ -62,7 +62,7 @@ mod shared;
 mod threads;
 mod tokens;
 
-pub use gaps::{gap_end, gap_slot, gap_word, keeps_gaps, lines_told, mark_changed, piece_of};
+pub use gaps::{gap_end, gap_slot, gap_word, keeps_gaps, named_lines, mark_changed, piece_of};
 pub use gather::{KeptTable, Room};
 pub use remains::{Remains, Trail};
 pub use root_steps::AnsweredRead;

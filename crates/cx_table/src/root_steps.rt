@@ -113,7 +113,7 @@ impl<O: Object> Shared<O> {
         read: Option<AnsweredRead>,
     ) -> Result<u64, Halt>
         requires may { MayStep O.Object self.now (Raise code (read_op_in read)) seat.old }
-        requires told { ((answers : List Answer) × TellsAnswersIn O.Object self.now seat.old.known (root_place_of self.now.callers code) answers) × TellsReadsIn O.Object self.now seat.old.known read }
+        requires replies { ((answers : List Answer) × TellsAnswersIn O.Object self.now seat.old.known (root_place_of self.now.callers code) answers) × TellsReadsIn O.Object self.now seat.old.known read }
         ensures { MakesFittingStep O.Object self.now seat.old seat.new result (λ _. (answers : List Answer) → TellsAnswersIn O.Object self.now seat.old.known (root_place_of self.now.callers code) answers → Raises self.now O.step O.only_reads code answers read.entry seat.old seat.new) }
     {
         let callers = self.callers;

@@ -45,7 +45,7 @@ impl<O: Object> Shared<O> {
     /// ticket. `Halt` comes only where the limit leaves no step.
     pub fn offer(&self, seat: &mut CallerSeat, j: u64) -> Result<(), Halt>
         requires may { MayStep O.Object self.now (Offer j) seat.old }
-        requires told { TellsOffer self.now.lines (O.lawful self.now.object) self.now.base (O.step self.now.object) seat.old.known j }
+        requires of_ticket { TellsOffer self.now.lines (O.lawful self.now.object) self.now.base (O.step self.now.object) seat.old.known j }
         ensures { MakesFittingStep O.Object self.now seat.old seat.new result (λ _. Steps self.now O.step O.only_reads (Offer j) 0 seat.old seat.new) }
     {
         let cell = CELLS * u64::from(seat.summary.number) + j;
@@ -79,7 +79,7 @@ impl<O: Object> Shared<O> {
     pub fn keep_set(&self, seat: &mut CallerSeat, ticket: u64, set: &mut Vec<u64>)
         requires seat { IsSeatOf self.now seat.old }
         requires words { IsSetList set.old.items }
-        requires told { TellsSet self.now.lines (O.lawful self.now.object) self.now.base (O.step self.now.object) seat.old.known ticket set.old.items }
+        requires of_ticket { TellsSet self.now.lines (O.lawful self.now.object) self.now.base (O.step self.now.object) seat.old.known ticket set.old.items }
         ensures kept { KeepsSet self.now ticket set.old.items seat.old seat.new }
         ensures fits { FittingIn O.Object self.now seat.new.known }
         ensures room { IsSetList set.new.items }
@@ -92,7 +92,7 @@ impl<O: Object> Shared<O> {
     /// Notes that a set is kept. What a seat knows changes at an instruction only, so this loads a word and ignores what it finds.
     fn note_kept(&self, seat: &mut Seat<u8, View>, ticket: u64, set: &[u64])
         requires one { IsOfOne self.now seat.old.table_id seat.old.me }
-        requires told { TellsSet self.now.lines (O.lawful self.now.object) self.now.base (O.step self.now.object) (known_of seat.old.me.0) ticket set.now }
+        requires of_ticket { TellsSet self.now.lines (O.lawful self.now.object) self.now.base (O.step self.now.object) (known_of seat.old.me.0) ticket set.now }
         ensures { KeepsTableKnowing seat.old.table_id seat.new.table_id (TeachesKept (instance_at self.now O.step O.only_reads) ticket set.now (known_of seat.old.me.0) seat.new.me) }
     {
         self.table_is_running();

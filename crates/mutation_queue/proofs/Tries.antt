@@ -16,7 +16,7 @@ use Rattle.table_invariant.specs.declared.rule.Times.{Times}
 use Rattle.cx_table.specs.Running.{IsSeatOf, Running, instance_at}
 use Rattle.cx_table.specs.Seats.{IsAtLimit, Seated, shown_next, stepped, unseen}
 use Rattle.cx_table.specs.Steps.{Steps}
-use Rattle.cx_table.specs.Told.{LinkTold, LookTold}
+use Rattle.cx_table.specs.FoundWords.{KnownOfLink, KnownOfLook}
 use Rattle.mutation_queue.specs.Leaves.{KeepsSeatPart, seat_number}
 use Rattle.mutation_queue.specs.Links.{FindsLink, FindsOpen, LinksAt, LinksNone, LinksPast, MayLink, WinsTry, except_front, except_linked, with_front, with_loss, with_win}
 
@@ -43,17 +43,17 @@ round_before : (t q : ℕ) → q ≤ t → (t - q) % q ≡ t % q
 round_before t q within = sym (add-mod_right (t - q) q) ∙ ap (λ n. n % q) (let e : t - q + q ≡ t = omega arith in e)
 
 -- a look at the front's slot
-module _ (instance : Instance) (l : Local) (found : ℕ) (some : 1 ≤ instance.callers) (told : LookTold instance (l.front % cell_count instance.callers) l found) where
+module _ (instance : Instance) (l : Local) (found : ℕ) (some : 1 ≤ instance.callers) (known : KnownOfLook instance (l.front % cell_count instance.callers) l found) where
   module _ (open_ : 0 < found → link_ticket_of instance.callers found < l.front) where
     -- the ticket a round before, where it is one of this table, stands in the slot
     before_stands : instance.base.place + cell_count instance.callers ≤ l.front → (0 < found) × (link_ticket_of instance.callers found + cell_count instance.callers ≡ l.front)
     before_stands within =
         let q = cell_count instance.callers in
         let t = link_ticket_of instance.callers found in
-        let there = told.greatest (l.front - q) (omega arith) (omega arith) (round_before l.front q (omega arith)) in
+        let there = known.greatest (l.front - q) (omega arith) (omega arith) (round_before l.front q (omega arith)) in
         let below = open_ there.0 in
         let least = there.1 in
-        let mods = (told.names there.0).slot in
+        let mods = (known.names there.0).slot in
         (there.0, elim (cases_lt l.front (t + q)) [ inl near ↦ absurd (same_slot t l.front q mods near below) | inr far ↦ omega arith ])
 
     -- the slot was never used in this table, or has the ticket a round before
@@ -64,7 +64,7 @@ module _ (instance : Instance) (l : Local) (found : ℕ) (some : 1 ≤ instance.
             | inl zero ↦ inl (zero, near)
             | inr ne ↦ (
                 let used : 0 < found = omega arith in
-                let of = told.names used in
+                let of = known.names used in
                 let from = of.from in
                 let below = open_ used in
                 absurd (same_slot (link_ticket_of instance.callers found) l.front (cell_count instance.callers) of.slot (omega arith) below))
@@ -93,7 +93,7 @@ module _ (instance : Instance) (l : Local) (found : ℕ) (some : 1 ≤ instance.
         let here = front_stays in (small, idle, announced, omega arith, shows_open, answered)
 
     -- a link that was lost found a ticket from the front on
-    pub past_front : (found2 : ℕ) → LinkTold instance (shown_next instance (Look (l.front % cell_count instance.callers)) l found) found2 → found2 ≢ found → (0 < found2) × (l.front ≤ link_ticket_of instance.callers found2)
+    pub past_front : (found2 : ℕ) → KnownOfLink instance (shown_next instance (Look (l.front % cell_count instance.callers)) l found) found2 → found2 ≢ found → (0 < found2) × (l.front ≤ link_ticket_of instance.callers found2)
     past_front found2 lost ne =
         let t = link_ticket_of instance.callers found2 in
         let some2 : 0 < found2 = elim opens [
@@ -115,11 +115,11 @@ pub looked_at : {O : Type 0} {callers front slots : ℕ} (r : Running O) (step :
 looked_at {slots = slots} r step reads s t seen number at count made =
     subst (λ n. Steps r step reads (Look n) seen s t) (ap (λ f. f % slots) at ∙ ap (λ n. s.known.local.front % n) (count ∙ ap cell_count number)) made
 
--- what such a look told that found no link from the front on
+-- a look at the front's slot was made that found no link from the front on
 pub record SeesOpen (instance : Instance) (s t : Seated) (seen : ℕ) : Type 0 where
   pub some : 1 ≤ instance.callers
   pub allowed : ¬ IsAtLimit s.known.local
-  pub told : LookTold instance (s.known.local.front % cell_count instance.callers) s.known.local seen
+  pub found_word : KnownOfLook instance (s.known.local.front % cell_count instance.callers) s.known.local seen
   pub looked : t ≡ stepped instance (Look (s.known.local.front % cell_count instance.callers)) s seen
   pub below : 0 < seen → link_ticket_of instance.callers seen < s.known.local.front
 
@@ -130,7 +130,7 @@ sees_open {callers = callers} r step reads s t seen some number at count made op
     record {
       some = omega (arith, some, number);
       allowed = look.allowed;
-      told = look.told;
+      found_word = look.found_word;
       looked = look.made;
       below = subst (λ n. 0 < seen → link_ticket_of n seen < s.known.local.front) number (subst (λ f. 0 < seen → link_ticket_of callers seen < f) at open_);
     }
@@ -200,7 +200,7 @@ finds_open instance s t found allowed is shows = record {
 
 -- so does a look that found no link from the front on
 pub open_seen : (instance : Instance) (s t : Seated) (seen : ℕ) → SeesOpen instance s t seen → FindsOpen instance.callers s t
-open_seen instance s t seen is = finds_open instance s t seen is.allowed is.looked (shows_open instance s.known.local seen is.some is.told is.below)
+open_seen instance s t seen is = finds_open instance s t seen is.allowed is.looked (shows_open instance s.known.local seen is.some is.found_word is.below)
 
 -- a look alone links nothing
 pub none_open : (callers : ℕ) (s t : Seated) → FindsOpen callers s t → LinksNone s t

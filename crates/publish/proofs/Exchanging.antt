@@ -131,12 +131,12 @@ module _ {O : Type 0} (r : Running O) (step : O → List ℕ → List ℕ → Li
       elim (cases_Bool (found == before.known.local.seen_cur)) [ inl e ↦ absurd (tried.0 (eqb-true found before.known.local.seen_cur e)) | inr e ↦ e ] in
       let is = is_by false lost in
       let seen : after.known.local.seen_cur ≡ found = ap (λ (t : Seated). t.known.local.seen_cur) is in
-      let told = s.told in
+      let not_less = s.found_word in
       record {
         token = tried.2;
         held = ap (λ (t : Seated). t.known.local.downgraded) is;
         none = ap (λ (t : Seated). t.known.local.won) is ∙ none;
-        later = subst (λ n. before.known.local.seen_cur < n) (sym seen) (rises found before.known.local.seen_cur told tried.0);
+        later = subst (λ n. before.known.local.seen_cur < n) (sym seen) (rises found before.known.local.seen_cur not_less tried.0);
         stale = ap (λ (t : Seated). t.known.local.fresh) is;
       }
     where

@@ -109,7 +109,7 @@ pub fn make_durable<O: Object>(
     read: Option<AnsweredRead>,
 ) -> Result<(), Halt>
     requires may { MayStep O.Object shared.now (Raise code (read_op_in read)) seat.old }
-    requires told { (answers : List Answer) × TellsAnswersIn O.Object shared.now seat.old.known (root_place_of shared.now.callers code) answers }
+    requires answers { (answers : List Answer) × TellsAnswersIn O.Object shared.now seat.old.known (root_place_of shared.now.callers code) answers }
     requires reads { TellsReadsIn O.Object shared.now seat.old.known read }
     ensures { MakesStep shared.now seat.old seat.new result (λ _. (answers : List Answer) → TellsAnswersIn O.Object shared.now seat.old.known (root_place_of shared.now.callers code) answers → Raises shared.now O.step O.only_reads code answers read.entry seat.old seat.new) }
 {

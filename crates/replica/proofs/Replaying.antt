@@ -37,14 +37,14 @@ place_one at w place P here there = elim (cases_eq at 0) [
 ]
 
 -- the place of the words that accesses lead to is the one noted
-place_told : (accesses : List Note) (ws now : List ℕ) (place : ℕ) → place_of ws ≡ place → 0 < length ws → NotesLead accesses ws now → place_of now ≡ place_noted place accesses
-place_told [] ws now place at some leads = ap place_of leads ∙ at
-place_told ((false, a, w) ∷ accesses) ws now place at some leads =
-    place_told accesses ws now (cond (a == 0) w place)
+place_led : (accesses : List Note) (ws now : List ℕ) (place : ℕ) → place_of ws ≡ place → 0 < length ws → NotesLead accesses ws now → place_of now ≡ place_noted place accesses
+place_led [] ws now place at some leads = ap place_of leads ∙ at
+place_led ((false, a, w) ∷ accesses) ws now place at some leads =
+    place_led accesses ws now (cond (a == 0) w place)
     (place_one a w place (λ p. place_of ws ≡ p) (λ is. ap (slice_index ws) (sym is) ∙ leads.0) (λ off. at))
     some leads.1
-place_told ((true, a, w) ∷ accesses) ws now place at some leads =
-    place_told accesses (slice_set ws a w) now (cond (a == 0) w place)
+place_led ((true, a, w) ∷ accesses) ws now place at some leads =
+    place_led accesses (slice_set ws a w) now (cond (a == 0) w place)
     (place_one a w place (λ p. place_of (slice_set ws a w) ≡ p) (λ is. ap (λ k. place_of (slice_set ws k w)) is ∙ get_or-set_same ws 0 w 0 some) (λ off. get_or-set_other ws a 0 w 0 (λ e. off (sym e)) ∙ at))
     (subst (λ n. 0 < n) (sym (length-set ws a w)) some) leads.1
 
@@ -61,7 +61,7 @@ module _ (lines : ℕ) (lawful : List ℕ → Type 0) (base : Base) (step : List
   noted_at : (accesses : List Note) → HasPlace accesses → (first now : List ℕ) → IsConsistentWith lines lawful base accesses first now → place_of now ≡ place_noted 0 accesses
   noted_at accesses begun first now f =
       let some : 0 < length first = (let long = f.origin.size.long in omega arith) in
-      place_told accesses first now (place_of first) refl some f.leads ∙ begun (place_of first)
+      place_led accesses first now (place_of first) refl some f.leads ∙ begun (place_of first)
 
   pub image_at : (known : Known) → IsHeldImage lines lawful base step known → (first now : List ℕ) → FitsKnown lines lawful base step known first now → place_of now ≡ place_noted 0 known.accesses
   image_at known image first now f = noted_at known.accesses image.begun first now f.fits

@@ -29,11 +29,11 @@ use Rattle.table_invariant.proofs.Having.{has_of_history, there_on}
 use Rattle.table_invariant.proofs.Keeps.{learns_there}
 
 module _ (lines : ℕ) (lawful : List ℕ → Type 0) (instance : Instance) (laws : ObjectLaws lines lawful instance.step) (base : LawfulBase lines lawful instance.base) where
-  -- a gap that is told is one of the history
-  told_gap : (s : State) (law : Lawful instance s) (known : Known) (l : Local) (g : Gap) (pairs : List ℕ) → slice_get s.locals known.local.number ≡ Some l → known.local ≡ shown l →
+  -- a gap that whatever fits tells is one of the history
+  gap_known : (s : State) (law : Lawful instance s) (known : Known) (l : Local) (g : Gap) (pairs : List ℕ) → slice_get s.locals known.local.number ≡ Some l → known.local ≡ shown l →
       NotesHold instance law.history known.noted → IsTraced instance law.history known.accesses l → SetsHold instance s law.history known → OwnSetsHold instance law.history l.cells →
       TellsGap lines lawful instance.base instance.step known g pairs → IsGap instance law.history g
-  told_gap s law known l g pairs of_caller shows noted traced sets own tells =
+  gap_known s law known l g pairs of_caller shows noted traced sets own tells =
       let history = law.history in
       let entries = entries_from instance s law in
       let small = law.tickets.below in
@@ -56,7 +56,7 @@ module _ (lines : ℕ) (lawful : List ℕ → Type 0) (instance : Instance) (law
   learns_gap slot i v known word pairs slot_is small fits at tells words _ locals law l of_caller shows noted traced sets own full =
       let s : State = record { words = words; locals = locals } in
       let same = history_is instance.base.place law.history locals law.tickets.merged in
-      let is = told_gap s law known l (gap_of instance.callers slot v) pairs of_caller shows noted traced sets own tells in
+      let is = gap_known s law known l (gap_of instance.callers slot v) pairs of_caller shows noted traced sets own tells in
       learns_there instance (NoteGap slot i v) known words word v fits at locals law l of_caller shows noted traced sets full (record {
         guard = subst (λ h. CanNoteGap instance h slot i v) (sym same) (slot_is, small, fits, is);
         new_is = refl;

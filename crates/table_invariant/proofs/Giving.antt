@@ -1,4 +1,4 @@
--- What steps teach whose guard or word is not told by the local state that a seat shows, but by what its caller noted.
+-- What a step teaches whose guard or word does not follow from the local state that a seat shows, but from what its caller noted.
 use Rattle.std.proofs.Common.{false, true, ◌≡◌, ◌≢◌, ◌==◌, ◌&&◌, inl, inr, ℕ, Bool, IsTrue, cond, List, [], ◌∷◌, length, slice_index, refl, ap, sym, subst, ◌∙◌, eq-eqb, Option, Some, None}
 use Rattle.std.proofs.lemmas.Bool.{eqb-true}
 use Rattle.std.specs.List.{Contains, slice_get}

@@ -21,7 +21,7 @@ use Rattle.table_invariant.specs.Steps.{TeachesKept}
 use Rattle.table_invariant.specs.Timing.{AreTimes}
 use Rattle.table_invariant.proofs.Behind.{behind_notes}
 use Rattle.table_invariant.proofs.Keeps.{only_item}
-use Rattle.table_invariant.proofs.Offering.{told_set}
+use Rattle.table_invariant.proofs.Offering.{set_of_ticket}
 
 module _ (lines : ℕ) (lawful : List ℕ → Type 0) (instance : Instance) (laws : ObjectLaws lines lawful instance.step) (base : LawfulBase lines lawful instance.base) (s : atomic.State ℕ (List Known)) (id : ℕ) (known : Known) (ticket : ℕ) (pairs : List ℕ)
     (held : RuleHolds instance s) (view : get_elem? s.views id ≡ some (known ∷ [])) (tells : TellsSet lines lawful instance.base instance.step known ticket pairs) where
@@ -45,16 +45,16 @@ module _ (lines : ℕ) (lawful : List ℕ → Type 0) (instance : Instance) (law
   only_kept (suc m) x at = absurd (none-some x at)
 
   -- the set that is kept is one of its ticket
-  told_kept : (k : KeptSet) → kept ≡ k → (k.ticket < instance.base.place + length held.law.history) × IsWriteSetOf instance held.law.history k.ticket k.set
-  told_kept k is =
-      let told = told_set lines lawful instance laws base state held.law known mine.local ticket pairs mine.of_caller mine.shows mine.notes mine.traced (held.sets id 0 (known ∷ []) known view refl) (held.own known.local.number mine.local mine.of_caller) tells in
-      subst (λ (y : KeptSet). (y.ticket < instance.base.place + length held.law.history) × IsWriteSetOf instance held.law.history y.ticket y.set) is told
+  kept_of_ticket : (k : KeptSet) → kept ≡ k → (k.ticket < instance.base.place + length held.law.history) × IsWriteSetOf instance held.law.history k.ticket k.set
+  kept_of_ticket k is =
+      let of_ticket = set_of_ticket lines lawful instance laws base state held.law known mine.local ticket pairs mine.of_caller mine.shows mine.notes mine.traced (held.sets id 0 (known ∷ []) known view refl) (held.own known.local.number mine.local mine.of_caller) tells in
+      subst (λ (y : KeptSet). (y.ticket < instance.base.place + length held.law.history) × IsWriteSetOf instance held.law.history y.ticket y.set) is of_ticket
 
   -- and so are those kept before
   kept_holds : KeptHolds instance held.law.history after.kept
   kept_holds t x has = elim (slice_get-append known.kept (kept ∷ []) has.0 _ has.1) [
     | inl old ↦ (held.sets id 0 (known ∷ []) known view refl).kept t x (has.0, old)
-    | inr last ↦ told_kept (record { ticket = t; set = x }) (only_kept last.0 _ last.2)
+    | inr last ↦ kept_of_ticket (record { ticket = t; set = x }) (only_kept last.0 _ last.2)
   ]
 
   -- the rule holds of the same words
@@ -104,7 +104,7 @@ module _ (lines : ℕ) (lawful : List ℕ → Type 0) (instance : Instance) (law
   kept_behind =
       behind_notes instance state held.law held.some mine.local after mine.of_caller mine.shows mine.notes mine.traced (record { noted = (held.sets id 0 (known ∷ []) known view refl).noted; kept = kept_holds }) (held.own known.local.number mine.local mine.of_caller)
 
--- what the table asks of a load by which a told set is kept
+-- what the table asks of the load at which a set is kept that whatever fits tells to be a write set of its ticket
 pub allows_keeping : (lines : ℕ) (lawful : List ℕ → Type 0) (instance : Instance) → ObjectLaws lines lawful instance.step → LawfulBase lines lawful instance.base → (known : Known) (ticket : ℕ) (pairs : List ℕ) (slots id word : ℕ) (me : atomic.Me ℕ (List Known)) →
     me ≡ (known ∷ [], []) → TellsSet lines lawful instance.base instance.step known ticket pairs → atomic.Allows (RuleHolds instance) slots id me word (λ n. n) (λ _ after. TeachesKept instance ticket pairs known after)
 allows_keeping lines lawful instance laws base known ticket pairs slots id word me one tells =

@@ -32,12 +32,12 @@ use Rattle.table_invariant.specs.Rule.{RuleHolds, AreImages, IsBehindNotes, IsIm
 use Rattle.table_invariant.specs.Running.{Running, instance_at}
 use Rattle.table_invariant.specs.Seats.{IsByShown, WordFits, accesses_after, known_after, known_local, known_of, noted_by, sets_after, times_by, unseen}
 use Rattle.core_runs.proofs.Keeps.{bounds_of, kind_kept}
-use Rattle.table_invariant.proofs.ShownLaws.{guard_shown, known_shown, lawful_shown, put_shown, told_shown, word_shown}
+use Rattle.table_invariant.proofs.ShownLaws.{guard_shown, known_shown, lawful_shown, put_shown, load_shown, word_shown}
 use Rattle.table_invariant.proofs.Notes.{noted_hold, notes-append, notes_still}
 use Rattle.table_invariant.specs.Steps.{MayReleaseKnowing, IsEventOn, IsImageLearned, Puts, KnowledgeAfter, KnowledgeAfterCopy, TeachesImage, known_copied, known_taken}
 use Rattle.table_invariant.specs.Timing.{AddTimes, AreTimes}
-use Rattle.table_invariant.specs.Told.{KnownOfLoad}
-use Rattle.table_invariant.proofs.Telling.{told_holds}
+use Rattle.table_invariant.specs.FoundWords.{KnownOfLoad}
+use Rattle.table_invariant.proofs.Telling.{load_known}
 use Rattle.table_invariant.proofs.Behind.{behind_notes}
 use Rattle.table_invariant.proofs.Current.{moves_on}
 use Rattle.table_invariant.proofs.Entries.{entries_from}
@@ -252,8 +252,8 @@ own_lawful instance words locals caller l law at =
       floor_cur = fronts.floor_cur;
       few = law.locks.few caller l at;
       downgraded = λ h has. record { replica = root.replica h has; place = (let within = root.place h has in omega (arith, within, below)) };
-      answered = λ i x there. (answers.entries i x there).told;
-      reads = λ i x there. (answers.reads i x there).told;
+      answered = λ i x there. (answers.entries i x there).below_floor;
+      reads = λ i x there. (answers.reads i x there).up_to_floor;
     }
 
 view_within : (views : List (List Known)) (id : ℕ) (v : List Known) → get_elem? views id ≡ some v → id < length views
@@ -298,13 +298,13 @@ event_teaches instance kind s id known word new held view learns =
     let leaves = event_leaves instance kind s id known (known_after instance kind known found) word new held view learns in
     let state : State = record { words = s.words; locals = held.locals } in
     let learnt = learns held.locals held.law l mine.of_caller mine.shows mine.notes mine.traced (held.sets id 0 (known ∷ []) known view refl) (held.own known.local.number l mine.of_caller) held.some in
-    let told = told_holds instance kind state held.law known.local.number l mine.of_caller learnt.guard in
+    let known_here = load_known instance kind state held.law known.local.number l mine.of_caller learnt.guard in
     let here : step_word instance kind l ≡ word = sym learnt.word_is in
     record {
       knows = refl;
       lawful = seat_lawful instance s id known held view;
       lawful_after = leaves.0;
-      told = subst (λ (x : Local). KnownOfLoad instance kind x found) (sym mine.shows) (told_shown instance kind l found (subst (λ (w : ℕ). KnownOfLoad instance kind l (slice_index s.words w)) here told));
+      found_word = subst (λ (x : Local). KnownOfLoad instance kind x found) (sym mine.shows) (load_shown instance kind l found (subst (λ (w : ℕ). KnownOfLoad instance kind l (slice_index s.words w)) here known_here));
       behind = leaves.1;
     }
 
@@ -373,7 +373,7 @@ blind_teaches instance kind known found blind silent taught = record {
   knows = ap (λ (k : Known). the_me k) (blind found 0);
   lawful = taught.lawful;
   lawful_after = subst (λ (k : Known). IsLawfulLocal instance k.local) (blind found 0) taught.lawful_after;
-  told = silent;
+  found_word = silent;
   behind = subst (IsBehindNotes instance) (blind found 0) taught.behind;
 }
   where
@@ -406,7 +406,7 @@ key_instance step reads now inside callers base object view same_callers same_ba
     ∙ (λ i. record { callers = sym same_callers i; base = sym same_base i; step = step (sym same_object i); reads = reads (sym same_object i) })
 
 -- what a table asks of a step, from what is said of the table that contracts see
-pub allows_told : (seen told : Instance) (slots slots' id word : ℕ) (me : atomic.Me ℕ (List Known)) (f : ℕ → ℕ) (tells : ℕ → atomic.Me ℕ (List Known) → Type 0) → Same seen told → slots ≡ slots' →
-    atomic.Allows (RuleHolds seen) slots id me word f tells → atomic.Allows (RuleHolds told) slots' id me word f tells
-allows_told seen told slots slots' id word me f tells same count asked =
-    subst (λ (n : ℕ). atomic.Allows (RuleHolds told) n id me word f tells) count (subst (λ (i : Instance). atomic.Allows (RuleHolds i) slots id me word f tells) same asked)
+pub allows_of_same : (seen other : Instance) (slots slots' id word : ℕ) (me : atomic.Me ℕ (List Known)) (f : ℕ → ℕ) (tells : ℕ → atomic.Me ℕ (List Known) → Type 0) → Same seen other → slots ≡ slots' →
+    atomic.Allows (RuleHolds seen) slots id me word f tells → atomic.Allows (RuleHolds other) slots' id me word f tells
+allows_of_same seen other slots slots' id word me f tells same count asked =
+    subst (λ (n : ℕ). atomic.Allows (RuleHolds other) n id me word f tells) count (subst (λ (i : Instance). atomic.Allows (RuleHolds i) slots id me word f tells) same asked)

@@ -31,11 +31,11 @@ use Rattle.table_invariant.proofs.Having.{has_of_history, there_on}
 use Rattle.table_invariant.proofs.Keeps.{learns_there}
 
 module _ (lines : ℕ) (lawful : List ℕ → Type 0) (instance : Instance) (laws : ObjectLaws lines lawful instance.step) (base : LawfulBase lines lawful instance.base) where
-  -- a set that is told is a write set of its ticket, which is linked
-  pub told_set : (s : State) (law : Lawful instance s) (known : Known) (l : Local) (ticket : ℕ) (pairs : List ℕ) → slice_get s.locals known.local.number ≡ Some l → known.local ≡ shown l →
+  -- a set that whatever fits tells to be one of a ticket is a write set of it, and the ticket is linked
+  pub set_of_ticket : (s : State) (law : Lawful instance s) (known : Known) (l : Local) (ticket : ℕ) (pairs : List ℕ) → slice_get s.locals known.local.number ≡ Some l → known.local ≡ shown l →
       NotesHold instance law.history known.noted → IsTraced instance law.history known.accesses l → SetsHold instance s law.history known → OwnSetsHold instance law.history l.cells →
       TellsSet lines lawful instance.base instance.step known ticket pairs → (ticket < instance.base.place + length law.history) × IsWriteSetOf instance law.history ticket pairs
-  told_set s law known l ticket pairs of_caller shows noted traced sets own tells =
+  set_of_ticket s law known l ticket pairs of_caller shows noted traced sets own tells =
       let history = law.history in
       let entries = entries_from instance s law in
       let small = law.tickets.below in
@@ -59,7 +59,7 @@ module _ (lines : ℕ) (lawful : List ℕ → Type 0) (instance : Instance) (law
   set_is history None pairs good has = absurd (none-some has.0 has.1)
   set_is history (Some t) pairs good has = good t refl
 
-  -- a set that is told may be offered
+  -- a set in a cell that whatever fits tells to be one of the cell's ticket may be offered
   pub learns_offer : (j : ℕ) (known : Known) (word : ℕ) → CanWriteSet known.local j → word ≡ step_word instance (Offer j) known.local → TellsOffer lines lawful instance.base instance.step known j →
       LearnsBy instance (λ _. Offer j) known word (λ _. offer_of (cell_of known.local j).ticket (cell_of known.local j).offer)
   learns_offer j known word can at tells words _ locals law l of_caller shows noted traced sets own full =
@@ -67,13 +67,13 @@ module _ (lines : ℕ) (lawful : List ℕ → Type 0) (instance : Instance) (law
       let mine : CanWriteSet l j = subst (λ (x : Local). CanWriteSet x j) shows can in
       let un = unoffered_parts l.own (cell_of l j).ticket (cell_of l j).offer mine.1 in
       let same = history_is instance.base.place law.history locals law.tickets.merged in
-      let told : (t : ℕ) → (cell_of l j).ticket ≡ Some t → TellsSet lines lawful instance.base instance.step known t (cell_of l j).set = λ t is.
+      let tells_set : (t : ℕ) → (cell_of l j).ticket ≡ Some t → TellsSet lines lawful instance.base instance.step known t (cell_of l j).set = λ t is.
       subst (TellsSet lines lawful instance.base instance.step known t) (ap (λ (x : Local). (cell_of x j).set) shows) (tells t (ap (λ (x : Local). (cell_of x j).ticket) shows ∙ is)) in
       learns_there instance (Offer j) known words word (offer_of (cell_of known.local j).ticket (cell_of known.local j).offer) tt at locals law l of_caller shows noted traced sets full (record {
         guard = (
           mine,
           subst (λ h. IsSetAt instance h (cell_of l j).ticket (cell_of l j).set) (sym same)
-              (set_is law.history (cell_of l j).ticket (cell_of l j).set (λ t is. (told_set s law known l t (cell_of l j).set of_caller shows noted traced sets own (told t is)).1) (un.t, un.is)),
+              (set_is law.history (cell_of l j).ticket (cell_of l j).set (λ t is. (set_of_ticket s law known l t (cell_of l j).set of_caller shows noted traced sets own (tells_set t is)).1) (un.t, un.is)),
         );
         new_is = ap (λ (x : Local). offer_of (cell_of x j).ticket (cell_of x j).offer) shows;
         shows = ap (λ (x : Local). next instance unseen (Offer j) x (slice_index words word)) shows;

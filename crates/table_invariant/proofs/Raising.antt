@@ -100,9 +100,9 @@ module _ (lines : ℕ) (lawful : List ℕ → Type 0) (instance : Instance) (law
     entries_there : AreLawful instance.base.place law.history
     entries_there = entries_lawful lines lawful instance law.history base (entries_from instance state law)
 
-    -- a reply that is told is the history's
-    reply_told : (x : Linked) (reply : List ℕ) → unanswered l ≡ Some x → TellsReply lines lawful instance.base instance.step known x.ticket reply → reply ≡ reply_after instance law.history x.ticket x.entry.op
-    reply_told x reply is tells =
+    -- the reply that whatever fits tells of the unanswered entry is the history's
+    reply_known : (x : Linked) (reply : List ℕ) → unanswered l ≡ Some x → TellsReply lines lawful instance.base instance.step known x.ticket reply → reply ≡ reply_after instance law.history x.ticket x.entry.op
+    reply_known x reply is tells =
         let entries = entries_from instance state law in
         let fits = there_on instance state law known l of_caller shows noted sets own lines lawful laws base traced in
         let place = place_noted 0 known.accesses in
@@ -120,21 +120,21 @@ module _ (lines : ℕ) (lawful : List ℕ → Type 0) (instance : Instance) (law
         elim tells [
           | inl past ↦ past.1 ∙ sym (ap (λ (b : Bool). cond b (answer ∷ []) []) (le-ltb x.ticket place past.0))
           | inr one ↦ one.are
-              ∙ ap (λ (reply : List ℕ). record { ticket = x.ticket; reply = reply } ∷ []) (reply_told x one.reply is one.tells)
+              ∙ ap (λ (reply : List ℕ). record { ticket = x.ticket; reply = reply } ∷ []) (reply_known x one.reply is one.tells)
               ∙ sym (ap (λ (b : Bool). cond b (answer ∷ []) []) (lt-ltb x.ticket place one.below))
         ]
 
-    -- so answers that are told are the history's
-    answers_told : (place : ℕ) (answers : List Answer) → TellsAnswers lines lawful instance.base instance.step known place answers → answers ≡ answers_below instance law.history place (unanswered l)
-    answers_told place answers tells =
+    -- the answers that whatever fits tells are the history's below the place
+    answers_known : (place : ℕ) (answers : List Answer) → TellsAnswers lines lawful instance.base instance.step known place answers → answers ≡ answers_below instance law.history place (unanswered l)
+    answers_known place answers tells =
         let same : unanswered known.local ≡ unanswered l = ap unanswered shows in
         answers_of place (unanswered known.local) (sym same) answers tells ∙ ap (answers_below instance law.history place) same
 
     -- the replica that is held shared at the place of a code is the full image after it
-    read_told : 0 < length instance.base.words → (code : ℕ) (op reply : List ℕ) (o : Option HeldShared) → l.shared ≡ o → ShowsPlace instance.callers code o →
+    read_known : 0 < length instance.base.words → (code : ℕ) (op reply : List ℕ) (o : Option HeldShared) → l.shared ≡ o → ShowsPlace instance.callers code o →
         ((first now : List ℕ) → ReadFits lines lawful instance.base (loaded_of o) first now → (instance.step (object_part now) op).1 ≡ reply) → reply ≡ reply_after instance law.history (root_place_of instance.callers code) op
-    read_told some code op reply None is shown_at tells = absurd shown_at
-    read_told some code op reply (Some h) is shown_at tells =
+    read_known some code op reply None is shown_at tells = absurd shown_at
+    read_known some code op reply (Some h) is shown_at tells =
         let entries = entries_from instance state law in
         let there = shared_there instance state law some known.local.number l of_caller h is in
         let region = there.0 in
@@ -146,14 +146,14 @@ module _ (lines : ℕ) (lawful : List ℕ → Type 0) (instance : Instance) (law
         ∙ reply_of_full lines lawful instance laws base law.history law.tickets.below entries_there (place_of region) op full.from full.to
         ∙ ap (λ p. reply_after instance law.history p op) place
 
-    -- so a read that is told has the history's reply
-    reads_told : 0 < length instance.base.words → (code count : ℕ) (read : Option (List ℕ × List ℕ)) → CanRaise instance code (read_op_in read) known.local → TellsReads lines lawful instance.base instance.step known read →
+    -- the reply that whatever fits tells of a read is the history's at the code's place
+    reads_known : 0 < length instance.base.words → (code count : ℕ) (read : Option (List ℕ × List ℕ)) → CanRaise instance code (read_op_in read) known.local → TellsReads lines lawful instance.base instance.step known read →
         read_at (root_place_of instance.callers code) count read ≡ reads_at instance law.history (root_place_of instance.callers code) count (read_op_in read)
-    reads_told some code count None can tells = refl
-    reads_told some code count (Some read) can tells =
+    reads_known some code count None can tells = refl
+    reads_known some code count (Some read) can tells =
         let place = root_place_of instance.callers code in
         ap (λ (reply : List ℕ). record { place = place; op = read.0; reply = reply; before = count } ∷ [])
-        (read_told some code read.0 read.1 known.local.shared (sym (ap (λ (x : Local). x.shared) shows)) can.1.3 tells)
+        (read_known some code read.0 read.1 known.local.shared (sym (ap (λ (x : Local). x.shared) shows)) can.1.3 tells)
 
   -- A raise is learned by what its caller noted.
   pub learns_raise : (code : ℕ) (answers : List Answer) (read : Option (List ℕ × List ℕ)) (known : Known) (word : ℕ) → CanRaise instance code (read_op_in read) known.local → word ≡ dur_at →
@@ -165,9 +165,9 @@ module _ (lines : ℕ) (lawful : List ℕ → Type 0) (instance : Instance) (law
       let count = length l.answered + length answers in
       let count_is : length known.local.answered + length answers ≡ count = ap (λ (x : Local). length x.answered + length answers) shows in
       let given : answers ≡ answers_below instance scene.history place (unanswered l) =
-      answers_told words locals law known l of_caller shows noted traced sets own place answers tells ∙ ap (λ (h : List Entry). answers_below instance h place (unanswered l)) (sym same) in
+      answers_known words locals law known l of_caller shows noted traced sets own place answers tells ∙ ap (λ (h : List Entry). answers_below instance h place (unanswered l)) (sym same) in
       let given_reads : read_at place (length known.local.answered + length answers) read ≡ reads_at instance scene.history place count (read_op_in read) =
-      reads_told words locals law known l of_caller shows noted traced sets own some code (length known.local.answered + length answers) read can reads
+      reads_known words locals law known l of_caller shows noted traced sets own some code (length known.local.answered + length answers) read can reads
       ∙ ap (λ (n : ℕ). reads_at instance law.history place n (read_op_in read)) count_is
       ∙ ap (λ (h : List Entry). reads_at instance h place count (read_op_in read)) (sym same) in
       record {
@@ -176,7 +176,7 @@ module _ (lines : ℕ) (lawful : List ℕ → Type 0) (instance : Instance) (law
         new_is = refl;
         shows = ap (answered_local instance code answers (read_at place (length known.local.answered + length answers) read)) shows
             ∙ ap (λ (rs : List SeenRead). answered_local instance code answers rs (shown l)) given_reads
-            ∙ ap (λ (told : List Answer). answered_local instance code told (reads_at instance scene.history place (length l.answered + length told) (read_op_in read)) (shown l)) given;
+            ∙ ap (λ (below : List Answer). answered_local instance code below (reads_at instance scene.history place (length l.answered + length below) (read_op_in read)) (shown l)) given;
         notes = noted;
         traced = record { first = traced.first; now = traced.now; origin = traced.origin; leads = traced.leads; held = λ h has. traced.held h has };
         sets = record { noted = sets.noted; kept = sets.kept };
@@ -192,7 +192,7 @@ module _ (lines : ℕ) (lawful : List ℕ → Type 0) (base : Base) (step : List
   tells_one x reply is below tells =
       subst (λ (o : Option Linked). AnswersOf lines lawful base step known place o (record { ticket = x.ticket; reply = reply } ∷ [])) (sym is) (inr (record { below = below; reply = reply; tells = tells; are = refl }))
 
--- a reply is told as long as what the seat has, and what is noted, stay
+-- what whatever fits tells of a reply, it tells as long as what the seat has, and what is noted, stay
 pub reply_still : (lines : ℕ) (lawful : List ℕ → Type 0) (base : Base) (step : List ℕ → List ℕ → List ℕ × List ℕ) (known known' : Known) (ticket : ℕ) (reply : List ℕ) → has_of known' ≡ has_of known → known'.accesses ≡ known.accesses →
     known'.local.number ≡ known.local.number → TellsReply lines lawful base step known ticket reply → TellsReply lines lawful base step known' ticket reply
 reply_still lines lawful base step known known' ticket reply has accesses number tells =
@@ -207,9 +207,9 @@ reply_still lines lawful base step known known' ticket reply has accesses number
 
 -- What the table asks of a raise that is learned, and what it teaches, whatever answers are learned: they are the same.
 pub allows_raised : (instance : Instance) (code : ℕ) (answers : List Answer) (read : Option (List ℕ × List ℕ)) (known : Known) (slots id word : ℕ) (me : atomic.Me ℕ (List Known)) → me ≡ (known ∷ [], []) → IsRaiseLearned instance code answers read known word →
-    atomic.Allows (RuleHolds instance) slots id me word (λ x. max x code) (λ _ after. (told : List Answer) → IsRaiseLearned instance code told read known word → TeachesRaised instance code told read known after)
+    atomic.Allows (RuleHolds instance) slots id me word (λ x. max x code) (λ _ after. (learned : List Answer) → IsRaiseLearned instance code learned read known word → TeachesRaised instance code learned read known after)
 allows_raised instance code answers read known slots id word me one learn =
-    let tells : ℕ → atomic.Me ℕ (List Known) → Type 0 = λ _ after. (told : List Answer) → IsRaiseLearned instance code told read known word → TeachesRaised instance code told read known after in
+    let tells : ℕ → atomic.Me ℕ (List Known) → Type 0 = λ _ after. (learned : List Answer) → IsRaiseLearned instance code learned read known word → TeachesRaised instance code learned read known after in
     subst (λ m. atomic.Allows (RuleHolds instance) slots id m word (λ x. max x code) tells) (sym one) (λ s held homes view fits.
     (let kind = Raise code (read_op_in read) in
     let put = max (slice_index s.words word) code in
@@ -218,15 +218,15 @@ allows_raised instance code answers read known slots id word me one learn =
       atomic.keeps,
       tt,
       event_held instance kind s id known known' word put held view (learn s.words),
-      λ told learnt. (
-          let then = known_answered instance code told read known in
+      λ learned learnt. (
+          let then = known_answered instance code learned read known in
           let mine = held.each id 0 (known ∷ []) known view refl in
           let is : known'.local ≡ then.local =
           (learn s.words held.locals held.law mine.local mine.of_caller mine.shows mine.notes mine.traced (held.sets id 0 (known ∷ []) known view refl) (held.own known.local.number mine.local mine.of_caller) held.some).shows
           ∙ sym (learnt s.words held.locals held.law mine.local mine.of_caller mine.shows mine.notes mine.traced (held.sets id 0 (known ∷ []) known view refl) (held.own known.local.number mine.local mine.of_caller) held.some).shows in
           let leaves = event_leaves instance kind s id known then word put held view (learnt s.words) in
           record {
-            knows = ap (λ (xs : List Answer). the_me (known_answered instance code xs read known)) (append_cancel_left known.local.answered answers told (ap (λ (x : Local). x.answered) is));
+            knows = ap (λ (xs : List Answer). the_me (known_answered instance code xs read known)) (append_cancel_left known.local.answered answers learned (ap (λ (x : Local). x.answered) is));
             lawful = seat_lawful instance s id known held view;
             lawful_after = leaves.0;
             behind = leaves.1;

@@ -21,7 +21,7 @@ use Rattle.core_replica.proofs.LockLaws.{few_same}
 use Rattle.table_invariant.specs.Rule.{IsLawfulLocal}
 use Rattle.table_invariant.specs.declared.rule.Known.{Known}
 use Rattle.table_invariant.specs.Seats.{IsByShown, known_local, shown_next, unseen}
-use Rattle.table_invariant.specs.Told.{KnownOfLoad}
+use Rattle.table_invariant.specs.FoundWords.{KnownOfLoad}
 
 abbrev blank : HeldExclusive → HeldExclusive
 blank h = record h { words = [] }
@@ -134,11 +134,11 @@ shown_rights l = record { exclusive = on l.exclusive; shared = refl; passer = re
     on (Some h) = refl
 
 -- what the rule says of the word found
-pub told_shown : (instance : Instance) (kind : Kind) (l : Local) (found : ℕ) → KnownOfLoad instance kind l found → KnownOfLoad instance kind (shown l) found
-told_shown instance (Link j) l found told = record { names = told.names; later = told.later }
-told_shown instance (Look s) l found told = record { names = told.names; greatest = told.greatest; live = told.live }
-told_shown instance LoadCur l found told = record { most = told.most; apart = λ held. told.apart (sym (shown_rights l).exclusive ∙ held) }
-told_shown instance kind l found told = told
+pub load_shown : (instance : Instance) (kind : Kind) (l : Local) (found : ℕ) → KnownOfLoad instance kind l found → KnownOfLoad instance kind (shown l) found
+load_shown instance (Link j) l found known = record { names = known.names; later = known.later }
+load_shown instance (Look s) l found known = record { names = known.names; greatest = known.greatest; live = known.live }
+load_shown instance LoadCur l found known = record { most = known.most; apart = λ held. known.apart (sym (shown_rights l).exclusive ∙ held) }
+load_shown instance kind l found known = known
 
 -- what the lawful state says of a local state by itself, it says of what is shown of it
 pub lawful_shown : (instance : Instance) (l : Local) → IsLawfulLocal instance l → IsLawfulLocal instance (shown l)

@@ -26,7 +26,7 @@ use Rattle.core_queue.proofs.SetNotes.{read_count}
 use Rattle.core_replica.proofs.Unheld.{current_unheld}
 use Rattle.cx_core.proofs.Claims.{unheld_none}
 use Rattle.cx_core.proofs.Locals.{linked_below}
-use Rattle.table_invariant.specs.Told.{CurTold, LinkTold, LookTold, NamesTicket, KnownOfLoad}
+use Rattle.table_invariant.specs.FoundWords.{KnownOfCur, KnownOfLink, KnownOfLook, NamesTicket, KnownOfLoad}
 
 -- the slot that a guard speaks of was seen
 open_seen : (callers : ℕ) (seen : Option SeenSlot) (ticket : ℕ) → ShowsOpen callers seen ticket → (x : SeenSlot) × (seen ≡ Some x) × (x.slot ≡ ticket % cell_count callers)
@@ -97,9 +97,9 @@ greatest_named instance s law slot word t e (Names ticket entry j greatest below
     let least = greatest.greatest t e linked is_slot in
     (omega (arith, is), omega (arith, same, least))
 
-look_told : (instance : Instance) (s : State) (law : Lawful instance s) (caller : ℕ) (l : Local) (slot : ℕ) → slice_get s.locals caller ≡ Some l → slot < cell_count instance.callers →
-    LookTold instance slot l (slice_index s.words (link_at instance.callers slot))
-look_told instance s law caller l slot at below = record {
+look_known : (instance : Instance) (s : State) (law : Lawful instance s) (caller : ℕ) (l : Local) (slot : ℕ) → slice_get s.locals caller ≡ Some l → slot < cell_count instance.callers →
+    KnownOfLook instance slot l (slice_index s.words (link_at instance.callers slot))
+look_known instance s law caller l slot at below = record {
   names = names_ticket instance s law slot (slice_index s.words (link_at instance.callers slot)) (law.links.each slot below);
   greatest = λ t from before is_slot. (
       let linked = linked_at t from before in
@@ -116,9 +116,9 @@ look_told instance s law caller l slot at below = record {
     linked_at : (t : ℕ) → instance.base.place ≤ t → t < l.front → (e : Entry) × IsLinked instance.base.place law.history t e
     linked_at t from before = (let to = (law.fronts.each caller l at).to in linked_below instance.base.place law.history t from (omega arith))
 
-link_told : (instance : Instance) (s : State) (law : Lawful instance s) (caller : ℕ) (l : Local) → slice_get s.locals caller ≡ Some l → ShowsOpen instance.callers l.seen_slot l.front →
-    LinkTold instance l (slice_index s.words (link_at instance.callers (l.front % cell_count instance.callers)))
-link_told instance s law caller l at shows =
+link_known : (instance : Instance) (s : State) (law : Lawful instance s) (caller : ℕ) (l : Local) → slice_get s.locals caller ≡ Some l → ShowsOpen instance.callers l.seen_slot l.front →
+    KnownOfLink instance l (slice_index s.words (link_at instance.callers (l.front % cell_count instance.callers)))
+link_known instance s law caller l at shows =
     let one = law.shape.some in
     let q = cell_count instance.callers in
     let slot = l.front % q in
@@ -142,8 +142,8 @@ link_told instance s law caller l at shows =
     }
 
 -- the code in CUR
-cur_told : (instance : Instance) (s : State) (law : Lawful instance s) (caller : ℕ) (l : Local) → slice_get s.locals caller ≡ Some l → CurTold instance l (slice_index s.words cur_at)
-cur_told instance s law caller l at =
+cur_known : (instance : Instance) (s : State) (law : Lawful instance s) (caller : ℕ) (l : Local) → slice_get s.locals caller ≡ Some l → KnownOfCur instance l (slice_index s.words cur_at)
+cur_known instance s law caller l at =
     let r = root_replica_of instance.callers (slice_index s.words cur_at) in
     record {
       most = (law.root.each caller l at).seen.most;
@@ -157,22 +157,22 @@ own_need instance s law caller l d at own =
     ap (λ c. slice_index s.words (need_at c)) (own ∙ number) ∙ (law.ring.each caller l at).need
 
 -- word 0 of a set
-count_told : (instance : Instance) (s : State) (law : Lawful instance s) (caller : ℕ) (l : Local) (k t i : ℕ) → slice_get s.locals caller ≡ Some l → i ≡ 0 → Guard instance (scene_of instance s) (ReadSet k t i) l →
+count_known : (instance : Instance) (s : State) (law : Lawful instance s) (caller : ℕ) (l : Local) (k t i : ℕ) → slice_get s.locals caller ≡ Some l → i ≡ 0 → Guard instance (scene_of instance s) (ReadSet k t i) l →
     slice_index s.words (set_at instance.callers k i) ≤ 256
-count_told instance s law caller l k t i at first guard =
+count_known instance s law caller l k t i at first guard =
     subst (λ n. slice_index s.words (set_at instance.callers k n) ≤ 256) (sym first)
     (read_count instance s law.history (queue_of law) caller l at k t (subst (λ n. Guard instance (scene_of instance s) (ReadSet k t n) l) first guard))
 
 -- what a step tells of the word found
-pub told_holds : (instance : Instance) (kind : Kind) (s : State) (law : Lawful instance s) (caller : ℕ) (l : Local) → slice_get s.locals caller ≡ Some l → Guard instance (scene_of instance s) kind l →
+pub load_known : (instance : Instance) (kind : Kind) (s : State) (law : Lawful instance s) (caller : ℕ) (l : Local) → slice_get s.locals caller ≡ Some l → Guard instance (scene_of instance s) kind l →
     KnownOfLoad instance kind l (found_by instance kind l s.words)
-told_holds instance (Link j) s law caller l at guard = link_told instance s law caller l at guard.4
-told_holds instance (Look slot) s law caller l at guard = look_told instance s law caller l slot at guard
-told_holds instance LoadFree s law caller l at guard = (law.fronts.each caller l at).free
-told_holds instance LoadCur s law caller l at guard = cur_told instance s law caller l at
-told_holds instance Publish s law caller l at guard = (law.root.each caller l at).seen.most
-told_holds instance Confirm s law caller l at guard = (law.fronts.each caller l at).low
-told_holds instance (Scan d) s law caller l at guard = own_need instance s law caller l d at
-told_holds instance OpenFree s law caller l at guard = (law.fronts.each caller l at).free
-told_holds instance (ReadSet k t i) s law caller l at guard = λ first. count_told instance s law caller l k t i at first guard
-told_holds instance kind s law caller l at guard = tt
+load_known instance (Link j) s law caller l at guard = link_known instance s law caller l at guard.4
+load_known instance (Look slot) s law caller l at guard = look_known instance s law caller l slot at guard
+load_known instance LoadFree s law caller l at guard = (law.fronts.each caller l at).free
+load_known instance LoadCur s law caller l at guard = cur_known instance s law caller l at
+load_known instance Publish s law caller l at guard = (law.root.each caller l at).seen.most
+load_known instance Confirm s law caller l at guard = (law.fronts.each caller l at).low
+load_known instance (Scan d) s law caller l at guard = own_need instance s law caller l d at
+load_known instance OpenFree s law caller l at guard = (law.fronts.each caller l at).free
+load_known instance (ReadSet k t i) s law caller l at guard = λ first. count_known instance s law caller l k t i at first guard
+load_known instance kind s law caller l at guard = tt

@@ -1,6 +1,6 @@
 pub mod Seats
 pub mod Running
-pub mod Told
+pub mod FoundWords
 pub mod Fitting
 pub mod Rule
 pub mod Learns

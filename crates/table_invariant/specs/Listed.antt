@@ -34,7 +34,7 @@ pub record AgreeListed (instance : Instance) (known : Known) (lines from to : �
   pub ends : word_noted None 0 (loads_of (loaded_of known.local.shared)) ≡ Some to
   pub each : (n : ℕ) → n < lines → IsCopiedLine known n ⊎ (IsUnlisted from to lists n × IsUntouchedLine known n)
 
--- A gap of a ticket is told: a write set of the ticket is, and no address of it is in the lines between.
+-- Whatever fits tells this gap of a ticket: it tells that a set is a write set of the ticket, and no address of the set is in the lines between.
 pub record TellsGap (lines : ℕ) (lawful : List ℕ → Type 0) (base : Base) (step : List ℕ → List ℕ → List ℕ × List ℕ) (known : Known) (g : Gap) (set : List ℕ) : Type 0 where
   pub tells : TellsSet lines lawful base step known g.ticket set
   pub off : (m : ℕ) → m < slice_index set 0 → (slice_index set (2 * m + 1) < 8 * (g.from + 1)) ⊎ (8 * g.to ≤ slice_index set (2 * m + 1))

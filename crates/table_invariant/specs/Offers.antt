@@ -20,6 +20,6 @@ pub record TellsSet (lines : ℕ) (lawful : List ℕ → Type 0) (base : Base) (
   pub within : (m : ℕ) → m < slice_index set 0 → slice_index set (2 * m + 1) < length base.words
   pub leads : (first now : List ℕ) → FitsKnown lines lawful base step known first now → ∥ LeadsFrom step (has_of known) ticket set first now ∥₁
 
--- the set in a cell is told, with the ticket that the cell has
+-- whatever fits tells that the set in a cell is a write set of the ticket that the cell has
 abbrev pub TellsOffer : ℕ → (List ℕ → Type 0) → Base → (List ℕ → List ℕ → List ℕ × List ℕ) → Known → ℕ → Type 0
 TellsOffer lines lawful base step known j = (ticket : ℕ) → (cell_of known.local j).ticket ≡ Some ticket → TellsSet lines lawful base step known ticket (cell_of known.local j).set

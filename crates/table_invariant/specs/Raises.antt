@@ -27,7 +27,7 @@ pub record TellsReply (lines : ℕ) (lawful : List ℕ → Type 0) (base : Base)
   pub above : ticket < place_noted 0 known.accesses
   pub slot : (first now : List ℕ) → FitsKnown lines lawful base step known first now → slot_reply known.local.number now ≡ reply
 
--- an entry with a ticket below a place is answered, with a reply that is told
+-- an entry with a ticket below a place is answered, with the reply that whatever fits tells
 pub record TellsAnswer (lines : ℕ) (lawful : List ℕ → Type 0) (base : Base) (step : List ℕ → List ℕ → List ℕ × List ℕ) (known : Known) (place ticket : ℕ) (answers : List Answer) : Type 0 where
   pub below : ticket < place
   pub reply : List ℕ
@@ -47,7 +47,7 @@ TellsAnswers lines lawful base step known place answers = AnswersOf lines lawful
 abbrev pub TellsRead : ℕ → (List ℕ → Type 0) → Base → (List ℕ → List ℕ → List ℕ × List ℕ) → Known → List ℕ → List ℕ → Type 0
 TellsRead lines lawful base step known op reply = (first now : List ℕ) → ReadFits lines lawful base (loaded_of known.local.shared) first now → (step (object_part now) op).1 ≡ reply
 
--- a read is an operation and its reply, which is told where a read is given
+-- of a read, which is an operation and its reply, whatever fits tells that reply; where no read is given, nothing is asked
 abbrev pub TellsReads : ℕ → (List ℕ → Type 0) → Base → (List ℕ → List ℕ → List ℕ × List ℕ) → Known → Option (List ℕ × List ℕ) → Type 0
 TellsReads lines lawful base step known None = Unit {0}
 TellsReads lines lawful base step known (Some read) = TellsRead lines lawful base step known read.0 read.1

@@ -15,7 +15,7 @@ use Rattle.table_invariant.specs.Learns.{LearnsInAnyState, LearnsBy}
 use Rattle.table_invariant.specs.Rule.{IsBehindNotes, IsImageOfSome, IsLawfulLocal}
 use Rattle.table_invariant.specs.Running.{IsSeatOf, Running, instance_at}
 use Rattle.table_invariant.specs.Seats.{IsAtLimit, IsByShown, IsWithinLimit, Seated, WordFits, kind_found, known_after, known_kept, known_of, stepped, unseen}
-use Rattle.table_invariant.specs.Told.{KnownOfLoad}
+use Rattle.table_invariant.specs.FoundWords.{KnownOfLoad}
 
 -- an event of this kind is allowed for the caller of a seat of this table, and this is the word that it is on
 pub record IsEventOn {O : Type 0} (r : Running O) (step : O → List ℕ → List ℕ → List ℕ × List ℕ) (reads : O → List ℕ → Bool) (kind : Kind) (word : ℕ) (table : TableId) (me : Me ℕ (List Known)) : Type 0 where
@@ -35,12 +35,12 @@ MayStepKnowing instance kind known word put = LearnsBy instance (kind_found inst
 abbrev pub Puts : Instance → Kind → Local → (ℕ → ℕ) → Type 0
 Puts instance kind l put = (x : ℕ) → new_word instance kind l x ≡ put x
 
--- whatever an event finds, its caller knows the same, and it is told nothing
+-- whatever word an event finds, its caller knows the same after it, and the rule says nothing of the word
 pub record IsBlind (instance : Instance) (kind : Kind) (known : Known) : Type 0 where
   pub blind : (x y : ℕ) → known_after instance kind known x ≡ known_after instance kind known y
   pub silent : KnownOfLoad instance kind known.local 0
 
--- the event is a store of this word: whatever it finds, it puts this, and its caller knows the same and is told nothing
+-- the event is a store of this word: whatever it finds, it puts this, its caller knows the same after it, and the rule says nothing of the word found
 pub record IsStoreEvent (instance : Instance) (kind : Kind) (known : Known) (new : ℕ) : Type 0 where
   pub puts : Puts instance kind known.local (λ _. new)
   pub blind : (x y : ℕ) → known_after instance kind known x ≡ known_after instance kind known y
@@ -52,7 +52,7 @@ pub record KnowledgeAfter (instance : Instance) (kind : Kind) (known : Known) (f
   pub knows : after ≡ (known_after instance kind known found ∷ [], [])
   pub lawful : IsLawfulLocal instance known.local
   pub lawful_after : IsLawfulLocal instance (known_after instance kind known found).local
-  pub told : KnownOfLoad instance kind known.local found
+  pub found_word : KnownOfLoad instance kind known.local found
   pub behind : IsBehindNotes instance (known_after instance kind known found)
 
 -- The step was made, which the limit allowed: the seat is the one after the event of this kind that found this word. The
@@ -62,7 +62,7 @@ pub record Steps {O : Type 0} (r : Running O) (step : O → List ℕ → List �
   pub made : after ≡ stepped (instance_at r step reads) kind before found
   pub lawful : IsLawfulLocal (instance_at r step reads) before.known.local
   pub lawful_after : IsLawfulLocal (instance_at r step reads) after.known.local
-  pub told : KnownOfLoad (instance_at r step reads) kind before.known.local found
+  pub found_word : KnownOfLoad (instance_at r step reads) kind before.known.local found
   pub within : IsWithinLimit after.known.local
   pub seat : IsSeatOf r after
 

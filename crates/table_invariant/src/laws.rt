@@ -50,7 +50,7 @@ pub fn what_is_there_fits<O: Object>(object: &O, base: &Base)
 
 /// A set that a caller wrote into the cell of its own entry may be offered, where whatever fits what its seat knows tells that the set is one
 /// of the entry's ticket.
-pub fn told_sets_may_be_offered<O: Object>(object: &O, base: &Base)
+pub fn known_sets_may_be_offered<O: Object>(object: &O, base: &Base)
     requires { LawfulBase (O.line_count object.now) (O.lawful object.now) base.now }
     ensures { (callers j : ℕ) (known : Known) → let instance : Instance = record { callers = callers; base = base.now; step = O.step object.now; reads = O.only_reads object.now } in
         CanWriteSet known.local j → TellsOffer (O.line_count object.now) (O.lawful object.now) base.now (O.step object.now) known j →
@@ -59,7 +59,7 @@ pub fn told_sets_may_be_offered<O: Object>(object: &O, base: &Base)
 
 /// A set may be kept by the caller of its entry, where whatever fits what the caller's seat knows tells that the set is one of the ticket. No event is
 /// made, and each word of the table stays as it is.
-pub fn told_sets_may_be_kept<O: Object>(object: &O, base: &Base)
+pub fn known_sets_may_be_kept<O: Object>(object: &O, base: &Base)
     requires { LawfulBase (O.line_count object.now) (O.lawful object.now) base.now }
     ensures { (callers ticket word : ℕ) (set : List ℕ) (s : State ℕ _) (seat : ℕ) (known : Known) → let instance : Instance = record { callers = callers; base = base.now; step = O.step object.now; reads = O.only_reads object.now } in
         RuleHolds instance s → get_elem? s.views seat ≡ some (known ∷ []) → TellsSet (O.line_count object.now) (O.lawful object.now) base.now (O.step object.now) known ticket set →
@@ -68,7 +68,7 @@ pub fn told_sets_may_be_kept<O: Object>(object: &O, base: &Base)
 
 /// A gap of a ticket may be noted in the ring, where whatever fits what a caller's seat knows tells a write set of the ticket that has no address
 /// in the gap.
-pub fn told_gaps_may_be_noted<O: Object>(object: &O, base: &Base)
+pub fn known_gaps_may_be_noted<O: Object>(object: &O, base: &Base)
     requires { LawfulBase (O.line_count object.now) (O.lawful object.now) base.now }
     ensures { (callers s i v : ℕ) (known : Known) (set : List ℕ) → let instance : Instance = record { callers = callers; base = base.now; step = O.step object.now; reads = O.only_reads object.now } in
         s < gap_slots callers → i < 16 → v < 2 ^ 64 → TellsGap (O.line_count object.now) (O.lawful object.now) base.now (O.step object.now) known (gap_of callers s v) set →

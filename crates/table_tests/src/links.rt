@@ -171,7 +171,7 @@ fn are_both_linked(
     else {
         return Ok(false);
     };
-    let are_told = are_first_two(a, b)
+    let are_linked = are_first_two(a, b)
         && first.cell_ticket(0) == Some(a)
         && second.cell_ticket(0) == Some(b);
     let one = LinkedOp {
@@ -183,7 +183,7 @@ fn are_both_linked(
         ticket: b,
     };
     let remains = closed_after_both(alloc, shared, first, second, &one, &other)?;
-    Ok(are_told && is_left_open(&remains))
+    Ok(are_linked && is_left_open(&remains))
 }
 
 // Whether these are the first two tickets.

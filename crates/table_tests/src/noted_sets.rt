@@ -102,7 +102,7 @@ fn are_words(words: &[u64], wanted: &[(u64, u64)]) -> bool {
 }
 
 // Whether the set, which is emptied first, is as a row says.
-fn is_as_told(alloc: Global, set: &mut WriteSet, row: &Row) -> Result<bool, AllocError> {
+fn has_row_words(alloc: Global, set: &mut WriteSet, row: &Row) -> Result<bool, AllocError> {
     set.clear();
     let taken = note_all(set, row.pairs);
     let count = set.len() as usize;
@@ -119,7 +119,7 @@ fn is_as_told(alloc: Global, set: &mut WriteSet, row: &Row) -> Result<bool, Allo
 fn first_wrong(alloc: Global, rows: &[Row]) -> Result<Option<usize>, AllocError> {
     let mut set = WriteSet::new(alloc)?;
     for (i, row) in rows.iter().enumerate() {
-        if !is_as_told(alloc, &mut set, row)? {
+        if !has_row_words(alloc, &mut set, row)? {
             return Ok(Some(i));
         }
     }

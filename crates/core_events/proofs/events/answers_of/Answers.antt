@@ -1,7 +1,7 @@
 use Rattle.std.proofs.Common.{◌<◌, ◌≡◌, ◌∙◌, length, refl, ap, sym, subst, arith, Some}
 use Rattle.std.proofs.lemmas.Option.{same_Some, slice_get_read}
 use Rattle.std.specs.List.{slice_get}
-use Rattle.core_events.specs.Told.{TellsRaise}
+use Rattle.core_events.specs.StepFacts.{TellsRaise}
 use Rattle.cx_core.specs.declared.local.Local.{Local}
 use Rattle.cx_core.specs.Merge.{history_of}
 use Rattle.cx_core.specs.State.{Core, Instance, Scene}
@@ -21,9 +21,9 @@ returns g c =
     let there : slice_get s.locals.items caller ≡ Some mine = slice_get_read s.locals.items (length s.locals.items) caller mine refl within c.index-local.ensures in
     rw (← c.state.view_is)
     (IfOk-then c.replies_of.result
-    (λ told. TellsRaise told instance (let scene : Scene = record { history = history_of s.base.place c.deref.result.now; words = s.words.items } in scene) code read mine)
-    (λ told. (l : Local) → slice_get s.locals.items caller ≡ Some l → TellsRaise told instance (let scene : Scene = record { history = history_of s.base.place s.locals.items; words = s.words.items } in scene) code read l)
+    (λ answers. TellsRaise answers instance (let scene : Scene = record { history = history_of s.base.place c.deref.result.now; words = s.words.items } in scene) code read mine)
+    (λ answers. (l : Local) → slice_get s.locals.items caller ≡ Some l → TellsRaise answers instance (let scene : Scene = record { history = history_of s.base.place s.locals.items; words = s.words.items } in scene) code read l)
     (c.replies_of.ensures s.words.items)
-    (λ told tells l at.
-    subst (λ x. TellsRaise told instance (let scene : Scene = record { history = history_of s.base.place s.locals.items; words = s.words.items } in scene) code read x) (same_Some mine l (sym there ∙ at))
-    (subst (λ ls. TellsRaise told instance (let scene : Scene = record { history = history_of s.base.place ls; words = s.words.items } in scene) code read mine) c.deref.ensures.value tells)))
+    (λ answers tells l at.
+    subst (λ x. TellsRaise answers instance (let scene : Scene = record { history = history_of s.base.place s.locals.items; words = s.words.items } in scene) code read x) (same_Some mine l (sym there ∙ at))
+    (subst (λ ls. TellsRaise answers instance (let scene : Scene = record { history = history_of s.base.place ls; words = s.words.items } in scene) code read mine) c.deref.ensures.value tells)))

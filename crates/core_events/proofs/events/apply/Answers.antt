@@ -1,7 +1,7 @@
 use Rattle.std.proofs.Common.{◌≡◌, ◌+◌, ◌^◌, ◌<◌, ◌≤◌, ◌∙◌, length, refl, ap, sym, subst, arith, set, Some}
 use Rattle.std.proofs.lemmas.Option.{slice_get_read}
 use Rattle.std.specs.List.{slice_get}
-use Rattle.core_events.specs.Told.{Tells}
+use Rattle.core_events.specs.StepFacts.{Tells}
 use Rattle.cx_core.specs.declared.local.Local.{Local}
 use Rattle.cx_core.specs.Events.{IsMadeOrRefused, Did}
 use Rattle.cx_core.specs.Merge.{history_of, scene_of}
@@ -30,8 +30,8 @@ invariant_of-state g c =
     let before : State = record { words = c.deref_mut.result.now; locals = s.locals.items } in
     let within : event.caller < length s.locals.items = omega (arith, s.locals.ok) in
     let at = slice_get_read s.locals.items (length s.locals.items) event.caller l refl within c.index_mut-local.ensures.value in
-    let tells = subst (λ (k : Core). (x : Local) → slice_get k.state.locals event.caller ≡ Some x → Tells c.in_ok-told.told (instance_of k step reads) (scene_of (instance_of k step reads) k.state) event.kind x) (sym c.state.view_is) c.in_ok-told.ensures in
-    let did = did_here core step reads c.in_ok-told.told event c.deref_mut.result.now c.step.new.words l c.step.new.local c.step.result c.deref_mut.ensures.value at tells c.step.ensures.ok in
+    let tells = subst (λ (k : Core). (x : Local) → slice_get k.state.locals event.caller ≡ Some x → Tells c.in_ok-facts.facts (instance_of k step reads) (scene_of (instance_of k step reads) k.state) event.kind x) (sym c.state.view_is) c.in_ok-facts.ensures in
+    let did = did_here core step reads c.in_ok-facts.facts event c.deref_mut.result.now c.step.new.words l c.step.new.local c.step.result c.deref_mut.ensures.value at tells c.step.ensures.ok in
     let small : s.base.place + length (history_of s.base.place s.locals.items) ≤ 2 ^ 40 =
     history_few s.base.place s.locals.items c.state.invariant.whole.entries (subst (λ (k : Core). k.base.place ≤ 2 ^ 40) (sym c.state.view_is) c.requires.base.place_within) in
     rw (over_all s.words.len c.step.new.words s.words.items (c.step.auto.words ∙ c.deref_mut.ensures.len))
@@ -50,8 +50,8 @@ returns-clause-ok g c =
     let before : State = record { words = c.deref_mut.result.now; locals = s.locals.items } in
     let within : event.caller < length s.locals.items = omega (arith, s.locals.ok) in
     let at = slice_get_read s.locals.items (length s.locals.items) event.caller l refl within c.index_mut-local.ensures.value in
-    let tells = subst (λ (k : Core). (x : Local) → slice_get k.state.locals event.caller ≡ Some x → Tells c.in_ok-told.told (instance_of k step reads) (scene_of (instance_of k step reads) k.state) event.kind x) (sym c.state.view_is) c.in_ok-told.ensures in
-    let did = did_here core step reads c.in_ok-told.told event c.deref_mut.result.now c.step.new.words l c.step.new.local c.step.result c.deref_mut.ensures.value at tells c.step.ensures.ok in
+    let tells = subst (λ (k : Core). (x : Local) → slice_get k.state.locals event.caller ≡ Some x → Tells c.in_ok-facts.facts (instance_of k step reads) (scene_of (instance_of k step reads) k.state) event.kind x) (sym c.state.view_is) c.in_ok-facts.ensures in
+    let did = did_here core step reads c.in_ok-facts.facts event c.deref_mut.result.now c.step.new.words l c.step.new.local c.step.result c.deref_mut.ensures.value at tells c.step.ensures.ok in
     rw (← c.state.view_is, over_all s.words.len c.step.new.words s.words.items (c.step.auto.words ∙ c.deref_mut.ensures.len), ← c.deref_mut.ensures.value)
     (IfOk-then c.step.result
     (λ made. Did made instance (scene_of instance before) event.kind l c.step.new.local c.step.new.words)

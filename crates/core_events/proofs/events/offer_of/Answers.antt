@@ -1,7 +1,7 @@
 use Rattle.std.proofs.Common.{◌<◌, ◌≡◌, ◌∙◌, length, refl, ap, sym, subst, arith, Some}
 use Rattle.std.proofs.lemmas.Option.{same_Some, slice_get_read}
 use Rattle.std.specs.List.{slice_get}
-use Rattle.core_events.specs.Told.{TellsOfferWord}
+use Rattle.core_events.specs.StepFacts.{TellsOfferWord}
 use Rattle.cx_core.specs.declared.local.Local.{Local}
 use Rattle.cx_core.specs.Merge.{history_of}
 use Rattle.cx_core.specs.State.{Core, Instance, Scene}
@@ -30,9 +30,9 @@ returns g c =
     let there : slice_get s.locals.items caller ≡ Some mine = slice_get_read s.locals.items (length s.locals.items) caller mine refl within c.index-local.ensures in
     rw (← c.state.view_is)
     (IfOk-then c.offered_word.result
-    (λ told. TellsOfferWord told instance (let scene : Scene = record { history = history_of s.base.place c.deref.result.now; words = s.words.items } in scene) j mine)
-    (λ told. (l : Local) → slice_get s.locals.items caller ≡ Some l → TellsOfferWord told instance (let scene : Scene = record { history = history_of s.base.place s.locals.items; words = s.words.items } in scene) j l)
+    (λ word. TellsOfferWord word instance (let scene : Scene = record { history = history_of s.base.place c.deref.result.now; words = s.words.items } in scene) j mine)
+    (λ word. (l : Local) → slice_get s.locals.items caller ≡ Some l → TellsOfferWord word instance (let scene : Scene = record { history = history_of s.base.place s.locals.items; words = s.words.items } in scene) j l)
     (c.offered_word.ensures s.callers.number instance.reads s.words.items)
-    (λ told tells l at.
-    subst (λ x. TellsOfferWord told instance (let scene : Scene = record { history = history_of s.base.place s.locals.items; words = s.words.items } in scene) j x) (same_Some mine l (sym there ∙ at))
-    (subst (λ ls. TellsOfferWord told instance (let scene : Scene = record { history = history_of s.base.place ls; words = s.words.items } in scene) j mine) c.deref.ensures.value tells)))
+    (λ word tells l at.
+    subst (λ x. TellsOfferWord word instance (let scene : Scene = record { history = history_of s.base.place s.locals.items; words = s.words.items } in scene) j x) (same_Some mine l (sym there ∙ at))
+    (subst (λ ls. TellsOfferWord word instance (let scene : Scene = record { history = history_of s.base.place ls; words = s.words.items } in scene) j mine) c.deref.ensures.value tells)))

@@ -25,7 +25,7 @@ queried g c =
     let size : g.M.Memory.size c.query_into.new.mem.inner.now ≡ g.M.Memory.size c.args.mem.now = ap (λ f. f.whole) c.query_into.ensures.framed.fixed_kept in
     part_queried (g.M.Memory.stands c.args.mem.now) (g.M.Memory.stands c.query_into.new.mem.inner.now) (g.O.Object.step c.args.object.now) c.args.op.now c.query_into.new.reply c.query_into.result (8 * c.lines-len.result) c.query_into.new.mem.from c.query_into.new.mem.len (ap (λ f. f.from) c.query_into.ensures.framed.fixed_kept) (ap (λ f. f.len) c.query_into.ensures.framed.fixed_kept)
     (λ first now s. (g.met.M.Memory.words c.query_into.new.mem.inner.now first now s).long ∙ size ∙ start (8 * c.lines-len.result) refl)
-    c.query_into.ensures.kept (on_ok_weaker c.query_into.result (λ told key part s. (told.from key part s).1) c.query_into.ensures.done)
+    c.query_into.ensures.kept (on_ok_weaker c.query_into.result (λ reads key part s. (reads.from key part s).1) c.query_into.ensures.done)
 
 pub returns : goal.returns
 returns g c =

@@ -44,8 +44,8 @@ returns-in_err-announce-clause-halted g c =
     let at = c.load_cur.new.seat in
     let t = c.announce.new.seat in
     let made = c.in_ok-_cur.ensures.made in
-    let first = cur_loaded (instance_at r g.O.Object.step g.O.Object.only_reads) s at c.in_ok-_cur._cur made.made made.told.most made.allowed in
-    let caller = cur_caller r (instance_at r g.O.Object.step g.O.Object.only_reads) s at c.in_ok-_cur._cur made.made made.told.most made.allowed c.requires.caller in
+    let first = cur_loaded (instance_at r g.O.Object.step g.O.Object.only_reads) s at c.in_ok-_cur._cur made.made made.found_word.most made.allowed in
+    let caller = cur_caller r (instance_at r g.O.Object.step g.O.Object.only_reads) s at c.in_ok-_cur._cur made.made made.found_word.most made.allowed c.requires.caller in
     let halted = halted_in r c.args.cell (145 + 2 * c.args.tries) c.args.op.now at t caller c.requires.cell.0 (omega arith) c.told-op c.in_err-announce.ensures.halted in
     if_any_err c.from_residual-in_err-announce.result (
       halted_then r 1 s (stale at) first (145 + 2 * c.args.tries) (146 + 2 * c.args.tries) (unlinked t) (omega arith) halted.0,
@@ -58,7 +58,7 @@ link-requires-clause-may g c =
     let s = c.args.seat.now in
     let at = c.load_cur.new.seat in
     let made = c.in_ok-_cur.ensures.made in
-    let caller = cur_caller r (instance_at r g.O.Object.step g.O.Object.only_reads) s at c.in_ok-_cur._cur made.made made.told.most made.allowed c.requires.caller in
+    let caller = cur_caller r (instance_at r g.O.Object.step g.O.Object.only_reads) s at c.in_ok-_cur._cur made.made made.found_word.most made.allowed c.requires.caller in
     let e = c.in_ok-announce.ensures in
     record { of = e.seat; few = c.requires.cell.0; announced = e.announced.ready; answered = answered_still (stale at) c.announce.new.seat e.announced.announces.rest caller.count }
 
@@ -72,8 +72,8 @@ returns-clause-entered g c =
     let op = c.args.op.now in
     let tries = c.args.tries in
     let made = c.in_ok-_cur.ensures.made in
-    let first = cur_loaded (instance_at r g.O.Object.step g.O.Object.only_reads) s at c.in_ok-_cur._cur made.made made.told.most made.allowed in
-    let caller = cur_caller r (instance_at r g.O.Object.step g.O.Object.only_reads) s at c.in_ok-_cur._cur made.made made.told.most made.allowed c.requires.caller in
+    let first = cur_loaded (instance_at r g.O.Object.step g.O.Object.only_reads) s at c.in_ok-_cur._cur made.made made.found_word.most made.allowed in
+    let caller = cur_caller r (instance_at r g.O.Object.step g.O.Object.only_reads) s at c.in_ok-_cur._cur made.made made.found_word.most made.allowed c.requires.caller in
     let done = c.in_ok-announce.ensures.announced.announces in
     IfOk-weaker c.link.result (λ tried. Tried r.callers c.args.cell tries t v tried × MakesTries r.callers c.args.cell tries t v tried) (EntersIn 1 (146 + 2 * tries) r op tries s v)
     (λ tried links. enters_then r 1 s (stale at) first op 0 1 tries (145 + 2 * tries) (146 + 2 * tries) v tried (omega arith) (let one = ap (λ (x : Seated). x.known.local.steps) made.made in omega (arith, one))
@@ -90,8 +90,8 @@ returns-clause-halted g c =
     let op = c.args.op.now in
     let tries = c.args.tries in
     let made = c.in_ok-_cur.ensures.made in
-    let first = cur_loaded (instance_at r g.O.Object.step g.O.Object.only_reads) s at c.in_ok-_cur._cur made.made made.told.most made.allowed in
-    let caller = cur_caller r (instance_at r g.O.Object.step g.O.Object.only_reads) s at c.in_ok-_cur._cur made.made made.told.most made.allowed c.requires.caller in
+    let first = cur_loaded (instance_at r g.O.Object.step g.O.Object.only_reads) s at c.in_ok-_cur._cur made.made made.found_word.most made.allowed in
+    let caller = cur_caller r (instance_at r g.O.Object.step g.O.Object.only_reads) s at c.in_ok-_cur._cur made.made made.found_word.most made.allowed c.requires.caller in
     let done = c.in_ok-announce.ensures.announced.announces in
     on_err_weaker c.link.result
     (λ halted. (
@@ -111,7 +111,7 @@ returns-clause-sets g c =
     let v = c.link.new.seat in
     let tries = c.args.tries in
     let made = c.in_ok-_cur.ensures.made in
-    let caller = cur_caller r (instance_at r g.O.Object.step g.O.Object.only_reads) s at c.in_ok-_cur._cur made.made made.told.most made.allowed c.requires.caller in
+    let caller = cur_caller r (instance_at r g.O.Object.step g.O.Object.only_reads) s at c.in_ok-_cur._cur made.made made.found_word.most made.allowed c.requires.caller in
     let done = c.in_ok-announce.ensures.announced.announces in
     IfOk-weaker c.link.result (Tried r.callers c.args.cell tries t v) (λ _. v.known.sets ≡ s.known.sets)
     (λ tried links. no_sets_read r c.args.cell c.args.op.now (stale at) t caller c.requires.cell.0 c.told-op done.cell done.others done.rest r.callers tries v tried links ∙ ap (λ (x : Seated). x.known.sets) made.made)

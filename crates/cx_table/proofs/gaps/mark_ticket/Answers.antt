@@ -5,7 +5,7 @@ use Rattle.table_invariant.specs.Running.{instance_at}
 use Rattle.table_invariant.specs.Seats.{Seated}
 use Rattle.cx_table.specs.GapWords.{IsNamed, TellsLines, lines_from}
 use Rattle.cx_table.proofs.GapLoads.{has_named, loads_leave, run_gaps}
-use Rattle.cx_table.proofs.GapWalks.{marked_lines, told_walk, walk_by}
+use Rattle.cx_table.proofs.GapWalks.{marked_lines, lines_walk, walk_by}
 use Rattle.cx_table.proofs.gaps.mark_ticket.Goals as goal
 
 pub returns-in-Some-clause-marks : goal.returns-in-Some-clause-marks
@@ -23,7 +23,7 @@ returns-in-Some-clause-marks g c = λ is. (
     record {
       list = lines_from 0 count words;
       walked = walk_by (IsNamed t.callers slot words) (HasGap instance after.known) (has_named instance slot words before.known after.known (ap (λ (s : Seated). s.known.noted) run.seat)) c.args.ticket 0 (lines_from 0 count words) c.args.lines
-          (told_walk t.callers slot c.args.ticket c.args.lines words count tells);
+          (lines_walk t.callers slot c.args.ticket c.args.lines words count tells);
       marked = marked_lines c.mark_all.new.marks words count within (c.mark_all.ensures.marks is) (sym (length-take-le count words within));
     })
 

@@ -6,7 +6,7 @@ use Rattle.cx_core.specs.Layout.{cell_count}
 use Rattle.cx_core.specs.QueueEvents.{seen_word}
 use Rattle.cx_table.specs.Running.{instance_at}
 use Rattle.cx_table.specs.Seats.{IsAtLimit, Seated, shown_next, unseen}
-use Rattle.cx_table.specs.Told.{LinkTold}
+use Rattle.cx_table.specs.FoundWords.{KnownOfLink}
 use Rattle.mutation_queue.specs.Links.{FindsOpen, LinksAt, LinksPast}
 use Rattle.mutation_queue.proofs.Results.{on_err}
 use Rattle.mutation_queue.proofs.Tries.{finds_link, finds_loss, front_stays, linked_seen, looked_at, lost_to, may_link, none_open, open_seen, past_front, sees_open, taken, wins, won_at}
@@ -20,7 +20,7 @@ link-requires g c =
     let seen = c.in_ok-seen.seen in
     let slot = l.front % cell_count instance.callers in
     let is = sees_open c.args.shared.now g.O.Object.step g.O.Object.only_reads c.args.seat.now c.look.new.seat c.in_ok-seen.seen c.callers-callers.ensures.some c.callers-callers.ensures.value c.front-front.ensures.value c.cell_count.ensures c.in_ok-seen.ensures.made c.if-is_taken.ensures in
-    let may = may_link instance l seen is.some is.told is.below c.args.cell c.requires.may.few c.requires.may.announced.idle c.requires.may.announced.number c.requires.front c.requires.may.answered in
+    let may = may_link instance l seen is.some is.found_word is.below c.args.cell c.requires.may.few c.requires.may.announced.idle c.requires.may.announced.number c.requires.front c.requires.may.answered in
     record {
       seat = c.in_ok-seen.ensures.made.seat;
       guard = subst (λ (x : Seated). Guard instance unseen (Link c.from.result) x.known.local) (sym is.looked)
@@ -37,8 +37,8 @@ returns-clause-tried g c =
     let found = c.in_ok-found.found in
     let ne : found ≢ seen = c.if-found-seen.false in
     let linked = linked_seen instance s c.look.new.seat c.link.new.seat seen found c.from.result c.args.cell is c.from.ensures c.in_ok-found.ensures.made.made in
-    let past = past_front instance l seen is.some is.told is.below found (subst (λ (x : Seated). LinkTold instance x.known.local found) is.looked c.in_ok-found.ensures.made.told) ne in
-    let stays = front_stays instance l seen is.some is.told is.below in
+    let past = past_front instance l seen is.some is.found_word is.below found (subst (λ (x : Seated). KnownOfLink instance x.known.local found) is.looked c.in_ok-found.ensures.made.found_word) ne in
+    let stays = front_stays instance l seen is.some is.found_word is.below in
     let here : c.look.new.seat.known.local.front ≡ l.front = ap (λ (x : Seated). x.known.local.front) is.looked ∙ stays in (
       subst (LinksPast instance.callers s) (sym linked) (lost_to instance s seen found c.args.cell c.in_ok-seen.ensures.made.lawful.cur stays ne past.0 past.1),
       inr (c.look.new.seat, open_seen instance s c.look.new.seat seen is, finds_loss instance c.look.new.seat c.link.new.seat c.from.result seen found (ap (λ (x : Seated). seen_word x.known.local.seen_slot) is.looked) c.in_ok-found.ensures.made.allowed c.in_ok-found.ensures.made.made ne past.0 (omega (arith, here, past.1))),
@@ -77,6 +77,6 @@ returns-then-found-seen-clause-tried g c =
     let found = c.in_ok-found.found in
     let e : found ≡ seen = c.if-found-seen.true in
     let linked = linked_seen instance s c.look.new.seat c.link.new.seat seen found c.from.result c.args.cell is c.from.ensures c.in_ok-found.ensures.made.made in (
-      subst (λ n. LinksAt c.args.cell n s c.link.new.seat) (sym c.front-front.ensures.value) (subst (LinksAt c.args.cell l.front s) (sym linked) (won_at instance s seen found c.args.cell (front_stays instance l seen is.some is.told is.below) e)),
+      subst (λ n. LinksAt c.args.cell n s c.link.new.seat) (sym c.front-front.ensures.value) (subst (LinksAt c.args.cell l.front s) (sym linked) (won_at instance s seen found c.args.cell (front_stays instance l seen is.some is.found_word is.below) e)),
       wins instance s c.look.new.seat c.link.new.seat c.args.cell c.from.result seen found (open_seen instance s c.look.new.seat seen is) (ap (λ (x : Seated). seen_word x.known.local.seen_slot) is.looked) c.in_ok-found.ensures.made.allowed c.in_ok-found.ensures.made.made e c.from.ensures,
     )

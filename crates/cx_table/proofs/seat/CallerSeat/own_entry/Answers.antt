@@ -7,7 +7,7 @@ use Rattle.caller_cache.proofs.OwnEntries.{own_read}
 use Rattle.cx_table.proofs.seat.CallerSeat.own_entry.Goals as goal
 
 pub returns : goal.returns
-returns c told =
+returns c found =
     let j = c.in-Some.j in
     let at = ap (λ (s : Seated). (cell_of s.known.local j).ticket) c.self.view_is ∙ c.in-Some.ensures.1 in
     let is = c.read_entry.ensures in

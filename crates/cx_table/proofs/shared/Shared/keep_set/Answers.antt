@@ -5,14 +5,14 @@ use Rattle.table_invariant.specs.Seats.{Seated, known_of}
 use Rattle.table_invariant.specs.Steps.{KeepsSet, TeachesKept}
 use Rattle.caller_cache.proofs.SummaryLaws.{IsSeat, seated}
 use Rattle.cx_table.proofs.Handing.{laws_at}
-use Rattle.cx_table.proofs.Keeping.{kept_fits, kept_made, told_within}
+use Rattle.cx_table.proofs.Keeping.{kept_fits, kept_made, pairs_within}
 use Rattle.cx_table.proofs.shared.Shared.keep_set.Goals as goal
 
-pub note_kept-requires-clause-told : goal.note_kept-requires-clause-told
-note_kept-requires-clause-told g c =
+pub note_kept-requires-clause-of_ticket : goal.note_kept-requires-clause-of_ticket
+note_kept-requires-clause-of_ticket g c =
     let t = c.args.self.now in
     subst (λ ws. TellsSet t.lines (g.O.Object.lawful t.object) t.base (g.O.Object.step t.object) (known_of c.seat.inside.seat.me.0) c.args.ticket ws) (sym c.deref.ensures.value)
-    (subst (λ (s : Seated). TellsSet t.lines (g.O.Object.lawful t.object) t.base (g.O.Object.step t.object) s.known c.args.ticket c.args.set.now.items) (sym c.seat.view_is) c.requires.told)
+    (subst (λ (s : Seated). TellsSet t.lines (g.O.Object.lawful t.object) t.base (g.O.Object.step t.object) s.known c.args.ticket c.args.set.now.items) (sym c.seat.view_is) c.requires.of_ticket)
 
 -- what the seat is taught, of the words of the set
 taught : (g : _) (c : goal.After-keep g) → TeachesKept (instance_at c.args.self.now g.O.Object.step g.O.Object.only_reads) c.args.ticket c.args.set.now.items (known_of c.seat.inside.seat.me.0) c.note_kept.new.seat.me
@@ -25,7 +25,7 @@ made : (g : _) (c : goal.After-keep g) →
 made g c =
     let t = c.args.self.now in
     kept_made t g.O.Object.step g.O.Object.only_reads c.args.ticket c.args.set.now.items _ _ c.seat.inside.summary c.seat.inside.copy _ _ _ _ c.args.seat.now c.seat.invariant c.seat.view_is c.requires.seat
-    (told_within t.lines (g.O.Object.lawful t.object) (g.O.Object.step t.object) t c.args.seat.now.known c.args.ticket c.args.set.now.items c.args.seat.now.region c.requires.seat.region c.requires.told)
+    (pairs_within t.lines (g.O.Object.lawful t.object) (g.O.Object.step t.object) t c.args.seat.now.known c.args.ticket c.args.set.now.items c.args.seat.now.region c.requires.seat.region c.requires.of_ticket)
     c.note_kept.ensures.table (taught g c) c.keep.ensures.kept
 
 pub invariant_of-seat : goal.invariant_of-seat

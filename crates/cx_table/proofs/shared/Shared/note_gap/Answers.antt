@@ -11,5 +11,5 @@ stored_learned-requires-clause-learns g c =
     let running = subst (IsTableWithinLimits g.O.Object.line_count g.O.Object.lawful) c.self.view_is c.self.invariant.0 in
     let laws = laws_at g.O.Object.line_count g.O.Object.lawful g.O.Object.step t running g.met.O.Object.keeps (λ o image law. (g.met.O.Object.shape o image law).0) g.met.O.Object.replies in
     let guard = c.requires.may.guard in
-    learns_gap t.lines (g.O.Object.lawful t.object) (instance_at t g.O.Object.step g.O.Object.only_reads) laws running.base c.args.s c.args.i c.args.v c.args.seat.now.known c.gap_at-word.result c.requires.told.0 guard.0 guard.1 guard.2
-    (c.gap_at-word.ensures ∙ ap (λ (r : Running _). gap_at r.callers c.args.s c.args.i) c.self.view_is) c.requires.told.1
+    learns_gap t.lines (g.O.Object.lawful t.object) (instance_at t g.O.Object.step g.O.Object.only_reads) laws running.base c.args.s c.args.i c.args.v c.args.seat.now.known c.gap_at-word.result c.requires.gap.0 guard.0 guard.1 guard.2
+    (c.gap_at-word.ensures ∙ ap (λ (r : Running _). gap_at r.callers c.args.s c.args.i) c.self.view_is) c.requires.gap.1

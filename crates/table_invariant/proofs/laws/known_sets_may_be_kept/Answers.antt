@@ -1,6 +1,6 @@
 use Rattle.cx_core.specs.State.{Instance}
 use Rattle.table_invariant.proofs.Keeping.{kept_held}
-use Rattle.table_invariant.proofs.laws.told_sets_may_be_kept.Goals as goal
+use Rattle.table_invariant.proofs.laws.known_sets_may_be_kept.Goals as goal
 
 pub returns : goal.returns
 returns g c = λ callers ticket word pairs s seat known rule view tells.

@@ -2,7 +2,7 @@ use Rattle.std.proofs.Common.{◌≡◌, ◌+◌, ◌%◌, ◌^◌, suc, inl, in
 use Rattle.std.proofs.lemmas.Bool.{cases_lt}
 use Rattle.cx_core.specs.Gaps.{Gap, gap_of}
 use Rattle.cx_table.specs.GapWords.{start_at}
-use Rattle.cx_table.proofs.gaps.lines_told.Goals as goal
+use Rattle.cx_table.proofs.gaps.named_lines.Goals as goal
 
 pub loop-m-init : goal.loop-m-init
 loop-m-init c = record { each = λ k below. absurd (omega (arith, below)); line = refl }
@@ -21,10 +21,10 @@ loop-m-preserved c =
     let m = c.loop-m.m in
     let words = c.args.words.now in
     let next : m + 1 ≡ suc m = omega arith in
-    let told : gap_of c.args.callers c.args.slot (slice_index words m) ≡ record { ticket = c.args.ticket; from = c.loop-m.at; to = c.in-Some.to } = c.in-Some.ensures in
-    let to : slice_index words m % 2 ^ 17 ≡ c.in-Some.to = ap (λ (g : Gap). g.to) told in
+    let is_gap : gap_of c.args.callers c.args.slot (slice_index words m) ≡ record { ticket = c.args.ticket; from = c.loop-m.at; to = c.in-Some.to } = c.in-Some.ensures in
+    let to : slice_index words m % 2 ^ 17 ≡ c.in-Some.to = ap (λ (g : Gap). g.to) is_gap in
     let here : gap_of c.args.callers c.args.slot (slice_index words m) ≡ record { ticket = c.args.ticket; from = start_at words m; to = slice_index words m % 2 ^ 17 } =
-    told
+    is_gap
     ∙ ap (λ f. (let g : Gap = record { ticket = c.args.ticket; from = f; to = c.in-Some.to } in g)) c.loop-m.invariant.line
     ∙ ap (λ t. (let g : Gap = record { ticket = c.args.ticket; from = start_at words m; to = t } in g)) (sym to) in
     record {
