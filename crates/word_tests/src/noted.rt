@@ -1,7 +1,7 @@
 //! A second memory: its caller knows the words that it loaded or stored, and no other.
 
 ghost use Rattle.std.specs.Prelude.{◌≡◌, ◌+◌, ◌-◌, ◌<◌, ◌≤◌, ◌++◌, ◌∷◌, ℕ, true, List, [], Some, length, vec_len, vec_capacity, IfOk};
-ghost use Rattle.cx_base.specs.Noted.{NotesShow, IsToldByNotes, some_shown, shown_words};
+ghost use Rattle.cx_base.specs.Noted.{NotesShow, IsShownByNotes, some_shown, shown_words};
 
 use cx_base::{Halt, Memory};
 use std::alloc::{AllocError, Global};
@@ -14,7 +14,7 @@ pub struct Noted {
     room: usize,
     ghost fits: { vec_len notes ≤ room },
     ghost reserved: { room ≤ vec_capacity notes },
-    ghost shown: { IsToldByNotes notes.items words.items },
+    ghost shown: { IsShownByNotes notes.items words.items },
 }
 
 impl Noted {

@@ -11,8 +11,8 @@ use Rattle.redo_set.proofs.gaps.note_each.Goals as goal
 pub loop-k-init : goal.loop-k-init
 loop-k-init g c = record { leaves = noting_none g.O.Object c.args.shared.now c.args.seat.now c.args.seat.now c.requires.may.of refl; at = refl; steps = refl }
 
-pub note_gap-requires-clause-told : goal.note_gap-requires-clause-told
-note_gap-requires-clause-told g c =
+pub note_gap-requires-clause-gap : goal.note_gap-requires-clause-gap
+note_gap-requires-clause-gap g c =
     let t = c.args.shared.now in
     let was = c.loop-k.invariant in
     let k = c.loop-k.k in
