@@ -171,11 +171,11 @@ shape_of l j shape small = shape.each j (cell_of l j) (slice_get-get_or l.cells 
 abbrev KeepsAs : ℕ → Known → Option KeptSet → Type 0
 KeepsAs size k kept = (set : KeptSet) → kept ≡ Some set → IsKeptAs size k set
 
--- the same sets are kept
+-- the set that is kept in plain memory stays one that the seat knows, where what it knows of kept sets stays
 kept_still : (k k' : Known) (size : ℕ) (kept : Option KeptSet) → k'.kept ≡ k.kept → KeepsAs size k kept → KeepsAs size k' kept
 kept_still k k' size kept same is set there = (let was = is set there in record { known_as = subst (λ ks. IsKeptSet ks set.ticket set.set) (sym same) was.known_as; within = was.within })
 
--- the same dirty words, and the same accesses
+-- a copy in plain memory stays that of a seat where its kept sets, its accesses, its dirty words and its cells stay
 still : (k k' : Known) (c : Copied) → k'.kept ≡ k.kept → k'.accesses ≡ k.accesses → dirty_of k'.local ≡ dirty_of k.local → SameCells k.local k'.local → IsCopied k c → IsCopied k' c
 still k k' c same accesses dirty cells is = record {
   cells = same_cells k.local k'.local c.cells cells is.cells;

@@ -227,7 +227,7 @@ module _ {O : Type 0} (r : Running O) (step : O → List ℕ → List ℕ → Li
           let b = old.few in
           (omega arith, omega arith)
 
-  -- the same where the numbers afterwards are the caller's
+  -- a step that was made, where the numbers in plain memory afterwards are those of the caller's local state
   pub step_made_at : (old : Seated) → IsSeat me summary before copy → seated table me before copy ≡ old → ((l : Local) → summary ≡ summary_of l → ¬ IsAtLimit l) → IsSeatOf r old →
       SeenGuard (instance_at r step reads) kind old.known.local → table' ≡ table → KnowledgeAfter (instance_at r step reads) kind (known_of me.0) found me' → summary' ≡ summary_of (known_local (instance_at r step reads) kind (known_of me.0) found) →
       copy' ≡ copied_after kind (known_of me.0) found copy → IsSeat me' summary' before copy' × Steps r step reads kind found old (seated table' me' before copy')

@@ -41,10 +41,11 @@ pub record HasRows (n : ℕ) (row : Cell → List ℕ) (l : Local) (rows : List 
   pub long : length rows ≡ n * 16
   pub each : (j i : ℕ) → j < 16 → i < n → slice_index rows (n * j + i) ≡ slice_index (row (cell_of l j)) i
 
--- the words of the cells, and of their sets
+-- a list has the words of a caller's cells, one cell after another
 abbrev pub HasCellWords : Local → List ℕ → Type 0
 HasCellWords = HasRows 145 (λ c. c.words)
 
+-- a list has the words of the write sets of a caller's cells, one set after another
 abbrev pub HasSetWords : Local → List ℕ → Type 0
 HasSetWords = HasRows 513 (λ c. c.set)
 

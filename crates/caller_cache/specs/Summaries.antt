@@ -18,6 +18,7 @@ use Rattle.table_invariant.specs.declared.rule.Known.{Known}
 use Rattle.table_invariant.specs.Fitting.{IsOwn}
 use Rattle.table_invariant.specs.Seats.{HasCells, IsWithinLimit, SeenGuard, kind_found, known_local, known_of, unanswered_ticket}
 
+-- the numbers of a local state that a seat keeps in plain memory
 abbrev pub summary_of : Local → CachedLocal
 summary_of l = record {
   number = l.number;

@@ -12,11 +12,12 @@ use Rattle.cx_core.specs.Lawful.{Lawful}
 use Rattle.cx_core.specs.Region.{object_part}
 use Rattle.cx_core.specs.State.{EachLocal, Instance, State}
 
--- an operation is in a list, and one stands before another there
+-- an operation is in a list
 abbrev pub IsIn : List Operation → Operation → Type 0
 IsIn [] o = ⊥
 IsIn (x ∷ xs) o = (o ≡ x) ⊎ IsIn xs o
 
+-- in a list an operation stands before another one
 abbrev pub StandsBefore : List Operation → Operation → Operation → Type 0
 StandsBefore [] a b = ⊥
 StandsBefore (x ∷ xs) a b = ((a ≡ x) × IsIn xs b) ⊎ StandsBefore xs a b
@@ -36,11 +37,12 @@ pub record PrecedesIn (instance : Instance) (from : State) (events : List Event)
   pub answered : IsAnswered moment a
   pub ahead : IsAhead moment b
 
--- the words of an operation, and of the reply to it, where it was answered
+-- an operation that took effect has these words
 abbrev pub HasOp : State → Operation → List ℕ → Type 0
 HasOp s (Update caller i) op = (l : Local) × (slice_get s.locals caller ≡ Some l) × (x : Linked) × (slice_get l.own i ≡ Some x) × (op ≡ x.entry.op)
 HasOp s (Read caller i) op = (l : Local) × (slice_get s.locals caller ≡ Some l) × (x : SeenRead) × (slice_get l.seen_reads i ≡ Some x) × (op ≡ x.op)
 
+-- an operation was answered with these words
 abbrev pub IsRepliedWith : State → Operation → List ℕ → Type 0
 IsRepliedWith s (Update caller i) reply = (l : Local) × (slice_get s.locals caller ≡ Some l) × (x : Answer) × (slice_get l.answered i ≡ Some x) × (reply ≡ x.reply)
 IsRepliedWith s (Read caller i) reply = (l : Local) × (slice_get s.locals caller ≡ Some l) × (x : SeenRead) × (slice_get l.seen_reads i ≡ Some x) × (reply ≡ x.reply)

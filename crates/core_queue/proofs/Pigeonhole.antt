@@ -2,7 +2,7 @@
 use Rattle.std.proofs.Common.{◌≡◌, ◌≢◌, ◌<◌, ◌≤◌, ◌⊎◌, ℕ, zero, suc, inl, inr, subst, arith}
 use Rattle.std.proofs.lemmas.Bool.{cases_eq}
 
--- the keys 0 to n have a place below n + 1 - 1 each, so some two have the same
+-- the n + 1 keys from 0 to n cannot have places below n such that no two keys share one
 pub pigeonhole : (n : ℕ) (R : ℕ → ℕ → Type 0) →
     ((i : ℕ) → i ≤ n → (v : ℕ) × R i v × (v < n)) →
     ((i k v : ℕ) → i ≤ n → k ≤ n → R i v → R k v → i ≡ k) → ⊥

@@ -70,7 +70,7 @@ ring_put instance words words' locals caller l l' shape ring at left kept confir
       ];
     }
 
--- the same protection, in a word that is as before
+-- a caller's protection that stays is confirmed only where it was
 pub same_confirmed : (words : List ℕ) (l l' : Local) → l'.protection ≡ l.protection → IsConfirmedOpen words l l'
 same_confirmed words l l' same p is = inr (sym same ∙ is)
 

@@ -54,7 +54,7 @@ shape_same caller l l' shape number cells = record {
   each = λ j cell at. shape.each j cell (subst (λ cs. slice_get cs j ≡ Some cell) cells at);
 }
 
--- a put word and a put local state of the same shape
+-- the shape stays where a word is put, and a caller's local state of the caller's shape
 pub shape_kept : (instance : Instance) (words : List ℕ) (locals : List Local) (at v caller : ℕ) (l l' : Local) → Shape instance words locals →
     slice_get locals caller ≡ Some l → LocalShape caller l' → Shape instance (set words at v) (set locals caller l')
 shape_kept instance words locals at v caller l l' shape there here = record {

@@ -10,6 +10,7 @@ use Rattle.cx_core.specs.LawfulRing.{Ring}
 use Rattle.cx_core.specs.LawfulRoot.{RootBounds}
 use Rattle.cx_core.specs.State.{Instance, State}
 
+-- A state is lawful in all that concerns the queue: its shape, tickets, links, cells, fronts and the ring, for the given history.
 pub record QueueLawful (instance : Instance) (history : List Entry) (words : List ℕ) (locals : List Local) : Type 0 where
   pub shape : Shape instance words locals
   pub tickets : Tickets instance history locals

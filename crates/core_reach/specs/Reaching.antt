@@ -18,10 +18,11 @@ use Rattle.cx_core.specs.declared.local.SeenRead.{SeenRead}
 abbrev pub AreOpWords : List ℕ → Type 0
 AreOpWords op = Words 144 op
 
--- the history of a state, and the ticket that is linked next
+-- the history of a state: the own entries of all callers by their tickets
 abbrev pub history_in : Instance → State → List Entry
 history_in instance s = history_of instance.base.place s.locals
 
+-- the ticket that is linked next
 abbrev pub next_ticket : Instance → State → ℕ
 next_ticket instance s = instance.base.place + length (history_in instance s)
 

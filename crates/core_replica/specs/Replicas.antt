@@ -10,6 +10,7 @@ use Rattle.cx_core.specs.LawfulRegions.{Regions}
 use Rattle.cx_core.specs.Merge.{IsHistory}
 use Rattle.cx_core.specs.State.{Instance, State}
 
+-- A state is lawful in all that concerns the replicas: its locks and its regions, for the given history.
 pub record ReplicasLawful (instance : Instance) (history : List Entry) (words : List ℕ) (locals : List Local) : Type 0 where
   pub locks : Locks instance.callers words locals
   pub regions : Regions instance history words locals

@@ -33,7 +33,7 @@ pub record Since (callers place n : ℕ) (l : Local) : Type 0 where
   pub code : (l.fresh ≡ false) ⊎ (place ≤ root_place_of callers l.seen_cur)
   pub reads : (i : ℕ) (x : SeenRead) → slice_get l.seen_reads i ≡ Some x → n ≤ i → place ≤ x.place
 
--- it holds of a local state with the same reads, and with the same code, whose freshness may have ended
+-- `Since` stays in a local state with the reads and the code of `l`, also where the code is not fresh any more
 module _ (callers place n : ℕ) (l : Local) (old : Since callers place n l) where
   ended : (b : Bool) → (cond b false l.fresh ≡ false) ⊎ (place ≤ root_place_of callers l.seen_cur)
   ended true = inl refl

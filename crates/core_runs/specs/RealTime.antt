@@ -38,6 +38,7 @@ pub data Point : Type 0 where
   At : ℕ → Point
   Behind : ℕ → Point
 
+-- in a state an operation that took effect stands at this point of the history
 abbrev pub IsPointOf : State → Operation → Point → Type 0
 IsPointOf s (Update caller i) point = (l : Local) × (slice_get s.locals caller ≡ Some l) × (x : Linked) × (slice_get l.own i ≡ Some x) × (point ≡ At x.ticket)
 IsPointOf s (Read caller i) point = (l : Local) × (slice_get s.locals caller ≡ Some l) × (x : SeenRead) × (slice_get l.seen_reads i ≡ Some x) × (point ≡ Behind x.place)

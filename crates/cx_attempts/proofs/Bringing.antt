@@ -33,7 +33,7 @@ on_then s n u before m v (one_more _ _ first mid next ticket set more on stores 
 pub brings_then : (s u v : Seated) → BringsEntries s u → BringsEntries u v → BringsEntries s v
 brings_then s u v a b = record { count = a.count + b.count; on = on_then s a.count u a.on b.count v b.on; read = omega (arith, a.read, b.read) }
 
--- what changes nothing of what is noted of sets goes before, and behind
+-- the sets read from `t` to `u` are those read from `s` to `v`, where no word of a set was read from `s` to `t` and from `u` to `v`
 pub brings_around : (s t u v : Seated) → t.known.sets ≡ s.known.sets → BringsEntries t u → v.known.sets ≡ u.known.sets → BringsEntries s v
 brings_around s t u v before brought after = brings_then s u v (brings_then s t u (brings_none s t before) brought) (brings_none u v after)
 
@@ -42,7 +42,7 @@ pub brings_at : (ticket : ℕ) (s u v : Seated) → u.known.sets ≡ s.known.set
 brings_at ticket s u v before (inl same) = brings_none s v (same ∙ before)
 brings_at ticket s u v before (inr (set, mid, same, stores)) = brings_then s mid v (brings_none s mid (same ∙ before)) (brings_one mid v ticket set stores)
 
--- at most one, behind what changes nothing of what is noted of sets
+-- at most the set of this ticket was read from `s` to `v`, where no word of a set was read from `s` to `u` and at most that set from `u` to `v`
 pub at_most_behind : (ticket : ℕ) (s u v : Seated) → u.known.sets ≡ s.known.sets → BringsAtMost ticket u v → BringsAtMost ticket s v
 at_most_behind ticket s u v before (inl same) = inl (same ∙ before)
 at_most_behind ticket s u v before (inr (set, mid, same, stores)) = inr (set, mid, same ∙ before, stores)
@@ -51,16 +51,18 @@ at_most_behind ticket s u v before (inr (set, mid, same, stores)) = inr (set, mi
 pub counted_same : (taken now : ℕ) (before after : Seated) → now ≡ taken → after.known.sets ≡ before.known.sets → KeepsCount taken before now after
 counted_same taken now before after still same was = still ∙ was ∙ sym (ap (λ ns. min (sets_read ns) max_word) same)
 
--- the same where they are counted
+-- where sets stay counted from `t` to `u`, they do from `s` to `v`, where no word of a set was read from `s` to `t` and from `u` to `v`
 pub counts_around : (taken now : ℕ) (s t u v : Seated) → t.known.sets ≡ s.known.sets → CountsEntries taken t now u → v.known.sets ≡ u.known.sets → CountsEntries taken s now v
 counts_around taken now s t u v before counts after = record {
   counted = λ was. counted_same now now u v refl after (counts.counted (counted_same taken taken s t refl before was));
   by_sets = brings_around s t u v before counts.by_sets after;
 }
 
+-- where no word of a set was read from `s` to `v`, the sets that were read stay counted, with the number `now` that is `taken`
 pub counts_none : (taken now : ℕ) (s v : Seated) → now ≡ taken → v.known.sets ≡ s.known.sets → CountsEntries taken s now v
 counts_none taken now s v still same = record { counted = counted_same taken now s v still same; by_sets = brings_none s v same }
 
--- where the sets of others stay counted from `s` to `u`, as `taken` and then `mid`, and from there to `v`, as `now`, they do from `s` to `v`
+-- Sets of others were counted, `taken` up to the seat `s`, `mid` up to `u` and `now` up to `v`. Where the count is kept from `s` to `u` and from `u` to
+-- `v`, it is kept from `s` to `v`.
 pub counts_then : (taken mid now : ℕ) (s u v : Seated) → CountsEntries taken s mid u → CountsEntries mid u now v → CountsEntries taken s now v
 counts_then taken mid now s u v a b = record { counted = λ was. b.counted (a.counted was); by_sets = brings_then s u v a.by_sets b.by_sets }

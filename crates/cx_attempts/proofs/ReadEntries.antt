@@ -65,7 +65,7 @@ may_still r at before after of front protection was = record {
   later = was.later;
 }
 
--- where its reply is not given, the replica alone is told
+-- an entry of another caller was applied: the replica is ready at the next place, and nothing is asked of the reply
 pub applied_alone : {O : Type 0} (o : Ghosts O) (r : Running O) (held : Right) (at : ℕ) (reply : List ℕ) (seat : Seated) → IsReady o r held (at + 1) seat → IsApplied o r held at reply seat false
 applied_alone o r held at reply seat ready = record { ready = ready; replied = λ own. absurd (false≢true own) }
 

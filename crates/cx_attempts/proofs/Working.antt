@@ -86,7 +86,7 @@ one_more_counted n most = omega arith
 pub counted_more : (taken : ℕ) (before after : Seated) → sets_read after.known.sets ≡ sets_read before.known.sets + 1 → KeepsCount taken before (min (taken + 1) max_word) after
 counted_more taken before after more was = ap (λ n. min (n + 1) max_word) was ∙ one_more_counted (sets_read before.known.sets) max_word ∙ sym (ap (λ n. min n max_word) more)
 
--- whether a set was taken is counted the same after what notes nothing of sets
+-- whether a set was taken from `s` to `v` is counted as from `u` to `v`, where no word of a set was read from `s` to `u`
 pub counts_since : (s u v : Seated) (taken : Bool) → u.known.sets ≡ s.known.sets → CountsTaken u v taken → CountsTaken s v taken
 counts_since s u v true same more = more ∙ ap (λ ns. sets_read ns + 1) same
 counts_since s u v false same none = none ∙ same

@@ -41,8 +41,8 @@ unchanged_by_lookup s = (let b = unchanged_by_raise s in record b { known = reco
 abbrev pub with_answer : ℕ → List ℕ → List Answer → List Answer
 with_answer ticket reply answers = answers ++ record { ticket = ticket; reply = reply } ∷ []
 
--- The replica that the caller has downgraded may be published for its entry with a ticket: its place is above the ticket, the reply
--- is told, and beside it the caller is at rest.
+-- The replica that the caller has downgraded may be published for its entry with a ticket: its place is above the ticket, whatever fits what was noted of
+-- it tells this reply, and but for it the caller is at rest.
 pub record IsReadyFor {O : Type 0} (o : Ghosts O) (r : Running O) (ticket : ℕ) (reply : List ℕ) (seat : Seated) : Type 0 where
   pub rest : IsAtRest (unchanged_by_publish seat).known.local
   pub none : seat.known.local.won ≡ None

@@ -16,13 +16,13 @@ pub data BringsOn (before : Seated) : ℕ → Seated → Type 0 where
   none_yet : (n : ℕ) (now : Seated) → n ≡ 0 → now.known.sets ≡ before.known.sets → BringsOn before n now
   one_more : (n : ℕ) (now : Seated) (first : ℕ) (mid next : Seated) (ticket : ℕ) (set : List ℕ) → n ≡ first + 1 → BringsOn before first mid → StoresSet ticket set mid next → now.known.sets ≡ next.known.sets → BringsOn before n now
 
--- as many as the count of the sets that were read rose by
+-- from one seat to another sets were read, each with its pairs stored, as many as the count of the sets that were read rose by
 pub record BringsEntries (before after : Seated) : Type 0 where
   pub count : ℕ
   pub on : BringsOn before count after
   pub read : sets_read after.known.sets ≡ sets_read before.known.sets + count
 
--- beside them the sets of others that were read stay counted
+-- the sets of others that were read from one seat to another are counted: their number was `taken` before and is `now` after
 pub record CountsEntries (taken : ℕ) (before : Seated) (now : ℕ) (after : Seated) : Type 0 where
   pub counted : KeepsCount taken before now after
   pub by_sets : BringsEntries before after
@@ -32,7 +32,7 @@ abbrev pub BringsIn : {X : Type 0} → Seated → Seated → Option X → Type 0
 BringsIn before after (Some x) = BringsEntries before after
 BringsIn before after None = after.known.sets ≡ before.known.sets
 
--- an attempt that may give nothing, of whose counts that stands, and which keeps count of the sets that it took
+-- the sets of others that an attempt read which may give nothing are counted: their number was `taken` before and is `now` after
 pub record CountsIn {X : Type 0} (taken : ℕ) (before : Seated) (now : ℕ) (after : Seated) (given : Option X) : Type 0 where
   pub counted : KeepsCount taken before now after
   pub by_sets : BringsIn before after given
@@ -42,6 +42,7 @@ abbrev pub BringsInAttempt : Seated → Seated → Bool → Type 0
 BringsInAttempt before after true = BringsEntries before after
 BringsInAttempt before after false = after.known.sets ≡ before.known.sets
 
+-- the sets of others that an attempt read which says whether it gave something are counted: their number was `taken` before and is `now` after
 pub record CountsAttempt (taken : ℕ) (before : Seated) (now : ℕ) (after : Seated) (given : Bool) : Type 0 where
   pub counted : KeepsCount taken before now after
   pub by_sets : BringsInAttempt before after given

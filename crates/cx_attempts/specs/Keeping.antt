@@ -31,10 +31,11 @@ pub record Others : Type 0 where
   pub scan : Option Scan
   pub refused : List ℕ
 
+-- the rights of a caller beside the exclusive one, its scan and the replicas that refused it, as its local state has them
 abbrev pub others : Local → Others
 others l = record { shared = shared_on l; passer = l.passer; downgraded = downgraded_on l; won = l.won; scan = l.scan; refused = l.refused }
 
--- there are none
+-- a caller without a right beside the exclusive one, without a scan, and refused by no replica
 abbrev pub no_others : Others
 no_others = record { shared = None; passer = None; downgraded = None; won = None; scan = None; refused = [] }
 

@@ -51,10 +51,12 @@ pub record IsRefusedByAll (before after : Seated) : Type 0 where
   pub refused : after.known.local.refused ≡ []
   pub met : after.known.local.met ≡ one_more before.known.local.met
 
+-- what a try to hold one replica exclusively leaves: the right, or its refusal
 abbrev pub TriesOne : {O : Type 0} → Ghosts O → Running O → ℕ → Seated → Seated → Option Right → Type 0
 TriesOne o r replica before after (Some held) = TakesOne o r before after held
 TriesOne o r replica before after None = IsRefusedBy r.callers replica before after
 
+-- what tries to hold some replica exclusively leave: a right, or a refusal by each replica
 abbrev pub TakesAny : {O : Type 0} → Ghosts O → Running O → Seated → Seated → Option Right → Type 0
 TakesAny o r before after (Some held) = TakesOne o r before after held
 TakesAny o r before after None = IsRefusedByAll before after

@@ -99,6 +99,7 @@ overwritten_before (v ∷ vs) ws at i below =
     let apart : i ≢ at = λ e. omega (arith, e) in
     overwritten_before vs (slice_set ws at v) (at + 1) i (omega arith) ∙ get_or-set_other ws at i v 0 apart
 
+-- where words `vs` were put into `ws` from a place on, a word behind them stays
 pub overwritten_behind : (vs ws : List ℕ) (at i : ℕ) → at + length vs ≤ i → slice_index (overwritten at vs ws) i ≡ slice_index ws i
 unfolding overwritten
 overwritten_behind [] ws at i past = refl
@@ -106,6 +107,7 @@ overwritten_behind (v ∷ vs) ws at i past =
     let apart : i ≢ at = λ e. omega (arith, e) in
     overwritten_behind vs (slice_set ws at v) (at + 1) i (omega arith) ∙ get_or-set_other ws at i v 0 apart
 
+-- where words `vs` were put into `ws` from a place on, word k of them stands k places behind it
 pub overwritten_within : (vs ws : List ℕ) (at k : ℕ) → k < length vs → at + k < length ws → slice_index (overwritten at vs ws) (at + k) ≡ slice_index vs k
 unfolding overwritten
 overwritten_within [] ws at k below inside = absurd (omega arith)

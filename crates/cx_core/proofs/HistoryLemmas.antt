@@ -23,12 +23,14 @@ where_some : {A : Type 0} (P : A → Type 0) (o : Option A) → ((x : A) → o �
 where_some P None h = tt
 where_some P (Some x) h = h x refl
 
+-- the full image at the place of the base is the base
 pub begins : (step : List ℕ → List ℕ → List ℕ × List ℕ) (base : Base) (history : List Entry) → full_image step base history base.place ≡ base.words
 unfolding full_image
 begins step base history =
     let none : base.place - base.place ≡ 0 = omega arith in
     ap (λ n. fold (λ region entry. full_step_of step entry region) base.words (take n history)) none
 
+-- the full image at the place behind a ticket comes of that at the ticket by the step of the entry there
 pub goes_on : (step : List ℕ → List ℕ → List ℕ × List ℕ) (base : Base) (history : List Entry) (ticket : ℕ) → base.place ≤ ticket →
     IfSome (slice_get history (ticket - base.place)) (λ entry. full_image step base history (ticket + 1) ≡ full_step_of step entry (full_image step base history ticket))
 unfolding full_image
@@ -52,6 +54,7 @@ unfolding full_image
 full_stays instance history more place within =
     ap (image_from instance.step instance.base.words) (take-append-le (place - instance.base.place) history more (omega arith))
 
+-- an entry that is linked in a history is so in a longer one
 pub linked_grows : (place : ℕ) (history more : List Entry) (ticket : ℕ) (entry : Entry) → IsLinked place history ticket entry → IsLinked place (history ++ more) ticket entry
 linked_grows place history more ticket entry l = record { from = l.from; at = slice_get-append_left history more (ticket - place) entry l.at }
 
@@ -111,6 +114,7 @@ module _ (lines : ℕ) (lawful : List ℕ → Type 0) (instance : Instance) (law
       image_lawful (laws.shape (instance.step image e.op).0 image_lawful) (laws.replies image e.op before.object is_entry.op)
       next (ap (full_image instance.step instance.base history) next ∙ full_next instance history q e linked)).lawful_next
 
+  -- the full image at a place of the history is a lawful base
   pub full_lawful : (p : ℕ) → instance.base.place ≤ p → p ≤ instance.base.place + length history → LawfulBase lines lawful (record { place = p; words = full_image instance.step instance.base history p })
   full_lawful p from to = lawful_on (p - instance.base.place) p (omega arith) (omega arith)
 

@@ -19,12 +19,15 @@ overwritten_at vs ws at k i below e inside = ap (λ n. slice_index (overwritten 
 -- a region after its full step: image, number and reply are the ones put there
 module _ (lines : ℕ) (region image reply : List ℕ) (caller number place : ℕ) (few : caller < 8)
     (size : length region ≡ region_words lines) (image_long : length image ≡ 8 * lines) (reply_long : length reply ≡ 144) where
+  -- a region with a new image
   with_object : List ℕ
   with_object = overwritten 1168 image region
 
+  -- and with the entry's number and reply in its caller's slot
   with_slot : List ℕ
   with_slot = overwritten (slot_start caller) (number ∷ reply) with_object
 
+  -- and with the next place: a region after a full step
   stepped : List ℕ
   stepped = overwritten 0 (place ∷ []) with_slot
 
@@ -64,18 +67,21 @@ module _ (lines : ℕ) (region image reply : List ℕ) (caller number place : �
       ∙ overwritten_behind (number ∷ reply) with_object (slot_start caller) i (omega (arith, e, reply_long))
       ∙ overwritten_at image region 1168 k i below e (omega (arith, e, size, image_long))
 
+  -- the object part is the image put there
   its_object : object_part stepped ≡ image
   unfolding object_part
   its_object =
       ext_get_or 0 (drop 1168 stepped) image (length-drop 1168 stepped ∙ omega (arith, stepped_long, image_long))
       (λ k below. get_or-drop 1168 stepped k 0 ∙ in_object k (1168 + k) (omega (arith, below, length-drop 1168 stepped, stepped_long, image_long)) refl)
 
+  -- the number in the entry's caller's slot is the one put there
   its_number : slot_number caller stepped ≡ number
   its_number = in_slot 0 (slot_start caller) (omega arith) (sym (add-zero (slot_start caller)))
 
   reply_size : (c : ℕ) → c < 8 → length (take 144 (drop (slot_start c + 1) stepped)) ≡ 144
   reply_size c small = length-take-le 144 (drop (slot_start c + 1) stepped) (omega (arith, length-drop (slot_start c + 1) stepped, stepped_long))
 
+  -- the reply in the entry's caller's slot is the one put there
   its_reply : slot_reply caller stepped ≡ reply
   unfolding slot_reply
   its_reply =
@@ -85,10 +91,12 @@ module _ (lines : ℕ) (region image reply : List ℕ) (caller number place : �
       get_or-take 144 (drop (slot_start caller + 1) stepped) k 0 small ∙ get_or-drop (slot_start caller + 1) stepped k 0
       ∙ in_slot (suc k) (slot_start caller + 1 + k) (omega arith) (omega arith)))
 
+  -- the number in another caller's slot stays
   other_number : (c : ℕ) → c < 8 → (c < caller) ⊎ (caller < c) → slot_number c stepped ≡ slot_number c region
   other_number c small other =
       in_front (slot_start c) (omega arith) (omega arith) (⊎_elim (λ l. inl (omega arith)) (λ r. inr (omega arith)) other)
 
+  -- the reply in another caller's slot stays
   other_reply : (c : ℕ) → c < 8 → (c < caller) ⊎ (caller < c) → slot_reply c stepped ≡ slot_reply c region
   unfolding slot_reply
   other_reply c small other =

@@ -4,6 +4,7 @@ use Rattle.std.proofs.lemmas.List.{set-get_or, take_at}
 use Rattle.std.proofs.lemmas.Option.{get_or_from_slice_get, none-some}
 use Rattle.std.specs.List.{slice_get}
 
+-- where an item was put at a place of a list, it stands there
 pub slice_get-set_same : {X : Type 0} (xs : List X) (i : ℕ) (y : X) → i < length xs → slice_get (set xs i y) i ≡ Some y
 slice_get-set_same [] i y within = absurd (omega arith)
 slice_get-set_same (x ∷ xs) zero y within = refl
@@ -27,10 +28,12 @@ slice_get-append_left [] ys i x at = absurd (none-some x at)
 slice_get-append_left (z ∷ xs) ys zero x at = at
 slice_get-append_left (z ∷ xs) ys (suc i) x at = slice_get-append_left xs ys i x at
 
+-- an item of the second list is one of both in a row
 pub slice_get-append_right : {X : Type 0} (xs ys : List X) (k : ℕ) (y : X) → slice_get ys k ≡ Some y → (i : ℕ) × (slice_get (xs ++ ys) i ≡ Some y)
 slice_get-append_right [] ys k y at = (k, at)
 slice_get-append_right (x ∷ xs) ys k y at = let rest = slice_get-append_right xs ys k y at in (suc rest.0, rest.1)
 
+-- an item of two lists in a row is one of the first or one of the second
 pub slice_get-append : {X : Type 0} (xs ys : List X) (i : ℕ) (x : X) → slice_get (xs ++ ys) i ≡ Some x → (slice_get xs i ≡ Some x) ⊎ ((k : ℕ) × (i ≡ length xs + k) × (slice_get ys k ≡ Some x))
 slice_get-append [] ys i x at = inr (i, omega arith, at)
 slice_get-append (z ∷ xs) ys zero x at = inl at
@@ -43,6 +46,7 @@ slice_get-take (suc n) [] i x at = at
 slice_get-take (suc n) (y ∷ ys) zero x at = at
 slice_get-take (suc n) (y ∷ ys) (suc i) x at = slice_get-take n ys i x at
 
+-- there is an item at each place below the length
 pub item_below : {X : Type 0} (xs : List X) (i : ℕ) → i < length xs → (x : X) × (slice_get xs i ≡ Some x)
 item_below [] i below = absurd (omega arith)
 item_below (x ∷ xs) zero below = (x, refl)

@@ -19,6 +19,7 @@ item_after xs i k y x within at =
       | inr ne ↦ inr (ne, sym (slice_get-set_other xs i k y ne) ∙ at)
     ]
 
+-- what holds of each caller's local state holds after one is put of which it holds
 pub EachLocal-set : (locals : List Local) (caller : ℕ) (l l' : Local) (P : ℕ → Local → Type 0) → slice_get locals caller ≡ Some l →
     EachLocal locals P → P caller l' → EachLocal (set locals caller l') P
 EachLocal-set locals caller l l' P at each here other x there =
@@ -65,6 +66,7 @@ linked_then place history more ticket entry linked =
       | inr b ↦ (let end : ticket - place ≡ length history = b.0 in let from : place ≤ ticket = linked.from in inr (omega arith, b.1))
     ]
 
+-- an entry behind a history is linked with the ticket at its end
 pub linked_last : (place : ℕ) (history : List Entry) (more : Entry) (ticket : ℕ) → ticket ≡ place + length history → IsLinked place (history ++ more ∷ []) ticket more
 linked_last place history more ticket end = record {
   from = omega arith;

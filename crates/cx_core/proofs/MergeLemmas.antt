@@ -160,6 +160,7 @@ in_order_is ticket xs (entry ∷ rest) at =
     let next = in_order_is (ticket + 1) xs rest (λ i e there. ap (λ t. entry_at t xs) (let s : ticket + 1 + i ≡ ticket + suc i = omega arith in s) ∙ at (suc i) e there) in
     ap (λ o. option_to_list o ++ in_order (length rest) (ticket + 1) xs) first ∙ ap (λ es. entry ∷ es) next
 
+-- an entry of a history stands among the own entries of all callers, with its ticket
 merged_at : (place : ℕ) (history : List Entry) (locals : List Local) → IsHistory place history locals → (i : ℕ) (entry : Entry) → slice_get history i ≡ Some entry → entry_at (place + i) (all_own locals) ≡ Some entry
 merged_at place history locals merged i entry at =
     let xs = all_own locals in

@@ -11,6 +11,7 @@ use Rattle.cx_core.specs.RootEvents.{CanRetire, IsAbove, IsWonCode}
 pub code_replica : (callers place replica : ℕ) → replica < 2 * callers → root_replica_of callers (root_code_of callers place replica) ≡ replica
 code_replica callers place replica small = mod-mul-add place (2 * callers) replica small
 
+-- the place that is read off a root code is the one that the code was made of
 pub code_place : (callers place replica : ℕ) → replica < 2 * callers → root_place_of callers (root_code_of callers place replica) ≡ place
 code_place callers place replica small = div-mul-add place (2 * callers) replica small
 

@@ -153,13 +153,15 @@ next instance scene (ReadSet k t i) l found = record l { steps = one_more l.step
 next instance scene (NoteGap s i v) l found = record l { steps = one_more l.steps }
 next instance scene (LoadGap s i) l found = record l { steps = one_more l.steps }
 
--- the word that a step of a caller with this local state finds, and the words after it
+-- the word that a step of a caller with this local state finds
 abbrev pub found_by : Instance → Kind → Local → List ℕ → ℕ
 found_by instance kind l words = slice_index words (step_word instance kind l)
 
+-- the words after a step of a caller with this local state
 abbrev pub words_after : Instance → Kind → Local → List ℕ → List ℕ
 words_after instance kind l words = slice_set words (step_word instance kind l) (new_word instance kind l (found_by instance kind l words))
 
+-- the caller's local state after its step, made in a scene
 abbrev pub local_after : Instance → Scene → Kind → Local → Local
 local_after instance scene kind l = next instance scene kind l (found_by instance kind l scene.words)
 

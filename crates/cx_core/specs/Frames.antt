@@ -22,10 +22,11 @@ pub record StepApart (Off : ℕ → Type 0) (Same : Local → Local → Type 0) 
 abbrev pub IsOff : ℕ → ℕ → ℕ → Type 0
 IsOff from until at = (at < from) ⊎ (until ≤ at)
 
--- any word, and any local state
+-- nothing is asked of a word
 abbrev pub AnyWord : ℕ → Type 0
 AnyWord at = Unit {0}
 
+-- nothing is asked of two local states
 abbrev pub AnyLocal : Local → Local → Type 0
 AnyLocal l l' = Unit {0}
 

@@ -8,16 +8,17 @@ use Rattle.cx_core.specs.History.{full_image}
 use Rattle.cx_core.specs.Layout.{gap_at, gap_slots}
 use Rattle.cx_core.specs.State.{Instance}
 
+-- a gap of a ticket: the lines strictly between the lines `from` and `to`
 pub record Gap : Type 0 where
   pub ticket : ℕ
   pub from : ℕ
   pub to : ℕ
 
--- the words of line n are the same
+-- line `n` of 8 words is equal in two lists of words
 abbrev pub IsSameLine : ℕ → List ℕ → List ℕ → Type 0
 IsSameLine n before after = (k : ℕ) → k < 8 → slice_index after (8 * n + k) ≡ slice_index before (8 * n + k)
 
--- images by places have this gap
+-- the images at the ticket of this gap and at the next place are equal in each line of the gap
 abbrev pub IsQuiet : (ℕ → List ℕ) → Gap → Type 0
 IsQuiet full g = (n : ℕ) → g.from < n → n < g.to → IsSameLine n (full g.ticket) (full (g.ticket + 1))
 

@@ -39,11 +39,13 @@ put_back : (before now : List ℕ) (i v : ℕ) → now ≡ slice_set before i v 
 put_back before now i v e =
     ap (λ xs. slice_set xs i (slice_index before i)) e ∙ set-set before i v (slice_index before i) ∙ set-get_or before i 0
 
+-- where a word was put at a place of a list, it stands there
 put_there : (before now : List ℕ) (i v : ℕ) → i < length now → now ≡ slice_set before i v → slice_index now i ≡ v
 put_there before now i v below e =
     ap (λ xs. slice_index xs i) e ∙ get_or-set_same before i v 0 (omega (arith, ap length e, length-set before i v))
 
 module _ {Key : Type 0} where
+  -- a store of a word within a part of the words is a store into the part
   pub inside_store : {old new : Key → List ℕ → Type 0} (from len at v : ℕ) → at < len → Stored (from + at) v old new → Stored at v (Inside old from len) (Inside new from len)
   inside_store {old = old} {new = new} from len at v below d = record {
     back = λ key now s. (
@@ -77,6 +79,7 @@ all_middle P front part behind fit =
     subst (λ xs. All P xs) (take_at part behind (length part) refl) (All-take P (length part) (part ++ behind) rest)
 
 module _ {Key : Type 0} where
+  -- a part of words is words, as many as it is long
   pub inside_words : {stands : Key → List ℕ → Type 0} (size from len : ℕ) → ((first : Key) (now : List ℕ) → stands first now → Words size now) →
       (key : Key × List ℕ × List ℕ) (part : List ℕ) → Inside stands from len key part → Words len part
   inside_words size from len words key part s =
@@ -91,6 +94,7 @@ three_parts from len ws =
     ∙ take-append-drop from ws
 
 module _ {Key : Type 0} where
+  -- where some words stand, they have a part of this length from this place on
   pub inside_some : {stands : Key → List ℕ → Type 0} (size from len : ℕ) → from + len ≤ size → ((first : Key) (now : List ℕ) → stands first now → Words size now) →
       ∥ ((first : Key) × (now : List ℕ) × stands first now) ∥₁ →
       ∥ ((key : Key × List ℕ × List ℕ) × (part : List ℕ) × Inside stands from len key part) ∥₁

@@ -11,10 +11,11 @@ use Rattle.cx_core.specs.Layout.{per_at, vol_at}
 use Rattle.cx_core.specs.Rights.{exclusive_on}
 use Rattle.cx_core.specs.State.{Instance, EachLocal}
 
--- word i of a replica as loads give it, and as the medium holds it
+-- word i of a replica as loads give it
 abbrev pub vol_word : Instance → List ℕ → ℕ → ℕ → ℕ
 vol_word instance words r i = slice_index words (vol_at instance.callers (length instance.base.words) r i)
 
+-- word i of a replica as the medium holds it, which a crash leaves
 abbrev pub per_word : Instance → List ℕ → ℕ → ℕ → ℕ
 per_word instance words r i = slice_index words (per_at instance.callers (length instance.base.words) r i)
 

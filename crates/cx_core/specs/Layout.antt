@@ -5,24 +5,31 @@ use Rattle.std.specs.Prelude.{ℕ, ◌+◌, ◌-◌, ◌*◌, ◌^◌, List, dro
 abbrev pub cell_count : ℕ → ℕ
 cell_count callers = 16 * callers
 
+-- the word CUR: the code of the replica that was published last
 abbrev pub cur_at : ℕ
 cur_at = 0
 
+-- the word DUR: the code of the replica that a crash cannot fall behind
 abbrev pub dur_at : ℕ
 dur_at = 1
 
+-- the word LOW: the ticket from which on a protection is confirmed
 abbrev pub low_at : ℕ
 low_at = 2
 
+-- the word FREE: cells with a ticket below it may be written again
 abbrev pub free_at : ℕ
 free_at = 3
 
+-- a caller's word NEED: the ticket from which on it reads cells
 abbrev pub need_at : ℕ → ℕ
 need_at caller = 4 + caller
 
+-- the lock word of a replica
 abbrev pub lock_at : ℕ → ℕ → ℕ
 lock_at callers replica = 4 + callers + replica
 
+-- the link word of a slot: the ticket and the cell of the entry that was linked there last
 abbrev pub link_at : ℕ → ℕ → ℕ
 link_at callers slot = 4 + 3 * callers + slot
 
@@ -30,6 +37,7 @@ link_at callers slot = 4 + 3 * callers + slot
 abbrev pub cell_at : ℕ → ℕ → ℕ → ℕ
 cell_at callers cell i = 4 + 19 * callers + 145 * cell + i
 
+-- the offer word of a cell: the ticket plus 1 of the entry whose write set is offered
 abbrev pub offer_at : ℕ → ℕ → ℕ
 offer_at callers cell = 4 + 2339 * callers + cell
 
@@ -41,6 +49,7 @@ set_at callers cell i = 4 + 2355 * callers + 513 * cell + i
 abbrev pub gap_slots : ℕ → ℕ
 gap_slots callers = 512 * callers
 
+-- where the ring of gaps begins
 abbrev pub gaps_at : ℕ → ℕ
 gaps_at callers = 4 + 10563 * callers
 

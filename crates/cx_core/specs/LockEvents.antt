@@ -14,10 +14,11 @@ use Rattle.cx_core.specs.State.{Instance, Scene, one_more}
 abbrev pub exclusive_mark : ℕ
 exclusive_mark = 2 ^ 32
 
--- a word after so much was added, or taken away, as the atomic instruction does it
+-- a word after so much was added, as the atomic instruction does it: the sum wraps at 2^64
 abbrev pub plus : ℕ → ℕ → ℕ
 plus n k = (n + k) % 2 ^ 64
 
+-- a word after so much was taken away, as the atomic instruction does it: the difference wraps at 2^64
 abbrev pub minus : ℕ → ℕ → ℕ
 minus n k = (n + (2 ^ 64 - k)) % 2 ^ 64
 
@@ -33,11 +34,11 @@ with_number xs x = if is_in xs x then xs else xs ++ x ∷ []
 abbrev pub has_all : ℕ → List ℕ → Bool
 has_all callers xs = list_all (is_in xs) (range_with_len 0 (2 * callers))
 
--- a caller may try a replica on which it has no right: exclusively where it has no exclusive right, shared where it has
--- no shared right and no passer's mark, and in both cases at most one right
+-- a caller may try to hold a replica exclusively: it has no right on it, no exclusive right, and at most one right at all
 abbrev pub CanTryExclusive : ℕ → ℕ → Local → Type 0
 CanTryExclusive callers r l = (r < 2 * callers) × IsNone l.exclusive × (rights callers l ≤ 1) × (rights_on callers r l ≡ 0)
 
+-- a caller may try to hold a replica shared: it has no right on it, no shared right, no passer's mark, and at most one right at all
 abbrev pub CanTryShared : ℕ → ℕ → Local → Type 0
 CanTryShared callers r l = (r < 2 * callers) × IsNone l.shared × IsNone l.passer × (rights callers l ≤ 1) × (rights_on callers r l ≡ 0)
 

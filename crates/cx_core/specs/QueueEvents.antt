@@ -19,6 +19,7 @@ abbrev pub IsIdleAt : ℕ → Option ℕ → Type 0
 IsIdleAt free None = Unit {0}
 IsIdleAt free (Some ticket) = ticket < free
 
+-- a caller's cell may be written, as far as the caller has seen FREE
 abbrev pub IsIdle : Local → ℕ → Type 0
 IsIdle l j = IsIdleAt l.seen_free (cell_of l j).ticket
 
@@ -46,6 +47,7 @@ ShowsTicket callers (Some seen) ticket cell =
     × (link_ticket_of callers seen.word ≡ ticket)
     × (link_cell_of callers seen.word ≡ cell)
 
+-- the word that was seen in the slot last looked at, 0 where none was
 abbrev pub seen_word : Option SeenSlot → ℕ
 seen_word None = 0
 seen_word (Some seen) = seen.word

@@ -27,10 +27,11 @@ ShowsOutdated callers region words r i l =
 abbrev pub CanLoadAs : Bool → ℕ → ℕ → List ℕ → ℕ → ℕ → Local → Type 0
 CanLoadAs refused callers region words r i l = CanLoad callers region r i l × (IsTrue refused → ShowsOutdated callers region words r i l)
 
--- a caller may store into a replica that it holds exclusively, and persist its dirty words
+-- a caller may store into a replica that it holds exclusively
 abbrev pub CanStore : ℕ → ℕ → ℕ → ℕ → Local → Type 0
 CanStore callers region r i l = (r < 2 * callers) × (i < region) × (exclusive_on l ≡ Some r)
 
+-- a caller may persist a dirty word of a replica that it holds exclusively
 abbrev pub CanPersist : ℕ → ℕ → ℕ → ℕ → Local → Type 0
 CanPersist callers region r i l = CanStore callers region r i l × Contains (held_dirty l.exclusive) i
 
@@ -47,9 +48,10 @@ loaded_by r i refused l found = record l {
   steps = one_more l.steps;
 }
 
--- what is held after a word was stored, and after one was persisted
+-- what is held exclusively after a word was stored, which is dirty then
 abbrev pub stored_into : ℕ → ℕ → HeldExclusive → HeldExclusive
 stored_into i v h = record h { words = slice_set h.words i v; dirty = with_number h.dirty i }
 
+-- what is held exclusively after a word was persisted, which is not dirty then
 abbrev pub persisted : ℕ → HeldExclusive → HeldExclusive
 persisted i h = record h { dirty = filter (λ x. if x == i then false else true) h.dirty }

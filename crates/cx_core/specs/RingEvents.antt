@@ -90,6 +90,7 @@ lesser d found (Some least) = if nat_lt found least.need then record { need = fo
 abbrev pub scanned_on : ℕ → ℕ → Scan → Scan
 scanned_on d found s = record s { bound = min s.bound found; next = d + 1; least = Some (lesser d found s.least) }
 
+-- the scan, if any, after the need of its next caller was found
 abbrev pub scan_after : ℕ → ℕ → Option Scan → Option Scan
 scan_after d found None = None
 scan_after d found (Some s) = Some (scanned_on d found s)
@@ -103,6 +104,7 @@ abbrev pub bound_in : Option Scan → ℕ
 bound_in None = 0
 bound_in (Some s) = s.bound
 
+-- the least need that a scan, if any, found so far, with its caller
 abbrev pub least_in : Option Scan → Option SeenNeed
 least_in None = None
 least_in (Some s) = s.least

@@ -31,11 +31,12 @@ IsAbove callers code (Some h) = root_place_of callers code < h.place
 abbrev pub CanPublish : ℕ → Local → Type 0
 CanPublish callers l = IsAbove callers l.seen_cur l.downgraded × IsNone l.won
 
--- a code is the one that won, and the code before it
+-- a code is the one that won
 abbrev pub IsWonCode : ℕ → Option WonCode → Type 0
 IsWonCode code None = ⊥
 IsWonCode code (Some won) = code ≡ won.code
 
+-- the code over which a win, if any, was published, 0 where there is none
 abbrev pub before_in : Option WonCode → ℕ
 before_in None = 0
 before_in (Some won) = won.before

@@ -5,5 +5,6 @@ use Rattle.std.specs.Option.{option_map}
 use Rattle.cx_core.specs.declared.local.HeldExclusive.{HeldExclusive}
 use Rattle.cx_core.specs.declared.local.Local.{Local}
 
+-- a local state without the words of the replica held exclusively
 abbrev pub shown : Local → Local
 shown l = record l { exclusive = option_map (λ (h : HeldExclusive). record h { words = [] }) l.exclusive }

@@ -77,6 +77,7 @@ blank_cell = record { words = replicate 145 0; ticket = None; set = replicate 51
 abbrev pub opening_code : ℕ → ℕ → ℕ
 opening_code callers place = root_code_of callers place 0
 
+-- the local state with which a caller opens, at the place of the base: it has no entry and no right, and has seen the opening codes
 abbrev pub opening_local : ℕ → ℕ → ℕ → Local
 opening_local callers place caller = record {
   number = caller;
@@ -129,5 +130,6 @@ opening_words callers base =
     ++ replicate (18752 * callers) 0
     ++ copies (4 * callers) base.words
 
+-- the state with which a service opens from a base
 abbrev pub opening_state : ℕ → Base → State
 opening_state callers base = record { words = opening_words callers base; locals = opening_locals callers base.place }

@@ -16,6 +16,7 @@ pub record IsWriteSet (set before after : List ℕ) : Type 0 where
   pub within : (m : ℕ) → m < slice_index set 0 → slice_index set (2 * m + 1) < length before
   pub gives : stored (slice_index set 0) set before ≡ after
 
+-- a set is a write set of a ticket in a history: it leads from the full image at the ticket to the one at the next place
 abbrev pub IsWriteSetOf : Instance → List Entry → ℕ → List ℕ → Type 0
 IsWriteSetOf instance history ticket set =
     IsWriteSet set (full_image instance.step instance.base history ticket) (full_image instance.step instance.base history (ticket + 1))

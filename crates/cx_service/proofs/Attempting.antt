@@ -258,7 +258,7 @@ module _ {O : Type 0} (r : Running O) (s v : Seated) (caller : IsCallerOf r s) (
       between_after r 0 0 s v caller (ap (λ (x : Seated). x.known.local.own) rest) (ap (λ (x : Seated). map except_set x.known.local.cells) rest) front of at
       (ap (λ (x : Seated). length x.known.local.answered + 0) rest)
 
--- the same of attempts for a read
+-- what attempts for a read keep of a caller that answer nothing
 module _ {O : Type 0} (r : Running O) (op : List ℕ) (s v : Seated) (caller : IsCallerOf r s) (rest : unchanged_by_lookup v ≡ unchanged_by_lookup s) (front : s.known.local.front ≤ v.known.local.front) (of : IsSeatOf r v) (rises : s.known.local.seen_cur ≤ v.known.local.seen_cur) (on : StepsOn s v) where
   look_rest : unchanged_by_look v ≡ unchanged_by_look s
   look_rest = ap (λ (x : Seated). (let y : Seated = record x { known = record x.known { times = record x.known.times { images = [] }; images = [] } } in y)) rest

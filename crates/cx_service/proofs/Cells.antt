@@ -22,7 +22,7 @@ use Rattle.cx_service.specs.Callers.{HasOwnCells}
 abbrev pub default : Cell
 default = record { words = []; ticket = None; set = []; offer = 0 }
 
--- it is so of another local state with the same entries, no further ticket, and a front as high
+-- a caller's cells stay those of its own entries in a local state `m` with the entries of `l`, no further ticket in a cell, and a front as high
 pub own_kept : (l m : Local) → HasOwnCells l → m.own ≡ l.own → l.front ≤ m.front → ((j t : ℕ) → (cell_of m j).ticket ≡ Some t → (cell_of l j).ticket ≡ Some t) → HasOwnCells m
 own_kept l m cells own front tickets = record {
   own = λ j t at. (let h = cells.own j t (tickets j t at) in (h.0, h.1, ap (λ (xs : List Linked). slice_get xs h.0) own ∙ h.2, h.3));

@@ -31,7 +31,7 @@ module _ {O : Type 0} (r : Running O) (op : List ℕ) (s u : Seated) (same : Kee
   allowed_first : ¬ IsAtLimit u.known.local → ¬ IsAtLimit s.known.local
   allowed_first free at = free (subst (λ (x : Seated). IsAtLimit x.known.local) (sym (stood at)) at)
 
-  -- the caller's next entry is the same
+  -- the entry that the caller links next is at `u` as it was at `s`
   same_entry : (ticket : ℕ) → next_entry r u.known.local op ticket ≡ next_entry r s.known.local op ticket
   same_entry ticket =
       ap (λ (n : ℕ). (let e : OwnEntry = record { ticket = ticket; entry = record { caller = n; number = slot_number n r.base.words + length u.known.local.own + 1; op = op } } in e)) same.number

@@ -46,7 +46,7 @@ marked_lines marks words n within marked long x has =
     let at : slice_index (take n words) by.0 % 2 ^ 17 ≡ x = ap (λ w. w % 2 ^ 17) (get_or-take n words by.0 0 by.1) ∙ ap (λ i. slice_index words i % 2 ^ 17) (let e : by.0 ≡ 0 + by.0 = omega arith in e) ∙ by.2 in
     subst (λ y. IsMarked marks ((y + 7) / 8)) at (marked by.0 (omega (arith, by.1, long)))
 
--- no ticket is told yet
+-- between a place and itself no entry changed a line, so whatever is marked will do
 pub changed_none : (instance : Instance) (lines from : ℕ) (marks : List Bool) (known : Known) → MarksChanged instance lines from from marks known
 changed_none instance lines from marks known = record {
   lists = λ t. [];

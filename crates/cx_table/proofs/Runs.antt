@@ -142,7 +142,7 @@ module _ {O : Type 0} (line_count : O → ℕ) (lawful : O → List ℕ → Type
         of = made.1.seat;
       }
 
-  -- the same from what contracts see of the seat, where its numbers were counted at once
+  -- a run of steps, from what contracts see of the seat, where its numbers in plain memory were counted on at once
   pub led_to : (old : Seated) (words : List ℕ) (me' : Me ℕ (List Known)) (table' : TableId) (summary' : CachedLocal) → seated table me before copy ≡ old → summary' ≡ counted (length words) → table' ≡ table → length words ≤ n → summary.steps + length words ≤ summary.limit →
       summary.steps + length words < 2 ^ 64 → IsSeat me summary before copy → May old.known → IsSeatOf r old → TeachesRun (instance_at r step reads) kinds words me me' →
       IsSeat me' summary' before copy × Runs r step reads (lawful r.object) kinds words old (seated table' me' before copy) × IsSeatOf r (seated table' me' before copy)

@@ -39,12 +39,12 @@ pub record MakesFittingStep {O A E : Type 0} (o : Ghosts O) (r : Running O) (bef
   pub fits : OnOk result (Fitting r.lines (o.lawful r.object) r.base (o.step r.object) after.known)
   pub halted : OnErr result (Halts r before after)
 
--- what a caller tells as the number of its steps, which its limit leaves
+-- this is the number of a caller's steps, which are within its limit
 pub record TellsSteps (l : Local) (steps : ℕ) : Type 0 where
   pub value : steps ≡ l.steps
   pub within : IsWithinLimit l
 
--- what it tells as its front, which is at most the last place
+-- this is a caller's front, the ticket after the last entry that it knows of; it is at most 2^40, the last place
 pub record TellsFront (l : Local) (front : ℕ) : Type 0 where
   pub value : front ≡ l.front
   pub small : front ≤ 2 ^ 40

@@ -12,7 +12,7 @@ use Rattle.table_invariant.specs.Running.{Running}
 use Rattle.table_invariant.specs.Seats.{Seated, known_of}
 use Rattle.table_invariant.specs.Steps.{Steps, KnowledgeAfter}
 
--- the kinds of the loads of a replica's words, of a cell's, and of a set's
+-- the kinds of loads of the words of a replica, from one on
 abbrev pub loads_from : ℕ → ℕ → ℕ → Kind
 loads_from r from i = LoadWord r (from + i) false
 
@@ -20,9 +20,11 @@ loads_from r from i = LoadWord r (from + i) false
 abbrev pub StartsAt : {O : Type 0} → Running O → ℕ → ℕ → Type 0
 StartsAt r replica start = start ≡ vol_at r.callers (length r.base.words) replica 0
 
+-- the kinds of loads of the words of the entry with a ticket in a cell
 abbrev pub reads_of : ℕ → ℕ → ℕ → Kind
 reads_of t k i = ReadCell t k i
 
+-- the kinds of loads of the words of the write set with a ticket beside a cell, from one on
 abbrev pub set_reads_from : ℕ → ℕ → ℕ → ℕ → Kind
 set_reads_from k t from i = ReadSet k t (from + i)
 

@@ -10,11 +10,13 @@ use Rattle.cx_table.specs.Right.{Right, WonRight}
 use Rattle.cx_table.specs.declared.tokens.SharedRight.{SharedRight}
 use Rattle.cx_table.specs.declared.tokens.SharedRight.TheVariants.{Hold, Passer, Downgraded}
 
+-- the caller of this seat holds the replica of this token exclusively
 pub record IsExclusiveOf (callers : ℕ) (seat : Seated) (held : Right) : Type 0 where
   pub few : held.replica < 2 * callers
   pub caller : held.caller ≡ seat.known.local.number
   pub holds : exclusive_on seat.known.local ≡ Some held.replica
 
+-- the caller of this seat holds the replica of this token shared
 pub record IsSharedOf (callers : ℕ) (seat : Seated) (held : Right) : Type 0 where
   pub few : held.replica < 2 * callers
   pub caller : held.caller ≡ seat.known.local.number
@@ -31,11 +33,13 @@ pub record IsTakenFrom (callers : ℕ) (seat : Seated) (other : Right) (image : 
   pub source : IsSharedOf callers seat other
   pub tells : TellsWords seat.known seat.region image
 
+-- the caller of this seat has the passer's mark on the replica of this token
 pub record IsPasserOf (callers : ℕ) (seat : Seated) (mark : Right) : Type 0 where
   pub few : mark.replica < 2 * callers
   pub caller : mark.caller ≡ seat.known.local.number
   pub holds : seat.known.local.passer ≡ Some mark.replica
 
+-- the caller of this seat has a downgraded right on the replica of this token
 pub record IsDowngradedOf (callers : ℕ) (seat : Seated) (held : Right) : Type 0 where
   pub few : held.replica < 2 * callers
   pub caller : held.caller ≡ seat.known.local.number
@@ -47,11 +51,12 @@ pub record IsWonOf (callers : ℕ) (seat : Seated) (won : WonRight) : Type 0 whe
   pub caller : won.caller ≡ seat.known.local.number
   pub holds : seat.known.local.won ≡ Some (record { code = won.code; before = won.before })
 
--- the token of a caller's try of a replica, by the word found
+-- the token that a caller's try to hold a replica exclusively hands out, if any, by the word found
 abbrev pub HandsExclusive : ℕ → ℕ → ℕ → Option Right → Type 0
 HandsExclusive replica caller found (Some held) = (found ≡ 0) × (held ≡ record { replica = replica; caller = caller })
 HandsExclusive replica caller found None = found ≢ 0
 
+-- the token that a caller's try to hold a replica shared hands out, by the word found: a shared right, or the passer's mark
 abbrev pub HandsShared : ℕ → ℕ → ℕ → Result Right Right → Type 0
 HandsShared replica caller found (Ok held) = (found < exclusive_mark) × (held ≡ record { replica = replica; caller = caller })
 HandsShared replica caller found (Err mark) = (exclusive_mark ≤ found) × (mark ≡ record { replica = replica; caller = caller })

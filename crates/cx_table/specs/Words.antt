@@ -27,12 +27,12 @@ pub record IsOnWord {O : Type 0} (r : Running O) (word : ℕ) (table : TableId) 
   pub one : me ≡ (known_of me.0 ∷ [], [])
   pub within : word < r.table.words
 
--- the seat is of the table that it was of, and it is taught this
+-- a call left the seat of the table that it was of, and this holds then, which the seat learned
 pub record KeepsTableKnowing (before after : TableId) (lesson : Type 0) : Type 0 where
   pub table : after ≡ before
   pub taught : lesson
 
--- the same of a call that loads into words, which are as many as before
+-- a call that loads into words left the seat of the table that it was of, this holds then, which the seat learned, and the words are as many as before
 pub record FillsKnowing (before after : TableId) (old new : List ℕ) (lesson : Type 0) : Type 0 where
   pub table : after ≡ before
   pub taught : lesson

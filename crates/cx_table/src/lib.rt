@@ -22,7 +22,7 @@
 //!   whose words were all copied where just the lines were copied that no gap covers: `release_listed` (`IsListedFrom`).
 //! - What is persisted is the word last stored, with no load: `persist`. A seat tells whether a word is dirty and some word that is, if any is:
 //!   `CallerSeat::is_dirty`, `some_dirty`; and where an operation differs from the one in a cell of its caller's: `cell_apart`.
-//! - No seat makes more steps than its limit: `CallerSeat::steps` (`within`).
+//! - No seat makes more steps than its limit: `CallerSeat::steps` (`within` of `TellsSteps`).
 //! - A seat lends the numbers of its caller's local state: `CallerSeat`.
 //! - A table is made with the opening words of a lawful base and one seat for each caller with its limit: `Shared::make` (`IsMade`: `table`,
 //!   `seats`, `all`).

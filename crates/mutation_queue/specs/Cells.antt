@@ -12,6 +12,7 @@ abbrev pub IsInUseAt : ℕ → Option ℕ → Type 0
 IsInUseAt free None = ⊥
 IsInUseAt free (Some ticket) = free ≤ ticket
 
+-- a caller's cell is in use, as far as the caller has seen FREE: it holds a ticket at or above it
 abbrev pub IsInUse : Local → ℕ → Type 0
 IsInUse l j = IsInUseAt l.seen_free (cell_of l j).ticket
 

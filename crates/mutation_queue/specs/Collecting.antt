@@ -61,6 +61,7 @@ pub record Scans (target d : ℕ) (before after : Seated) : Type 0 where
 abbrev pub ScansSome : ℕ → ℕ → Seated → Seated → Type 0
 ScansSome callers target before after = (after ≡ before) ⊎ ((d : ℕ) × (d ≤ callers) × Scans target d before after)
 
+-- what a scan leaves: the needs of all callers were scanned, or the limit came before some
 abbrev pub EndsScanning : {E A : Type 0} → ℕ → ℕ → Seated → Seated → Result A E → Type 0
 EndsScanning callers target before after (Ok x) = Scans target callers before after
 EndsScanning callers target before after (Err e) = ScansSome callers target before after
@@ -77,6 +78,7 @@ pub record HaltsCollecting (callers target : ℕ) (before after : Seated) : Type
   pub limit : IsAtLimit after.known.local
   pub left : ScansSome callers target before after ⊎ Opens callers before after
 
+-- what collecting leaves: FREE was raised, or the limit came before the last of the steps
 abbrev pub EndsCollecting : {E : Type 0} → ℕ → ℕ → Seated → Seated → Result Collected E → Type 0
 EndsCollecting callers target before after (Ok found) = Collects callers target before after found
 EndsCollecting callers target before after (Err e) = HaltsCollecting callers target before after

@@ -53,10 +53,11 @@ with_front callers found s = record s {
   };
 }
 
--- the seat after a compare-exchange at the front that was lost to this word, and after one that won
+-- the seat after a compare-exchange at the front that was lost to this word
 abbrev pub with_loss : ℕ → ℕ → Seated → Seated
 with_loss callers found s = record s { known = record s.known { local = lost callers s.known.local found } }
 
+-- the seat after a compare-exchange at the front that won, with the entry in this cell
 abbrev pub with_win : ℕ → Seated → Seated
 with_win cell s = record s { known = record s.known { local = linked s.known.local cell; times = record s.known.times { linked = s.known.times.linked ++ s.known.local.steps ∷ [] } } }
 
@@ -129,17 +130,19 @@ pub record IsWorn (before after : Seated) : Type 0 where
   pub none : LinksNone before after
   pub front : after.known.local.front ≡ 2 ^ 40
 
+-- what up to `tries` tries to link the entry in a cell leave: it was linked, each try was lost, or there is no further ticket
 abbrev pub Tried : ℕ → ℕ → ℕ → Seated → Seated → LinkTried → Type 0
 Tried callers cell tries before after (Linked ticket) = LinksAt cell ticket before after
 Tried callers cell tries before after Again = LinksAgain callers tries before after
 Tried callers cell tries before after Worn = IsWorn before after
 
--- one try: the entry was linked, or another's link was found
+-- a try that was lost: nothing was linked, and another's link was found at the front or beyond
 pub record LinksPast (callers : ℕ) (before after : Seated) : Type 0 where
   pub none : LinksNone before after
   pub front : before.known.local.front < after.known.local.front
   pub cur : root_place_of callers before.known.local.seen_cur ≤ before.known.local.front
 
+-- what one try to link the entry in a cell leaves: it was linked, or another's link was found
 abbrev pub TriedOnce : ℕ → ℕ → Seated → Seated → Option ℕ → Type 0
 TriedOnce callers cell before after (Some ticket) = LinksAt cell ticket before after × WinsTry callers cell before after
 TriedOnce callers cell before after None = LinksPast callers before after × LosesTry callers before after

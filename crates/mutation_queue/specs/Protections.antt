@@ -53,10 +53,11 @@ abbrev pub TriesProtect : ℕ → ℕ → Seated → Seated → Protected → Ty
 TriesProtect callers place before after Kept = KeepsFrom place before after
 TriesProtect callers place before after (Behind low) = FallsBehind callers place low before after
 
--- the seat after a place was stated, and after this LOW was loaded
+-- the seat after a place was stated from which on the caller reads
 abbrev pub with_stated : ℕ → Seated → Seated
 with_stated place s = record s { known = record s.known { local = stated place s.known.local } }
 
+-- the seat after this LOW was loaded to confirm the protection
 abbrev pub with_low : ℕ → ℕ → Seated → Seated
 with_low callers low s = record s { known = record s.known { local = confirmed callers s.known.local low } }
 
@@ -69,6 +70,7 @@ pub record HaltsProtecting (callers place : ℕ) (before after : Seated) : Type 
       ⊎ ((after ≡ with_stated place before)
       ⊎ ((low : ℕ) × (place < low) × (after ≡ with_low callers low (with_stated place before))))
 
+-- what protecting the tickets from a place on leaves: an outcome, or the limit came before the last of the steps
 abbrev pub EndsProtecting : {E : Type 0} → ℕ → ℕ → Seated → Seated → Result Protected E → Type 0
 EndsProtecting callers place before after (Ok x) = TriesProtect callers place before after x
 EndsProtecting callers place before after (Err e) = HaltsProtecting callers place before after

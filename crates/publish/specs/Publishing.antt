@@ -51,6 +51,7 @@ pub record HaltsPublishing (before after : Seated) : Type 0 where
   pub none : after.known.local.won ≡ None
   pub limit : IsAtLimit after.known.local
 
+-- what one exchange of CUR leaves: it was won or lost, or the limit came before it
 abbrev pub EndsExchange : {E : Type 0} → ℕ → Seated → Seated → Result (Result WonRight Right) E → Type 0
 EndsExchange callers before after (Ok x) = Exchanges callers before after x
 EndsExchange callers before after (Err e) = HaltsPublishing before after
@@ -70,7 +71,7 @@ pub record MayPublish {O : Type 0} (r : Running O) (seat : Seated) (held : Right
   pub none : seat.known.local.won ≡ None
 
 -- What exchanges of CUR, and the release of a right, leave of the seat: the front does not fall, at most one refusal is met, no refusal and no
--- step is taken back, and the rest is the same. Beside this number, no more steps were made than what was seen of CUR rose.
+-- step is taken back, and all else in the seat stays. Beside this number, no more steps were made than what was seen of CUR rose.
 pub record KeepsRest {O : Type 0} (r : Running O) (n : ℕ) (before after : Seated) : Type 0 where
   pub of : IsSeatOf r after
   pub front : before.known.local.front ≤ after.known.local.front
@@ -98,10 +99,12 @@ pub record PassedBy (callers found : ℕ) (before after : Seated) : Type 0 where
   pub none : after.known.local.won ≡ None
   pub stale : before.known.local.fresh ≡ false → after.known.local.fresh ≡ false
 
+-- what a publication leaves: the code was published, or a code at or above its place was found and the right released
 abbrev pub Publishes : ℕ → Seated → Seated → Published → Type 0
 Publishes callers before after (Won won) = WinsCur callers before after won
 Publishes callers before after (Passed found) = PassedBy callers found before after
 
+-- what a publication leaves: an outcome, or the limit came before its last step
 abbrev pub EndsPublishing : {E : Type 0} → ℕ → Seated → Seated → Result Published E → Type 0
 EndsPublishing callers before after (Ok x) = Publishes callers before after x
 EndsPublishing callers before after (Err e) = HaltsPublishing before after

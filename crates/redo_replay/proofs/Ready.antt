@@ -134,7 +134,7 @@ module _ {O : Type 0} (r : Running O) (replica : ℕ) where
 abbrev unchanged_by_cells : Seated → Seated
 unchanged_by_cells b = record b { known = record b.known { local = record b.known.local { cells = map except_set b.known.local.cells }; kept = [] } }
 
--- the same with these as its cells
+-- a seat with these cells, but for what an access changes and for what it keeps
 abbrev own_with : ℕ → Seated → List Cell → Seated
 own_with replica s cells = (let b = unchanged_by_access replica s in record b { known = record b.known { local = record b.known.local { cells = cells }; kept = [] } })
 

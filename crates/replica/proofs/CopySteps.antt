@@ -31,7 +31,7 @@ unloaded_all : (r i found : ℕ) (o : Option HeldShared) → option_map except_l
 unloaded_all r i found None = refl
 unloaded_all r i found (Some h) = refl
 
--- a seat that is the same beside a copy has the same rights
+-- a right stays exclusive from one seat to another that differ in what a copy changes alone
 exclusive_still : (callers : ℕ) (before after : Seated) (held : Right) → unchanged_by_copy after ≡ unchanged_by_copy before → IsExclusiveOf callers before held → IsExclusiveOf callers after held
 exclusive_still callers before after held same of = record {
   few = of.few;
@@ -63,7 +63,7 @@ store_rest r step reads q at v before after s =
     ∙ ap (λ o. beside before before.known.noted o shared) (unstored at v before.known.local.exclusive)
 
 module _ {O : Type 0} (lines : ℕ) (r : Running O) (step : O → List ℕ → List ℕ → List ℕ × List ℕ) (reads : O → List ℕ → Bool) (lawful : List ℕ → Type 0) (held source : Right) (before after : Seated) where
-  -- both rights stay through a step that is the same beside a copy, after which some pair fits
+  -- both rights of a copy stay through a step that changes only what a copy changes, and after which some pair fits
   both_still : HoldsBoth lines r lawful (step r.object) before held source → IsSeatOf r after → unchanged_by_copy after ≡ unchanged_by_copy before → Fitting r.lines lawful r.base (step r.object) after.known → All (λ i. i < region_words lines) (held_dirty after.known.local.exclusive) →
       HoldsBoth lines r lawful (step r.object) after held source
   both_still both seat same fits dirty =

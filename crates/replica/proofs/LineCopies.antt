@@ -89,7 +89,7 @@ nearer : (skips : ℕ → Bool) (n at : ℕ) {D : Type 0} → D ⊎ ((at < n) ×
 nearer skips n at (inl old) = inl old
 nearer skips n at (inr new) = inr (let b = new.0 in omega (arith, b), new.1)
 
--- a word that is the same in both is copied
+-- the copy of a word that is equal in both replicas needs no store
 pub copied_same : (u v n region : ℕ) (skips : ℕ → Bool) (before k : Known) → u ≡ v → IsSeen n u v k → IsCopiedTo skips n region before k → IsCopiedTo skips (n + 1) region before k
 copied_same u v n region skips before k same seen copied = record {
   agree = agree_next skips k n v copied.agree (seen.same same) seen.source;
@@ -169,7 +169,7 @@ on_stored_line from line before k k' on then skips region first below kept copie
     (then skips region first (omega (arith, below)) (λ i least under. kept i (omega (arith, least)) (omega (arith, under)))
     (on skips region first (omega (arith, below)) (λ i least under. kept i least (omega (arith, under))) copied))
 
--- and over a word of a line: past one that is the same in both, and past one that is stored
+-- a copy goes on past the word `i` of a line that is equal in the two replicas
 pub on_same : (us vs : List ℕ) (start from i n : ℕ) (before k : Known) → i < n → slice_index us i ≡ slice_index vs i → AreSeen from i n us vs k → CopiesOn start (from + i) before k → CopiesOn start (from + (i + 1)) before k
 on_same us vs start from i n before k small same seen on skips region first below kept copied =
     let next : (from + i) + 1 ≡ from + (i + 1) = omega arith in

@@ -18,7 +18,7 @@ use Rattle.table_invariant.specs.Seats.{known_after}
 use Rattle.table_invariant.proofs.Copying.{here_or, or_there}
 use Rattle.replica.specs.Copies.{AreSeen, IsSeen, StoresAsMany, read_notes, stores_in}
 
--- notes say the same of every word but these
+-- two lists of notes say the same of every word but those of which `P` holds
 abbrev pub SameExcept : (ℕ → Type 0) → List Note → List Note → Type 0
 SameExcept P notes notes' = (i : ℕ) → ¬ P i → word_noted None i notes' ≡ word_noted None i notes
 

@@ -178,7 +178,7 @@ module _ {O : Type 0} (lines : ℕ) (r : Running O) (lawful : List ℕ → Type 
   pub rest_shared_run : LoadsRun (LoadsShared lines r lawful held) from words old new → unchanged_by_shared_access held.replica new ≡ unchanged_by_shared_access held.replica old
   rest_shared_run run = run_keeps (LoadsShared lines r lawful held) from (λ s. unchanged_by_shared_access held.replica s ≡ unchanged_by_shared_access held.replica old) (λ at v before after made was. made.rest ∙ was) words old new run refl
 
--- a limit stays one while the limit is the same
+-- whether a caller has a limit of steps stays while its limit does
 pub still_limited : (old new : Local) → new.limit ≡ old.limit → is_some (left_of new) ≡ is_some (left_of old)
 still_limited old new same = ap (λ n. is_some (cond (nat_lt n max_word) (Some (n - new.steps)) None)) same ∙ by (nat_lt old.limit max_word)
   where

@@ -22,7 +22,7 @@ use Rattle.table_invariant.proofs.Traced.{image_origin}
 use Rattle.table_invariant.proofs.Entries.{entries_from}
 use Rattle.table_invariant.proofs.Having.{has_of_history}
 
--- words that were loaded and are there
+-- the loads of words lead from a list to itself where each word loaded stands in it
 loads_lead : (region : ℕ) (word : ℕ → ℕ) (words : List ℕ) (loaded : List (ℕ × ℕ)) → ((i : ℕ) → i < region → slice_index words i ≡ word i) → All (λ (x : ℕ × ℕ). (x.0 < region) × (word x.0 ≡ x.1)) loaded → NotesLead (loads_of loaded) words words
 loads_lead region word words [] at all = refl
 loads_lead region word words (x ∷ xs) at all =
@@ -42,7 +42,8 @@ shared_there instance s law some caller l at h mine =
       loads_lead region (vol_word instance s.words h.replica) words h.loaded (λ i below. replica_at instance.callers region s.words h.replica i below) (law.regions.loaded caller l at h mine),
     )
 
--- behind what a caller noted there is the history of the lawful state, with the full images that its accesses and its loads lead on from
+-- In a lawful state what a caller `k` noted is so of the state's history: it has the words noted and what the seat has, and the accesses and loads go on from
+-- full images of it.
 pub behind_notes : (instance : Instance) (s : State) (law : Lawful instance s) → 0 < length instance.base.words → (l : Local) (k : Known) → slice_get s.locals k.local.number ≡ Some l →
     k.local ≡ shown l → NotesHold instance law.history k.noted → IsTraced instance law.history k.accesses l →
     SetsHold instance s law.history k → OwnSetsHold instance law.history l.cells → IsBehindNotes instance k

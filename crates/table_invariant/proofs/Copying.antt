@@ -36,11 +36,11 @@ leads_length ((true, at, v) ∷ accesses) first now leads = leads_length accesse
 abbrev IsThere : Option ℕ → ℕ → List ℕ → Type 0
 IsThere word i ws = (v : ℕ) → word ≡ Some v → slice_index ws i ≡ v
 
--- a choice by whether `at` is the place `i` is `a` where it is
+-- Choose `a` where `at` is `i`, and `b` where it is not. Where `at` is `i`, the choice is `a`.
 pub here_or : {X : Type 0} (at i : ℕ) (a b : X) → at ≡ i → cond (at == i) a b ≡ a
 here_or at i a b same = ap (λ c. cond c a b) (eq-eqb at i same)
 
--- a choice by whether `at` is the place `i` is `b` where `at` is another place
+-- Choose `a` where `at` is `i`, and `b` where it is not. Where `at` is not `i`, the choice is `b`.
 pub or_there : {X : Type 0} (at i : ℕ) (a b : X) → at ≢ i → cond (at == i) a b ≡ b
 or_there at i a b apart = ap (λ c. cond c a b) (ne_eqb at i apart)
 

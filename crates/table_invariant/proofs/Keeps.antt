@@ -327,7 +327,7 @@ allows instance kinds known slots id word me f then one learn tells =
       tells found (event_teaches instance kind s id known word (f found) held view learns),
     )))
 
--- the same of the release of a shared right whose words were copied
+-- what the table asks of the release of a shared right whose words were copied, and what it teaches
 pub allows_copied : (instance : Instance) (kind : Kind) (known : Known) (slots id word : ℕ) (me : atomic.Me ℕ (List Known)) (f : ℕ → ℕ) → me ≡ (known ∷ [], []) → LearnsBy instance (λ _. kind) known word f → MayReleaseKnowing instance kind known word f →
     atomic.Allows (RuleHolds instance) slots id me word f (KnowledgeAfterCopy instance kind known)
 allows_copied instance kind known slots id word me f one learn copied =
@@ -346,7 +346,7 @@ allows_copied instance kind known slots id word me f one learn copied =
       },
     )))
 
--- the same of one all of whose words were loaded
+-- what the table asks of the release of a shared right all of whose words were loaded, and what it teaches
 pub allows_taking : (instance : Instance) (kind : Kind) (image : List ℕ) (known : Known) (slots id word : ℕ) (me : atomic.Me ℕ (List Known)) (f : ℕ → ℕ) → me ≡ (known ∷ [], []) → LearnsBy instance (λ _. kind) known word f →
     IsImageLearned instance kind image known word f → atomic.Allows (RuleHolds instance) slots id me word f (TeachesImage instance kind image known)
 allows_taking instance kind image known slots id word me f one learn taking =
@@ -386,7 +386,7 @@ pub event_learns : {O : Type 0} (r : Running O) (step : O → List ℕ → List 
 event_learns r step reads kind word table me f event puts words within =
     learns_shown (instance_at r step reads) kind (known_of me.0) words word (f (slice_index words word)) event.by_shown event.fits event.guard event.place (sym (puts (slice_index words word)))
 
--- the same of a step that finds a word
+-- what the table asks of a step, from what the seat's shown local state tells, and what the step teaches by the word that it found
 pub allows_found : {O : Type 0} (r : Running O) (step : O → List ℕ → List ℕ → List ℕ × List ℕ) (reads : O → List ℕ → Bool) (kind : Kind) (slots id word : ℕ) (table : TableId) (me : atomic.Me ℕ (List Known)) (f : ℕ → ℕ) →
     IsEventOn r step reads kind word table me → Puts (instance_at r step reads) kind (known_of me.0).local f → atomic.Allows (RuleHolds (instance_at r step reads)) slots id me word f (KnowledgeAfter (instance_at r step reads) kind (known_of me.0))
 allows_found r step reads kind slots id word table me f event puts =

@@ -159,7 +159,7 @@ joins instance s id view other its held me apart there =
       ]
     ])
 
--- lists with the same items
+-- two lists of one length are equal where each item of the second stands at its place in the first
 pub same_items : {A : Type 0} (xs ys : List A) → length xs ≡ length ys → ((i : ℕ) (a : A) → slice_get ys i ≡ Some a → slice_get xs i ≡ Some a) → xs ≡ ys
 same_items [] [] e f = refl
 same_items [] (y ∷ ys) e f = absurd (omega arith)

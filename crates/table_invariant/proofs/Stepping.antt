@@ -31,15 +31,15 @@ counts instance (BackOff r) k found =
 counts instance Publish k found = either (Counts k.local) (found == k.local.seen_cur) (published instance.callers k.local) (outrun instance.callers k.local found) refl refl
 counts instance kind k found = refl
 
--- the same count
+-- where the count of steps is equal at `s` and at `t`, no step is taken back from `s` to `t`
 pub on_still : (s t : Seated) → t.known.local.steps ≡ s.known.local.steps → StepsOn s t
 on_still s t same = omega (arith, same)
 
--- the same seat
+-- from a seat to itself no step is taken back
 pub on_same : (s t : Seated) → t ≡ s → StepsOn s t
 on_same s t same = on_still s t (ap (λ (x : Seated). x.known.local.steps) same)
 
--- one step more
+-- where one step more is counted at `t` than at `s`, no step is taken back from `s` to `t`
 pub on_one : (s t : Seated) → t.known.local.steps ≡ one_more s.known.local.steps → StepsOn s t
 on_one s t is = omega (arith, is)
 

@@ -27,7 +27,7 @@ use Rattle.table_invariant.specs.Timing.{AddTimes, AreTimes, BeginsAt, BelowAt, 
 use Rattle.table_invariant.proofs.Current.{MovesOn}
 
 module _ (instance : Instance) (from : State) (events : List Event) where
-  -- a longer run comes by the same moments
+  -- a moment that a run comes by is one that a longer run comes by
   abbrev by_longer : (more : List Event) (caller steps : ℕ) → ComesBy instance from events caller steps → ComesBy instance from (events ++ more) caller steps
   by_longer more caller steps by = record {
     before = by.before;

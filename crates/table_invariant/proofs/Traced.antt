@@ -104,10 +104,11 @@ module _ (instance : Instance) (s : State) (law : Lawful instance s) (caller : �
   abbrev Traced : List Note → Local → Type 0
   Traced accesses l' = IsTraced instance law.history accesses l'
 
-  -- the same exclusive right, or none
+  -- the accesses of a caller stay traced where its exclusive right, if any, stays
   same_held : (l' : Local) → l'.exclusive ≡ l.exclusive → Traced k.accesses l'
   same_held l' same = record { first = traced.first; now = traced.now; origin = traced.origin; leads = traced.leads; held = λ h has. traced.held h (sym same ∙ has) }
 
+  -- the accesses of a caller stay traced where it has no exclusive right any more
   none_held : (l' : Local) → l'.exclusive ≡ None → Traced k.accesses l'
   none_held l' none = record { first = traced.first; now = traced.now; origin = traced.origin; leads = traced.leads; held = λ h has. absurd (none-some h (sym none ∙ has)) }
 

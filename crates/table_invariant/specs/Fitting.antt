@@ -43,6 +43,7 @@ pub record ReadFits (lines : ℕ) (lawful : List ℕ → Type 0) (base : Base) (
 abbrev pub TellsWord : ℕ → List Note → ℕ → ℕ → Type 0
 TellsWord region accesses at word = (first now : List ℕ) → length first ≡ region → NotesLead accesses first now → slice_index now at ≡ word
 
+-- some pair of lists fits the words loaded of a replica held shared
 abbrev pub SomeReadFits : ℕ → (List ℕ → Type 0) → Base → List (ℕ × ℕ) → Type 0
 SomeReadFits lines lawful base loaded = ∥ ((first : List ℕ) × (now : List ℕ) × ReadFits lines lawful base loaded first now) ∥₁
 

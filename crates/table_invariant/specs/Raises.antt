@@ -52,6 +52,7 @@ abbrev pub TellsReads : ℕ → (List ℕ → Type 0) → Base → (List ℕ →
 TellsReads lines lawful base step known None = Unit {0}
 TellsReads lines lawful base step known (Some read) = TellsRead lines lawful base step known read.0 read.1
 
+-- the operation of a read, if one is given with its reply
 abbrev pub read_op_in : Option (List ℕ × List ℕ) → Option (List ℕ)
 read_op_in read = option_map (λ (x : List ℕ × List ℕ). x.0) read
 

@@ -46,6 +46,7 @@ pub record IsTrueNote (instance : Instance) (history : List Entry) (noted : Note
   pub entry : noted.index < 145 → instance.base.place ≤ noted.ticket → IsOfEntry instance history noted
   pub gap : 145 ≤ noted.index → IsGap instance history (gap_of instance.callers noted.ticket noted.word)
 
+-- each noted word is so in the history
 abbrev pub NotesHold : Instance → List Entry → List Noted → Type 0
 NotesHold instance history notes = (n : ℕ) (noted : Noted) → slice_get notes n ≡ Some noted → IsTrueNote instance history noted
 
@@ -149,6 +150,7 @@ pub record SetsHold (instance : Instance) (s : State) (history : List Entry) (kn
   pub noted : SetNotesHold instance s history known.sets
   pub kept : KeptHolds instance history known.kept
 
+-- The rule of the table: there are local states, one a caller, which are lawful with the words of the table, and of which each seat knows what stands here.
 pub record RuleHolds (instance : Instance) (s : atomic.State ℕ (List Known)) : Type 0 where
   pub locals : List Local
   -- the seat, and the place in its view, that have a caller's local state

@@ -80,10 +80,11 @@ opening_known callers place limits caller = record { local = record (opening_loc
 abbrev pub opening_view : ℕ → ℕ → List ℕ → List Known
 opening_view callers place limits = map (opening_known callers place limits) (range_with_len 0 callers)
 
--- the caller of a seat with one caller
+-- what stands for what a seat with no caller knows
 abbrev pub nobody : Known
 nobody = record { local = opening_local 1 0 0; noted = []; accesses = []; sets = []; times = no_times; images = []; kept = [] }
 
+-- what the first caller of a seat knows
 abbrev pub known_of : List Known → Known
 known_of [] = nobody
 known_of (k ∷ ks) = k

@@ -71,14 +71,14 @@ pub record Steps {O : Type 0} (r : Running O) (step : O → List ℕ → List �
 abbrev pub known_copied : Instance → Kind → Known → ℕ → Known
 known_copied instance kind known found = record (known_after instance kind known found) { accesses = loads_of (loaded_of known.local.shared) }
 
--- what that event teaches is known by what the caller noted
+-- what the release of a shared right whose words were copied teaches is known by what the caller noted
 abbrev pub MayReleaseKnowing : Instance → Kind → Known → ℕ → (ℕ → ℕ) → Type 0
 MayReleaseKnowing instance kind known word put =
     (words : List ℕ) → slice_index words word < 2 ^ 64 →
     LearnsInAnyState instance words kind known word (put (slice_index words word)) (known_copied instance kind known (slice_index words word))
 
--- what it teaches: what the release of a shared right does, and what is behind the words loaded as those of the replica held
--- exclusively
+-- what the release of a shared right whose words were copied teaches: what each release of a shared right does, and what is behind the words loaded as
+-- those of the replica held exclusively
 pub record KnowledgeAfterCopy (instance : Instance) (kind : Kind) (known : Known) (found : ℕ) (after : Me ℕ (List Known)) : Type 0 where
   pub knows : after ≡ (known_copied instance kind known found ∷ [], [])
   pub event : KnowledgeAfter instance kind known found (known_after instance kind known found ∷ [], [])
@@ -100,6 +100,7 @@ times_of instance known after = record {
   durable = root_place_of instance.callers known.local.raised;
 }
 
+-- the times of that image, where the load of CUR behind them was noted
 abbrev pub image_times : Instance → Known → Known → List ImageTimes
 image_times instance known after = if known.times.seen then times_of instance known after ∷ [] else []
 
@@ -109,13 +110,14 @@ known_taken instance kind image known found =
     let after = known_after instance kind known found in
     record after { times = record after.times { images = known.times.images ++ image_times instance known after }; images = known.images ++ image ∷ [] }
 
--- what that event teaches is known by what the caller noted
+-- what the release of a shared right all of whose words were loaded teaches is known by what the caller noted
 abbrev pub IsImageLearned : Instance → Kind → List ℕ → Known → ℕ → (ℕ → ℕ) → Type 0
 IsImageLearned instance kind image known word put =
     (words : List ℕ) → slice_index words word < 2 ^ 64 →
     LearnsInAnyState instance words kind known word (put (slice_index words word)) (known_taken instance kind image known (slice_index words word))
 
--- what it teaches: what the release of a shared right does, what is behind the notes then, and a history of which the words are the image
+-- what the release of a shared right all of whose words were loaded teaches: what each release of a shared right does, what is behind the notes then,
+-- and a history of which the words are the image
 pub record TeachesImage (instance : Instance) (kind : Kind) (image : List ℕ) (known : Known) (found : ℕ) (after : Me ℕ (List Known)) : Type 0 where
   pub knows : after ≡ (known_taken instance kind image known found ∷ [], [])
   pub event : KnowledgeAfter instance kind known found (known_after instance kind known found ∷ [], [])

@@ -87,13 +87,13 @@ pub record AddTimes (callers : ℕ) (l l' : Local) (t t' : Times) : Type 0 where
       ⊎ ((t'.loaded ≡ l.steps) × (t'.seen ≡ true) × (l.fresh ≡ false) × (l'.fresh ≡ true))
   pub images : (t'.images ≡ t.images) ⊎ ((x : ImageTimes) × (t'.images ≡ t.images ++ x ∷ []) × IsImageTaken callers l l' t x)
 
--- An entry was linked when its caller had made at least this number of steps, or one was answered when the caller had made at most this number:
--- the list of counts has one more. A count stays at the end of its type.
+-- An entry was linked when its caller had made at least this number of steps: the list of counts has one more. A count stays at the end of its type.
 pub record BeginsIn (first : ℕ) (old new : List ℕ) : Type 0 where
   pub at : ℕ
   pub from : min first max_word ≤ at
   pub is : new ≡ old ++ at ∷ []
 
+-- An entry was answered when its caller had made at most this number of steps: the list of counts has one more.
 pub record EndsIn (last : ℕ) (old new : List ℕ) : Type 0 where
   pub at : ℕ
   pub to : at ≤ last

@@ -39,7 +39,7 @@ KnowsLinked seat (Linked ticket) = ticket < seat.known.local.front
 KnowsLinked seat Again = Unit {0}
 KnowsLinked seat Worn = Unit {0}
 
--- the tickets that are known to be linked, what is downgraded, and the protection are the same
+-- from one seat to another the front, what is downgraded, and the protection stay
 pub record Keeps (before after : Seated) : Type 0 where
   pub front : after.known.local.front ≡ before.known.local.front
   pub downgraded : after.known.local.downgraded ≡ before.known.local.downgraded
