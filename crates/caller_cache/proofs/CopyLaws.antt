@@ -39,12 +39,14 @@ place_more place ((s, a, w) ∷ accesses) stores at word = place_more (cond (a =
 tells_load : (region : ℕ) (accesses : List Note) (i v at word : ℕ) → TellsWord region accesses at word → TellsWord region (accesses ++ (false, i, v) ∷ []) at word
 tells_load region accesses i v at word tells first now long leads = tells first now long (led_by_load accesses i v first now leads).0
 
+-- accesses with a store of `v` to the place `i` at their end tell that `v` stands there
 tells_store : (region : ℕ) (accesses : List Note) (i v : ℕ) → i < region → TellsWord region (accesses ++ (true, i, v) ∷ []) i v
 tells_store region accesses i v below first now long leads =
     let led = led_by_store accesses i v first now leads in
     let same = leads_length accesses first led.0 led.1 in
     ap (λ ws. slice_index ws i) led.2 ∙ get_or-set_same led.0 i v 0 (omega arith)
 
+-- accesses with a store elsewhere at their end tell of a place what they told before
 tells_other : (region : ℕ) (accesses : List Note) (i v at word : ℕ) → at ≢ i → TellsWord region accesses at word → TellsWord region (accesses ++ (true, i, v) ∷ []) at word
 tells_other region accesses i v at word apart tells first now long leads =
     let led = led_by_store accesses i v first now leads in
@@ -86,6 +88,7 @@ filtered p (y ∷ ys) x there =
       | inr e ↦ passes_later p y ys x (filtered p ys x (subst P e there))
     ]
 
+-- no item is in a list that is empty
 none_in : (xs : List ℕ) (x : ℕ) → xs ≡ [] → Contains xs x → ⊥
 none_in xs x none there = (let here = subst (λ (ys : List ℕ). Contains ys x) none there in let below : here.0 < 0 = here.1 in absurd (omega arith))
 
@@ -109,9 +112,11 @@ SameCells l l' = (j : ℕ) → (words_in (cell_of l' j) ≡ words_in (cell_of l 
 same_rows : (n : ℕ) (row : Cell → List ℕ) (l l' : Local) (rows : List ℕ) → SameRows row l l' → HasRows n row l rows → HasRows n row l' rows
 same_rows n row l l' rows same has = record { long = has.long; each = λ j i small below. has.each j i small below ∙ ap (λ ws. slice_index ws i) (sym (same j)) }
 
+-- words kept of a caller's cells stay theirs where the cells stay
 same_cells : (l l' : Local) (cells : List ℕ) → SameCells l l' → HasCellWords l cells → HasCellWords l' cells
 same_cells l l' cells same has = same_rows 145 words_in l l' cells (λ j. (same j).0) has
 
+-- words kept of the write sets of a caller's cells stay theirs where the cells stay
 same_sets : (l l' : Local) (sets : List ℕ) → SameCells l l' → HasSetWords l sets → HasSetWords l' sets
 same_sets l l' sets same has = same_rows 513 set_in l l' sets (λ j. (same j).1) has
 

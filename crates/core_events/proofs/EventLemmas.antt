@@ -31,6 +31,7 @@ either-number : (b : Bool) (x y : Local) (n : ℕ) → x.number ≡ n → y.numb
 either-number true x y n p q = p
 either-number false x y n p q = q
 
+-- a step leaves its caller's number
 pub next-number : (instance : Instance) (scene : Scene) (kind : Kind) (l : Local) (found : ℕ) → (next instance scene kind l found).number ≡ l.number
 next-number instance scene (Link j) l found = either-number (found == seen_word l.seen_slot) (linked l j) (lost instance.callers l found) l.number refl refl
 next-number instance scene (TryExclusive r) l found = either-number (found == 0) (taken instance scene r l) (refused_by instance.callers r l found) l.number refl refl
@@ -198,6 +199,7 @@ applied false instance event s words' l l' at did = (
   ap (λ ws. record { words = ws; locals = set s.locals event.caller l' }) did.2 ∙ ap (λ ls. record { words = s.words; locals = ls }) (ap (set s.locals event.caller) did.1 ∙ set_here s.locals event.caller l at),
 )
 
+-- what is said of an answer that is Ok may be made weaker
 pub IfOk-then : {X E : Type 0} (r : Result X E) (P Q : X → Type 0) → IfOk r P → ((x : X) → P x → Q x) → IfOk r Q
 IfOk-then (Ok x) P Q p f = f x p
 IfOk-then (Err e) P Q p f = tt

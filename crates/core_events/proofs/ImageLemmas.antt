@@ -19,9 +19,11 @@ use Rattle.cx_core.proofs.ListLemmas.{slice_get-append, slice_get-take}
 drop_at_item : {X : Type 0} (xs : List X) (i : ℕ) (x : X) → i < length xs → x ≡ get_or xs i x → drop i xs ≡ x ∷ drop (i + 1) xs
 drop_at_item xs i x below is = drop-cons xs i x below ∙ ap (λ y. y ∷ drop (suc i) xs) (sym is) ∙ ap (λ n. x ∷ drop n xs) (let e : suc i ≡ i + 1 = omega arith in e)
 
+-- the own entries of the callers from one on are those of that caller and then those of the callers after it
 pub own_at_drop : (locals : List Local) (i : ℕ) (l : Local) → i < length locals → l ≡ get_or locals i l → all_own (drop i locals) ≡ l.own ++ all_own (drop (i + 1) locals)
 own_at_drop locals i l below is = ap all_own (drop_at_item locals i l below is)
 
+-- the entry with a ticket in two lists in a row is that in the second, where the first has none
 pub entry_at-append_none : (ticket : ℕ) (xs ys : List Linked) → entry_at ticket xs ≡ None → entry_at ticket (xs ++ ys) ≡ entry_at ticket ys
 entry_at-append_none ticket [] ys none = refl
 entry_at-append_none ticket (x ∷ xs) ys none =
@@ -30,6 +32,7 @@ entry_at-append_none ticket (x ∷ xs) ys none =
       | false ↦ λ rest. entry_at-append_none ticket xs ys rest
     ]) none
 
+-- the entry with a ticket in two lists in a row is that in the first, where it has one
 pub entry_at-append_some : (ticket : ℕ) (xs ys : List Linked) (entry : Entry) → entry_at ticket xs ≡ Some entry → entry_at ticket (xs ++ ys) ≡ Some entry
 entry_at-append_some ticket [] ys entry some = absurd (none-some entry some)
 entry_at-append_some ticket (x ∷ xs) ys entry some =
@@ -114,10 +117,12 @@ own_each (l ∷ ls) has i x at =
       | inr rest ↦ own_each ls (λ caller m there. has (suc caller) m there) rest.0 x rest.2
     ]
 
+-- the entries of a history are of callers that there may be
 pub history_callers : (place : ℕ) (locals : List Local) → HasEntries locals → OfCallers (history_of place locals)
 unfolding history_of
 history_callers place locals has i entry at = in_order_of (all_own locals) (own_each locals has) (length (all_own locals)) place i entry at
 
+-- a history ends at most at the place 2^40
 pub history_few : (place : ℕ) (locals : List Local) → HasEntries locals → place ≤ 2 ^ 40 → place + length (history_of place locals) ≤ 2 ^ 40
 unfolding history_of
 history_few place locals has below = in_order_few (all_own locals) (own_each locals has) (length (all_own locals)) place below

@@ -22,24 +22,29 @@ use Rattle.core_runs.proofs.Keeps.{run_kept}
 use Rattle.core_runs.proofs.WholeLaws.{crash_kept, entries_of}
 use Rattle.core_order.specs.CrashedLives.{AllStand, AnswersStand, AreCrashedLives, EndsAs, IsCrashedLife, LifeRun, instance_from, kept_history, next_base}
 
+-- the image after two lists of entries in a row is that after the second, from the image after the first
 image_on : (step : List ℕ → List ℕ → List ℕ × List ℕ) (image : List ℕ) (xs ys : List Entry) → image_after step image (xs ++ ys) ≡ image_after step (image_after step image xs) ys
 image_on step image [] ys = refl
 image_on step image (x ∷ xs) ys = image_on step (step image x.op).0 xs ys
 
+-- the first entries of two lists in a row, beyond the first list, are the first list and the first entries of the second
 take_behind : (xs ys : List Entry) (n : ℕ) → take (length xs + n) (xs ++ ys) ≡ xs ++ take n ys
 take_behind [] ys n = ap (λ k. take k ys) (let e : 0 + n ≡ n = omega arith in e)
 take_behind (x ∷ xs) ys n = ap (λ k. take k (x ∷ (xs ++ ys))) (let e : suc (length xs) + n ≡ suc (length xs + n) = omega arith in e) ∙ ap (λ zs. x ∷ zs) (take_behind xs ys n)
 
+-- an entry of the second list stands behind the first in both in a row
 get_behind : (xs ys : List Entry) (n : ℕ) (e : Entry) → slice_get ys n ≡ Some e → slice_get (xs ++ ys) (length xs + n) ≡ Some e
 get_behind [] ys n e at = ap (slice_get ys) (let same : 0 + n ≡ n = omega arith in same) ∙ at
 get_behind (x ∷ xs) ys n e at = ap (slice_get (x ∷ (xs ++ ys))) (let same : suc (length xs) + n ≡ suc (length xs + n) = omega arith in same) ∙ get_behind xs ys n e at
 
+-- an entry below the place `n` is among the first `n`
 get_take : (xs : List Entry) (n k : ℕ) (e : Entry) → k < n → slice_get xs k ≡ Some e → slice_get (take n xs) k ≡ Some e
 get_take xs zero k e below at = absurd (omega (arith, below))
 get_take [] (suc n) k e below at = at
 get_take (x ∷ xs) (suc n) zero e below at = at
 get_take (x ∷ xs) (suc n) (suc k) e below at = get_take xs n k e (omega (arith, below)) at
 
+-- the first n + 1 entries are the first n and the entry at n
 take_one : (xs : List Entry) (n : ℕ) (e : Entry) → slice_get xs n ≡ Some e → take (n + 1) xs ≡ take n xs ++ e ∷ []
 take_one xs n e at = take_more xs n e (slice_get_within xs n e at) ∙ ap (λ y. take n xs ++ y ∷ []) (get_or_from_slice_get xs n e e at)
 

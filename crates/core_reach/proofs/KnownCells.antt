@@ -48,6 +48,7 @@ same_known l l' knows own cells = record {
       subst (λ xs. HasTicket xs ticket) (sym own) (knows.each k ticket (ap (λ (c : Cell). c.ticket) (sym same) ∙ is)));
 }
 
+-- a caller that knows its cells does so after one is put that has no ticket or one of an own entry
 put_known : (l l' : Local) (j : ℕ) (cell : Cell) → Knows l → l'.own ≡ l.own → l'.cells ≡ set l.cells j cell → ((ticket : ℕ) → cell.ticket ≡ Some ticket → HasTicket l.own ticket) → Knows l'
 put_known l l' j cell knows own cells here = record {
   each = λ k ticket is. subst (λ xs. HasTicket xs ticket) (sym own) (elim (put_cases l l' j k cell cells) [
@@ -56,6 +57,7 @@ put_known l l' j cell knows own cells here = record {
   ]);
 }
 
+-- a link that was won leaves a caller that knows its cells as one that does
 link_known : (l : Local) (j : ℕ) → Knows l → Knows (linked l j)
 link_known l j knows = record {
   each = λ k ticket is. (

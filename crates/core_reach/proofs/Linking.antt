@@ -43,12 +43,15 @@ idle_up a b (Some t) up idle = omega arith
 -- a word of the entry is written into the cell
 module _ (instance : Instance) (caller : ℕ) (history : List Entry) (l0 : Local) (j : ℕ) (small : j < 16) (ws : List ℕ) (fit : Words 145 ws) (i : ℕ) (s : State) (l : Local) (below : i < 145)
     (here : Here instance caller history s l) (writing : Writing l0 j ws i l) where
+  -- word i of the entry is written into cell j
   abbrev put : Kind
   put = WriteCell j i (slice_index ws i)
 
+  -- the caller's local state after it
   abbrev put_local : Local
   put_local = record l { cells = written l j i (slice_index ws i); fresh = false; steps = one_more l.steps }
 
+  -- the cell after it
   abbrev put_cell : Cell
   put_cell = record (cell_of l j) { words = set (cell_of l j).words i (slice_index ws i); ticket = None }
 
@@ -250,9 +253,11 @@ module _ (instance : Instance) (caller : ℕ) (history : List Entry) (l0 : Local
 module _ (instance : Instance) (caller : ℕ) (history : List Entry) (l0 : Local) (j : ℕ) (small : j < 16) (number : ℕ) (op : List ℕ) (op_long : length op ≡ 144) (s : State) (l : Local)
     (here : Here instance caller history s l) (ended : AtEnd instance l0 j (number ∷ op) (instance.base.place + length history) s l)
     (numbered : number ≡ next_number instance.base l) (further : instance.base.place + length history < 2 ^ 40) (all : length l.answered ≡ length l.own) where
+  -- the entry that is linked
   abbrev entry : Entry
   entry = record { caller = caller; number = number; op = op }
 
+  -- the step that links the entry in cell j
   abbrev link : Kind
   link = Link j
 
@@ -271,6 +276,7 @@ module _ (instance : Instance) (caller : ℕ) (history : List Entry) (l0 : Local
       ∙ ap (λ ws. record { caller = caller; number = slice_index ws 0; op = slice_range ws 1 145 }) ended.words
       ∙ ap (λ o. record { caller = caller; number = number; op = o }) (take_all 144 op enough)
 
+  -- the history has the entry at its end then
   linked_history : history_of instance.base.place (made instance caller s l link).locals ≡ history ++ entry ∷ []
   linked_history =
       let place = instance.base.place in
@@ -285,6 +291,7 @@ module _ (instance : Instance) (caller : ℕ) (history : List Entry) (l0 : Local
       ∙ ap (λ (h : List Entry). h ++ entry_in l j ∷ []) same
       ∙ ap (λ (e : Entry). history ++ e ∷ []) is_entry
 
+  -- the state after the link is lawful, with this history
   here_linked : Here instance caller (history ++ entry ∷ []) (made instance caller s l link) (linked l j)
   here_linked = record {
     law = keeps instance caller s l link here.law (makes instance caller s l link here.at can_link);

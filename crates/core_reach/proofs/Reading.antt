@@ -47,12 +47,15 @@ module _ (instance : Instance) (caller : ℕ) where
       none_held (suc n) alone = (let all = alone (omega arith) in omega (arith, all, pinned))
 
 module _ (instance : Instance) (s : State) (caller : ℕ) (l : Local) (op : List ℕ) (law : Lawful instance s) (at : slice_get s.locals caller ≡ Some l) (none : HoldsNone l) (some : 0 < length instance.base.words) (reads : IsTrue (instance.reads op)) (op_words : Words 144 op) where
+  -- the number of callers
   abbrev callers : ℕ
   callers = instance.callers
 
+  -- the code in CUR
   abbrev cur : ℕ
   cur = slice_index s.words cur_at
 
+  -- the replica that it names
   abbrev r : ℕ
   r = root_replica_of callers cur
 
@@ -63,6 +66,7 @@ module _ (instance : Instance) (s : State) (caller : ℕ) (l : Local) (op : List
   abbrev l1 : Local
   l1 = loaded_cur callers l cur
 
+  -- the state after the load of CUR, in which the caller has the local state l1
   abbrev s1 : State
   s1 = made instance caller s l LoadCur
 
@@ -79,12 +83,15 @@ module _ (instance : Instance) (s : State) (caller : ℕ) (l : Local) (op : List
   abbrev word : ℕ
   word = slice_index s1.words (lock_at callers r)
 
+  -- nobody holds the replica exclusively, since CUR pins it
   free : word < exclusive_mark
   free = pinned_free instance caller s1 law1 r small (ap (pin callers r) cur1 ∙ on_same r r refl)
 
+  -- the state after the shared right was taken
   abbrev s2 : State
   s2 = made instance caller s1 l1 (TryShared r)
 
+  -- the caller's local state there
   abbrev l2 : Local
   l2 = shared_by r l1 word
 
@@ -107,12 +114,15 @@ module _ (instance : Instance) (s : State) (caller : ℕ) (l : Local) (op : List
   abbrev s3 : State
   s3 = made instance caller s2 l2 (LoadWord r 0 false)
 
+  -- the place word of the replica
   abbrev found : ℕ
   found = vol_word instance s2.words r 0
 
+  -- the caller's local state after the load of the place
   abbrev l3 : Local
   l3 = loaded_by r 0 false l2 found
 
+  -- the place word is the place of the code
   placed : found ≡ root_place_of callers cur
   placed = subst (λ c. vol_word instance s2.words (root_replica_of callers c) 0 ≡ root_place_of callers c) cur2 law2.root.current
 
@@ -126,6 +136,7 @@ module _ (instance : Instance) (s : State) (caller : ℕ) (l : Local) (op : List
   abbrev kind4 : Kind
   kind4 = Raise cur (Some op)
 
+  -- the state after the raise
   abbrev s4 : State
   s4 = made instance caller s3 l3 kind4
 
@@ -147,12 +158,14 @@ module _ (instance : Instance) (s : State) (caller : ℕ) (l : Local) (op : List
   law4 : Lawful instance s4
   law4 = keeps instance caller s3 l3 kind4 (keeps instance caller s2 l2 (LoadWord r 0 false) law2 makes3) makes4
 
+  -- the caller's local state after the raise
   abbrev l4 : Local
   l4 = raised_by instance (scene_of instance s3) cur (Some op) l3
 
   there4 : slice_get s4.locals caller ≡ Some l4
   there4 = there instance caller s3 l3 kind4 there3
 
+  -- the read as it was answered
   abbrev read : SeenRead
   read = record { place = root_place_of callers cur; op = op; reply = reply_after instance (history_in instance s3) (root_place_of callers cur) op; before = length l3.answered + length (answers_below instance (history_in instance s3) (root_place_of callers cur) (unanswered l3)) }
 
@@ -162,6 +175,7 @@ module _ (instance : Instance) (s : State) (caller : ℕ) (l : Local) (op : List
       ((law4.answers.each caller l4 there4).reads (length l.seen_reads) read (slice_get-last l.seen_reads read)).reply
       ∙ ap (λ (h : List Entry). reply_after instance h read.place op) (sym (history_is instance.base.place law4.history s4.locals law4.tickets.merged))
 
+  -- so these four events lead to a state in which the read is answered
   reads_at_rest : ReachesRead instance s caller l op
   reads_at_rest = record {
     events = event instance caller LoadCur ∷ event instance caller (TryShared r) ∷ event instance caller (LoadWord r 0 false) ∷ event instance caller kind4 ∷ [];

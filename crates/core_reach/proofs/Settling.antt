@@ -38,6 +38,7 @@ pub record Settled (instance : Instance) (place : ℕ) (l l' : Local) : Type 0 w
 
 -- a raise to the history's end answers whatever waits
 module _ (instance : Instance) (caller : ℕ) (history : List Entry) (s : State) (l : Local) (here : Here instance caller history s l) where
+  -- no more entries are answered than the caller has
   few_answers : length l.answered ≤ length l.own
   few_answers =
       let same = ap length (here.law.tickets.each caller l here.at).answered in

@@ -36,15 +36,19 @@ module _ (instance : Instance) (caller : ℕ) where
   abbrev pub event : Kind → Event
   event kind = record { caller = caller; kind = kind }
 
+  -- the state after a step of this kind of the caller with the local state `l`
   abbrev pub made : State → Local → Kind → State
   made s l kind = record { words = words_after instance kind l s.words; locals = set s.locals caller (local_after instance (scene_of instance s) kind l) }
 
+  -- the step is made where its guard holds
   pub makes : (s : State) (l : Local) (kind : Kind) → slice_get s.locals caller ≡ Some l → Guard instance (scene_of instance s) kind l → Makes instance (event kind) s (made s l kind)
   makes s l kind at guard = record { local = l; of_caller = at; guard = guard; words = refl; locals = refl }
 
+  -- the local state that the caller has after its step
   pub there : (s : State) (l : Local) (kind : Kind) → slice_get s.locals caller ≡ Some l → slice_get (made s l kind).locals caller ≡ Some (local_after instance (scene_of instance s) kind l)
   there s l kind at = slice_get-set_same s.locals caller (local_after instance (scene_of instance s) kind l) (slice_get_within s.locals caller l at)
 
+  -- a step leads from a lawful state to a lawful one
   pub keeps : (s : State) (l : Local) (kind : Kind) → Lawful instance s → Makes instance (event kind) s (made s l kind) → Lawful instance (made s l kind)
   keeps s l kind law makes_it = run_kept instance s (event kind ∷ []) (made s l kind) law (made s l kind, makes_it, refl)
 

@@ -38,14 +38,16 @@ downgraded_place callers None q on few = absurd (none-some q on)
 downgraded_place callers (Some h) q on few = code_place callers h.place h.replica (subst (λ n. n < 2 * callers) (sym (same_Some h.replica q on)) few)
 
 module _ {O : Type 0} (o : Ghosts O) (r : Running O) (ticket : ℕ) (reply : List ℕ) where
-  -- what stays as it is beside a publication
+  -- the reply that whatever fits tells stays through a publication
   still_tells : (before after : Seated) → unchanged_by_publish after ≡ unchanged_by_publish before → TellsReply r.lines (o.lawful r.object) r.base (o.step r.object) before.known ticket reply → TellsReply r.lines (o.lawful r.object) r.base (o.step r.object) after.known ticket reply
   still_tells before after rest tells =
       reply_still r.lines (o.lawful r.object) r.base (o.step r.object) before.known after.known ticket reply (ap (λ (s : Seated). has_of s.known) rest) (ap (λ (s : Seated). s.known.accesses) rest) (ap (λ (s : Seated). s.known.local.number) rest) tells
 
+  -- the ticket of the unanswered entry stays through a publication
   still_last : (before after : Seated) → unchanged_by_publish after ≡ unchanged_by_publish before → unanswered_ticket before.known.local ≡ Some ticket → unanswered_ticket after.known.local ≡ Some ticket
   still_last before after rest last = ap (λ (s : Seated). unanswered_ticket s.known.local) rest ∙ last
 
+  -- a caller that rests but for its publication does so after it
   still_rests : (before after : Seated) → unchanged_by_publish after ≡ unchanged_by_publish before → IsAtRest (unchanged_by_publish before).known.local → IsAtRest (unchanged_by_publish after).known.local
   still_rests before after rest at = subst (λ (s : Seated). IsAtRest s.known.local) (sym rest) at
 

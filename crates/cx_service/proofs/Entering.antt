@@ -135,10 +135,11 @@ module _ {O : Type 0} (r : Running O) (j : ℕ) (op : List ℕ) (s t : Seated) (
   announced_kept : unchanged_by_submit t ≡ unchanged_by_submit s
   announced_kept = ap unchanged_by_submit rest
 
-  -- the cell has no ticket, and other cells have the same
+  -- the cell that was written has no ticket
   no_ticket : (cell_of t.known.local j).ticket ≡ None
   no_ticket = ap (λ (x : Cell). x.ticket) cell
 
+  -- each other cell has the ticket that it had
   same_tickets : (k : ℕ) → k ≢ j → (cell_of t.known.local k).ticket ≡ (cell_of s.known.local k).ticket
   same_tickets k ne = ap (λ (x : Cell). x.ticket) (others k ne)
 

@@ -56,18 +56,23 @@ looked_idle s t (inr same) j within idle = record { free = ap (λ (x : Seated). 
 
 -- what looking for a cell leaves
 module _ (most : ℕ) (s t : Seated) (looked : LooksForCell most s t) where
+  -- looking for a cell leaves what a submit leaves
   pub looked_kept : unchanged_by_submit t ≡ unchanged_by_submit s
   looked_kept = ap unchanged_by_submit looked.same
 
+  -- looking for a cell leaves the caller's own entries
   pub looked_own : t.known.local.own ≡ s.known.local.own
   looked_own = ap (λ (x : Seated). x.known.local.own) looked.same
 
+  -- looking for a cell leaves the caller's cells
   pub looked_cells : t.known.local.cells ≡ s.known.local.cells
   looked_cells = ap (λ (x : Seated). x.known.local.cells) looked.same
 
+  -- looking for a cell leaves the caller's front
   pub looked_front : t.known.local.front ≡ s.known.local.front
   looked_front = ap (λ (x : Seated). x.known.local.front) looked.same
 
+  -- looking for a cell leaves what was seen of CUR
   pub looked_cur : s.known.local.seen_cur ≤ t.known.local.seen_cur
   looked_cur = (let e = ap (λ (x : Seated). x.known.local.seen_cur) looked.same in omega (arith, e))
 

@@ -44,12 +44,14 @@ module _ {O : Type 0} (r : Running O) (op : List ℕ) (before after : Seated) wh
   done_answer : (answer : Answer) → UpdateDone r op before after answer → slice_get after.known.local.answered (length before.known.local.answered) ≡ Some answer
   done_answer answer done = ap (λ (xs : List Answer). slice_get xs (length before.known.local.answered)) done.answered ∙ slice_get-last before.known.local.answered answer
 
+  -- a caller has seen each place up to the one behind the ticket of its answered update
   pub answered_seen : (answer : Answer) → UpdateDone r op before after answer → HasSeen r.callers (answer.ticket + 1) after.known.local
   answered_seen answer done = record {
     front = (let below = done_front answer done in omega (arith, below));
     read = inr (length before.known.local.answered, answer, done_answer answer done, omega arith);
   }
 
+  -- an update is answered at a ticket at or above each place that its caller had seen
   pub update_behind : (place : ℕ) (answer : Answer) → HasSeen r.callers place before.known.local → UpdateDone r op before after answer → (place ≤ answer.ticket) × HasSeen r.callers place after.known.local
   update_behind place answer seen done =
       let front = seen.front in
@@ -59,6 +61,7 @@ module _ {O : Type 0} (r : Running O) (op : List ℕ) (before after : Seated) wh
         record { front = omega (arith, front, from, below); read = inr (length before.known.local.answered, answer, done_answer answer done, omega (arith, front, from)) },
       )
 
+  -- a read is answered at a place at or above each that its caller had seen
   pub read_behind : (place : ℕ) (seen : Seen) → HasSeen r.callers place before.known.local → ReadAnswered r op before after seen → (place ≤ seen.place) × HasSeen r.callers place after.known.local
   read_behind place seen was read =
       let caller = read.caller.of.caller in
@@ -70,6 +73,7 @@ module _ {O : Type 0} (r : Running O) (op : List ℕ) (before after : Seated) wh
       ] in
       (above, record { front = (let a = was.front in let b = read.keeps.front in omega (arith, a, b)); read = inl (omega (arith, above, at)) })
 
+  -- a caller has seen the place of its answered read
   pub answered_read_seen : (seen : Seen) → ReadAnswered r op before after seen → HasSeen r.callers seen.place after.known.local
   answered_read_seen seen read = record { front = read.reached; read = inl (let at = read.place in omega (arith, at)) }
 
@@ -119,6 +123,7 @@ lists_seen r place before after caller was keeps = still_seen r place before aft
 pub catch_up_seen : {O : Type 0} (r : Running O) (place : ℕ) (before after : Seated) → IsCallerOf r before → HasSeen r.callers place before.known.local → CatchUpKeeps before after → HasSeen r.callers place after.known.local
 catch_up_seen r place before after caller was keeps = still_seen r place before after caller was keeps.front keeps.cur keeps.answered
 
+-- whatever an update answers, its caller has seen still what it had seen
 pub update_sees : {O : Type 0} (r : Running O) (op reply : List ℕ) (place : ℕ) (before : Seated) (updated : Updated) → IsCallerOf r before → HasSeen r.callers place before.known.local → Updates r op reply before updated →
     UpdateSees r.callers place updated
 update_sees r op reply place before (UpdatedDone after ticket) caller was done = update_behind r op before after place (answer_with ticket reply) was done
@@ -131,6 +136,7 @@ pub queued_sees : {O : Type 0} (r : Running O) (op reply : List ℕ) (place : �
 queued_sees r op reply place before updated caller was queues =
     update_sees r op reply place queues.refused updated queues.pending.caller (still_seen r place before queues.refused caller was queues.pending.keeps.front queues.pending.keeps.cur queues.pending.keeps.answered) queues.entered
 
+-- whatever a read answers, its caller has seen still what it had seen
 pub read_sees : {O : Type 0} (r : Running O) (op reply : List ℕ) (place : ℕ) (before : Seated) (done : ReadDone) → IsCallerOf r before → HasSeen r.callers place before.known.local → ReadOutcome r op reply before done →
     ReadSees r.callers place done
 read_sees r op reply place before (Read after at) caller was read = read_behind r op before after place (seen_with at reply) was read.0
@@ -139,6 +145,7 @@ read_sees r op reply place before (FullRead after note) caller was queues = queu
 read_sees r op reply place before (WornRead after) caller was queues = queued_sees r op reply place before (UpdatedWorn after) caller was queues
 read_sees r op reply place before (HaltedRead after) caller was stops = tt
 
+-- whatever catching up answers, its caller has seen still what it had seen
 pub catch_up_sees : {O : Type 0} (r : Running O) (other place : ℕ) (before : Seated) (caught : CaughtUp) → IsCallerOf r before → HasSeen r.callers place before.known.local → CatchesUp r other before caught →
     CatchUpSees r.callers place caught
 catch_up_sees r other place before (Caught after) caller was caught = catch_up_seen r place before after caller was caught.keeps

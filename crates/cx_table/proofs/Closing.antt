@@ -68,6 +68,7 @@ numbered callers seats numbers i k at =
     ∙ ap (λ (ns : List ℕ). get_or ns i 0) numbers
     ∙ get_or-range_with_len 0 callers i 0 below ∙ zero-add i
 
+-- a table has a seat for each caller
 pub seats_count : {O : Type 0} (t : Running O) (seats : List Seated) → AreSeats t seats → length seats ≡ t.callers
 seats_count t seats are = sym (length-map seats (λ (s : Seated). s.known.local.number)) ∙ ap length are.numbers ∙ length-range_with_len 0 t.callers
 
@@ -92,6 +93,7 @@ all_own_shown : (ls : List Local) → all_own (map shown ls) ≡ all_own ls
 all_own_shown [] = refl
 all_own_shown (l ∷ ls) = ap (λ xs. l.own ++ xs) (all_own_shown ls)
 
+-- the history of local states is that of what seats show of them
 history_shown : (place : ℕ) (ls : List Local) → history_of place (map shown ls) ≡ history_of place ls
 unfolding history_of
 history_shown place ls = ap (λ (xs : List Linked). in_order (length xs) place xs) (all_own_shown ls)

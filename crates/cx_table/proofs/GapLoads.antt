@@ -105,6 +105,7 @@ module _ {O : Type 0} (o : Ghosts O) (r : Running O) where
     ];
   }
 
+-- note i of the words of a slot is that of word i
 noted_at : (slot i : ℕ) (words : List ℕ) → i < length words → slice_get (gap_notes slot words) i ≡ Some (note slot (slice_index words i))
 noted_at slot i [] below = absurd (omega arith)
 noted_at slot zero (w ∷ words) below = refl

@@ -10,6 +10,7 @@ use Rattle.table_invariant.specs.Listed.{HasGap}
 use Rattle.cx_table.specs.GapMarks.{AreMarked, IsMarked, MarksChanged, MarksTicket}
 use Rattle.cx_table.specs.GapWords.{IsNamed, TellsLines, lines_from, start_at}
 
+-- where the words of a slot tell n more gaps from word k on, these lead from the start of the gap of word k to the end of the region
 lines_walk_from : (callers slot ticket lines : ℕ) (words : List ℕ) (n k m : ℕ) → k + n ≡ m → TellsLines callers slot ticket lines words m →
     Walk (IsNamed callers slot words) ticket (start_at words k) (lines_from k n words) lines
 lines_walk_from callers slot ticket lines words zero k m is tells =
@@ -21,6 +22,7 @@ lines_walk_from callers slot ticket lines words (suc n) k m is tells =
       subst (λ f. Walk (IsNamed callers slot words) ticket f (lines_from (k + 1) n words) lines) (ap (start_at words) next) (lines_walk_from callers slot ticket lines words n (k + 1) m (omega (arith, is)) tells),
     )
 
+-- where the words of a slot tell n gaps and a last one of a ticket, these lead from line 0 to the end of the region
 pub lines_walk : (callers slot ticket lines : ℕ) (words : List ℕ) (n : ℕ) → TellsLines callers slot ticket lines words n →
     Walk (IsNamed callers slot words) ticket 0 (lines_from 0 n words) lines
 lines_walk callers slot ticket lines words n tells = lines_walk_from callers slot ticket lines words n 0 n (omega arith) tells
@@ -54,13 +56,16 @@ changed_none instance lines from marks known = record {
   marked = λ t least below. absurd (omega (arith, least, below));
 }
 
+-- lists by ticket, with this list for one ticket
 with_list : (ℕ → List ℕ) → ℕ → List ℕ → ℕ → List ℕ
 with_list lists to list t = if t == to then list else lists t
 
+-- that ticket has the list given
 at_last : (lists : ℕ → List ℕ) (to : ℕ) (list : List ℕ) (t : ℕ) → t ≡ to → with_list lists to list t ≡ list
 unfolding with_list
 at_last lists to list t is = ap (λ b. if b then list else lists t) (eq-eqb t to is)
 
+-- each other ticket has the list that it had
 at_others : (lists : ℕ → List ℕ) (to : ℕ) (list : List ℕ) (t : ℕ) → t ≢ to → with_list lists to list t ≡ lists t
 unfolding with_list
 at_others lists to list t apart = ap (λ b. if b then list else lists t) (ne_eqb t to apart)
@@ -89,6 +94,7 @@ mark_set [] piece below = absurd (omega arith)
 mark_set (m ∷ marks) zero below = refl
 mark_set (m ∷ marks) (suc i) below = mark_set marks i (omega arith)
 
+-- a mark stays where another piece is marked
 pub marks_stay : (marks : List Bool) (piece other : ℕ) → IsMarked marks other → IsMarked (slice_set marks piece true) other
 marks_stay [] piece other is = is
 marks_stay (m ∷ marks) zero zero is = refl

@@ -6,10 +6,12 @@ use Rattle.cx_core.specs.declared.entry.Base.{Base}
 use Rattle.cx_core.specs.Base.{LawfulBase}
 use Rattle.cx_core.specs.Region.{object_part, slot_reply}
 
+-- the reply in a caller's slot stays where the place word is put
 same_reply : (ws : List ℕ) (caller v : ℕ) → slot_reply caller (set ws 0 v) ≡ slot_reply caller ws
 unfolding slot_reply
 same_reply ws caller v = ap (take 144) (drop-set-lt (8 + 145 * caller + 1) ws 0 v (omega arith))
 
+-- the object part stays where the place word is put
 same_object : (ws : List ℕ) (v : ℕ) → object_part (set ws 0 v) ≡ object_part ws
 unfolding object_part
 same_object ws v = drop-set-lt 1168 ws 0 v (omega arith)

@@ -24,9 +24,11 @@ use Rattle.mutation_queue.specs.Links.{FindsLink, FindsOpen, LinksAt, LinksNone,
 raised_zero : (callers front found : ℕ) → found ≡ 0 → raised_front callers front found ≡ front
 raised_zero callers front found zero = ap (λ b. cond b front (max front (link_ticket_of callers found + 1))) (eq-eqb found 0 zero)
 
+-- the front after a link word other than 0 was found: the ticket behind the one that it names, where that is further
 raised_some : (callers front found : ℕ) → 0 < found → raised_front callers front found ≡ max front (link_ticket_of callers found + 1)
 raised_some callers front found some = ap (λ b. cond b front (max front (link_ticket_of callers found + 1))) (ne_eqb found 0 (λ e. omega arith))
 
+-- a word found never takes the front back
 raised_least : (callers front found : ℕ) → front ≤ raised_front callers front found
 raised_least callers front found =
     elim (cases_eq found 0) [
@@ -278,6 +280,7 @@ still_may r cell s t none may =
     let of' = now.of in
     record { of = record { table = of'.table; caller = of'.caller; before = of'.before; region = of'.region }; few = now.few; announced = record { idle = now.announced.idle; number = now.announced.number }; answered = now.answered }
 
+-- where a seat stays as it is, nothing is linked
 pub none_here : (s : Seated) → LinksNone s s
 none_here s = record { same = refl; front = omega arith; since = omega arith }
 

@@ -137,6 +137,7 @@ piece_at i = (i / 8 + 7) / 8
 abbrev pub skips_piece : Bool → List Bool → ℕ → Bool
 skips_piece all marks piece = if all then false else (if piece == 0 then false else (if slice_index_or marks piece false then false else true))
 
+-- whether a copy skips a word: whether it skips the piece that the word is in
 abbrev pub skips_by : Bool → List Bool → ℕ → Bool
 skips_by all marks i = skips_piece all marks (piece_at i)
 
@@ -208,10 +209,11 @@ pub record SomeDiffers (region : ℕ) (known : Known) : Type 0 where
   pub apart : held ≢ source
   pub seen : IsSeen at held source known
 
--- beside one for each word stored, at most this number of steps was made; or, with the limit in the way, fewer
+-- beside one for each word stored, at most this number of steps was made
 abbrev pub LoadsAtMost : ℕ → Known → Known → Type 0
 LoadsAtMost n before after = after.local.steps + stores_in before.accesses ≤ before.local.steps + n + stores_in after.accesses
 
+-- beside one for each word stored, fewer than this number of steps were made
 abbrev pub LoadsFewer : ℕ → Known → Known → Type 0
 LoadsFewer n before after = after.local.steps + stores_in before.accesses < before.local.steps + n + stores_in after.accesses
 

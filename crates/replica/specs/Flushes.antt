@@ -17,6 +17,7 @@ pub record HaltsFlushing (seat : Seated) : Type 0 where
   pub dirty : 0 < length (held_dirty seat.known.local.exclusive)
   pub limit : IsAtLimit seat.known.local
 
+-- what a flush leaves: no word is dirty, or the limit came while one was
 abbrev pub EndsFlushing : {A E : Type 0} → Seated → Result A E → Type 0
 EndsFlushing seat (Ok x) = IsFlushed seat
 EndsFlushing seat (Err e) = HaltsFlushing seat

@@ -34,6 +34,7 @@ pub record IsTaken {O : Type 0} (lines : ℕ) (r : Running O) (lawful : List ℕ
 abbrev pub IsTakenIn : {O : Type 0} → Ghosts O → Running O → Seated → Right → Type 0
 IsTakenIn o r = IsTaken (o.line_count r.object) r (o.lawful r.object) (o.step r.object)
 
+-- a try of a replica that found its lock free holds it exclusively then, with nothing noted and no word dirty
 pub taken_held : {O : Type 0} (lines : ℕ) (r : Running O) (step : O → List ℕ → List ℕ → List ℕ × List ℕ) (reads : O → List ℕ → Bool) (lawful : List ℕ → Type 0) (q found : ℕ) (before after : Seated) (held : Right) →
     IsSized lines r → Steps r step reads (TryExclusive q) found before after → TriedExclusive r.callers q after found (Some held) → Fitting r.lines lawful r.base (step r.object) after.known → IsTaken lines r lawful (step r.object) after held
 taken_held lines r step reads lawful q found before after held sized s tried fits =
@@ -78,6 +79,7 @@ image_more lines lawful base step before after more same image = record {
       image.replayed first now (fits_more lines lawful base step (has_of before) (has_of after) more before.accesses first now (subst (λ xs. FitsOn lines lawful base step (has_of after) xs first now) same f))));
 }
 
+-- what is the image after its place stays so where what is had and what is noted stay
 pub image_same : (lines : ℕ) (lawful : List ℕ → Type 0) (base : Base) (step : List ℕ → List ℕ → List ℕ × List ℕ) (before after : Known) → has_of after ≡ has_of before → after.accesses ≡ before.accesses → IsHeldImage lines lawful base step before → IsHeldImage lines lawful base step after
 image_same lines lawful base step before after has same image =
     image_more lines lawful base step before after (subst (HasMore (has_of before)) (sym has) (record { entry = λ t e had. had; set = λ t pairs had. had })) same image

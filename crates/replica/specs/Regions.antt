@@ -21,6 +21,7 @@ pub record RegionFixed (Name Table : Type 0) : Type 0 where
   pub began : ℕ
   pub rest : Seated
 
+-- what no access of a region changes, of a region over this seat
 abbrev pub region_fixed : {Name Table : Type 0} → Name → Table → Right → Bool → ℕ → Seated → RegionFixed Name Table
 region_fixed name table held placed began seat = record { name = name; table = table; held = held; placed = placed; began = began; rest = unchanged_by_access held.replica seat }
 
@@ -57,7 +58,7 @@ pub record IsRegionOf {Name Table Placed : Type 0} (n n' : Name) (t t' : Table) 
 abbrev pub HasPlace : List Note → Type 0
 HasPlace accesses = (place : ℕ) → place_noted place accesses ≡ place_noted 0 accesses
 
--- whether two words with their addresses are the same
+-- whether two addresses are equal, and the words with them
 abbrev pub is_same : ℕ × ℕ → ℕ × ℕ → Bool
 is_same x y = (x.0 == y.0) && (x.1 == y.1)
 
@@ -66,6 +67,7 @@ abbrev pub has_loaded : Option ℕ → List (ℕ × ℕ) → Bool
 has_loaded None loaded = true
 has_loaded (Some place) loaded = list_any (is_same (0, place)) loaded
 
+-- a pair that fits the accesses of a region fits them as notes of a memory
 pub fits_shows : (lines : ℕ) (lawful : List ℕ → Type 0) (base : Base) (accesses : List Note) (first now : List ℕ) → IsConsistentWith lines lawful base accesses first now → NotesShow (region_words lines) accesses first now
 fits_shows lines lawful base accesses first now f = record { words = f.origin.size; leads = f.leads }
 
@@ -73,8 +75,10 @@ fits_shows lines lawful base accesses first now f = record { words = f.origin.si
 pub fits_words : (lines : ℕ) (lawful : List ℕ → Type 0) (base : Base) (accesses : List Note) (first now : List ℕ) → IsConsistentWith lines lawful base accesses first now → Words (region_words lines) now
 fits_words lines lawful base accesses first now f = shown_words (region_words lines) accesses first now (fits_shows lines lawful base accesses first now f)
 
+-- the words now of a pair that fits what a caller knows are a region
 pub known_words : (lines : ℕ) (lawful : List ℕ → Type 0) (base : Base) (step : List ℕ → List ℕ → List ℕ × List ℕ) (known : Known) (first now : List ℕ) → FitsKnown lines lawful base step known first now → Words (region_words lines) now
 known_words lines lawful base step known first now f = fits_words lines lawful base known.accesses first now f.fits
 
+-- the words now of a pair that fits the words loaded of a replica held shared are a region
 pub read_words : (lines : ℕ) (lawful : List ℕ → Type 0) (base : Base) (loaded : List (ℕ × ℕ)) (first now : List ℕ) → ReadFits lines lawful base loaded first now → Words (region_words lines) now
 read_words lines lawful base loaded first now f = fits_words lines lawful base (loads_of loaded) first now f.fits

@@ -60,9 +60,11 @@ noted_there ((true, at, u) ∷ accesses) i word first now below known leads v is
     noted_there accesses i (cond (at == i) (Some u) word) (set first at u) now (subst (λ n. i < n) (sym (length-set first at u)) below)
     (there_more word at i u first (set first at u) known (λ e. ap (λ n. slice_index (set first n u) i) e ∙ get_or-set_same first i u 0 below) (λ ne. get_or-set_other first at i u 0 (λ e. ne (sym e)))) leads.1 v is
 
+-- nothing is said of a word of which nothing is known
 nothing_there : (i : ℕ) (ws : List ℕ) → IsThere None i ws
 nothing_there i ws v is = absurd (none-some v is)
 
+-- the accesses of a region tell the word noted last of a place of it
 pub noted_tells : (region : ℕ) (accesses : List Note) (i v : ℕ) → i < region → word_noted None i accesses ≡ Some v → TellsWord region accesses i v
 noted_tells region accesses i v below is first now long leads = noted_there accesses i None first now (subst (λ n. i < n) (sym long) below) (nothing_there i first) leads v is
 

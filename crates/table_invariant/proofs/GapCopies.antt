@@ -8,9 +8,11 @@ use Rattle.cx_core.specs.Gaps.{AreWalked, Gap, IsGap, IsListedCopy, IsOfPlace, I
 use Rattle.cx_core.specs.State.{Instance}
 use Rattle.cx_core.specs.WriteSet.{IsWriteSetOf, stored}
 
+-- the first item of a list is in it
 contains_here : (x : ℕ) (xs : List ℕ) → Contains (x ∷ xs) x
 contains_here x xs = (0, omega arith, refl)
 
+-- an item of the rest of a list is in it
 contains_later : (y x : ℕ) (xs : List ℕ) → Contains xs x → Contains (y ∷ xs) x
 contains_later y x xs there = (suc there.0, omega (arith, there.1), there.2)
 
@@ -38,12 +40,14 @@ stays_for (suc count) full G lines from to lists n is quiet walked below unliste
     stays_for count full G lines (from + 1) to lists n (omega (arith, is)) quiet later below still k small
     ∙ walk_quiet full G from 0 (lists from) lines n quiet (walked from (omega arith) (omega (arith, is))) unlisted.0 below (unlisted.1 from (omega arith) (omega (arith, is))) k small
 
+-- a line that no list of the tickets between two places names is equal in the images at both places
 pub unlisted_lines_stay : (full : ℕ → List ℕ) (G : Gap → Type 0) (lines from to : ℕ) (lists : ℕ → List ℕ) (n : ℕ) →
     ((g : Gap) → G g → IsQuiet full g) → AreWalked G lines from to lists → from ≤ to → n < lines → IsUnlisted from to lists n →
     IsSameLine n (full from) (full to)
 unlisted_lines_stay full G lines from to lists n quiet walked order below unlisted =
     stays_for (to - from) full G lines from to lists n (omega (arith, order)) quiet walked below unlisted
 
+-- a copy of the listed lines alone, over a region at an earlier place, makes it the source
 pub listed_copies_are_the_source : (full : ℕ → List ℕ) (G : Gap → Type 0) (lines from to : ℕ) (lists : ℕ → List ℕ) (first now source : List ℕ) →
     ((g : Gap) → G g → IsQuiet full g) → AreWalked G lines from to lists → from ≤ to →
     IsOfPlace lines full from first → IsOfPlace lines full to source → length now ≡ 8 * lines →
@@ -72,6 +76,7 @@ unstored (suc m) set_ region i off =
     get_or-set_other (stored m set_ region) (slice_index set_ (2 * m + 1)) i (slice_index set_ (2 * m + 2)) 0 (off m (omega arith))
     ∙ unstored m set_ region i (λ q below. off q (omega (arith, below)))
 
+-- lines between which a write set of a ticket has no address are a gap of the ticket
 pub sets_tell_gaps : (instance : Instance) (history : List Entry) (g : Gap) (set_ : List ℕ) → IsWriteSetOf instance history g.ticket set_ →
     g.ticket + 1 ≤ instance.base.place + length history →
     ((m : ℕ) → m < slice_index set_ 0 → (slice_index set_ (2 * m + 1) < 8 * (g.from + 1)) ⊎ (8 * g.to ≤ slice_index set_ (2 * m + 1))) →

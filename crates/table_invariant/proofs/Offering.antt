@@ -55,6 +55,7 @@ module _ (lines : ℕ) (lawful : List ℕ → Type 0) (instance : Instance) (law
         },
       )))
 
+  -- a set that is a write set of whatever ticket its cell has, and the cell has one, is that of the cell
   set_is : (history : List Entry) (o : Option ℕ) (pairs : List ℕ) → ((t : ℕ) → o ≡ Some t → IsWriteSetOf instance history t pairs) → (t : ℕ) × (o ≡ Some t) → IsSetAt instance history o pairs
   set_is history None pairs good has = absurd (none-some has.0 has.1)
   set_is history (Some t) pairs good has = good t refl

@@ -97,6 +97,7 @@ greatest_named instance s law slot word t e (Names ticket entry j greatest below
     let least = greatest.greatest t e linked is_slot in
     (omega (arith, is), omega (arith, same, least))
 
+-- in a lawful state the rule says this of the word that a look at a slot finds
 look_known : (instance : Instance) (s : State) (law : Lawful instance s) (caller : ℕ) (l : Local) (slot : ℕ) → slice_get s.locals caller ≡ Some l → slot < cell_count instance.callers →
     KnownOfLook instance slot l (slice_index s.words (link_at instance.callers slot))
 look_known instance s law caller l slot at below = record {
@@ -116,6 +117,7 @@ look_known instance s law caller l slot at below = record {
     linked_at : (t : ℕ) → instance.base.place ≤ t → t < l.front → (e : Entry) × IsLinked instance.base.place law.history t e
     linked_at t from before = (let to = (law.fronts.each caller l at).to in linked_below instance.base.place law.history t from (omega arith))
 
+-- in a lawful state the rule says this of the word that a link finds
 link_known : (instance : Instance) (s : State) (law : Lawful instance s) (caller : ℕ) (l : Local) → slice_get s.locals caller ≡ Some l → ShowsOpen instance.callers l.seen_slot l.front →
     KnownOfLink instance l (slice_index s.words (link_at instance.callers (l.front % cell_count instance.callers)))
 link_known instance s law caller l at shows =
