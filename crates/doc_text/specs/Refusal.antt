@@ -9,6 +9,6 @@ use Rattle.doc_text.specs.declared.script_parts.Reason.{Reason}
 abbrev pub IsScriptFault : List ℕ → TextFault Reason → Type 0
 IsScriptFault text fault = lines.IsFault document_grammar text fault
 
--- the fault of a text that is no script of shared callers
+-- the fault of a text that is no script of a pool
 abbrev pub IsPoolFault : List ℕ → TextFault Reason → Type 0
 IsPoolFault text fault = lines.IsFault pool_grammar text fault
