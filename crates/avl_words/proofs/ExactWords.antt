@@ -90,6 +90,7 @@ one_word ws now t p but s =
       ]
     ]
 
+-- words that stand for a tree, and are otherwise as before, are those before with the tree's links
 pub only_words : (ws now : List ℕ) (t : Tree ℕ) → SameExcept ws now t → RepresentsTree now t → now ≡ with_links t ws
 unfolding with_links
 only_words ws now t but s =

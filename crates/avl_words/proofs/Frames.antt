@@ -26,13 +26,14 @@ pub root_on : (side : ℕ) (a : Tree ℕ) (x : ℕ) (b : Tree ℕ) → root (nod
 root_on zero a x b = refl
 root_on (suc k) a x b = refl
 
--- the words after
+-- giving a node its children and its height leaves as many words
 pub with_node_long : (line side a b : ℕ) (ws : List ℕ) → length (with_node line side a b ws) ≡ length ws
 unfolding with_node
 with_node_long line side a b ws =
     length-set (with_word line (1 - side) b (with_word line side a ws)) (8 * line + 2) (1 + max (high_of a ws) (high_of b ws))
     ∙ length-set (with_word line side a ws) (8 * line + (1 - side)) b ∙ length-set ws (8 * line + side) a
 
+-- giving a node its children and its height changes no other line, and none of its own words from 3 on
 pub with_node_same : (line side a b : ℕ) (ws : List ℕ) (k i : ℕ) → side < 2 → i < 8 → (k ≢ line) ⊎ (3 ≤ i) → word_of (with_node line side a b ws) k i ≡ word_of ws k i
 unfolding with_node
 with_node_same line side a b ws k i s l (inl ne) =
@@ -61,7 +62,7 @@ with_node_side line side a b ws s w =
     ∙ get_or-set_other (with_word line side a ws) (8 * line + (1 - side)) (8 * line + side) b 0 (omega arith)
     ∙ get_or-set_same ws (8 * line + side) a 0 (omega arith)
 
--- a tree none of whose lines has changed
+-- no word of a line has changed
 abbrev pub SameLine : List ℕ → List ℕ → ℕ → Type 0
 SameLine before now line = (i : ℕ) → i < 8 → word_of now line i ≡ word_of before line i
 
@@ -74,6 +75,7 @@ node_same ws now line left right high long same n = record {
   height_is = same 2 (lit< tt) ∙ n.height_is;
 }
 
+-- a tree stands after a change that left each of its lines as it was
 pub stands_same : (ws now : List ℕ) (t : Tree ℕ) → length now ≡ length ws → ((line : ℕ) → times line t ≢ 0 → SameLine ws now line) → RepresentsTree ws t → RepresentsTree now t
 stands_same ws now Empty long same s = tt
 stands_same ws now (Node l x r) long same s = (
@@ -93,6 +95,7 @@ high_some : (n : ℕ) (ws : List ℕ) → 1 ≤ n → high_of n ws ≡ word_of w
 high_some zero ws l = absurd (omega arith)
 high_some (suc n) ws l = refl
 
+-- the height below the link to a tree that stands is the tree's height
 pub high_is : (ws : List ℕ) (t : Tree ℕ) → RepresentsTree ws t → high_of (root t) ws ≡ height t
 high_is ws Empty s = refl
 high_is ws (Node l x r) s = high_some x ws s.0.some ∙ s.0.height_is

@@ -46,6 +46,7 @@ pub under_times : (k side : ℕ) (t : Tree ℕ) (x : ℕ) (s : Tree ℕ) → tim
 under_times k zero t x s = joined_times k t x s
 under_times k (suc n) t x s = joined_times k s x t
 
+-- a line is in a whole tree as often as in the way and in the tree at its end together
 pub whole_times : (k : ℕ) (way : List (Turn ℕ)) (t : Tree ℕ) → times k (whole way t) ≡ times_way k way + times k t
 whole_times k [] t = omega arith
 whole_times k (turn ∷ way) t =
@@ -53,6 +54,7 @@ whole_times k (turn ∷ way) t =
     let j = times_on k turn.side t turn.item turn.sibling in
     omega arith
 
+-- mending a way keeps how often a line is in the tree
 pub mended_times : (k : ℕ) (way : List (Turn ℕ)) (t : Tree ℕ) → times k (mended way t) ≡ times_way k way + times k t
 mended_times k [] t = omega arith
 mended_times k (turn ∷ way) t =
@@ -61,7 +63,7 @@ mended_times k (turn ∷ way) t =
     let u = under_times k turn.side t turn.item turn.sibling in
     omega arith
 
--- one node
+-- a node `x` at whose left side `t` is to hang is open, with `t` as the left tree and its sibling `s` as the right one
 open_left : (ws : List ℕ) (t : Tree ℕ) (x : ℕ) (s : Tree ℕ) → IsHanging ws 0 t x s → IsNodeOpen ws t x s
 open_left ws t x s h = record { some = h.some; within = h.within; left = h.hung; right = h.beside; once = h.once; low = h.low }
 
@@ -69,7 +71,7 @@ open_left ws t x s h = record { some = h.some; within = h.within; left = h.hung;
 open_right : (ws : List ℕ) (t : Tree ℕ) (x : ℕ) (s : Tree ℕ) → IsHanging ws 1 t x s → IsNodeOpen ws s x t
 open_right ws t x s h = record { some = h.some; within = h.within; left = h.beside; right = h.hung; once = λ line. (let n = h.once line in omega (arith, n)); low = h.low }
 
--- the link to the sibling
+-- the link at the other side of a node at which a tree is to hang is one to a node that is there, or to nothing
 pub hang_link : (ws : List ℕ) (node side child high : ℕ) → CanHang ws node side child high → HasLink ws node (1 - side)
 hang_link ws node side child high c =
     let there = subst (IsWithin ws) c.node_is c.hanging.within in
@@ -81,6 +83,7 @@ link_there : (ws : List ℕ) (node side sibling : ℕ) (t : Tree ℕ) (x : ℕ) 
 link_there ws node side sibling t x s h e w = sym h.link_is ∙ ap (λ n. word_of ws n (1 - side)) e ∙ w
 
 module _ (ws : List ℕ) (node side child high sibling sh : ℕ) (b : IsSubtree node (1 - side) sibling sh ws) where
+  -- a node at whose left side a tree is to hang can be joined over that tree and the sibling that is there
   pub can_left : CanHang ws node side child high → side ≡ 0 → CanJoin ws node child high sibling sh
   can_left c z = record {
     item = c.item;
@@ -94,6 +97,7 @@ module _ (ws : List ℕ) (node side child high sibling sh : ℕ) (b : IsSubtree 
     right_high_is = b.high_is;
   }
 
+  -- a node at whose right side a tree is to hang can be joined over the sibling that is there and that tree
   pub can_right : CanHang ws node side child high → side ≡ 1 → CanJoin ws node sibling sh child high
   can_right c z = record {
     item = c.item;
@@ -119,7 +123,7 @@ module _ (ws : List ℕ) (node side child high sibling sh : ℕ) (b : IsSubtree 
       subst (λ k. IsHigh ws now (node_on k t x s) (under k t x s) top top_high) (sym z)
       (j x s t (open_right ws t x s (subst (λ k. IsHanging ws k t x s) z h)) e (link_there ws node side sibling t x s h e b.link_is) f)
 
--- the whole way
+-- the nodes of a way and what hangs beside it stay as they are over a change of a tree that has none of their lines
 pub spine_kept : (a b : List ℕ) (t : Tree ℕ) (way : List (Turn ℕ)) → SameExcept a b t → ((line : ℕ) → times_way line way + times line t ≤ 1) → Spine a way → Spine b way
 spine_kept a b t [] but once s = tt
 spine_kept a b t (turn ∷ way) but once s =
@@ -131,6 +135,7 @@ spine_kept a b t (turn ∷ way) but once s =
       spine_kept a b t way but (λ k. (let n = once k in omega (arith, n))) s.4,
     )
 
+-- a tree that is to hang at the end of a way is to hang at the last node of the way
 pub hanging_is : (ws nodes sides : List ℕ) (depth : ℕ) (turn : Turn ℕ) (way : List (Turn ℕ)) (t : Tree ℕ) (node : ℕ) → IsHung ws nodes sides depth (turn ∷ way) t node → IsHanging ws turn.side t turn.item turn.sibling
 hanging_is ws nodes sides depth turn way t node h = record {
   some = h.spine.0;
@@ -145,7 +150,7 @@ hanging_is ws nodes sides depth turn way t node h = record {
 pub last_is : (depth : ℕ) (turn : Turn ℕ) (way : List (Turn ℕ)) → length (turn ∷ way) ≡ depth → length way ≡ depth - 1
 last_is depth turn way e = omega arith
 
--- the node to hang it at
+-- a tree that is to hang at the end of a noted way can hang at the last node that is noted
 pub hung_at : (ws nodes sides : List ℕ) (depth : ℕ) (way : List (Turn ℕ)) (t : Tree ℕ) (node high : ℕ) → IsHung ws nodes sides depth way t node → height t ≡ high → 1 ≤ depth → CanHang ws (get_or nodes (depth - 1) 0) (get_or sides (depth - 1) 0) node high
 hung_at ws nodes sides depth [] t node high h tall some = absurd (let e = h.long in omega arith)
 hung_at ws nodes sides depth (turn ∷ way) t node high h tall some =
@@ -161,6 +166,7 @@ hung_at ws nodes sides depth (turn ∷ way) t node high h tall some =
       high_is = ap (λ k. high_of k ws) (sym h.root_is) ∙ high_is ws t h.stands ∙ tall;
     }
 
+-- the last side that is noted of a way is 0 or 1
 pub side_at : (ws nodes sides : List ℕ) (depth : ℕ) (way : List (Turn ℕ)) (t : Tree ℕ) (node : ℕ) → IsHung ws nodes sides depth way t node → 1 ≤ depth → get_or sides (depth - 1) 0 < 2
 side_at ws nodes sides depth [] t node h some = absurd (let e = h.long in omega arith)
 side_at ws nodes sides depth (turn ∷ way) t node h some =

@@ -21,7 +21,7 @@ use Rattle.avl_words.proofs.Taking.{gone_hung, gone_settled, least_is_there, tim
 use Rattle.avl_words.proofs.Relinking.{settled_of}
 use Rattle.avl_words.proofs.Walks.{stands_at, noted_set}
 
--- the node of a turn noted is another
+-- a way that is noted stays so where another node is noted at its depth or a greater one
 noted_below : (nodes sides : List ℕ) (way : List (Turn ℕ)) (d a : ℕ) → length way ≤ d → IsWayNoted nodes sides way → IsWayNoted (set nodes d a) sides way
 noted_below nodes sides [] d a le n = tt
 noted_below nodes sides (turn ∷ way) d a le n = (get_or-set_other nodes d (length way) a 0 (omega arith) ∙ n.0, n.1, n.2, noted_below nodes sides way d a (omega arith) n.3)
@@ -42,7 +42,7 @@ noted_other nodes sides (turn ∷ passed) way x m s room n =
       noted_other nodes sides passed way x m s room n.3,
     )
 
--- down to the least node
+-- a walk down to the least node begins at the node below which a way is noted
 pub descending_begins : (ws nodes sides : List ℕ) (depth node : ℕ) (way : List (Turn ℕ)) (c : Tree ℕ) (z : ℕ) (d : Tree ℕ) → IsBelow ws nodes sides depth node way c z d → IsDescending ws nodes sides depth node way c z d
 descending_begins ws nodes sides depth node way c z d b =
     record { passed = []; left = c; item = z; right = d; same = refl; whole_is = refl; noted = b.noted; long = b.long; node_is = b.node_is; stands = b.stands }
@@ -95,7 +95,7 @@ descending_on ws nodes sides depth node left way c z d o w n room space =
 pub descending_within : (ws nodes sides : List ℕ) (depth node : ℕ) (way : List (Turn ℕ)) (c : Tree ℕ) (z : ℕ) (d : Tree ℕ) → IsDescending ws nodes sides depth node way c z d → IsWithin ws node
 descending_within ws nodes sides depth node way c z d o = subst (IsWithin ws) o.node_is o.stands.0.within
 
--- no tree goes down so far
+-- a walk down to the least node is at a depth below 64, where the way and the height of the tree below it are at most 64 together
 pub descending_room : (ws nodes sides : List ℕ) (depth node first : ℕ) (way : List (Turn ℕ)) (c : Tree ℕ) (z : ℕ) (d : Tree ℕ) → IsDescending ws nodes sides depth node way c z d → length way ≡ first → first + height (Node c z d) ≤ 64 → depth < 64
 descending_room ws nodes sides depth node first way c z d o long room =
     let h = height_at o.passed (Node o.left o.item o.right) in
@@ -104,8 +104,9 @@ descending_room ws nodes sides depth node first way c z d o long room =
     let l = o.long in
     omega (arith, h, e, a, l)
 
--- what is to hang there
+-- the tree that is to hang at the end of a way where a node is taken out
 module _ (ws nodes sides : List ℕ) (depth node left right : ℕ) (way : List (Turn ℕ)) where
+  -- a balanced tree of lines apart, at most 64 high, stands, the way to this part of it is noted, and its node has these links
   pub record IsAtEnd (here : Tree ℕ) : Type 0 where
     pub stands : RepresentsTree ws (whole way here)
     pub balanced : Balanced (whole way here)
@@ -133,6 +134,7 @@ module _ (ws nodes sides : List ℕ) (depth node left right : ℕ) (way : List (
     but = record { long = refl; same = λ line i l h. refl };
   }
 
+  -- a node at the end of the way without a left child is out with no word changed: its right child is to take its place
   pub left_out : (here : Tree ℕ) → IsAtEnd here → left ≡ 0 → IsNodeOut ws ws nodes sides depth depth right way here
   left_out Empty e z = tt
   left_out (Node Empty x r) e z =
@@ -163,7 +165,7 @@ module _ (ws nodes sides : List ℕ) (depth node left right : ℕ) (way : List (
       let is : v ≡ right = sym s.0.right_is ∙ ap (λ k. word_of ws k 1) (sym e.node_is) ∙ e.right_is in
       absurd (let some = s.2.0.some in omega arith)
 
-  -- with two children
+  -- what stands here is a node `x` with two children: the nodes `y` and `z` with their subtrees
   pub record HasBoth (here : Tree ℕ) : Type 0 where
     pub a : Tree ℕ
     pub y : ℕ
@@ -207,6 +209,7 @@ module _ (ws nodes sides : List ℕ) (depth node left right : ℕ) (way : List (
     abbrev pub next_way : List (Turn ℕ)
     next_way = record { side = 1; item = p.x; sibling = Node p.a p.y p.b } ∷ way
 
+    -- the way to the right child is noted, with the turn to the right at the node, and the right tree stands at its end
     pub is_below : length nodes ≡ 64 → length sides ≡ 64 → IsBelow ws (set nodes depth node) (set sides depth 1) (depth + 1) right (record { side = 1; item = p.x; sibling = Node p.a p.y p.b } ∷ way) p.c p.z p.d
     is_below nodes_long sides_long = record {
       noted = (
@@ -220,6 +223,7 @@ module _ (ws nodes sides : List ℕ) (depth node left right : ℕ) (way : List (
       node_is = right_here;
     }
 
+    -- a walk down to the least node of the right tree may begin
     pub can_descend : length nodes ≡ 64 → length sides ≡ 64 → CanDescend ws (set nodes depth node) (set sides depth 1) (depth + 1) right
     can_descend nodes_long sides_long = record {
       way = record { side = 1; item = p.x; sibling = Node p.a p.y p.b } ∷ way;
@@ -233,6 +237,7 @@ module _ (ws nodes sides : List ℕ) (depth node left right : ℕ) (way : List (
     pub least_within : (m : ℕ) → (least [] p.c p.z p.d).item ≡ m → IsWithin ws m
     least_within m is = subst (IsWithin ws) is (least_is_there ws nodes sides depth way p.a p.y p.b p.x p.c p.z p.d e.stands e.balanced e.once e.low).0.within
 
+    -- with the least node in its place on the way, and the left child linked to it, the node is out: what was below the least node is to hang there
     pub raised : (nodes_now sides_now : List ℕ) (depth_now m rest : ℕ) (now : List ℕ) → length nodes_now ≡ 64 →
         IsLeastNode nodes_now sides_now depth_now m (record { side = 1; item = p.x; sibling = Node p.a p.y p.b } ∷ way) p.c p.z p.d → word_of ws m 1 ≡ rest → now ≡ with_word m 0 left ws →
         IsNodeOut ws now (set nodes_now depth m) sides_now depth_now depth rest way here
@@ -253,7 +258,7 @@ module _ (ws nodes sides : List ℕ) (depth node left right : ℕ) (way : List (
         (subst (λ k. IsGone ws now (set nodes_now depth m) sides_now depth_now depth k (q.way ++ up) q.rest) rest_is
         (subst (λ v. IsGone ws v (set nodes_now depth m) sides_now depth_now depth (root q.rest) (q.way ++ up) q.rest) words (record { hung = hung; settled_way = settled; but = but })))
 
--- as the code runs
+-- the end of a walk at a node that is there, as what is known of the words at it
 pub at_end : (ws nodes sides : List ℕ) (order : ℕ → Ordering) (depth node left right : ℕ) (t : Tree ℕ) → IsThere ws nodes sides order depth node t → word_of ws node 0 ≡ left → word_of ws node 1 ≡ right →
     IsAtEnd ws nodes sides depth node left right (spot order [] t).0 (spot order [] t).1
 at_end ws nodes sides order depth node left right t i l r =
@@ -270,11 +275,12 @@ at_end ws nodes sides order depth node left right t i l r =
       right_is = r;
     }
 
--- from what is to hang there to the whole
+-- mending the way with the tree that is to hang in a node's place makes the whole tree without that node
 out_made : (ws mid now nodes sides : List ℕ) (depth settled rest high top : ℕ) (way : List (Turn ℕ)) (l : Tree ℕ) (x : ℕ) (r : Tree ℕ) → IsNodeOut ws mid nodes sides depth settled rest way (Node l x r) → high_of rest mid ≡ high → Mends nodes sides depth settled rest high top mid now →
     IsTreeMade mid now (whole (gone_way way l r) (gone_rest l r)) (mended (gone_way way l r) (gone_rest l r)) top
 out_made ws mid now nodes sides depth settled rest high top way l x r o tall m = m (gone_way way l r) (gone_rest l r) o.hung tall o.settled_way
 
+-- mending the way with the tree that is to hang in a node's place, and storing the new root, makes the words of the tree without that node
 out_words : (ws mid now nodes sides : List ℕ) (depth settled rest high top : ℕ) (way : List (Turn ℕ)) (here : Tree ℕ) → here ≢ Empty → IsNodeOut ws mid nodes sides depth settled rest way here → high_of rest mid ≡ high → Mends nodes sides depth settled rest high top mid now →
     with_word 0 1 top now ≡ with_tree (with_out way here) ws
 unfolding with_tree
@@ -296,33 +302,37 @@ pub takes : (ws mid now last nodes sides nodes_now sides_now : List ℕ) (depth 
 takes ws mid now last nodes sides nodes_now sides_now depth node left right depth_now rest high top l r u tall m e order t i =
     e ∙ out_words ws mid now nodes_now sides_now depth_now depth rest high top (spot order [] t).0 (spot order [] t).1 (not_empty (spot order [] t).1 node i.spot.node_is i.some) (u order t i l r) tall m
 
+-- the way to a node that was taken out so far can be mended with the tree that is to hang in its place
 out_hung : (ws mid nodes sides : List ℕ) (depth settled rest high : ℕ) (way : List (Turn ℕ)) (here : Tree ℕ) → here ≢ Empty → IsNodeOut ws mid nodes sides depth settled rest way here → high_of rest mid ≡ high → CanMend mid nodes sides depth settled rest high
 out_hung ws mid nodes sides depth settled rest high way Empty n o tall = absurd (n refl)
 out_hung ws mid nodes sides depth settled rest high way (Node l x r) n o tall = record { way = gone_way way l r; tree = gone_rest l r; hung = o.hung; high_is = tall; settled_way = o.settled_way }
 
+-- where a node was taken out so far that a tree is to hang in its place, the way to it can be mended with that tree
 pub can_mend_out : (ws mid nodes sides nodes_now sides_now : List ℕ) (depth node left right depth_now rest high : ℕ) → HasTwo ws nodes sides depth node left right → RaisesNode nodes sides depth node left right nodes_now sides_now depth_now rest ws mid →
     high_of rest mid ≡ high → CanMend mid nodes_now sides_now depth_now depth rest high
 can_mend_out ws mid nodes sides nodes_now sides_now depth node left right depth_now rest high h u tall =
     let i = h.can.there in
     out_hung ws mid nodes_now sides_now depth_now depth rest high (spot h.can.order [] h.can.tree).0 (spot h.can.order [] h.can.tree).1 (not_empty (spot h.can.order [] h.can.tree).1 node i.spot.node_is i.some) (u h.can.order h.can.tree i h.left_is h.right_is) tall
 
--- what is to hang there is a node that is there, or nothing
+-- what is to hang in a node's place is a node within the words, or nothing
 pub rest_there : (ws mid nodes sides nodes_now sides_now : List ℕ) (depth node left right depth_now rest : ℕ) → HasTwo ws nodes sides depth node left right → RaisesNode nodes sides depth node left right nodes_now sides_now depth_now rest ws mid →
     rest ≢ 0 → IsWithin mid rest
 rest_there ws mid nodes sides nodes_now sides_now depth node left right depth_now rest h u n =
     (let c = can_mend_out ws mid nodes sides nodes_now sides_now depth node left right depth_now rest (high_of rest mid) h u refl in at_root c.tree c.hung.stands c.hung.root_is)
   where
+    -- the root of a tree that the words stand for is within them, where it is `rest` and that is not 0
     at_root : (t : Tree ℕ) → RepresentsTree mid t → root t ≡ rest → IsWithin mid rest
     at_root Empty s e = absurd (n (sym e))
     at_root (Node l x r) s e = subst (IsWithin mid) e s.0.within
 
+-- a node that can be taken out is within the words
 pub node_there : (ws nodes sides : List ℕ) (depth node : ℕ) → CanTakeNode ws nodes sides depth node → IsWithin ws node
 node_there ws nodes sides depth node c =
     let i = c.there in
     let e = spot_whole c.order [] c.tree in
     at_root (spot c.order [] c.tree).1 (stands_at ws (spot c.order [] c.tree).0 (spot c.order [] c.tree).1 (subst (RepresentsTree ws) (sym e) i.tree.stands)) i.spot.node_is i.some
   where
-    -- the root of a standing tree `t` is within the words where it is what is to hang there, which is not 0
+    -- the root of a tree that the words stand for is within them, where it is `node` and that is not 0
     at_root : (here : Tree ℕ) → RepresentsTree ws here → node ≡ root here → node ≢ 0 → IsWithin ws node
     at_root Empty s e n = absurd (n e)
     at_root (Node l x r) s e n = subst (IsWithin ws) (sym e) s.0.within
@@ -345,14 +355,14 @@ one_raises_right x y nodes sides depth node left right e n z order t i l r =
     subst (λ w. IsNodeOut x w nodes sides depth depth left (spot order [] t).0 (spot order [] t).1) e
     (right_out x nodes sides depth node left right (spot order [] t).0 (spot order [] t).1 (at_end x nodes sides order depth node left right t i l r) n z)
 
--- the end of the loop is never reached: no tree goes down so far
+-- a walk down to the least node never reaches depth 64, since the way and the height of the tree below it are at most 64 together
 pub descending_deep : (ws nodes sides : List ℕ) (depth node : ℕ) (nodes_now sides_now : List ℕ) (depth_now node_now : ℕ) → CanDescend ws nodes sides depth node → 64 ≤ depth_now →
     ((way : List (Turn ℕ)) (c : Tree ℕ) (z : ℕ) (d : Tree ℕ) → IsBelow ws nodes sides depth node way c z d → IsDescending ws nodes_now sides_now depth_now node_now way c z d) → ⊥
 descending_deep ws nodes sides depth node nodes_now sides_now depth_now node_now h deep o =
     let r = descending_room ws nodes_now sides_now depth_now node_now depth h.way h.left h.item h.right (o h.way h.left h.item h.right h.below) h.below.long h.room in
     absurd (omega arith)
 
--- with two children
+-- the walk's end where the node has these two links, as what is known of the words at it
 end_of : (ws nodes sides : List ℕ) (depth node left right : ℕ) (h : HasTwo ws nodes sides depth node left right) → IsAtEnd ws nodes sides depth node left right (spot h.can.order [] h.can.tree).0 (spot h.can.order [] h.can.tree).1
 end_of ws nodes sides depth node left right h = at_end ws nodes sides h.can.order depth node left right h.can.tree h.can.there h.left_is h.right_is
 

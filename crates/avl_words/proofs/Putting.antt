@@ -25,6 +25,7 @@ attempt_stands : (ws : List ℕ) (side : ℕ) (t : Tree ℕ) (x : ℕ) (s : Tree
 attempt_stands ws zero t x s h = (h.0.some, h.0.within, h.0.right_is, h.2)
 attempt_stands ws (suc k) t x s h = (h.0.some, h.0.within, (let e : 1 - suc k ≡ 0 = omega arith in ap (λ i. word_of ws x i) e ∙ h.0.left_is), h.1)
 
+-- the nodes of a way down a tree that stands are there, with what hangs at their other sides
 pub spine_of : (ws : List ℕ) (way : List (Turn ℕ)) (t : Tree ℕ) → RepresentsTree ws (whole way t) → Spine ws way
 spine_of ws [] t s = tt
 spine_of ws (turn ∷ way) t s =

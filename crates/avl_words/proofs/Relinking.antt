@@ -126,6 +126,7 @@ relinks ws now nodes sides depth node some is (turn ∷ way) t old h s level =
     subst (λ v. IsTreeMade ws v (whole (turn ∷ way) t) (whole (turn ∷ way) t) (get_or nodes 0 0)) words
     (relinked ws nodes sides turn way t old node h.noted h.spine h.stands h.root_is h.once s level)
 
+-- where a way can be relinked, the node noted last of it is within the words, and its side is 0 or 1
 pub relink_there : (ws nodes sides : List ℕ) (depth node : ℕ) → CanRelink ws nodes sides depth node → 1 ≤ depth → IsWithin ws (get_or nodes (depth - 1) 0) × (get_or sides (depth - 1) 0 < 2)
 relink_there ws nodes sides depth node c some = by_way c.way c.hung
   where

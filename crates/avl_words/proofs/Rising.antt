@@ -155,13 +155,15 @@ mending_stops before mid now last nodes sides depth settled node first_high rest
               (except_more now last (whole left new) (whole way t) (λ k. (let w = whole_times k left new in let o = v.lines k in let c = counted k in omega (arith, w, o, c))) made.but));
         }
 
--- what every words that may stand allow
+-- where a part of the way is not mended yet, what is mended can hang at the last node of that part
 pub can_go_on : (before mid nodes sides : List ℕ) (depth settled node high rest top top_high : ℕ) → CanMend before nodes sides depth settled node high → Mending nodes sides depth settled node high rest top top_high before mid → 1 ≤ rest →
     CanHang mid (get_or nodes (rest - 1) 0) (get_or sides (rest - 1) 0) top top_high
 can_go_on before mid nodes sides depth settled node high rest top top_high c m some = (let a = m c.way c.tree c.hung c.high_is c.settled_way in hung_at mid nodes sides rest a.rest a.tree top top_high a.hung a.high_is some)
 
+-- the side noted last of the way that is not mended yet is 0 or 1
 pub side_below : (before mid nodes sides : List ℕ) (depth settled node high rest top top_high : ℕ) → CanMend before nodes sides depth settled node high → Mending nodes sides depth settled node high rest top top_high before mid → 1 ≤ rest → get_or sides (rest - 1) 0 < 2
 side_below before mid nodes sides depth settled node high rest top top_high c m some = (let a = m c.way c.tree c.hung c.high_is c.settled_way in side_at mid nodes sides rest a.rest a.tree top a.hung some)
 
+-- the node noted last of the way that is not mended yet is within the words
 pub node_within : (before mid nodes sides : List ℕ) (depth settled node high rest top top_high : ℕ) → CanMend before nodes sides depth settled node high → Mending nodes sides depth settled node high rest top top_high before mid → 1 ≤ rest → IsWithin mid (get_or nodes (rest - 1) 0)
 node_within before mid nodes sides depth settled node high rest top top_high c m some = (let h = can_go_on before mid nodes sides depth settled node high rest top top_high c m some in subst (IsWithin mid) h.node_is h.hanging.within)

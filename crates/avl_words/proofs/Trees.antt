@@ -5,8 +5,7 @@ use Rattle.std.proofs.lemmas.List.{append-nil}
 use Rattle.avl_words.specs.Tree.{Tree, Empty, Node, height, items, IsLevel, Balanced, node_on, inner_up, child_up, rotated, joined}
 use Rattle.avl_words.specs.Ways.{Turn, under, whole, mended, passed, ahead, before, behind}
 
--- Two balanced trees whose heights differ by at most two: the node over them is at most one higher than the higher one,
--- and one higher where they differ by at most one.
+-- these heights differ by at most two
 pub record IsNear (l r : ℕ) : Type 0 where
   pub left : l ≤ r + 2
   pub right : r ≤ l + 2
@@ -23,22 +22,25 @@ step_level o n b u s level least most f =
     ]
 
 module _ {A : Type 0} where
-  -- what stands in order
+  -- a double rotation, by which the root of the inner tree goes up, keeps the items in their order
   pub inner_up_items : (side : ℕ) (outer : Tree A) (y : A) (inner : Tree A) (x : A) (low : Tree A) → items (inner_up side outer y inner x low) ≡ items (node_on side (node_on side outer y inner) x low)
   inner_up_items zero outer y Empty x low = simp append_assoc
   inner_up_items (suc k) outer y Empty x low = simp append_assoc
   inner_up_items zero outer y (Node l z r) x low = simp append_assoc
   inner_up_items (suc k) outer y (Node l z r) x low = simp append_assoc
 
+  -- a single rotation keeps the items in their order
   pub single_items : (side : ℕ) (outer : Tree A) (y : A) (inner : Tree A) (x : A) (low : Tree A) → items (node_on side outer y (node_on side inner x low)) ≡ items (node_on side (node_on side outer y inner) x low)
   single_items zero outer y inner x low = simp append_assoc
   single_items (suc k) outer y inner x low = simp append_assoc
 
+  -- rotating a node whose child is given by its parts keeps the items in their order
   pub child_up_items : (side : ℕ) (outer : Tree A) (y : A) (inner : Tree A) (x : A) (low : Tree A) → items (child_up side outer y inner x low) ≡ items (node_on side (node_on side outer y inner) x low)
   child_up_items side outer y inner x low =
       cond_both (leb (height inner) (height outer)) (node_on side outer y (node_on side inner x low)) (inner_up side outer y inner x low)
       (λ t. items t ≡ items (node_on side (node_on side outer y inner) x low)) (λ _. single_items side outer y inner x low) (λ _. inner_up_items side outer y inner x low)
 
+  -- rotating a node keeps the items in their order
   pub rotated_items : (side : ℕ) (t : Tree A) (x : A) (low : Tree A) → items (rotated side t x low) ≡ items (node_on side t x low)
   rotated_items side Empty x low = refl
   rotated_items zero (Node l y r) x low = child_up_items zero l y r x low
@@ -51,26 +53,29 @@ module _ {A : Type 0} where
       (λ t. items t ≡ items l ++ x ∷ items r) (λ _. rotated_items 1 r x l)
       (λ _. cond_both (leb (height r + 2) (height l)) (rotated 0 l x r) (Node l x r) (λ t. items t ≡ items l ++ x ∷ items r) (λ _. rotated_items 0 l x r) (λ _. refl))
 
-  -- around a place
+  -- the items of a node that is balanced again over a tree at a side: what the way passed there, the tree's items, and what is ahead
   pub under_items : (side : ℕ) (t : Tree A) (x : A) (sibling : Tree A) → items (under side t x sibling) ≡ passed side x sibling ++ (items t ++ ahead side x sibling)
   under_items zero t x sibling = joined_items t x sibling
   under_items (suc k) t x sibling = joined_items sibling x t ∙ simp (append_assoc, append-nil)
 
+  -- the items of a node over a tree at a side: what a way passes there, the tree's items, and what is ahead
   pub on_items : (side : ℕ) (t : Tree A) (x : A) (sibling : Tree A) → items (node_on side t x sibling) ≡ passed side x sibling ++ (items t ++ ahead side x sibling)
   on_items zero t x sibling = refl
   on_items (suc k) t x sibling = simp (append_assoc, append-nil)
 
+  -- the items of a whole tree are those before the end of a way, those of the tree there, and those behind it
   pub whole_items : (way : List (Turn A)) (t : Tree A) → items (whole way t) ≡ before way ++ (items t ++ behind way)
   whole_items [] t = simp append-nil
   whole_items (turn ∷ way) t =
       whole_items way (node_on turn.side t turn.item turn.sibling) ∙ ap (λ s. before way ++ (s ++ behind way)) (on_items turn.side t turn.item turn.sibling) ∙ simp append_assoc
 
+  -- mending a way keeps the items in their order
   pub mended_items : (way : List (Turn A)) (t : Tree A) → items (mended way t) ≡ before way ++ (items t ++ behind way)
   mended_items [] t = simp append-nil
   mended_items (turn ∷ way) t =
       mended_items way (under turn.side t turn.item turn.sibling) ∙ ap (λ s. before way ++ (s ++ behind way)) (under_items turn.side t turn.item turn.sibling) ∙ simp append_assoc
 
-  -- heights
+  -- a node is one higher than the higher of its children, whichever side the first is at
   pub height_on : (side : ℕ) (a : Tree A) (x : A) (b : Tree A) → height (node_on side a x b) ≡ 1 + max (height a) (height b)
   height_on zero a x b = refl
   height_on (suc k) a x b = omega arith
@@ -86,7 +91,8 @@ module _ {A : Type 0} where
     pub least : h ≤ height t
     pub most : height t ≤ h + 1
 
-  -- where the inner tree is one higher than the outer, a double rotation gives a balanced tree two or three higher than the low one
+  -- Where the inner tree is one higher than the outer, and the outer is as high as the low one, a double rotation gives a balanced tree that is two or three
+  -- higher than the low one.
   inner_up_joined : (side : ℕ) (outer : Tree A) (y : A) (inner : Tree A) (x : A) (low : Tree A) → Balanced outer → Balanced inner → Balanced low →
       height inner ≡ height outer + 1 → height outer ≡ height low → IsJoined (inner_up side outer y inner x low) (height low + 2)
   inner_up_joined side outer y Empty x low p q r e f = absurd (omega arith)
@@ -101,7 +107,8 @@ module _ {A : Type 0} where
     most = omega (arith, q.0);
   }
 
-  -- where the inner tree is no higher than the outer, a single rotation gives a balanced tree two or three higher than the low one
+  -- Where the outer tree is one higher than the low one, and the inner is as high as the outer or one lower, a single rotation gives a balanced tree that is two
+  -- or three higher than the low one.
   single_joined : (side : ℕ) (outer : Tree A) (y : A) (inner : Tree A) (x : A) (low : Tree A) → Balanced outer → Balanced inner → Balanced low → IsLevel (height outer) (height inner) →
       height inner ≤ height outer → height outer ≡ height low + 1 → IsJoined (node_on side outer y (node_on side inner x low)) (height low + 2)
   single_joined side outer y inner x low p q r level e f =
@@ -129,6 +136,7 @@ module _ {A : Type 0} where
   rotated_joined (suc k) (Node a y b) x low p r e =
       subst (IsJoined (child_up (suc k) b y a x low)) (sym e) (child_up_joined (suc k) b y a x low p.2 p.1 r (record { left = p.0.right; right = p.0.left }) (omega arith))
 
+  -- a balanced tree that is as high as the higher of these heights or one higher, and one higher where they differ by at most one
   pub record IsBound (t : Tree A) (l r : ℕ) : Type 0 where
     pub balanced : Balanced t
     pub least : max l r ≤ height t
@@ -166,6 +174,7 @@ module _ {A : Type 0} where
   balanced_parts zero t x sibling b = b
   balanced_parts (suc k) t x sibling b = (record { left = b.0.right; right = b.0.left }, b.2, b.1)
 
+  -- what stands at the end of a way in a balanced tree is balanced
   pub balanced_at : (way : List (Turn A)) (t : Tree A) → Balanced (whole way t) → Balanced t
   balanced_at [] t b = b
   balanced_at (turn ∷ way) t b = (balanced_parts turn.side t turn.item turn.sibling (balanced_at way (node_on turn.side t turn.item turn.sibling) b)).1

@@ -15,6 +15,7 @@ parts_stand : (ws : List ℕ) (side : ℕ) (t : Tree ℕ) (x : ℕ) (s : Tree �
 parts_stand ws zero t x s h = h.1
 parts_stand ws (suc k) t x s h = h.2
 
+-- what stands at the end of a way in a tree that stands, stands itself
 pub stands_at : (ws : List ℕ) (way : List (Turn ℕ)) (t : Tree ℕ) → RepresentsTree ws (whole way t) → RepresentsTree ws t
 stands_at ws [] t s = s
 stands_at ws (turn ∷ way) t s = parts_stand ws turn.side t turn.item turn.sibling (stands_at ws way (node_on turn.side t turn.item turn.sibling) s)

@@ -18,11 +18,13 @@ pub record IsBeside (words nodes sides : List ℕ) (order : ℕ → Ordering) (d
   pub leaf : IsNode words node 0 0 1
   pub apart : times node t ≡ 0
 
+-- a leaf can be put where a walk by some order ended at nothing, in some tree
 pub record CanPut (words nodes sides : List ℕ) (depth node : ℕ) : Type 0 where
   pub order : ℕ → Ordering
   pub tree : Tree ℕ
   pub beside : IsBeside words nodes sides order depth node tree
 
+-- in each tree that stood before, the leaf is put where the walk ended, and the words now are those with the links of that tree
 abbrev pub PutsNode : List ℕ → List ℕ → ℕ → ℕ → List ℕ → List ℕ → Type 0
 PutsNode nodes sides depth node before now =
     (order : ℕ → Ordering) (t : Tree ℕ) → IsBeside before nodes sides order depth node t → now ≡ with_tree (with_new order node t) before
@@ -34,11 +36,13 @@ pub record IsThere (words nodes sides : List ℕ) (order : ℕ → Ordering) (de
   pub spot : IsSpot nodes sides order depth node t
   pub some : node ≢ 0
 
+-- the node at which a walk by some order ended can be taken out, of some tree
 pub record CanTakeNode (words nodes sides : List ℕ) (depth node : ℕ) : Type 0 where
   pub order : ℕ → Ordering
   pub tree : Tree ℕ
   pub there : IsThere words nodes sides order depth node tree
 
+-- of each tree that stood before, the item where the walk ended is taken out, and the words now are those with the links of the tree without it
 abbrev pub TakesNode : List ℕ → List ℕ → ℕ → ℕ → List ℕ → List ℕ → Type 0
 TakesNode nodes sides depth node before now =
     (order : ℕ → Ordering) (t : Tree ℕ) → IsThere before nodes sides order depth node t → now ≡ with_tree (without order t) before
@@ -56,6 +60,7 @@ pub record IsBelow (words nodes sides : List ℕ) (depth node : ℕ) (way : List
   pub stands : RepresentsTree words (Node c z d)
   pub node_is : z ≡ node
 
+-- a way is noted to a node that stands with some children, and the way and the tree's height are at most 64 together
 pub record CanDescend (words nodes sides : List ℕ) (depth node : ℕ) : Type 0 where
   pub way : List (Turn ℕ)
   pub left : Tree ℕ
@@ -70,6 +75,7 @@ pub record IsLeastNode (nodes sides : List ℕ) (depth node : ℕ) (way : List (
   pub long : length ((least [] c z d).way ++ way) ≡ depth
   pub node_is : (least [] c z d).item ≡ node
 
+-- of each tree that stood at the end of the way, the way on to its least node is noted now, and that node is given
 abbrev pub Descends : List ℕ → List ℕ → ℕ → ℕ → List ℕ → List ℕ → ℕ → ℕ → List ℕ → Type 0
 Descends nodes sides depth node nodes_now sides_now depth_now node_now words =
     (way : List (Turn ℕ)) (c : Tree ℕ) (z : ℕ) (d : Tree ℕ) → IsBelow words nodes sides depth node way c z d → IsLeastNode nodes_now sides_now depth_now node_now way c z d
@@ -80,10 +86,12 @@ pub record IsGone (before now nodes sides : List ℕ) (depth settled node : ℕ)
   pub settled_way : Settled now settled way
   pub but : SameExcept before now (whole way t)
 
+-- where a node stands here, what is to hang in its place is at the end of the way that its removal leaves
 abbrev pub IsNodeOut : List ℕ → List ℕ → List ℕ → List ℕ → ℕ → ℕ → ℕ → List (Turn ℕ) → Tree ℕ → Type 0
 IsNodeOut before now nodes sides depth settled node way Empty = Unit {0}
 IsNodeOut before now nodes sides depth settled node way (Node l x r) = IsGone before now nodes sides depth settled node (gone_way way l r) (gone_rest l r)
 
+-- in each tree that stood before with the walk's end at this node, which has these two links, what is to hang in the node's place is given
 abbrev pub RaisesNode : List ℕ → List ℕ → ℕ → ℕ → ℕ → ℕ → List ℕ → List ℕ → ℕ → ℕ → List ℕ → List ℕ → Type 0
 RaisesNode nodes sides depth node left right nodes_now sides_now depth_now rest before now =
     (order : ℕ → Ordering) (t : Tree ℕ) → IsThere before nodes sides order depth node t → word_of before node 0 ≡ left → word_of before node 1 ≡ right →

@@ -3,10 +3,11 @@ use Rattle.std.specs.Prelude.{◌≡◌, ◌^◌, ◌+◌, ◌*◌, ◌/◌, ◌
 use Rattle.cx_base.specs.Memory.{Always}
 use Rattle.cx_base.specs.declared.memory.Memory.{Ghosts}
 
--- word i of a line, and the number of lines
+-- word i of a line
 abbrev pub word_of : List ℕ → ℕ → ℕ → ℕ
 word_of words line i = slice_index words (8 * line + i)
 
+-- the number of lines
 abbrev pub line_count : List ℕ → ℕ
 line_count words = length words / 8
 
@@ -24,12 +25,12 @@ pub record IsPartLength (n : ℕ) : Type 0 where
   pub some : 1 ≤ n / 8
   pub few : n / 8 ≤ 2 ^ 32
 
--- A memory of such a length that may be loaded, and P holds of all words that may be in it.
+-- A memory of 1 to 2 ^ 32 whole lines that may be loaded, and P holds of all words that may be in it.
 pub record IsLoadable {Memory : Type 0} (m : Ghosts Memory) (memory : Memory) (P : List ℕ → Type 0) : Type 0 where
   pub sized : IsPartLength (m.size memory)
   pub all : Always (m.stands memory) P
 
--- a memory of such a length that may be loaded and stored to, and P holds of all words that may be in it
+-- a memory of 1 to 2 ^ 32 whole lines that may be loaded and stored to, and P holds of all words that may be in it
 pub record IsStorable {Memory : Type 0} (m : Ghosts Memory) (memory : Memory) (P : List ℕ → Type 0) : Type 0 where
   pub sized : IsPartLength (m.size memory)
   pub writable : IsTrue (m.writable memory)

@@ -20,6 +20,7 @@ pub record IsLink (words : List ℕ) (node high : ℕ) : Type 0 where
   pub high_is : high_of node words ≡ high
   pub low : high ≤ 2 ^ 32
 
+-- a node is within the words, and each of two links is to a node within them or to nothing, with the height below it
 pub record CanSet (words : List ℕ) (node a a_high b b_high : ℕ) : Type 0 where
   pub there : IsWithin words node
   pub first : IsLink words a a_high
@@ -30,7 +31,7 @@ pub record HasLink (words : List ℕ) (node side : ℕ) : Type 0 where
   pub there : IsWithin words node
   pub link : word_of words node side ≢ 0 → IsWithin words (word_of words node side)
 
--- what such a link names, and the height below it
+-- what the link at a side of a node names, and the height of the tree below it
 pub record IsSubtree (node side link high : ℕ) (words : List ℕ) : Type 0 where
   pub link_is : word_of words node side ≡ link
   pub high_is : high_of link words ≡ high
@@ -49,13 +50,13 @@ pub record IsNodeOpen (words : List ℕ) (l : Tree ℕ) (x : ℕ) (r : Tree ℕ)
   pub once : (line : ℕ) → times line (Node l x r) ≤ 1
   pub low : height (Node l x r) ≤ 2 ^ 32
 
--- a tree of the same lines stands now
+-- another tree of the lines of the old one stands now, with this root, and no words changed but the links and heights of these lines
 pub record IsTreeMade (before now : List ℕ) (old new : Tree ℕ) (node : ℕ) : Type 0 where
   pub stands : RepresentsTree now new
   pub root_is : root new ≡ node
   pub but : SameExcept before now old
 
--- a tree of the same lines stands now, of this height
+-- another tree of the lines of the old one stands now, with this root and this height, and no words changed but the links and heights of these lines
 pub record IsHigh (before now : List ℕ) (old new : Tree ℕ) (node high : ℕ) : Type 0 where
   pub made : IsTreeMade before now old new node
   pub high_is : height new ≡ high
@@ -72,6 +73,7 @@ pub record CanRotate (words : List ℕ) (node side child low low_high : ℕ) : T
   pub high_is : high_of low words ≡ low_high
   pub higher : height low_tree + 2 ≤ height high_tree
 
+-- each node that could be rotated is: the words stand now for the rotated tree, with this root and this height
 abbrev pub Rotates : ℕ → ℕ → ℕ → ℕ → ℕ → ℕ → List ℕ → List ℕ → Type 0
 Rotates node side child low top high before now =
     (x : ℕ) (t : Tree ℕ) (s : Tree ℕ) → IsNodeOpen before t x s → x ≡ node → root t ≡ child → root s ≡ low → height s + 2 ≤ height t → IsHigh before now (Node t x s) (rotated side t x s) top high
@@ -88,6 +90,7 @@ pub record CanJoin (words : List ℕ) (node left left_high right right_high : �
   pub right_is : root right_tree ≡ right
   pub right_high_is : high_of right words ≡ right_high
 
+-- each node that could be joined is: the words stand now for the joined tree, with this root and this height
 abbrev pub Joins : ℕ → ℕ → ℕ → ℕ → ℕ → List ℕ → List ℕ → Type 0
 Joins node left right top high before now =
     (x : ℕ) (l : Tree ℕ) (r : Tree ℕ) → IsNodeOpen before l x r → x ≡ node → root l ≡ left → root r ≡ right → IsHigh before now (Node l x r) (joined l x r) top high

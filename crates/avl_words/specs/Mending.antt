@@ -16,6 +16,7 @@ pub record IsHanging (words : List ℕ) (side : ℕ) (t : Tree ℕ) (x : ℕ) (s
   pub once : (line : ℕ) → times line t + (if x == line then 1 else 0) + times line sibling ≤ 1
   pub low : height (node_on side t x sibling) ≤ 2 ^ 32
 
+-- some tree, of this root and height, is to hang at this side of this node
 pub record CanHang (words : List ℕ) (node side child high : ℕ) : Type 0 where
   pub tree : Tree ℕ
   pub item : ℕ
@@ -25,6 +26,7 @@ pub record CanHang (words : List ℕ) (node side child high : ℕ) : Type 0 wher
   pub child_is : root tree ≡ child
   pub high_is : high_of child words ≡ high
 
+-- each tree that was to hang at this side of the node hangs there, balanced again: the tree now has this root and this height
 abbrev pub Hangs : ℕ → ℕ → ℕ → ℕ → ℕ → List ℕ → List ℕ → Type 0
 Hangs node side child top high before now =
     (t : Tree ℕ) (x : ℕ) (sibling : Tree ℕ) → IsHanging before side t x sibling → x ≡ node → root t ≡ child → IsHigh before now (node_on side t x sibling) (under side t x sibling) top high
@@ -36,6 +38,7 @@ Spine words (turn ∷ way) =
     (1 ≤ turn.item) × IsWithin words turn.item × (word_of words turn.item (1 - turn.side) ≡ root turn.sibling)
     × RepresentsTree words turn.sibling × Spine words way
 
+-- how often a line is a node of a way, or of what hangs at the other sides
 abbrev pub times_way : ℕ → List (Turn ℕ) → ℕ
 times_way line [] = 0
 times_way line (turn ∷ way) = (if turn.item == line then 1 else 0) + times line turn.sibling + times_way line way
@@ -62,13 +65,13 @@ Stood words (turn ∷ way) t =
     (word_of words turn.item turn.side ≡ root t) × (word_of words turn.item 2 ≡ height (node_on turn.side t turn.item turn.sibling))
     × Stood words way (node_on turn.side t turn.item turn.sibling)
 
--- they stand for a balanced tree with some tree at the end
+-- the nodes of a way are as they are with some tree at its end, with which the whole is balanced
 pub record IsStood (words : List ℕ) (way : List (Turn ℕ)) : Type 0 where
   pub tree : Tree ℕ
   pub stood : Stood words way tree
   pub balanced : Balanced (whole way tree)
 
--- the first nodes of a way do, as many as given
+-- the first nodes of a way, as many as given, are as they are with some tree at their end, with which the whole is balanced
 abbrev pub Settled : List ℕ → ℕ → List (Turn ℕ) → Type 0
 Settled words n [] = Unit {0}
 Settled words n (turn ∷ way) = (length (turn ∷ way) ≤ n → IsStood words (turn ∷ way)) × Settled words n way
@@ -82,10 +85,12 @@ pub record CanRelink (words nodes sides : List ℕ) (depth node : ℕ) : Type 0 
   pub stood : Stood words way old
   pub level : height old ≡ height tree
 
+-- each tree that was to hang at the end of the way, as high as the one before, hangs there, and the whole has this root
 abbrev pub Relinks : List ℕ → List ℕ → ℕ → ℕ → ℕ → List ℕ → List ℕ → Type 0
 Relinks nodes sides depth node top before now =
     (way : List (Turn ℕ)) (t : Tree ℕ) (old : Tree ℕ) → IsHung before nodes sides depth way t node → Stood before way old → height old ≡ height t → IsTreeMade before now (whole way t) (whole way t) top
 
+-- some tree, of this root and height, is to hang at the end of the way, and the first nodes of the way, as many as given, are settled
 pub record CanMend (words nodes sides : List ℕ) (depth settled node high : ℕ) : Type 0 where
   pub way : List (Turn ℕ)
   pub tree : Tree ℕ
@@ -93,6 +98,7 @@ pub record CanMend (words nodes sides : List ℕ) (depth settled node high : ℕ
   pub high_is : high_of node words ≡ high
   pub settled_way : Settled words settled way
 
+-- each tree that was to hang at the end of the way hangs there, each node of the way is balanced again, and the whole has this root
 abbrev pub Mends : List ℕ → List ℕ → ℕ → ℕ → ℕ → ℕ → ℕ → List ℕ → List ℕ → Type 0
 Mends nodes sides depth settled node high top before now =
     (way : List (Turn ℕ)) (t : Tree ℕ) → IsHung before nodes sides depth way t node → high_of node before ≡ high → Settled before settled way → IsTreeMade before now (whole way t) (mended way t) top
@@ -108,6 +114,7 @@ pub record IsMending (before now nodes sides : List ℕ) (depth settled : ℕ) (
   pub lines : (line : ℕ) → times_way line rest + times line tree ≡ times_way line way + times line t
   pub but : SameExcept before now (whole way t)
 
+-- of each tree that was to hang at the end of the way, the way is mended from the bottom up to this depth
 abbrev pub Mending : List ℕ → List ℕ → ℕ → ℕ → ℕ → ℕ → ℕ → ℕ → ℕ → List ℕ → List ℕ → Type 0
 Mending nodes sides depth settled node high rest top top_high before now =
     (way : List (Turn ℕ)) (t : Tree ℕ) → IsHung before nodes sides depth way t node → high_of node before ≡ high → Settled before settled way → IsMending before now nodes sides rest settled way t top top_high

@@ -11,22 +11,26 @@ pub record Least (A : Type 0) : Type 0 where
   pub rest : Tree A
 
 module _ {A : Type 0} where
+  -- the least node below a node, with the way to it
   abbrev pub least : List (Turn A) → Tree A → A → Tree A → Least A
   least way Empty x r = record { way = way; item = x; rest = r }
   least way (Node a y b) x r = least (record { side = 0; item = x; sibling = r } ∷ way) a y b
 
-  -- A node is taken out: its one child takes its place, or the least node behind it does, whose own place its right child takes.
+  -- The way to the place at which a tree is to hang once a node is taken out: the node's own place where it has one child or none, and else the place of the
+  -- least node behind it, which takes the node's place on the way.
   abbrev pub gone_way : List (Turn A) → Tree A → Tree A → List (Turn A)
   gone_way way Empty r = way
   gone_way way (Node a y b) Empty = way
   gone_way way (Node a y b) (Node c z d) =
       (least [] c z d).way ++ record { side = 1; item = (least [] c z d).item; sibling = Node a y b } ∷ way
 
+  -- the tree that is to hang there: the node's one child, or the right child of the least node behind it
   abbrev pub gone_rest : Tree A → Tree A → Tree A
   gone_rest Empty r = r
   gone_rest (Node a y b) Empty = Node a y b
   gone_rest (Node a y b) (Node c z d) = (least [] c z d).rest
 
+  -- the whole tree without the node that stands at the end of a way
   abbrev pub with_out : List (Turn A) → Tree A → Tree A
   with_out way Empty = mended way Empty
   with_out way (Node l x r) = mended (gone_way way l r) (gone_rest l r)

@@ -22,28 +22,32 @@ module _ {A : Type 0} where
   under zero t x sibling = joined t x sibling
   under (suc _) t x sibling = joined sibling x t
 
-  -- the whole tree, and the whole tree with another in place and each node on the way balanced
+  -- the whole tree, with this one at the end of a way
   abbrev pub whole : List (Turn A) → Tree A → Tree A
   whole [] t = t
   whole (turn ∷ way) t = whole way (node_on turn.side t turn.item turn.sibling)
 
+  -- the whole tree, with this one at the end of a way and each node of the way balanced again
   abbrev pub mended : List (Turn A) → Tree A → Tree A
   mended [] t = t
   mended (turn ∷ way) t = mended way (under turn.side t turn.item turn.sibling)
 
-  -- what stands in order before and behind the place
+  -- the items that stand before a tree, in order, by one turn of the way to it
   abbrev pub passed : ℕ → A → Tree A → List A
   passed zero x sibling = []
   passed (suc _) x sibling = items sibling ++ x ∷ []
 
+  -- the items that stand behind a tree, in order, by one turn of the way to it
   abbrev pub ahead : ℕ → A → Tree A → List A
   ahead zero x sibling = x ∷ items sibling
   ahead (suc _) x sibling = []
 
+  -- the items that stand before the end of a way, in order
   abbrev pub before : List (Turn A) → List A
   before [] = []
   before (turn ∷ way) = before way ++ passed turn.side turn.item turn.sibling
 
+  -- the items that stand behind the end of a way, in order
   abbrev pub behind : List (Turn A) → List A
   behind [] = []
   behind (turn ∷ way) = ahead turn.side turn.item turn.sibling ++ behind way
@@ -60,11 +64,11 @@ module _ {A : Type 0} where
   IsCutBy order [] = Unit {0}
   IsCutBy order (x ∷ xs) = (order x ≢ Less → All (λ y. order y ≡ Greater) xs) × IsCutBy order xs
 
-  -- such a walk ends at nothing, or at what is sought
+  -- what stands where a walk by an order ends is nothing, or a node with what is sought
   abbrev pub WayEnds : (A → Ordering) → Tree A → Type 0
   WayEnds order Empty = Unit {0}
   WayEnds order (Node l x r) = order x ≡ Equal
 
-  -- a new item is put where such a walk ends
+  -- a tree with a new item where a walk by an order ends, each node of the way balanced again
   abbrev pub with_new : (A → Ordering) → A → Tree A → Tree A
   with_new order x t = mended (spot order [] t).0 (Node Empty x Empty)

@@ -5,6 +5,7 @@ use Rattle.avl_words.specs.Tree.{Tree, Empty, Node, height, size, Balanced}
 use Rattle.avl_words.specs.Ways.{Turn, whole, spot}
 use Rattle.avl_words.specs.Lines.{word_of, IsWithin}
 
+-- the line of a tree's root, and 0 where it has none
 abbrev pub root : Tree ℕ → ℕ
 root Empty = 0
 root (Node l x r) = x
@@ -22,6 +23,7 @@ pub record IsNode (words : List ℕ) (line left right high : ℕ) : Type 0 where
   pub right_is : word_of words line 1 ≡ right
   pub height_is : word_of words line 2 ≡ high
 
+-- the line of each node of a tree has its children and its height
 abbrev pub RepresentsTree : List ℕ → Tree ℕ → Type 0
 RepresentsTree words Empty = Unit {0}
 RepresentsTree words (Node l x r) = IsNode words x (root l) (root r) (height (Node l x r)) × RepresentsTree words l × RepresentsTree words r

@@ -17,10 +17,11 @@ use Rattle.bank.specs.declared.operations.Op.TheVariants.{Transfer, Balance, Aud
 use Rattle.bank.specs.declared.operations.Reply.{Reply}
 use Rattle.bank.specs.declared.operations.Reply.TheVariants.{Moved, Overdraft, Value, Missing, NoOperation}
 
--- numbers of 64 bits, and a reply of them
+-- a number of 64 bits
 abbrev Small : ℕ → Type 0
 Small n = n < 2 ^ 64
 
+-- a reply whose number, if it has one, is of 64 bits
 abbrev IsSmallReply : Reply → Type 0
 IsSmallReply (Overdraft has) = Small has
 IsSmallReply (Value has) = Small has
@@ -140,6 +141,7 @@ kept lines count total fits image (Balance account) i = i
 kept lines count total fits image Audit i = i
 kept lines count total fits image Other i = i
 
+-- a step of an image by the words of an operation leaves an image
 pub keeps : (lines count total : ℕ) → FitsAccounts lines count total → (image op : List ℕ) → IsBank lines count total image → IsBank lines count total (bank_step count image op).0
 keeps lines count total fits image op i = kept lines count total fits image (op_in op) i
 
@@ -147,7 +149,7 @@ keeps lines count total fits image op i = kept lines count total fits image (op_
 pub shape : (lines count total : ℕ) (image : List ℕ) → IsBank lines count total image → Words (8 * lines) image × (slice_index image 0 ≡ 1)
 shape lines count total image i = (i.words, i.version)
 
--- the words of a reply are 144 words
+-- the words of a kind and a number, each of 64 bits, are 144 of 64 bits
 words_with_fit : (kind has : ℕ) → Small kind → Small has → Words 144 (words_with kind has 0 0)
 unfolding words_with
 words_with_fit kind has k h =
@@ -158,6 +160,7 @@ words_with_fit kind has k h =
       fit = All-cons Small kind (has ∷ rest) k (All-cons Small has rest h (All-cons Small 0 (0 ∷ zeros) (lit< tt) (All-cons Small 0 zeros (lit< tt) (All-replicate Small 140 0 (lit< tt)))));
     }
 
+-- the words of a reply whose number is of 64 bits are 144 of 64 bits
 reply_fits : (reply : Reply) → IsSmallReply reply → Words 144 (reply_words reply)
 reply_fits Moved small = words_with_fit 1 0 (lit< tt) (lit< tt)
 reply_fits (Overdraft has) small = words_with_fit 2 has (lit< tt) small
@@ -165,20 +168,22 @@ reply_fits (Value has) small = words_with_fit 3 has (lit< tt) small
 reply_fits Missing small = words_with_fit 4 0 (lit< tt) (lit< tt)
 reply_fits NoOperation small = words_with_fit 0 0 (lit< tt) (lit< tt)
 
-told : (lines count total : ℕ) → FitsAccounts lines count total → (image : List ℕ) (op : Op) → IsBank lines count total image → IsSmallReply (reply_to count image op)
-told lines count total fits image (Transfer from to amount) i =
+-- the reply to an operation on a lawful image has a number of 64 bits
+reply_is_small : (lines count total : ℕ) → FitsAccounts lines count total → (image : List ℕ) (op : Op) → IsBank lines count total image → IsSmallReply (reply_to count image op)
+reply_is_small lines count total fits image (Transfer from to amount) i =
     by_test IsSmallReply (are_accounts count from to) (cond (covers image from amount) Moved (Overdraft (amount_of image from))) Missing
     (λ passes.
     (let q = and_parts (nat_lt from count) (nat_lt to count) passes in
     by_test IsSmallReply (covers image from amount) Moved (Overdraft (amount_of image from)) (λ _. tt) (amount_small lines count total fits image i from (leb-true (suc from) count q.0))))
     tt
-told lines count total fits image (Balance account) i =
+reply_is_small lines count total fits image (Balance account) i =
     by_test IsSmallReply (nat_lt account count) (Value (amount_of image account)) Missing (λ passes. amount_small lines count total fits image i account (leb-true (suc account) count passes)) tt
-told lines count total fits image Audit i = omega (arith, fits.small, i.sum_is)
-told lines count total fits image Other i = tt
+reply_is_small lines count total fits image Audit i = omega (arith, fits.small, i.sum_is)
+reply_is_small lines count total fits image Other i = tt
 
+-- the reply's words of a step of an image are 144 of 64 bits
 pub replies : (lines count total : ℕ) → FitsAccounts lines count total → (image op : List ℕ) → IsBank lines count total image → Words 144 (bank_step count image op).1
-replies lines count total fits image op i = reply_fits (reply_to count image (op_in op)) (told lines count total fits image (op_in op) i)
+replies lines count total fits image op i = reply_fits (reply_to count image (op_in op)) (reply_is_small lines count total fits image (op_in op) i)
 
 -- an operation that only reads leaves the image
 left_by_reading : (count : ℕ) (image : List ℕ) (op : Op) → IsTrue (is_reading op) → accounts_after count image op ≡ image
@@ -187,5 +192,6 @@ left_by_reading count image (Balance account) reads = refl
 left_by_reading count image Audit reads = refl
 left_by_reading count image Other reads = refl
 
+-- a step by the words of an operation that only reads leaves the image
 pub leaves : (lines count total : ℕ) (image op : List ℕ) → IsTrue (bank_reads op) → (bank_step count image op).0 ≡ image
 leaves lines count total image op reads = left_by_reading count image (op_in op) reads

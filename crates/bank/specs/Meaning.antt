@@ -34,35 +34,39 @@ pub record MayChangeBank {Memory : Type 0} (m : Ghosts Memory) (lines count tota
   pub holds : HoldsBank m lines count total mem
   pub writable : IsTrue (m.writable mem)
 
--- what an account has, and an image in which it has another amount
+-- what an account has
 abbrev pub amount_of : List ℕ → ℕ → ℕ
 amount_of image account = slice_index image (account + 1)
 
+-- an image in which an account has another amount
 abbrev pub with_amount : List ℕ → ℕ → ℕ → List ℕ
 with_amount image account amount = slice_set image (account + 1) amount
 
--- no account has anything, and the opening image: account 0 has all
+-- an image in which no account has anything
 abbrev pub blank : ℕ → List ℕ
 blank lines = 1 ∷ replicate (8 * lines - 1) 0
 
+-- the opening image: account 0 has all
 abbrev pub bank_opening : ℕ → ℕ → List ℕ
 bank_opening lines total = with_amount (blank lines) 0 total
 
--- an amount taken from an account, and then given to another, which may be the same
+-- an image after an amount is taken from an account
 abbrev pub withdrawn : List ℕ → ℕ → ℕ → List ℕ
 withdrawn image from amount = with_amount image from (amount_of image from - amount)
 
+-- an image after an amount is given to an account
 abbrev pub given : List ℕ → ℕ → ℕ → List ℕ
 given image to amount = with_amount image to (amount_of image to + amount)
 
--- whether there are both accounts, and whether the first one covers the amount
+-- whether there are both accounts
 abbrev pub are_accounts : ℕ → ℕ → ℕ → Bool
 are_accounts count from to = nat_lt from count && nat_lt to count
 
+-- whether an account has the amount
 abbrev pub covers : List ℕ → ℕ → ℕ → Bool
 covers image from amount = nat_le amount (amount_of image from)
 
--- the reply to an operation, and the image after it
+-- the reply to an operation
 abbrev pub reply_to : ℕ → List ℕ → Op → Reply
 reply_to count image (Transfer from to amount) =
     if are_accounts count from to
@@ -72,6 +76,7 @@ reply_to count image (Balance account) = if nat_lt account count then Value (amo
 reply_to count image Audit = Value (sum (accounts_in count image))
 reply_to count image Other = NoOperation
 
+-- the image after an operation
 abbrev pub accounts_after : ℕ → List ℕ → Op → List ℕ
 accounts_after count image (Transfer from to amount) =
     if are_accounts count from to && covers image from amount then given (withdrawn image from amount) to amount else image
@@ -83,14 +88,15 @@ bank_step count image op = (accounts_after count image (op_in op), reply_words (
 
 -- an operation was done on an image: this is its reply, and this the image after it
 pub record StepsAccounts (count : ℕ) (op : Op) (reply : Reply) (before now : List ℕ) : Type 0 where
-  pub told : reply ≡ reply_to count before op
+  pub reply_is : reply ≡ reply_to count before op
   pub after : now ≡ accounts_after count before op
 
--- whether an operation, or what words ask for, only reads
+-- whether an operation only reads
 abbrev pub is_reading : Op → Bool
 is_reading (Balance account) = true
 is_reading Audit = true
 is_reading _ = false
 
+-- whether what words ask for only reads
 abbrev pub bank_reads : List ℕ → Bool
 bank_reads op = is_reading (op_in op)

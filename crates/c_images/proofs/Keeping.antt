@@ -9,13 +9,14 @@ use Rattle.recovery.specs.Taken.{IsCheckpoint}
 use Rattle.recovery.specs.Results.{HasResultsFrom}
 use Rattle.c_images.specs.Replies.{IsKeptReply, RepliesGoOn}
 
+-- results that come from an earlier region, or from an object's steps, keep replies where the earlier ones do and the steps answer by no other words
 pub keep_replies : (is lawful : List ℕ → Type 0) (step : List ℕ → List ℕ → List ℕ × List ℕ) (earlier words : List ℕ) → HasResultsFrom lawful step earlier words → RepliesGoOn is lawful step earlier words
 keep_replies is lawful step earlier words from = λ gives holds caller few some. elim (from caller few) [
   | inl same ↦ subst (IsKeptReply is) (sym same.1) (holds caller few (λ none. some (same.0 ∙ none)))
-  | inr told ↦ subst (IsKeptReply is) (sym told.is) (gives told.image told.op told.of told.fits)
+  | inr of_step ↦ subst (IsKeptReply is) (sym of_step.is) (gives of_step.image of_step.op of_step.of of_step.fits)
 ]
 
--- so do the images that callers took of a table that is closed
+-- images that callers took of a table that is closed keep replies where those of the base did that it was opened from, and the steps answer by no other words
 pub taken_keep : {O : Type 0} (is : List ℕ → Type 0) (line_count : O → ℕ) (lawful : O → List ℕ → Type 0) (step : O → List ℕ → List ℕ → List ℕ × List ℕ) (table : Running O) (history : List Entry) (seats : List Seated)
     → All (λ (s : Seated). (i : ℕ) (words : List ℕ) → slice_get s.known.images i ≡ Some words → IsCheckpoint line_count lawful step table history words) seats
     → All (λ (s : Seated). (i : ℕ) (words : List ℕ) → slice_get s.known.images i ≡ Some words → RepliesGoOn is (lawful table.object) (step table.object) table.base.words words) seats

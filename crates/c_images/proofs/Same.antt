@@ -39,75 +39,75 @@ asked exact (Place root found) is other = exact.at_place is.0 is.1 is.2.2 is.2.3
 asked exact Body is other = exact.body is.0 is.1 is.2.0 is.2.1 is.2.2
 asked exact Memory is other = absurd (other refl)
 
-module _ (words : List ℕ) (headed : IsHeaded words) (a b : Image) (says : SaysImage words a) (other : SaysImage words b) where
-  callers_are : a.callers ≡ b.callers
+module _ (words : List ℕ) (headed : IsHeaded words) (one_image other_image : Image) (says : SaysImage words one_image) (other : SaysImage words other_image) where
+  callers_are : one_image.callers ≡ other_image.callers
   callers_are = says.callers ∙ sym other.callers
 
-  lines_are : a.lines ≡ b.lines
+  lines_are : one_image.lines ≡ other_image.lines
   lines_are = says.lines ∙ sym other.lines
 
-  root_is : a.root ≡ b.root
+  root_is : one_image.root ≡ other_image.root
   root_is = says.root ∙ sym other.root
 
-  place_is : place_in_root a ≡ place_in_root b
+  place_is : place_in_root one_image ≡ place_in_root other_image
   place_is = ap₂ root_place_of callers_are root_is
 
-  count_is : a.count ≡ b.count
+  count_is : one_image.count ≡ other_image.count
   count_is = elim headed.format [
     | inl all ↦ (let one = (says.replicas all).count in let two = (other.replicas all).count in omega (arith, one, two))
     | inr of ↦ (says.one of).count ∙ ap₂ (λ lines callers. length words - 8 + region_words lines * (2 * callers - 1)) lines_are callers_are ∙ sym (other.one of).count
   ]
 
-  size_is : HasSize a → HasSize b
+  size_is : HasSize one_image → HasSize other_image
   size_is size = sym count_is ∙ size ∙ ap₂ image_size callers_are lines_are
 
-  sym_size : HasSize b → HasSize a
+  sym_size : HasSize other_image → HasSize one_image
   sym_size size = count_is ∙ size ∙ sym (ap₂ image_size callers_are lines_are)
 
-  start_is : region_start a ≡ region_start b
+  start_is : region_start one_image ≡ region_start other_image
   start_is = ap₂ (λ lines replica. region_words lines * replica) lines_are (ap₂ root_replica_of callers_are root_is)
 
   -- words of format 1 have each word of the region
-  from_replicas : HasSize a → SaysReplicas words a → SaysReplicas words b → region_of a ≡ region_of b
+  from_replicas : HasSize one_image → SaysReplicas words one_image → SaysReplicas words other_image → region_of one_image ≡ region_of other_image
   from_replicas size one two =
-      let n = region_words a.lines in
-      let start = region_start a in
-      let some : 1 ≤ a.callers = (let least = headed.some in let same = says.callers in omega (arith, least, same)) in
-      let replica = root_replica_of a.callers a.root in
-      let first : replica < 2 * a.callers = mod-lt a.root (omega (arith, some)) in
-      let here : length (words_from a.pairs start n) ≡ n = length-map-range_with_len (image_word a.pairs) start n in
-      let there : length (words_from b.pairs start n) ≡ n = length-map-range_with_len (image_word b.pairs) start n in
-      ext_get_or 0 (words_from a.pairs start n) (words_from b.pairs start n) (here ∙ sym there) (λ at below. (
+      let n = region_words one_image.lines in
+      let start = region_start one_image in
+      let some : 1 ≤ one_image.callers = (let least = headed.some in let same = says.callers in omega (arith, least, same)) in
+      let replica = root_replica_of one_image.callers one_image.root in
+      let first : replica < 2 * one_image.callers = mod-lt one_image.root (omega (arith, some)) in
+      let here : length (words_from one_image.pairs start n) ≡ n = length-map-range_with_len (image_word one_image.pairs) start n in
+      let there : length (words_from other_image.pairs start n) ≡ n = length-map-range_with_len (image_word other_image.pairs) start n in
+      ext_get_or 0 (words_from one_image.pairs start n) (words_from other_image.pairs start n) (here ∙ sym there) (λ at below. (
       let inside : at < n = omega (arith, below, here) in
-      let within : start + at < a.count = (let low = mul-add-lt replica n at (2 * a.callers) first inside in let turned = mul_comm n replica in omega (arith, low, turned, size)) in
-      let also : start + at < b.count = omega (arith, within, count_is) in
-      get_or-map-range_with_len (image_word a.pairs) start n at (start + at) 0 inside refl
+      let within : start + at < one_image.count = (let low = mul-add-lt replica n at (2 * one_image.callers) first inside in let turned = mul_comm n replica in omega (arith, low, turned, size)) in
+      let also : start + at < other_image.count = omega (arith, within, count_is) in
+      get_or-map-range_with_len (image_word one_image.pairs) start n at (start + at) 0 inside refl
       ∙ one.pairs.words (start + at) within
       ∙ sym (two.pairs.words (start + at) also)
-      ∙ sym (get_or-map-range_with_len (image_word b.pairs) start n at (start + at) 0 inside refl)))
-      ∙ ap₂ (words_from b.pairs) start_is (ap region_words lines_are)
+      ∙ sym (get_or-map-range_with_len (image_word other_image.pairs) start n at (start + at) 0 inside refl)))
+      ∙ ap₂ (words_from other_image.pairs) start_is (ap region_words lines_are)
 
-  region_is : HasSize a → region_of a ≡ region_of b
+  region_is : HasSize one_image → region_of one_image ≡ region_of other_image
   region_is size = elim headed.format [
     | inl all ↦ from_replicas size (says.replicas all) (other.replicas all)
     | inr of ↦ (says.one of).region size ∙ sym ((other.one of).region (size_is size))
   ]
 
   module _ (version : ℕ) (lawful : List ℕ → Type 0) (old : OldFormat) where
-    pub same_accepted : IsAccepted version lawful old a → IsAccepted version lawful old b
+    pub same_accepted : IsAccepted version lawful old one_image → IsAccepted version lawful old other_image
     same_accepted is = record {
       size = size_is is.size;
       root = subst (λ n. n ≤ 1099511627776) place_is is.root;
-      region = subst (λ n. HasLawfulRegion version lawful old n (region_of b)) place_is (subst (HasLawfulRegion version lawful old (place_in_root a)) (region_is is.size) is.region);
+      region = subst (λ n. HasLawfulRegion version lawful old n (region_of other_image)) place_is (subst (HasLawfulRegion version lawful old (place_in_root one_image)) (region_is is.size) is.region);
     }
 
-    pub same_recovered : (base : Base) → IsRecovered version lawful old a base → IsRecovered version lawful old b base
+    pub same_recovered : (base : Base) → IsRecovered version lawful old one_image base → IsRecovered version lawful old other_image base
     same_recovered base is = record { accepted = same_accepted is.accepted; is = is.is ∙ ap₂ (recovered_base old) place_is (region_is is.accepted.size) }
 
-    same_region_fault : (fault : ImageFault) → HasSize a → IsRegionFault version lawful old (place_in_root a) (region_of a) fault → IsRegionFault version lawful old (place_in_root b) (region_of b) fault
-    same_region_fault fault size is = subst (λ n. IsRegionFault version lawful old n (region_of b) fault) place_is (subst (λ region. IsRegionFault version lawful old (place_in_root a) region fault) (region_is size) is)
+    same_region_fault : (fault : ImageFault) → HasSize one_image → IsRegionFault version lawful old (place_in_root one_image) (region_of one_image) fault → IsRegionFault version lawful old (place_in_root other_image) (region_of other_image) fault
+    same_region_fault fault size is = subst (λ n. IsRegionFault version lawful old n (region_of other_image) fault) place_is (subst (λ region. IsRegionFault version lawful old (place_in_root one_image) region fault) (region_is size) is)
 
-    pub same_fault : (fault : ImageFault) → IsFaultOf version lawful old a fault → IsFaultOf version lawful old b fault
+    pub same_fault : (fault : ImageFault) → IsFaultOf version lawful old one_image fault → IsFaultOf version lawful old other_image fault
     same_fault (Size found) is = (is.0 ∙ count_is, λ size. is.1 (sym_size size))
     same_fault (Root found) is = (is.0 ∙ root_is, size_is is.1, λ has. is.2 (subst (λ n. n ≤ 1099511627776) (sym place_is) has))
     same_fault (Version found) is = (size_is is.0, subst (λ n. n ≤ 1099511627776) place_is is.1, same_region_fault (Version found) is.0 is.2)
@@ -135,24 +135,24 @@ module _ (version : ℕ) (lawful : List ℕ → Type 0) (old : OldFormat)
 
     pub answered_exactly : (answer : Result Base WordsFault) → MatchResult answer (IsTakenUp version lawful old words) (IsWordsFault version lawful old words) → answer ≢ Err (ImageRefused Memory)
         → AreAnsweredExactly version lawful old words answer
-    answered_exactly (Ok base) told some = record {
-      refused = λ image fault says is other. absurd (no_fault image fault (accepted_alone base told.image image told.says told.recovered says).accepted is other);
-      above = λ image says _ not. absurd (not (subst NumbersWithin (accepted_alone base told.image image told.says told.recovered says).is told.numbers));
-      accepted = λ image says _ _. ap Ok (accepted_alone base told.image image told.says told.recovered says).is;
+    answered_exactly (Ok base) answered some = record {
+      refused = λ image fault says is other. absurd (no_fault image fault (accepted_alone base answered.image image answered.says answered.recovered says).accepted is other);
+      above = λ image says _ not. absurd (not (subst NumbersWithin (accepted_alone base answered.image image answered.says answered.recovered says).is answered.numbers));
+      accepted = λ image says _ _. ap Ok (accepted_alone base answered.image image answered.says answered.recovered says).is;
     }
-    answered_exactly (Err (ImageRefused Memory)) told some = absurd (some refl)
-    answered_exactly (Err (ImageRefused fault)) told some =
-        let here = λ (image : Image) (says : SaysImage words image). same_fault words headed told.image image told.says says version lawful old fault told.is in
+    answered_exactly (Err (ImageRefused Memory)) answered some = absurd (some refl)
+    answered_exactly (Err (ImageRefused fault)) answered some =
+        let here = λ (image : Image) (says : SaysImage words image). same_fault words headed answered.image image answered.says says version lawful old fault answered.is in
         let other = λ (same : fault ≡ Memory). some (ap (λ f. Err (ImageRefused f)) same) in
         record {
           refused = λ image found says is also. ap (λ f. Err (ImageRefused f)) (one_fault image fault found (here image says) is other also);
           above = λ image says accepted _. absurd (no_fault image fault accepted (here image says) other);
           accepted = λ image says accepted _. absurd (no_fault image fault accepted (here image says) other);
         }
-    answered_exactly (Err Numbers) told some = record {
-      refused = λ image fault says is other. absurd (no_fault image fault (accepted_alone told.base told.image image told.says told.recovered says).accepted is other);
+    answered_exactly (Err Numbers) answered some = record {
+      refused = λ image fault says is other. absurd (no_fault image fault (accepted_alone answered.base answered.image image answered.says answered.recovered says).accepted is other);
       above = λ image says _ _. refl;
-      accepted = λ image says _ within. absurd (told.above (subst NumbersWithin (sym (accepted_alone told.base told.image image told.says told.recovered says).is) within));
+      accepted = λ image says _ within. absurd (answered.above (subst NumbersWithin (sym (accepted_alone answered.base answered.image image answered.says answered.recovered says).is) within));
     }
-    answered_exactly (Err Head) told some = absurd told
-    answered_exactly (Err (Kind found)) told some = absurd told
+    answered_exactly (Err Head) answered some = absurd answered
+    answered_exactly (Err (Kind found)) answered some = absurd answered

@@ -32,6 +32,7 @@ headed format kind callers lines root words has of known enough some few least m
   has.kind_is,
 )
 
+-- the image that written words say is what a crash leaves of the closed service, by the choice that they were written by
 pub left_of : (kind choice : ℕ) (r : Remains) (words : List ℕ) (image : Image) → AreRemainsWritten kind r choice words → SaysImage words image → IsLeftOf r choice image
 left_of kind choice r words image is says =
     let all = says.replicas is.head.format_is in
@@ -53,8 +54,8 @@ left_of kind choice r words image is says =
 pub within : (version : ℕ) (lawful : List ℕ → Type 0) (old : OldFormat) (words : List ℕ) (image : Image) (base : Base) (answer : Result Base WordsFault) → SaysImage words image → IsRecovered version lawful old image base
     → MatchResult answer (λ same. (same ≡ base) × NumbersWithin base) (λ fault. (fault ≡ Numbers) × (¬ NumbersWithin base))
     → MatchResult answer (IsTakenUp version lawful old words) (IsWordsFault version lawful old words)
-within version lawful old words image base (Ok same) says is told = subst (IsTakenUp version lawful old words) (sym told.0) (record { image = image; says = says; recovered = is; numbers = told.1 })
-within version lawful old words image base (Err fault) says is told = subst (IsWordsFault version lawful old words) (sym told.0) (record { image = image; says = says; base = base; recovered = is; above = told.1 })
+within version lawful old words image base (Ok same) says is checked = subst (IsTakenUp version lawful old words) (sym checked.0) (record { image = image; says = says; recovered = is; numbers = checked.1 })
+within version lawful old words image base (Err fault) says is checked = subst (IsWordsFault version lawful old words) (sym checked.0) (record { image = image; says = says; base = base; recovered = is; above = checked.1 })
 
 -- Where recovery refuses no image that these words say but for want of memory, and what it gives is kept and has numbers within its place, so it is with the words
 -- themselves.
@@ -62,9 +63,9 @@ pub taken_up : (version : ℕ) (lawful : List ℕ → Type 0) (old : OldFormat) 
     → ((image : Image) → SaysImage words image → (answer : Result Base ImageFault) → MatchResult answer (IsRecovered version lawful old image) (IsFaultOf version lawful old image) → MatchResult answer kept (λ fault. fault ≡ Memory))
     → ((base : Base) → kept base → NumbersWithin base)
     → (answer : Result Base WordsFault) → MatchResult answer (IsTakenUp version lawful old words) (IsWordsFault version lawful old words) → MatchResult answer kept (λ fault. fault ≡ ImageRefused Memory)
-taken_up version lawful old words kept recovers numbers (Ok base) told = recovers told.image told.says (Ok base) told.recovered
-taken_up version lawful old words kept recovers numbers (Err (ImageRefused Memory)) told = refl
-taken_up version lawful old words kept recovers numbers (Err (ImageRefused fault)) told = ap ImageRefused (recovers told.image told.says (Err fault) told.is)
-taken_up version lawful old words kept recovers numbers (Err Numbers) told = absurd (told.above (numbers told.base (recovers told.image told.says (Ok told.base) told.recovered)))
-taken_up version lawful old words kept recovers numbers (Err Head) told = absurd told
-taken_up version lawful old words kept recovers numbers (Err (Kind found)) told = absurd told
+taken_up version lawful old words kept recovers numbers (Ok base) answered = recovers answered.image answered.says (Ok base) answered.recovered
+taken_up version lawful old words kept recovers numbers (Err (ImageRefused Memory)) answered = refl
+taken_up version lawful old words kept recovers numbers (Err (ImageRefused fault)) answered = ap ImageRefused (recovers answered.image answered.says (Err fault) answered.is)
+taken_up version lawful old words kept recovers numbers (Err Numbers) answered = absurd (answered.above (numbers answered.base (recovers answered.image answered.says (Ok answered.base) answered.recovered)))
+taken_up version lawful old words kept recovers numbers (Err Head) answered = absurd answered
+taken_up version lawful old words kept recovers numbers (Err (Kind found)) answered = absurd answered

@@ -7,10 +7,11 @@ use Rattle.fifo_object.specs.Words.{AreOfNoReply as AreOfNoQueueReply}
 use Rattle.c_images.specs.declared.replies.ReplyKind.{ReplyKind}
 use Rattle.c_images.specs.declared.replies.ReplyKind.TheVariants.{Document, Queue, Program}
 
--- some reply of a document store within the limits has these words, or of a queue
+-- some reply of a document store within the limits has these words
 abbrev pub IsDocumentReply : List ℕ → Type 0
 IsDocumentReply words = ¬ AreOfNoDocumentReply words
 
+-- some reply of a queue within the limits has these words
 abbrev pub IsQueueReply : List ℕ → Type 0
 IsQueueReply words = ¬ AreOfNoQueueReply words
 
@@ -18,6 +19,7 @@ IsQueueReply words = ¬ AreOfNoQueueReply words
 abbrev pub IsProgramReply : List ℕ → Type 0
 IsProgramReply words = Unit {0}
 
+-- some reply of an object of this kind has these words
 abbrev pub IsReplyOfKind : ReplyKind → List ℕ → Type 0
 IsReplyOfKind Document = IsDocumentReply
 IsReplyOfKind Queue = IsQueueReply
@@ -27,11 +29,11 @@ IsReplyOfKind Program = IsProgramReply
 abbrev pub IsKeptReply : (List ℕ → Type 0) → List ℕ → Type 0
 IsKeptReply is words = (words ≡ replicate 144 0) ⊎ is words
 
--- a caller's result that has a number keeps such words
+-- a caller's result that has a number keeps the words of a reply, or 144 zeros
 abbrev pub IsSlot : (List ℕ → Type 0) → ℕ → List ℕ → Type 0
 IsSlot is caller region = slot_number caller region ≢ 0 → IsKeptReply is (slot_reply caller region)
 
--- and so does each caller's
+-- each caller's result that has a number keeps the words of a reply, or 144 zeros
 abbrev pub HoldsReplies : (List ℕ → Type 0) → List ℕ → Type 0
 HoldsReplies is region = (caller : ℕ) → caller < 8 → IsSlot is caller region
 
@@ -39,6 +41,6 @@ HoldsReplies is region = (caller : ℕ) → caller < 8 → IsSlot is caller regi
 abbrev pub GivesReplies : (List ℕ → Type 0) → (List ℕ → Type 0) → (List ℕ → List ℕ → List ℕ × List ℕ) → Type 0
 GivesReplies is lawful step = (image op : List ℕ) → lawful image → Words 144 op → IsKeptReply is (step image op).1
 
--- where an object's step answers so, and the results of one region keep such replies, those of another do
+-- where an object's step answers by replies or 144 zeros, and the results of the earlier region keep such words, those of the region do
 abbrev pub RepliesGoOn : (List ℕ → Type 0) → (List ℕ → Type 0) → (List ℕ → List ℕ → List ℕ × List ℕ) → List ℕ → List ℕ → Type 0
 RepliesGoOn is lawful step earlier region = GivesReplies is lawful step → HoldsReplies is earlier → HoldsReplies is region

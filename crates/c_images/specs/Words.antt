@@ -14,19 +14,23 @@ use Rattle.c_images.specs.declared.head.Head.{Head}
 use Rattle.c_images.specs.declared.reader.WordsFault.{WordsFault}
 use Rattle.c_images.specs.declared.reader.WordsFault.TheVariants.{Head as HeadFault, Kind, Image as ImageRefused, Numbers}
 
--- the words of a head: the name, the format, the kind of object, the callers, the lines and the root
+-- the format that a head has as word 1
 abbrev pub format_in : List ℕ → ℕ
 format_in words = slice_index words 1
 
+-- the kind of object that a head has as word 2
 abbrev pub object_kind_in : List ℕ → ℕ
 object_kind_in words = slice_index words 2
 
+-- the number of callers that a head has as word 3
 abbrev pub callers_in : List ℕ → ℕ
 callers_in words = slice_index words 3
 
+-- the number of the object's lines that a head has as word 4
 abbrev pub lines_in : List ℕ → ℕ
 lines_in words = slice_index words 4
 
+-- the root that a head has as word 5
 abbrev pub root_in : List ℕ → ℕ
 root_in words = slice_index words 5
 
@@ -54,7 +58,7 @@ pub record IsHeaded (words : List ℕ) : Type 0 where
   pub least : 64 ≤ lines_in words
   pub most : lines_in words ≤ 16384
 
--- words with such a head, which is this one
+-- words begin with the head of some image, and this is what it says
 pub record IsSaid (words : List ℕ) (head : Head) : Type 0 where
   pub headed : IsHeaded words
   pub format : head.format ≡ format_in words
@@ -66,7 +70,7 @@ pub record IsSaid (words : List ℕ) (head : Head) : Type 0 where
 abbrev pub IsHeadOf : ℕ → List ℕ → Head → Type 0
 IsHeadOf kind words head = (object_kind_in words ≡ kind) × IsSaid words head
 
--- why there is none: they begin with no head, or are of another kind
+-- why words are no image of an object of this kind: they begin with no head, or with that of another kind
 abbrev pub IsHeadFault : ℕ → List ℕ → WordsFault → Type 0
 IsHeadFault kind words HeadFault = ¬ IsHeaded words
 IsHeadFault kind words (Kind found) = IsHeaded words × (found ≡ object_kind_in words) × (object_kind_in words ≢ kind)
@@ -95,7 +99,7 @@ pub record SaysImage (words : List ℕ) (image : Image) : Type 0 where
   pub replicas : format_in words ≡ 1 → SaysReplicas words image
   pub one : format_in words ≡ 2 → SaysRegion words image
 
--- the same, and the image can be read as one of this many lines
+-- the image that words say, and it can be read as one of an object of this many lines
 pub record SaysReadable (words : List ℕ) (lines : ℕ) (image : Image) : Type 0 where
   pub said : SaysImage words image
   pub readable : IsReadable lines image
@@ -128,13 +132,13 @@ pub record IsTakenUp (version : ℕ) (lawful : List ℕ → Type 0) (old : OldFo
   pub recovered : IsRecovered version lawful old image base
   pub numbers : NumbersWithin base
 
--- recovery refuses the image that they say
+-- recovery refuses the image that words say, by this fault
 pub record AreWordsRefused (version : ℕ) (lawful : List ℕ → Type 0) (old : OldFormat) (words : List ℕ) (fault : ImageFault) : Type 0 where
   pub image : Image
   pub says : SaysImage words image
   pub is : IsFaultOf version lawful old image fault
 
--- it gives a base of which a result has a number above the place
+-- recovery gives, of the image that words say, a base of which a result has a number above the place
 pub record HasNumberAbove (version : ℕ) (lawful : List ℕ → Type 0) (old : OldFormat) (words : List ℕ) : Type 0 where
   pub image : Image
   pub says : SaysImage words image

@@ -20,7 +20,7 @@ use std::alloc::{AllocError, Global};
 pub enum WordsFault {
     /// They do not begin with the head of an image.
     Head,
-    /// They are of another kind of object, which is told.
+    /// They are of another kind of object: of this one.
     Kind { found: u64 },
     /// Recovery refuses the image, or memory ran out.
     Image(ImageFault),
@@ -38,7 +38,7 @@ pub fn base_of<O: Object>(
 ) -> Result<Base, WordsFault>
     requires head { IsSaid words.now head }
     requires lines { head.lines ≡ O.line_count object.now }
-    ensures told { MatchResult result
+    ensures answered { MatchResult result
         (IsTakenUp (O.version_number object.now) (O.lawful object.now) (O.old_format object.now) words.now)
         (IsWordsFault (O.version_number object.now) (O.lawful object.now) (O.old_format object.now) words.now) }
     ensures lawful { IfOk result (LawfulBase (O.line_count object.now) (O.lawful object.now)) }

@@ -149,6 +149,6 @@ no_parts words fails kind number key document key_is document_is is = fails (par
 -- by the last test
 pub parts_decided : (words : List ℕ) → length words ≡ 144 → ((k : ℕ) → get_or words k 0 < 2 ^ 64) → get_or words 1 0 ≤ 64 → get_or words 2 0 ≤ 1024 → All (λ w. w ≡ 0) (take 4 (drop 4 words)) → IsPadded (get_or words 1 0) (take 8 (drop 8 words)) →
     (answer : Bool) → Decides answer (IsPadded (get_or words 2 0) (take 128 (drop 16 words))) → MatchBool answer (HaveParts words) (HaveNoParts words)
-parts_decided words long fits key_short document_short free key true told =
-    parts_had words long fits (record { key_short = key_short; document_short = document_short; free = free; key = key; document = told.0 refl })
-parts_decided words long fits key_short document_short free key false told = no_parts words (λ p. false≢true (told.1 p.document))
+parts_decided words long fits key_short document_short free key true decides =
+    parts_had words long fits (record { key_short = key_short; document_short = document_short; free = free; key = key; document = decides.0 refl })
+parts_decided words long fits key_short document_short free key false decides = no_parts words (λ p. false≢true (decides.1 p.document))

@@ -1,4 +1,4 @@
--- Keys and documents as tests tell them.
+-- Keys and documents, as tests of their bytes find them.
 use Rattle.std.proofs.Common.{inl, inr, ◌≡◌, ℕ, zero, suc, ◌<◌, ◌≤◌, Bool, true, ◌&&◌, ◌==◌, nat_le, List, [], length, get_or, All, refl, sym, ap₂, subst, false, ◌⊎◌, zero-add, arith}
 use Rattle.std.specs.Bool.{Decides}
 use Rattle.std.specs.List.{list_all}
@@ -31,31 +31,35 @@ plain_decides text =
 unpacked_byte : (words : List ℕ) (len k d : ℕ) → k < len → get_or (unpacked len words) k d ≡ byte_at words k
 unpacked_byte words len k d within = get_or-map-range_with_len (byte_at words) 0 len k k d within (zero-add k)
 
-pub visible_told : (words : List ℕ) (len : ℕ) (answer : Bool) → Decides answer ((i : ℕ) → i < len → IsBetween 33 126 (byte_at words i)) → answer ≡ list_all (λ b. nat_le 33 b && nat_le b 126) (unpacked len words)
-visible_told words len answer told =
+-- where an answer decides of packed bytes that each is from 33 to 126, it is the test of the unpacked text
+pub visible_unpacked : (words : List ℕ) (len : ℕ) (answer : Bool) → Decides answer ((i : ℕ) → i < len → IsBetween 33 126 (byte_at words i)) → answer ≡ list_all (λ b. nat_le 33 b && nat_le b 126) (unpacked len words)
+visible_unpacked words len answer decides =
     let text = unpacked len words in
     let long : length (unpacked len words) ≡ len = length-map-range_with_len (byte_at words) 0 len in
     same_from_decides answer (list_all (λ b. nat_le 33 b && nat_le b 126) text) (
-      λ yes k d below. subst (IsBetween 33 126) (sym (unpacked_byte words len k d (omega arith))) (told.0 yes k (omega arith)),
-      λ all. told.1 (λ i within. subst (IsBetween 33 126) (unpacked_byte words len i 0 within) (all i 0 (omega arith))),
+      λ yes k d below. subst (IsBetween 33 126) (sym (unpacked_byte words len k d (omega arith))) (decides.0 yes k (omega arith)),
+      λ all. decides.1 (λ i within. subst (IsBetween 33 126) (unpacked_byte words len i 0 within) (all i 0 (omega arith))),
     ) (visible_decides text)
 
-pub plain_told : (words : List ℕ) (len : ℕ) (answer : Bool) → Decides answer ((i : ℕ) → i < len → IsBetween 32 255 (byte_at words i)) → answer ≡ list_all (nat_le 32) (unpacked len words)
-plain_told words len answer told =
+-- where an answer decides of packed bytes that each is 32 or more, it is the test of the unpacked text
+pub plain_unpacked : (words : List ℕ) (len : ℕ) (answer : Bool) → Decides answer ((i : ℕ) → i < len → IsBetween 32 255 (byte_at words i)) → answer ≡ list_all (nat_le 32) (unpacked len words)
+plain_unpacked words len answer decides =
     let text = unpacked len words in
     let long : length (unpacked len words) ≡ len = length-map-range_with_len (byte_at words) 0 len in
     same_from_decides answer (list_all (nat_le 32) text) (
-      λ yes k d below. subst (λ b. 32 ≤ b) (sym (unpacked_byte words len k d (omega arith))) (told.0 yes k (omega arith)).0,
-      λ all. told.1 (λ i within. (subst (λ b. 32 ≤ b) (unpacked_byte words len i 0 within) (all i 0 (omega arith)), omega arith)),
+      λ yes k d below. subst (λ b. 32 ≤ b) (sym (unpacked_byte words len k d (omega arith))) (decides.0 yes k (omega arith)).0,
+      λ all. decides.1 (λ i within. (subst (λ b. 32 ≤ b) (unpacked_byte words len i 0 within) (all i 0 (omega arith)), omega arith)),
     ) (plain_decides text)
 
-pub key_told : (words : List ℕ) (len : ℕ) (answer : Bool) → answer ≡ list_all (λ b. nat_le 33 b && nat_le b 126) (unpacked len words) → is_key (unpacked len words) ≡ (nat_le 1 len && nat_le len 64 && answer)
-key_told words len answer told =
-    ap₂ (λ n b. nat_le 1 n && nat_le n 64 && b) (length-map-range_with_len (byte_at words) 0 len) (sym told)
+-- packed bytes pass as a key exactly where they are 1 to 64 and the test of each passes
+pub key_by_test : (words : List ℕ) (len : ℕ) (answer : Bool) → answer ≡ list_all (λ b. nat_le 33 b && nat_le b 126) (unpacked len words) → is_key (unpacked len words) ≡ (nat_le 1 len && nat_le len 64 && answer)
+key_by_test words len answer is_test =
+    ap₂ (λ n b. nat_le 1 n && nat_le n 64 && b) (length-map-range_with_len (byte_at words) 0 len) (sym is_test)
 
-pub document_told : (words : List ℕ) (len : ℕ) (answer : Bool) → answer ≡ list_all (nat_le 32) (unpacked len words) → is_document (unpacked len words) ≡ (nat_le 1 len && nat_le len 1024 && answer)
-document_told words len answer told =
-    ap₂ (λ n b. nat_le 1 n && nat_le n 1024 && b) (length-map-range_with_len (byte_at words) 0 len) (sym told)
+-- packed bytes pass as a document exactly where they are 1 to 1,024 and the test of each passes
+pub document_by_test : (words : List ℕ) (len : ℕ) (answer : Bool) → answer ≡ list_all (nat_le 32) (unpacked len words) → is_document (unpacked len words) ≡ (nat_le 1 len && nat_le len 1024 && answer)
+document_by_test words len answer is_test =
+    ap₂ (λ n b. nat_le 1 n && nat_le n 1024 && b) (length-map-range_with_len (byte_at words) 0 len) (sym is_test)
 
 -- tests of a length that fail, and that pass
 pub too_short_or_long : (len most : ℕ) (rest : Bool) → (len ≡ 0) ⊎ (most < len) → false ≡ (nat_le 1 len && nat_le len most && rest)

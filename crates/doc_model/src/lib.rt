@@ -12,7 +12,7 @@
 //! - The words of an operation and of a reply are their definitions: `op_words`, `reply_words`.
 //! - An operation, or a reply, is read from words exactly where they are words of one within the limits, and it is that one: `op_of`,
 //!   `reply_of` (`found`, `only`, `bad`), and without memory `is_op`.
-//! - Whether bytes are a key is told exactly: `is_key` (`rule`); replies of bytes that are packed already have the words of those replies:
+//! - Bytes are a key exactly where `is_key` says so (`rule`); replies of bytes that are packed already have the words of those replies:
 //!   `packed_document_reply`, `packed_key_reply`.
 //! - Two operations, or replies, with the same words are one: `op_words_are_one_to_one`, `reply_words_are_one_to_one`.
 //! - They are 144 words of 64 bits, with each part at its place, and the kind tells a reading: `words_are_words`, `parts_stand_in_words`,

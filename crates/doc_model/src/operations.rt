@@ -1,4 +1,4 @@
-//! What a client may ask of the store, and what it is told.
+//! What a client may ask of the store, and how it is answered.
 
 ghost use Rattle.std.specs.Prelude.{◌≡◌};
 

@@ -1,4 +1,4 @@
-//! Texts that are packed into words, told where they stand, so that no byte of them is copied.
+//! Texts that are packed into words, tested where they stand, so that no byte of them is copied.
 
 ghost use Rattle.std.specs.Prelude.{◌≡◌, ◌*◌, ◌/◌, ◌%◌, ◌^◌, ◌<◌, ◌≤◌, ◌↔◌, ℕ, IsTrue, All, length};
 ghost use Rattle.cx_base.specs.Packing.{byte_at};
@@ -42,7 +42,7 @@ fn is_word_between<const LEAST: u64, const MOST: u64>(word: u64) -> bool
     true
 }
 
-/// Whether the first bytes are all from one number to another. Those of whole words are told word by word.
+/// Whether the first bytes are all from one number to another. Those of whole words are tested word by word.
 pub(crate) fn are_between<const LEAST: u64, const MOST: u64>(words: &[u64], len: usize) -> bool
     requires { len ≤ 8 * length words.now }
     ensures { IsTrue result ↔ ((i : ℕ) → i < len → IsBetween LEAST MOST (byte_at words.now i)) }

@@ -8,7 +8,7 @@ use Rattle.doc_model.proofs.OpKinds.{op_words_fit}
 use Rattle.doc_store.specs.ExactStep.{IsImageOfStore, op_in, opening_image, reads_in, store_step}
 use Rattle.doc_store.specs.DocumentMeaning.{document_meaning}
 use Rattle.doc_store.specs.OpsRead.{op_is_read}
-use Rattle.doc_store.specs.ReplyWords.{told_by_words}
+use Rattle.doc_store.specs.ReplyWords.{same_by_words}
 use Rattle.doc_store.specs.StoreLaws.{image_index, image_reply_fits, opening_stands, step_means}
 use Rattle.typed_object.specs.Meaning.{HasMeaning}
 
@@ -29,7 +29,7 @@ documents_have_meaning lines enough few = record {
   after = λ image store op i s is amount. ((step_means lines image (op_words op) (image_index lines image i) i.words (fit op is amount)).does op (of_words op is amount) store s).after;
   answer = λ image store op i s is amount. ((step_means lines image (op_words op) (image_index lines image i) i.words (fit op is amount)).does op (of_words op is amount) store s).answer;
   replies = λ image store op i s is amount. (let f = image_reply_fits lines image op (record { words = i.words; store = store; stands = s }) in record { limits = f.0; number = f.1 });
-  told = λ one other value is same. told_by_words one other value is.limits is.number same;
+  told = λ one other value is same. same_by_words one other value is.limits is.number same;
   readings = λ op is amount. reading op (of_words op is amount);
   opens = opening_stands lines enough few;
 }

@@ -1,4 +1,4 @@
--- Commands on documents are read by their rules: what is read is asked for, what is asked for is read, and the reason told is the first that fits.
+-- Commands on documents are read by their rules: what is read is asked for, what is asked for is read, and the reason of a refusal is the first that fits.
 use Rattle.std.specs.Prelude.{codes, is_some, ℤ}
 use Rattle.std.specs.Fmt.{decimal, signed_decimal}
 use Rattle.std.proofs.Common.{◌≡◌, ℕ, ◌≤◌, ◌<◌, ◌^◌, true, false, cond, leb, List, [], ◌∷◌, ◌++◌, length, Option, None, Some, Ok, Err, refl, sym, ap, subst, ◌∙◌, append_assoc, arith, inl, inr, ltb, not}

@@ -16,6 +16,6 @@ integer_sum (triple ∷ triples) = document_number triple +ℤ integer_sum tripl
 
 -- the four lines on a life that left a store of these triples
 abbrev pub summary_text : LifeRecord Reply → List ((List ℕ × List ℕ) × ℕ) → List ℕ
-summary_text told triples =
-    codes "clients " ++ decimal told.clients ++ codes "\nupdates " ++ decimal (length told.journal)
+summary_text life triples =
+    codes "clients " ++ decimal life.clients ++ codes "\nupdates " ++ decimal (length life.journal)
     ++ codes "\ndocuments " ++ decimal (length triples) ++ codes "\nsum " ++ signed_decimal (integer_sum triples) ++ codes "\n"

@@ -12,12 +12,12 @@ use std::alloc::{AllocError, Global};
 
 /// A life in four lines: its clients, the entries of its history, and, where it left these pairs, their number and the sum of the
 /// documents that are 64-bit integers. `Err` means out of memory.
-pub fn summary(alloc: Global, told: &LifeRecord, pairs: &[Pair]) -> Result<Vec<u8>, AllocError>
-    ensures { IfOk result (λ text. text.items ≡ summary_text told.now pairs.now) }
+pub fn summary(alloc: Global, life: &LifeRecord, pairs: &[Pair]) -> Result<Vec<u8>, AllocError>
+    ensures { IfOk result (λ text. text.items ≡ summary_text life.now pairs.now) }
 {
     let mut out = Vec::new(alloc);
-    write_labelled(&mut out, b"clients ", u64::from(told.clients))?;
-    write_labelled(&mut out, b"\nupdates ", told.journal.len() as u64)?;
+    write_labelled(&mut out, b"clients ", u64::from(life.clients))?;
+    write_labelled(&mut out, b"\nupdates ", life.journal.len() as u64)?;
     write_labelled(&mut out, b"\ndocuments ", pairs.len() as u64)?;
     out.extend_from_slice(b"\nsum ")?;
     write_wide(&mut out, sum_of(pairs))?;

@@ -8,10 +8,11 @@ use Rattle.fifo_object.specs.Words.{is_item, item_in, kind_in, op_words, reply_w
 use Rattle.fifo_object.specs.declared.operations.FifoOp.TheVariants.{Len, Peek}
 use Rattle.fifo_object.specs.declared.operations.FifoReply.TheVariants.{Empty, Full, Length, Pushed}
 
--- the header's words
+-- the place of the item at the front, which the header has
 abbrev pub queue_head : List ℕ → ℕ
 queue_head image = slice_index image 1
 
+-- the number of items, which the header has
 abbrev pub count_in : List ℕ → ℕ
 count_in image = slice_index image 2
 
@@ -45,17 +46,17 @@ pub record HoldsFifo {Memory : Type 0} (m : Ghosts Memory) (lines : ℕ) (mem : 
   pub size : m.size mem ≡ 8 * lines
   pub lawful : Always (m.stands mem) (IsFifo lines)
 
--- what telling some of its words needs: a memory of the given number of lines, and a reply whose words are 0
+-- what an answer by some words of a memory needs: it has the given number of lines, and the reply's words are 0
 pub record MayTell {Memory : Type 0} (m : Ghosts Memory) (lines : ℕ) (mem : Memory) (reply : List ℕ) : Type 0 where
   pub size : m.size mem ≡ 8 * lines
   pub zero : reply ≡ replicate 144 0
 
--- what answering needs: a memory that holds a queue, and such a reply
+-- what an answer of the queue needs: a memory that holds one of the given number of lines, and a reply whose words are 0
 pub record MayAnswerQueue {Memory : Type 0} (m : Ghosts Memory) (lines : ℕ) (mem : Memory) (reply : List ℕ) : Type 0 where
   pub holds : HoldsFifo m lines mem
   pub zero : reply ≡ replicate 144 0
 
--- the same of a change, which stores into the memory
+-- what a change of the queue needs: a memory that holds one of the given number of lines and may be stored to, and a reply whose words are 0
 pub record MayChangeQueue {Memory : Type 0} (m : Ghosts Memory) (lines : ℕ) (mem : Memory) (reply : List ℕ) : Type 0 where
   pub holds : HoldsFifo m lines mem
   pub writable : IsTrue (m.writable mem)
@@ -65,10 +66,11 @@ pub record MayChangeQueue {Memory : Type 0} (m : Ghosts Memory) (lines : ℕ) (m
 abbrev pub fifo_opening : ℕ → List ℕ
 fifo_opening lines = 16 ∷ replicate (8 * lines - 1) 0
 
--- the image after an item is put behind the last, and after the one at the front is taken
+-- the image after an item is put behind the last
 unfoldable pub pushed : ℕ → List ℕ → List ℕ → List ℕ
 pushed lines item image = slice_set (overwritten (8 * (item_place lines image (count_in image) + 1)) item image) 2 (count_in image + 1)
 
+-- the image after the item at the front is taken
 unfoldable pub popped : ℕ → List ℕ → List ℕ
 popped lines image = slice_set (slice_set image 1 (item_place lines image 1)) 2 (count_in image - 1)
 
@@ -76,21 +78,24 @@ popped lines image = slice_set (slice_set image 1 (item_place lines image 1)) 2 
 unfoldable pub front_words : List ℕ → List ℕ
 front_words image = if count_in image == 0 then reply_words Empty else words_of_item 3 (item_at image (queue_head image))
 
--- the image after each operation, and the words of its reply
+-- the image after a push, and the words of its reply
 unfoldable pub push_step : ℕ → List ℕ → List ℕ → List ℕ × List ℕ
 push_step lines item image =
     if nat_le (lines - 1) (count_in image) then (image, reply_words Full) else (pushed lines item image, reply_words Pushed)
 
+-- the image after a pop, and the words of its reply
 unfoldable pub pop_step : ℕ → List ℕ → List ℕ × List ℕ
 pop_step lines image = if count_in image == 0 then (image, reply_words Empty) else (popped lines image, words_of_item 3 (item_at image (queue_head image)))
 
+-- the image after a peek, and the words of its reply
 abbrev pub peek_step : List ℕ → List ℕ × List ℕ
 peek_step image = (image, front_words image)
 
+-- the image after a request for the number of texts, and the words of its reply
 abbrev pub len_step : List ℕ → List ℕ × List ℕ
 len_step image = (image, reply_words (Length (count_in image)))
 
--- The step, by the kind of operation that has the words. Words of no operation leave the image, and are answered by zeros.
+-- The step of an operation of this kind and item. Another kind is of no operation: it leaves the image, and is answered by zeros.
 abbrev pub step_by : ℕ → ℕ → List ℕ → List ℕ → List ℕ × List ℕ
 step_by kind lines item image =
     if kind == 1 then push_step lines item image
@@ -98,6 +103,7 @@ step_by kind lines item image =
     else (if kind == 3 then peek_step image
     else (if kind == 4 then len_step image else (image, replicate 144 0))))
 
+-- The step of an operation's words. Words of no operation leave the image, and are answered by zeros.
 unfoldable pub fifo_step : ℕ → List ℕ → List ℕ → List ℕ × List ℕ
 fifo_step lines image op = step_by (kind_in op) lines (item_in op) image
 
@@ -109,16 +115,16 @@ fifo_reads op = kind_in op == 3 || kind_in op == 4
 abbrev pub IsReading : List ℕ → Type 0
 IsReading words = (words ≡ op_words Peek) ⊎ (words ≡ op_words Len)
 
--- one image has the words of another but in the header's line and in that of a place
+-- two images have the same words but in the header's line and in that of a place
 abbrev pub IsSameBeside : ℕ → List ℕ → List ℕ → Type 0
 IsSameBeside place one other = (at : ℕ) → 8 ≤ at → (at < 8 * (place + 1)) ⊎ (8 * (place + 2) ≤ at) → slice_index one at ≡ slice_index other at
 
--- it has the same words in these two lines
+-- two images have the same words in the header's line and in that of a place
 pub record IsSameAt (place : ℕ) (one other : List ℕ) : Type 0 where
   pub header : (j : ℕ) → j < 8 → slice_index one j ≡ slice_index other j
   pub item : item_at one place ≡ item_at other place
 
--- what a step changes in an image, and what its reply is told by, are at most two lines: the header's and that of a place
+-- what a step changes in an image, and what its reply depends on, are at most two lines: the header's and that of a place
 pub record TouchesTwoLines (step : List ℕ → List ℕ × List ℕ) (image : List ℕ) : Type 0 where
   pub place : ℕ
   pub changes : IsSameBeside place (step image).0 image

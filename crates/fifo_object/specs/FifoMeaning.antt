@@ -12,6 +12,7 @@ use Rattle.typed_object.specs.Meaning.{Encoding, Meaning}
 abbrev pub StandsForQueue : ℕ → List ℕ → Queue → Type 0
 StandsForQueue lines image queue = IsQueueInRing (lines - 1) (queue_head image) (count_in image) (λ p. text_in (item_at image p)) queue
 
+-- the words of operations and of replies
 abbrev pub fifo_encoding : Encoding FifoOp FifoReply
 fifo_encoding = record { op_words = op_words; reply_words = reply_words }
 

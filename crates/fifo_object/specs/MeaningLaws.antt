@@ -8,7 +8,7 @@ use Rattle.std.proofs.lemmas.List.FromFn.{get_or-map-range_with_len, length-map-
 use Rattle.std.proofs.lemmas.Option.{get_or_from_slice_get, none-some, slice_get_within}
 use Rattle.fifo_object.specs.Queue.{IsOp, IsReply, IsText, Queue, behind_front, front_reply, is_full, only_reads, queue_after, reply_to}
 use Rattle.fifo_object.specs.Words.{item_in, item_words, op_words, reply_words, text_in, words_of_item}
-use Rattle.fifo_object.specs.WordLaws.{item_holds, item_passes, kind_is_read, op_fits, replies_told, text_again, text_back}
+use Rattle.fifo_object.specs.WordLaws.{item_holds, item_passes, kind_is_read, op_fits, replies_by_words, text_again, text_back}
 use Rattle.fifo_object.specs.declared.operations.FifoOp.{FifoOp}
 use Rattle.fifo_object.specs.declared.operations.FifoOp.TheVariants.{Push, Pop, Peek, Len}
 use Rattle.fifo_object.specs.declared.operations.FifoReply.TheVariants.{Empty, Full, Length, Pushed}
@@ -65,6 +65,7 @@ len_of : (lines : ℕ) (image : List ℕ) → fifo_step lines image (op_words Le
 unfolding words_of_item
 len_of lines image = step_of lines image Len tt
 
+-- an operation's words are taken for a reading exactly where it only reads
 pub fifo_reads_of : (op : FifoOp) → IsOp op → fifo_reads (op_words op) ≡ only_reads op
 unfolding fifo_reads words_of_item
 fifo_reads_of (Push text) is = ap (λ k. k == 3 || k == 4) (kind_is_read (Push text) is)
@@ -75,6 +76,7 @@ fifo_reads_of Len is = ap (λ k. k == 3 || k == 4) (kind_is_read Len is)
 module _ (lines : ℕ) (image : List ℕ) (i : IsFifo lines image) (some : 2 ≤ lines) where
   -- ---- a push
 
+  -- an image of a queue with room stands for the queue with one text more, once that is put behind the last
   pushed_stands : (queue : Queue) (text : List ℕ) → StandsForQueue lines image queue → IsText text → count_in image < lines - 1 → StandsForQueue lines (pushed lines (item_words text) image) (queue ++ text ∷ [])
   pushed_stands queue text r is room =
       let item = item_words text in
@@ -100,18 +102,21 @@ module _ (lines : ℕ) (image : List ℕ) (i : IsFifo lines image) (some : 2 ≤
   full_is : (queue : Queue) → StandsForQueue lines image queue → nat_le (lines - 1) (count_in image) ≡ is_full lines queue
   full_is queue r = ap (nat_le (lines - 1)) (sym r.long)
 
+  -- the image after a push's step stands for the queue after it
   after_push : (queue : Queue) (text : List ℕ) → StandsForQueue lines image queue → IsText text → StandsForQueue lines (push_step lines (item_words text) image).0 (queue_after lines queue (Push text))
   unfolding push_step
   after_push queue text r is =
       subst (λ b. StandsForQueue lines (push_step lines (item_words text) image).0 (cond b queue (queue ++ text ∷ []))) (full_is queue r) (push_by (nat_le (lines - 1) (count_in image)) queue text refl r is)
 
-  told_by : (b : Bool) (text : List ℕ) → (cond {A = List ℕ × List ℕ} b (image, reply_words Full) (pushed lines (item_words text) image, reply_words Pushed)).1 ≡ reply_words (cond b Full Pushed)
-  told_by true text = refl
-  told_by false text = refl
+  -- the reply of a push is Full or Pushed, by the test whether there is room
+  push_reply_by : (b : Bool) (text : List ℕ) → (cond {A = List ℕ × List ℕ} b (image, reply_words Full) (pushed lines (item_words text) image, reply_words Pushed)).1 ≡ reply_words (cond b Full Pushed)
+  push_reply_by true text = refl
+  push_reply_by false text = refl
 
-  push_told : (queue : Queue) (text : List ℕ) → StandsForQueue lines image queue → (push_step lines (item_words text) image).1 ≡ reply_words (reply_to lines queue (Push text))
+  -- the reply of a push's step is the one by its meaning
+  push_answers : (queue : Queue) (text : List ℕ) → StandsForQueue lines image queue → (push_step lines (item_words text) image).1 ≡ reply_words (reply_to lines queue (Push text))
   unfolding push_step
-  push_told queue text r = told_by (nat_le (lines - 1) (count_in image)) text ∙ ap (λ b. reply_words (cond b Full Pushed)) (full_is queue r)
+  push_answers queue text r = push_reply_by (nat_le (lines - 1) (count_in image)) text ∙ ap (λ b. reply_words (cond b Full Pushed)) (full_is queue r)
 
   -- ---- the front
 
@@ -121,6 +126,7 @@ module _ (lines : ℕ) (image : List ℕ) (i : IsFifo lines image) (some : 2 ≤
   one_there : (text : List ℕ) (queue : Queue) → StandsForQueue lines image (text ∷ queue) → (count_in image == 0) ≡ false
   one_there text queue r = ne_eqb (count_in image) 0 (λ e. (let l : suc (length queue) ≡ count_in image = r.long in omega (arith, e, l)))
 
+  -- the item at the front of an image is the first text of the queue that it stands for, and that is within the limits
   front_holds : (text : List ℕ) (queue : Queue) → StandsForQueue lines image (text ∷ queue) → IsText text × (item_at image (queue_head image) ≡ item_words text)
   front_holds text queue r =
       let l : suc (length queue) ≡ count_in image = r.long in
@@ -128,10 +134,11 @@ module _ (lines : ℕ) (image : List ℕ) (i : IsFifo lines image) (some : 2 ≤
       let same : text_in (item_at image (queue_head image)) ≡ text = ring_front (lines - 1) (queue_head image) (count_in image) (λ p. text_in (item_at image p)) text queue r in
       (subst IsText same holds.0, sym holds.1 ∙ ap item_words same)
 
-  front_told : (queue : Queue) → StandsForQueue lines image queue → front_words image ≡ reply_words (front_reply queue)
+  -- the reply about the front of an image is the one by its meaning
+  front_answers : (queue : Queue) → StandsForQueue lines image queue → front_words image ≡ reply_words (front_reply queue)
   unfolding front_words
-  front_told [] r = ap (λ b. cond b (reply_words Empty) (words_of_item 3 (item_at image (queue_head image)))) (none_there r)
-  front_told (text ∷ queue) r = ap (λ b. cond b (reply_words Empty) (words_of_item 3 (item_at image (queue_head image)))) (one_there text queue r) ∙ ap (words_of_item 3) (front_holds text queue r).1
+  front_answers [] r = ap (λ b. cond b (reply_words Empty) (words_of_item 3 (item_at image (queue_head image)))) (none_there r)
+  front_answers (text ∷ queue) r = ap (λ b. cond b (reply_words Empty) (words_of_item 3 (item_at image (queue_head image)))) (one_there text queue r) ∙ ap (words_of_item 3) (front_holds text queue r).1
 
   front_is : (queue : Queue) → StandsForQueue lines image queue → IsReply (front_reply queue)
   front_is [] r = tt
@@ -139,6 +146,7 @@ module _ (lines : ℕ) (image : List ℕ) (i : IsFifo lines image) (some : 2 ≤
 
   -- ---- a pop
 
+  -- an image of a queue with some text stands for the queue without its first text, once that is taken
   popped_stands : (text : List ℕ) (queue : Queue) → StandsForQueue lines image (text ∷ queue) → StandsForQueue lines (popped lines image) queue
   popped_stands text queue r =
       let at : ℕ → List ℕ = λ p. text_in (item_at image p) in
@@ -149,6 +157,7 @@ module _ (lines : ℕ) (image : List ℕ) (i : IsFifo lines image) (some : 2 ≤
       (queue_head (popped lines image)) (count_in (popped lines image)) (λ p. text_in (item_at (popped lines image) p))
       (popped_head lines image i.words some) (popped_count lines image i.words some ∙ omega (arith, l)) (λ p. ap text_in (popped_items lines image i.words some p))
 
+  -- the image after a pop's step stands for the queue after it
   after_pop : (queue : Queue) → StandsForQueue lines image queue → StandsForQueue lines (pop_step lines image).0 (behind_front queue)
   unfolding pop_step
   after_pop [] r =
@@ -160,34 +169,39 @@ module _ (lines : ℕ) (image : List ℕ) (i : IsFifo lines image) (some : 2 ≤
   same_reply true words = refl
   same_reply false words = refl
 
-  pop_told : (queue : Queue) → StandsForQueue lines image queue → (pop_step lines image).1 ≡ reply_words (front_reply queue)
+  -- the reply of a pop's step is the one by its meaning
+  pop_answers : (queue : Queue) → StandsForQueue lines image queue → (pop_step lines image).1 ≡ reply_words (front_reply queue)
   unfolding pop_step front_words
-  pop_told queue r = same_reply (count_in image == 0) (words_of_item 3 (item_at image (queue_head image))) ∙ front_told queue r
+  pop_answers queue r = same_reply (count_in image == 0) (words_of_item 3 (item_at image (queue_head image))) ∙ front_answers queue r
 
   -- ---- each operation
 
+  -- the image after the step of an operation stands for the queue after it
   pub after : (queue : Queue) (op : FifoOp) → StandsForQueue lines image queue → IsOp op → StandsForQueue lines (fifo_step lines image (op_words op)).0 (queue_after lines queue op)
   after queue (Push text) r is = subst (λ p. StandsForQueue lines p.0 (queue_after lines queue (Push text))) (sym (push_of lines image text is)) (after_push queue text r is)
   after queue Pop r is = subst (λ p. StandsForQueue lines p.0 (behind_front queue)) (sym (pop_of lines image)) (after_pop queue r)
   after queue Peek r is = subst (λ p. StandsForQueue lines p.0 queue) (sym (peek_of lines image)) r
   after queue Len r is = subst (λ p. StandsForQueue lines p.0 queue) (sym (len_of lines image)) r
 
+  -- the reply of an operation's step has the words of the reply by its meaning
   pub answer : (queue : Queue) (op : FifoOp) → StandsForQueue lines image queue → IsOp op → (fifo_step lines image (op_words op)).1 ≡ reply_words (reply_to lines queue op)
-  answer queue (Push text) r is = ap (λ p. p.1) (push_of lines image text is) ∙ push_told queue text r
-  answer queue Pop r is = ap (λ p. p.1) (pop_of lines image) ∙ pop_told queue r
-  answer queue Peek r is = ap (λ p. p.1) (peek_of lines image) ∙ front_told queue r
+  answer queue (Push text) r is = ap (λ p. p.1) (push_of lines image text is) ∙ push_answers queue text r
+  answer queue Pop r is = ap (λ p. p.1) (pop_of lines image) ∙ pop_answers queue r
+  answer queue Peek r is = ap (λ p. p.1) (peek_of lines image) ∙ front_answers queue r
   answer queue Len r is = ap (λ p. p.1) (len_of lines image) ∙ ap (λ n. reply_words (Length n)) (sym r.long)
 
   push_reply : (b : Bool) → IsReply (cond b Full Pushed)
   push_reply true = tt
   push_reply false = tt
 
+  -- the reply to an operation on a queue that an image stands for is within the limits
   pub reply_is : (queue : Queue) (op : FifoOp) → StandsForQueue lines image queue → IsReply (reply_to lines queue op)
   reply_is queue (Push text) r = push_reply (is_full lines queue)
   reply_is queue Pop r = front_is queue r
   reply_is queue Peek r = front_is queue r
   reply_is queue Len r = tt
 
+-- the steps of the queue's images are what its operations mean
 pub fifo_has_meaning : (lines : ℕ) → 2 ≤ lines → HasMeaning (IsFifo lines) (fifo_opening lines) (fifo_step lines) fifo_reads (fifo_meaning lines)
 fifo_has_meaning lines some = record {
   some = λ image i. (queue_in lines image, stands_for_some lines image i);
@@ -197,5 +211,5 @@ fifo_has_meaning lines some = record {
   after = λ image queue op i stands is value. after lines image i some queue op stands is;
   answer = λ image queue op i stands is value. answer lines image i some queue op stands is;
   replies = λ image queue op i stands is value. reply_is lines image i some queue op stands;
-  told = replies_told;
+  told = replies_by_words;
 }

@@ -98,6 +98,7 @@ has_text_passes kind text is =
 
 -- ---- operations
 
+-- an operation within the limits is read back from its words
 pub op_is_read : (op : FifoOp) → IsOp op → (is_op_in (op_words op) ≡ true) × (op_in (op_words op) ≡ op)
 unfolding is_op_in op_in words_of_item
 op_is_read (Push text) is = (has_text_passes 1 text is, ap (λ item. Push (text_in item)) (text_back 1 text) ∙ ap Push (text_again text is))
@@ -107,6 +108,7 @@ op_is_read Len is = (refl, refl)
 
 -- ---- replies
 
+-- a reply within the limits is read back from its words
 pub reply_is_read : (reply : FifoReply) → IsReply reply → (is_reply_in (reply_words reply) ≡ true) × (reply_in (reply_words reply) ≡ reply)
 unfolding is_reply_in reply_in words_of_item
 reply_is_read Pushed is = (refl, refl)
@@ -115,28 +117,29 @@ reply_is_read (Item text) is = (has_text_passes 3 text is, ap (λ item. Item (te
 reply_is_read Empty is = (refl, refl)
 reply_is_read (Length number) is = ((bytes_eq-Decides (words_of_item 5 (number_item number)) (words_of_item 5 (number_item number))).1 refl, refl)
 
+-- two replies within the limits that have the same words are one
 pub replies_same : (one other : FifoReply) → IsReply one → IsReply other → reply_words one ≡ reply_words other → one ≡ other
 replies_same one other is are e = sym (reply_is_read one is).1 ∙ ap reply_in e ∙ (reply_is_read other are).1
 
--- the text of a reply is read back from the words of another's that has one
-text_is_told : (text other : List ℕ) → All (λ b. b < 256) text → IsText other → length text ≡ length other → item_words text ≡ item_words other → text ≡ other
-text_is_told text other bytes is long same =
+-- a text of bytes that has the words of one within the limits, and its length, is that one
+text_by_words : (text other : List ℕ) → All (λ b. b < 256) text → IsText other → length text ≡ length other → item_words text ≡ item_words other → text ≡ other
+text_by_words text other bytes is long same =
     let small : (i : ℕ) → get_or text i 0 < 256 = λ i. elim (cases_lt i (length text)) [ inl within ↦ bytes i 0 within | inr past ↦ omega (arith, get_or_past text i 0 past) ] in
     sym (short_again text (let s = is.short in omega (arith, long, s)) small) ∙ ap text_in same ∙ text_again other is
 
--- a reply is told by its words, where those of one within the limits are the same
-pub replies_told : (one other : FifoReply) → IsReplyValue one → IsReply other → reply_words one ≡ reply_words other → one ≡ other
+-- a reply that has the words of another within the limits is that one
+pub replies_by_words : (one other : FifoReply) → IsReplyValue one → IsReply other → reply_words one ≡ reply_words other → one ≡ other
 unfolding words_of_item
-replies_told Pushed other value is same = replies_same Pushed other tt is same
-replies_told Full other value is same = replies_same Full other tt is same
-replies_told Empty other value is same = replies_same Empty other tt is same
-replies_told (Length number) other value is same = replies_same (Length number) other tt is same
-replies_told (Item text) (Item other) value is same =
-    ap Item (text_is_told text other value is (ap (λ w. slice_index w 1) same) (sym (text_back 3 text) ∙ ap item_in same ∙ text_back 3 other))
-replies_told (Item text) Pushed value is same = absurd (let k : 3 ≡ 1 = ap (λ w. slice_index w 0) same in omega (arith, k))
-replies_told (Item text) Full value is same = absurd (let k : 3 ≡ 2 = ap (λ w. slice_index w 0) same in omega (arith, k))
-replies_told (Item text) Empty value is same = absurd (let k : 3 ≡ 4 = ap (λ w. slice_index w 0) same in omega (arith, k))
-replies_told (Item text) (Length number) value is same = absurd (let k : 3 ≡ 5 = ap (λ w. slice_index w 0) same in omega (arith, k))
+replies_by_words Pushed other value is same = replies_same Pushed other tt is same
+replies_by_words Full other value is same = replies_same Full other tt is same
+replies_by_words Empty other value is same = replies_same Empty other tt is same
+replies_by_words (Length number) other value is same = replies_same (Length number) other tt is same
+replies_by_words (Item text) (Item other) value is same =
+    ap Item (text_by_words text other value is (ap (λ w. slice_index w 1) same) (sym (text_back 3 text) ∙ ap item_in same ∙ text_back 3 other))
+replies_by_words (Item text) Pushed value is same = absurd (let k : 3 ≡ 1 = ap (λ w. slice_index w 0) same in omega (arith, k))
+replies_by_words (Item text) Full value is same = absurd (let k : 3 ≡ 2 = ap (λ w. slice_index w 0) same in omega (arith, k))
+replies_by_words (Item text) Empty value is same = absurd (let k : 3 ≡ 4 = ap (λ w. slice_index w 0) same in omega (arith, k))
+replies_by_words (Item text) (Length number) value is same = absurd (let k : 3 ≡ 5 = ap (λ w. slice_index w 0) same in omega (arith, k))
 
 -- ---- what an object is asked
 
@@ -186,6 +189,7 @@ text_fits text is = record {
   fit = All-cons (λ x. x < 2 ^ 64) (length text) (packed 7 text) (let s = is.short in omega arith) (packed_fit 7 text (bytes_small text is));
 }
 
+-- the words of an operation within the limits are 144, each of 64 bits
 pub op_fits : (op : FifoOp) → IsOp op → Words 144 (op_words op)
 op_fits (Push text) is = words_of_fit 1 (item_words text) (lit< tt) (text_fits text is)
 op_fits Pop is = words_of_fit 2 no_item (lit< tt) no_item_fits

@@ -9,13 +9,15 @@ use Rattle.fifo_object.specs.declared.operations.FifoOp.TheVariants.{Push, Pop, 
 use Rattle.fifo_object.specs.declared.operations.FifoReply.{FifoReply}
 use Rattle.fifo_object.specs.declared.operations.FifoReply.TheVariants.{Pushed, Full, Item, Empty, Length}
 
--- a text as an item: its length, and its bytes packed; a number as one; and neither
+-- a text as an item: its length, and its bytes packed
 abbrev pub item_words : List ℕ → List ℕ
 item_words text = length text ∷ packed 7 text
 
+-- a number as an item
 abbrev pub number_item : ℕ → List ℕ
 number_item number = number ∷ replicate 7 0
 
+-- the item of what has neither a text nor a number
 abbrev pub no_item : List ℕ
 no_item = replicate 8 0
 
@@ -38,10 +40,11 @@ reply_words (Item text) = words_of_item 3 (item_words text)
 reply_words Empty = words_of_item 4 no_item
 reply_words (Length number) = words_of_item 5 (number_item number)
 
--- no operation, or no reply, within the limits has these words
+-- no operation within the limits has these words
 abbrev pub AreOfNoOp : List ℕ → Type 0
 AreOfNoOp words = (op : FifoOp) → IsOp op → op_words op ≢ words
 
+-- no reply within the limits has these words
 abbrev pub AreOfNoReply : List ℕ → Type 0
 AreOfNoReply words = (reply : FifoReply) → IsReply reply → reply_words reply ≢ words
 
@@ -51,27 +54,30 @@ AreOfNoReply words = (reply : FifoReply) → IsReply reply → reply_words reply
 abbrev pub is_text : List ℕ → Bool
 is_text text = nat_le 1 (length text) && nat_le (length text) 56 && list_all (λ b. nat_le 33 b && nat_le b 126) text
 
--- the text of an item, at most 56 bytes, and whether it is one
+-- the text of an item, at most 56 bytes
 unfoldable pub text_in : List ℕ → List ℕ
 text_in item = unpacked (min (slice_index item 0) 56) (drop 1 item)
 
+-- whether words are the item of a text within the limits
 unfoldable pub is_item : List ℕ → Bool
 is_item item = is_text (text_in item) && bytes_eq (item_words (text_in item)) item
 
--- the item of words, and whether they are those of a kind and a text
+-- the item that words have behind the kind
 abbrev pub item_in : List ℕ → List ℕ
 item_in words = take 8 (drop 1 words)
 
+-- whether words are those of this kind and of a text within the limits
 unfoldable pub has_text : ℕ → List ℕ → Bool
 has_text kind words = is_item (item_in words) && bytes_eq (words_of_item kind (item_in words)) words
 
--- whether an operation has these words, and which
+-- whether an operation within the limits has these words
 unfoldable pub is_op_in : List ℕ → Bool
 is_op_in words =
     if slice_index words 0 == 1
     then has_text 1 words
     else nat_le 2 (slice_index words 0) && nat_le (slice_index words 0) 4 && bytes_eq (words_of_item (slice_index words 0) no_item) words
 
+-- the operation that has these words, where one has
 unfoldable pub op_in : List ℕ → FifoOp
 op_in words =
     if slice_index words 0 == 1 then Push (text_in (item_in words))
@@ -82,7 +88,7 @@ op_in words =
 unfoldable pub kind_in : List ℕ → ℕ
 kind_in words = if is_op_in words then slice_index words 0 else 0
 
--- whether a reply has these words, and which
+-- whether a reply within the limits has these words
 unfoldable pub is_reply_in : List ℕ → Bool
 is_reply_in words =
     if slice_index words 0 == 3
@@ -91,6 +97,7 @@ is_reply_in words =
     then bytes_eq (words_of_item 5 (number_item (slice_index words 1))) words
     else nat_le 1 (slice_index words 0) && nat_le (slice_index words 0) 4 && bytes_eq (words_of_item (slice_index words 0) no_item) words)
 
+-- the reply that has these words, where one has
 unfoldable pub reply_in : List ℕ → FifoReply
 reply_in words =
     if slice_index words 0 == 1 then Pushed

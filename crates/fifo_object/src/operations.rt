@@ -1,4 +1,4 @@
-//! What a client may ask of the queue, and what it is told.
+//! What a client may ask of the queue, and how it is answered.
 
 ghost use Rattle.std.specs.Prelude.{◌≡◌};
 

@@ -7,20 +7,22 @@ use Rattle.avl_words.proofs.Frames.{times_self}
 use Rattle.index_validation.proofs.Counts.{count_cons}
 use Rattle.index_validation.proofs.Marking.{marks_then, can_mark_rest}
 
--- a chain up to a line
+-- word 0 of each of these lines names the next one: the first line is `first`, and the last one names `to`
 abbrev pub IsPath : List ℕ → ℕ → List ℕ → ℕ → Type 0
 IsPath ws first [] to = first ≡ to
 IsPath ws first (line ∷ lines) to = (first ≡ line) × IsPath ws (word_of ws line 0) lines to
 
+-- a path to a line is one further with this line, to the line that it names
 path_push : (ws lines : List ℕ) (first line next : ℕ) → IsPath ws first lines line → word_of ws line 0 ≡ next → IsPath ws first (lines ++ line ∷ []) next
 path_push ws [] first line next p e = (p, e)
 path_push ws (l ∷ lines) first line next p e = (p.0, path_push ws lines (word_of ws l 0) line next p.1 e)
 
+-- a path that leads to 0 is a chain
 path_ends : (ws lines : List ℕ) (first line : ℕ) → IsPath ws first lines line → line ≡ 0 → IsChain ws first lines
 path_ends ws [] first line p e = p ∙ e
 path_ends ws (l ∷ lines) first line p e = (p.0, path_ends ws lines (word_of ws l 0) line p.1 e)
 
--- a path is the first part of any chain that is no shorter
+-- lines begin with these, and those behind them are a chain from a line
 record IsBegun (ws : List ℕ) (line : ℕ) (front lines : List ℕ) : Type 0 where
   pub rest : List ℕ
   pub lines_are : lines ≡ front ++ rest
@@ -39,7 +41,7 @@ path_front ws (x ∷ front) (y ∷ lines) first line p c l =
       chain = b.chain;
     }
 
--- the first n lines are marked
+-- the first `n` lines on a path from `first` are marked beside those that were, and it leads to `line`
 pub record MarkedSoFar (ws : List ℕ) (first n line : ℕ) (old now : List Bool) : Type 0 where
   pub front : List ℕ
   pub path : IsPath ws first front line
@@ -65,7 +67,7 @@ marked_all ws first n count line old now s e last = record {
   marks = s.marks;
 }
 
--- a line that cannot be marked
+-- the line at which a chain of some lines begins is one of them
 starts_with : (ws rest : List ℕ) (line : ℕ) → IsChain ws line rest → 1 ≤ length rest → 1 ≤ count_of line rest
 starts_with ws [] line c l = absurd (omega arith)
 starts_with ws (x ∷ rest) line c l = subst (λ y. 1 ≤ count_of y (x ∷ rest)) (sym c.0) (omega (arith, count_cons x x rest, times_self x))
@@ -79,7 +81,7 @@ no_chain_taken ws first n count line old now s l taken lines c counted can =
     let some = starts_with ws b.rest line b.chain (omega (arith, long, length-append s.front b.rest, s.counted)) in
     omega (arith, some, taken b.rest rest)
 
--- a chain ends where no line is left, and goes on where one is
+-- a chain of no lines begins at 0
 ends_here : (ws rest : List ℕ) (line : ℕ) → IsChain ws line rest → length rest ≡ 0 → line ≡ 0
 ends_here ws [] line c l = c
 ends_here ws (x ∷ rest) line c l = absurd (omega arith)

@@ -13,6 +13,7 @@ use Rattle.avl_words.proofs.Frames.{high_is}
 use Rattle.index_validation.specs.Shape.{HasShape}
 use Rattle.index_validation.specs.Order.{nodes_in_order, HasTree, IsLeftPassed, AreNoted, to_come}
 
+-- a tree has as many items as its size says
 pub items_count : (t : Tree ℕ) → length (items t) ≡ size t
 items_count Empty = refl
 items_count (Node l x r) = omega (arith, length-append (items l) (x ∷ items r), items_count l, items_count r)
@@ -22,11 +23,12 @@ pub in_order_is : (ws : List ℕ) (t : Tree ℕ) (line : ℕ) → RepresentsTree
 unfolding nodes_in_order
 in_order_is ws t line s e low = ap (λ k. items (tree_at 64 k ws)) (sym e) ∙ ap items (tree_at_is ws t 64 s low)
 
+-- the nodes below the link of the header are those of the tree that the words stand for
 pub in_order_root : (ws : List ℕ) → nodes_in_order (word_of ws 0 1) ws ≡ items (tree_in ws)
 unfolding nodes_in_order tree_in
 in_order_root ws = refl
 
--- a tree of the given number of nodes
+-- what has the shape of a balanced tree of fewer than 2 ^ 32 nodes is a tree at most 64 high
 pub tree_of : (ws : List ℕ) (line count : ℕ) → HasShape ws line count → count < 2 ^ 32 → HasTree ws line 0
 tree_of ws line count h few = record {
   tree = h.tree;
@@ -35,13 +37,15 @@ tree_of ws line count h few = record {
   low = (let low = depth_bound h.tree h.balanced (subst (λ n. n < 2 ^ 32) (sym h.counted) few) in omega arith);
 }
 
+-- the nodes below a line with a balanced tree's shape are that tree's, where they are fewer than 2 ^ 32
 pub shape_lines : (ws : List ℕ) (line count : ℕ) (h : HasShape ws line count) → count < 2 ^ 32 → nodes_in_order line ws ≡ items h.tree
 shape_lines ws line count h few = in_order_is ws h.tree line h.stands h.root_is (depth_bound h.tree h.balanced (subst (λ n. n < 2 ^ 32) (sym h.counted) few))
 
+-- below a line with the shape of a balanced tree of `count` nodes stand `count` nodes, where they are fewer than 2 ^ 32
 pub shape_count : (ws : List ℕ) (line count : ℕ) → HasShape ws line count → count < 2 ^ 32 → length (nodes_in_order line ws) ≡ count
 shape_count ws line count h few = ap length (shape_lines ws line count h few) ∙ items_count h.tree ∙ h.counted
 
--- a node of a tree, and the trees below it
+-- a line other than 0 is a node with two trees below it, and the nodes below the line, in order, are the left one's, the line, and the right one's
 pub record IsParted (ws : List ℕ) (line level : ℕ) : Type 0 where
   pub some : 1 ≤ line
   pub within : IsWithin ws line
@@ -49,7 +53,8 @@ pub record IsParted (ws : List ℕ) (line level : ℕ) : Type 0 where
   pub right : HasTree ws (word_of ws line 1) (level + 1)
   pub lines : nodes_in_order line ws ≡ nodes_in_order (word_of ws line 0) ws ++ line ∷ nodes_in_order (word_of ws line 1) ws
 
--- a tree `t` whose root is not 0 is a node and two trees, and its nodes in order are those of the left one, the node, and the right one's
+-- A tree that stands below a line other than 0 is a node there and two trees: its nodes in order are the left one's, the node, and the right one's. The levels above
+-- and its height are at most 64 together, and so are they for both trees, with one level more.
 part : (ws : List ℕ) (line level : ℕ) (t : Tree ℕ) → RepresentsTree ws t → root t ≡ line → level + height t ≤ 64 → line ≢ 0 → IsParted ws line level
 part ws line level Empty s e low n = absurd (n (sym e))
 part ws line level (Node l x r) s e low n =
@@ -66,27 +71,31 @@ part ws line level (Node l x r) s e low n =
           ∙ ap (λ ls. nodes_in_order (word_of ws line 0) ws ++ line ∷ ls) (sym (in_order_is ws r (word_of ws line 1) s.2 q (omega arith)));
     }
 
+-- a tree below a line other than 0 is a node and two trees
 pub part_of : (ws : List ℕ) (line level : ℕ) → HasTree ws line level → line ≢ 0 → IsParted ws line level
 part_of ws line level h n = part ws line level h.tree h.stands h.root_is h.low n
 
+-- below link 0 stands the empty tree
 no_tree : (ws : List ℕ) (n line : ℕ) → line ≡ 0 → tree_at n line ws ≡ Empty
 no_tree ws zero line z = refl
 no_tree ws (suc n) line z =
     cond-true (eqb line 0) Empty (Node (tree_at n (word_of ws line 0) ws) line (tree_at n (word_of ws line 1) ws)) (eq-eqb line 0 z)
 
+-- no node stands below link 0
 pub no_lines : (ws : List ℕ) (line : ℕ) → line ≡ 0 → nodes_in_order line ws ≡ []
 unfolding nodes_in_order
 no_lines ws line z = ap items (no_tree ws 64 line z)
 
--- there is room for another note
+-- a tree whose root is not 0 is at least 1 high
 some_high : (ws : List ℕ) (t : Tree ℕ) (line : ℕ) → root t ≡ line → line ≢ 0 → 1 ≤ height t
 some_high ws Empty line e n = absurd (n (sym e))
 some_high ws (Node l x r) line e n = omega arith
 
+-- a tree below a line other than 0 begins at a level below 64, so that its root can be noted
 pub room_to_note : (ws : List ℕ) (line level : ℕ) → HasTree ws line level → line ≢ 0 → level < 64
 room_to_note ws line level h n = (let low = h.low in let some = some_high ws h.tree line h.root_is n in omega arith)
 
--- a note leaves those below it
+-- a note at a depth leaves the nodes that are still to come at the depths below it
 to_come_set : (ws nodes : List ℕ) (d e v : ℕ) → d ≤ e → to_come ws (set nodes e v) d ≡ to_come ws nodes d
 to_come_set ws nodes zero e v le = refl
 to_come_set ws nodes (suc d) e v le =
@@ -108,7 +117,7 @@ noted_more ws nodes d v l are is p less =
       | inr n ↦ subst (λ k. IsLeftPassed ws k p) (sym (get_or-set_other nodes d p v 0 n)) (are p (let o : p ≢ d = n in omega arith))
     ]
 
--- the way down to the least node
+-- on the way down to the least node: what stands below the node here and what is to come are, in order, the nodes below the first node and then the rest
 pub record IsDescending (ws nodes : List ℕ) (depth node from : ℕ) (rest : List ℕ) : Type 0 where
   pub noted : AreNoted ws nodes depth
   pub tree : HasTree ws node depth
@@ -131,6 +140,7 @@ descend_more ws nodes depth node next from rest d n e =
       long = omega (arith, length-set nodes depth node);
     })
 
+-- where the way down to the least node ends at 0, what is to come are the nodes below the first node and then the rest
 pub descend_ends : (ws nodes : List ℕ) (depth node from : ℕ) (rest : List ℕ) → IsDescending ws nodes depth node from rest → node ≡ 0 → to_come ws nodes depth ≡ nodes_in_order from ws ++ rest
 descend_ends ws nodes depth node from rest d z = ap (λ u. u ++ to_come ws nodes depth) (sym (no_lines ws node z)) ∙ d.lines
 

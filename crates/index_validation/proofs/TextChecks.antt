@@ -13,10 +13,11 @@ use Rattle.index_validation.specs.Lawful.{HasChain, HasBlocks, IsContent, AreByt
 use Rattle.index_validation.proofs.BlockReads.{next_line, word_at_past}
 use Rattle.index_validation.proofs.Marking.{marked_there}
 
--- a marked chain is there
+-- a line below the number of marks is within words that have a line for each mark
 inside : (x n m : ℕ) → x < n → 8 * n ≤ m → 8 * x + 8 ≤ m
 inside x n m l room = omega arith
 
+-- all lines of a chain that was marked are within words that have a line for each mark
 pub chain_is_there : (ws : List ℕ) (first count : ℕ) (old now : List Bool) → HasChain ws first count old now → 8 * length old ≤ length ws → HasBlocks ws first count
 chain_is_there ws first count old now h room = record {
   lines = h.lines;
@@ -25,11 +26,12 @@ chain_is_there ws first count old now h room = record {
   within = All-weaker (λ x. x < length old) (IsWithin ws) (λ x l. inside x (length old) (length ws) l room) h.lines (marked_there old now h.lines h.marks);
 }
 
--- the first i words of the blocks are read, and `line` is the next word's
+-- the first `i` words of the blocks of these lines were read into `content`, and `line` is the one of word `i`
 pub record ContentSoFar (ws lines content : List ℕ) (i line : ℕ) : Type 0 where
   pub at : line ≡ get_or lines (i / 7) 0
   pub front : (k : ℕ) → k < i → get_or content k 0 ≡ word_of ws (get_or lines (k / 7) 0) (1 + k % 7)
 
+-- of each chain of `count` lines from `first` the first `i` words were read, and `line` is the one of word `i`
 abbrev pub ReadsSoFar : List ℕ → ℕ → ℕ → List ℕ → ℕ → ℕ → Type 0
 ReadsSoFar ws first count content i line = (lines : List ℕ) → IsChain ws first lines → length lines ≡ count → ContentSoFar ws lines content i line
 
@@ -45,12 +47,12 @@ content_more ws first count content i line next v so l room is last other lines 
           (get_or-set_same content i v 0 (omega arith) ∙ is ∙ ap (λ x. word_of ws x (1 + i % 7)) s.at);
     }
 
--- all words of the blocks are read, and zeros put up to i
+-- all words of each chain of `count` lines from `first` were read, and zeros stand behind them up to `i`
 pub record ClearedSoFar (ws : List ℕ) (first count : ℕ) (content : List ℕ) (i : ℕ) : Type 0 where
   pub front : (lines : List ℕ) → IsChain ws first lines → length lines ≡ count → (k : ℕ) → k < 7 * count → get_or content k 0 ≡ word_of ws (get_or lines (k / 7) 0) (1 + k % 7)
   pub behind : (k : ℕ) → 7 * count ≤ k → k < i → get_or content k 0 ≡ 0
 
--- the first bytes and the others
+-- where the first bytes are within the limits and those behind them are 0, they are filled so
 pub filled : (bytes : List ℕ) (len least most : ℕ) → All (AreBytesBetween least most) (take len bytes) → All (λ b. b ≡ 0) (drop len bytes) → IsFilled bytes len least most
 filled bytes len least most front behind = record {
   front = front;
@@ -63,15 +65,17 @@ filled bytes len least most front behind = record {
       ]);
 }
 
+-- the bytes behind the first ones are 0, where they are filled so
 pub zeros_behind : (bytes : List ℕ) (len least most : ℕ) → IsFilled bytes len least most → All (λ b. b ≡ 0) (drop len bytes)
 zeros_behind bytes len least most f =
     All-from_get_or (λ b. b ≡ 0) (drop len bytes) 0 (λ i l. get_or-drop len bytes i 0 ∙ f.behind (len + i) (omega arith))
 
--- words of bytes that are the same
+-- bytes that are the same pack into the same words
 same_words : (bytes others : List ℕ) → ((k : ℕ) → get_or bytes k 0 ≡ get_or others k 0) → (i : ℕ) → packed_at bytes i ≡ packed_at others i
 same_words bytes others same i =
     omega (arith, same (8 * i), same (8 * i + 1), same (8 * i + 2), same (8 * i + 3), same (8 * i + 4), same (8 * i + 5), same (8 * i + 6), same (8 * i + 7))
 
+-- of bytes that are 0 behind the first ones, the first ones alone have the same bytes
 front_is : (bytes : List ℕ) (len least most : ℕ) → IsFilled bytes len least most → (k : ℕ) → get_or (take len bytes) k 0 ≡ get_or bytes k 0
 front_is bytes len least most f k =
     elim (cases_lt k len) [
@@ -79,7 +83,7 @@ front_is bytes len least most f k =
       | inr l ↦ get_or_past (take len bytes) k 0 (omega (arith, length-take len bytes)) ∙ sym (f.behind k l)
     ]
 
--- what is read of a chain of blocks
+-- what was read of each chain of `count` lines from `first`: its words are `content`, and `bytes` are the bytes that these pack
 pub record IsRead (ws : List ℕ) (first count len : ℕ) (content bytes : List ℕ) : Type 0 where
   pub contents : (lines : List ℕ) → IsChain ws first lines → length lines ≡ count → IsContent ws lines content
   pub bytes_are : bytes ≡ unpacked (8 * length content) content
@@ -87,6 +91,7 @@ pub record IsRead (ws : List ℕ) (first count len : ℕ) (content bytes : List 
   pub counted : count ≡ (len + 55) / 56
   pub room : 7 * count ≤ length content
 
+-- what was read of a chain has eight bytes for each word
 bytes_long : (ws : List ℕ) (first count len : ℕ) (content bytes : List ℕ) → IsRead ws first count len content bytes → length bytes ≡ 8 * length content
 bytes_long ws first count len content bytes r = ap length r.bytes_are ∙ length-map-range_with_len (byte_at content) 0 (8 * length content)
 
@@ -114,7 +119,7 @@ text_there ws first count len least most content bytes old now h r f =
       marks = h.marks;
     }
 
--- a text that is there is read
+-- each byte of a text within limits below 256 is below 256, as is the 0 that is read behind it
 small_text : (text : List ℕ) (least most : ℕ) → All (AreBytesBetween least most) text → most < 256 → (i : ℕ) → get_or text i 0 < 256
 small_text text least most limits l i =
     elim (cases_lt i (length text)) [
@@ -122,6 +127,7 @@ small_text text least most limits l i =
       | inr ge ↦ subst (λ b. b < 256) (sym (get_or_past text i 0 ge)) (omega arith)
     ]
 
+-- the words that were read of a chain which holds a text are the packed words of the text
 content_is : (ws : List ℕ) (first count len : ℕ) (content bytes lines text : List ℕ) → IsRead ws first count len content bytes → Holds ws first lines text → length text ≡ len → length lines ≡ count → content ≡ packed (length content) text
 content_is ws first count len content bytes lines text r h long counted =
     let is = r.contents lines h.chain counted in
@@ -147,6 +153,7 @@ read_byte ws first count len content bytes lines text r h long counted small k =
           ∙ sym (get_or_past text k 0 (let room = r.room in omega (arith, long, r.counted)))
     ]
 
+-- where the bytes that were read of a chain are not filled within the limits, the chain holds no text within them
 pub no_text : (ws : List ℕ) (first count len least most : ℕ) (content bytes : List ℕ) (old : List Bool) → IsRead ws first count len content bytes → most < 256 → (IsFilled bytes len least most → ⊥) → NoText ws first len least most old
 no_text ws first count len least most content bytes old r below none lines text h long limits can =
     let counted : length lines ≡ count = h.enough ∙ ap (λ n. (n + 55) / 56) long ∙ sym r.counted in

@@ -18,7 +18,7 @@ pub record IsTextAt (words : List ℕ) (node at : ℕ) (lines bytes : List ℕ) 
   pub node_within : IsWithin words node
   pub within : All (IsWithin words) lines
 
--- some bytes, at most 8n
+-- a node names some bytes by two of its words, and they are at most 8n
 pub record HasText (words : List ℕ) (node at n : ℕ) : Type 0 where
   pub lines : List ℕ
   pub bytes : List ℕ

@@ -36,7 +36,7 @@ pub record Marks (old : List Bool) (lines : List ℕ) (now : List Bool) : Type 0
   pub long : length now ≡ length old
   pub are : (line : ℕ) → mark_of now line ≡ count_of line lines + mark_of old line
 
--- these lines have a mark each, none of them is marked, and each stands in the list once
+-- each of these lines has a mark that is not set yet, and stands in the list once
 pub record CanMark (marks : List Bool) (lines : List ℕ) : Type 0 where
   pub once : (line : ℕ) → count_of line lines + mark_of marks line ≤ (if nat_lt line (length marks) then 1 else 0)
 
@@ -51,6 +51,7 @@ pub record HasChain (words : List ℕ) (first count : ℕ) (old now : List Bool)
   pub counted : length lines ≡ count
   pub marks : Marks old lines now
 
+-- no chain of `count` lines from `first` can be marked
 abbrev pub NoChain : List ℕ → ℕ → ℕ → List Bool → Type 0
 NoChain words first count old = (lines : List ℕ) → IsChain words first lines → length lines ≡ count → CanMark old lines → ⊥
 
@@ -83,11 +84,12 @@ pub record ReadsText (words : List ℕ) (first len least most : ℕ) (old now : 
   pub limits : All (AreBytesBetween least most) text
   pub marks : Marks old lines now
 
+-- no text of this length, of bytes within these limits, stands in a chain from `first` that can be marked
 abbrev pub NoText : List ℕ → ℕ → ℕ → ℕ → ℕ → List Bool → Type 0
 NoText words first len least most old =
     (lines text : List ℕ) → Holds words first lines text → length text ≡ len → All (AreBytesBetween least most) text → CanMark old lines → ⊥
 
--- the key of a node, and its document
+-- a node has this key, whose blocks are marked
 pub record HasKey (words : List ℕ) (node : ℕ) (old now : List Bool) (key : List ℕ) : Type 0 where
   pub lines : List ℕ
   pub holds : Holds words (word_of words node 3) lines key
@@ -95,9 +97,11 @@ pub record HasKey (words : List ℕ) (node : ℕ) (old now : List Bool) (key : L
   pub is_key : IsKey key
   pub marks : Marks old lines now
 
+-- a node has no key whose blocks can be marked
 abbrev pub NoKey : List ℕ → ℕ → List Bool → Type 0
 NoKey words node old = (lines key : List ℕ) → Holds words (word_of words node 3) lines key → word_of words node 4 ≡ length key → IsKey key → CanMark old lines → ⊥
 
+-- a node has a document, whose blocks are marked
 pub record HasDocument (words : List ℕ) (node : ℕ) (old now : List Bool) : Type 0 where
   pub lines : List ℕ
   pub document : List ℕ
@@ -106,6 +110,7 @@ pub record HasDocument (words : List ℕ) (node : ℕ) (old now : List Bool) : T
   pub is_document : IsDocument document
   pub marks : Marks old lines now
 
+-- a node has no document whose blocks can be marked
 abbrev pub NoDocument : List ℕ → ℕ → List Bool → Type 0
 NoDocument words node old = (lines document : List ℕ) → Holds words (word_of words node 5) lines document → word_of words node 6 ≡ length document → IsDocument document → CanMark old lines → ⊥
 
@@ -121,6 +126,7 @@ pub record HasPair (words : List ℕ) (node : ℕ) (last : List ℕ) (old now : 
   pub rises : key_cmp last key ≡ Less
   pub marks : Marks old (lines_at place) now
 
+-- a node is that of no pair whose key is above another and all of whose lines can be marked
 abbrev pub NoPair : List ℕ → ℕ → List ℕ → List Bool → Type 0
 NoPair words node last old =
     (place : PairLayout) (pair : List ℕ × List ℕ) → node ≡ place.node → IsAt words place pair → IsRevision (head_in words) place.revision → IsKey pair.0 → IsDocument pair.1 → key_cmp last pair.0 ≡ Less → CanMark old (lines_at place) → ⊥
@@ -135,6 +141,7 @@ pub record HasNodes (words : List ℕ) (old now : List Bool) : Type 0 where
   pub revisions : AreRevisions (head_in words) places
   pub marks : Marks old (flat_map lines_at places) now
 
+-- the nodes of the tree, in order, are those of no store's pairs all of whose lines can be marked
 abbrev pub NoNodes : List ℕ → List Bool → Type 0
 NoNodes words old =
     (places : List PairLayout) (store : Store) → Placed words places store → nodes_of places ≡ nodes_in_order (word_of words 0 1) words → IsStore store → AreRevisions (head_in words) places → CanMark old (flat_map lines_at places) → ⊥

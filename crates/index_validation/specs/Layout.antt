@@ -27,6 +27,7 @@ pub record PairLayout : Type 0 where
   pub document_lines : List ℕ
   pub revision : ℕ
 
+-- all lines of a pair: its node, the blocks of its key, and those of its document
 abbrev pub lines_at : PairLayout → List ℕ
 lines_at place = place.node ∷ place.key_lines ++ place.document_lines
 
@@ -62,6 +63,7 @@ pub record RevisionHead : Type 0 where
   pub version : ℕ
   pub last : ℕ
 
+-- what a header with this version and this last revision says
 abbrev pub head_of : ℕ → ℕ → RevisionHead
 head_of version last = record { version = version; last = last }
 
@@ -73,6 +75,7 @@ IsHead head = ((head.version ≡ 1) × (head.last ≡ 0)) ⊎ (head.version ≡ 
 abbrev pub IsRevision : RevisionHead → ℕ → Type 0
 IsRevision head revision = (head.version ≤ revision + 1) × (revision ≤ head.last)
 
+-- each of these places has a revision that a pair may have
 abbrev pub AreRevisions : RevisionHead → List PairLayout → Type 0
 AreRevisions head places = All (λ place. IsRevision head place.revision) places
 

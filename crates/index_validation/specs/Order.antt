@@ -9,14 +9,14 @@ use Rattle.avl_words.specs.Words.{root, RepresentsTree}
 unfoldable pub nodes_in_order : ℕ → List ℕ → List ℕ
 nodes_in_order line words = items (tree_at 64 line words)
 
--- a tree below a link, which ends at most 64 levels below the root
+-- below a link stands a tree, and the levels above it and its height are at most 64 together
 pub record HasTree (words : List ℕ) (line level : ℕ) : Type 0 where
   pub tree : Tree ℕ
   pub stands : RepresentsTree words tree
   pub root_is : root tree ≡ line
   pub low : level + height tree ≤ 64
 
--- a node whose left subtree is passed
+-- a line is a node whose left subtree is passed: a tree stands at its right, one level further down
 pub record IsLeftPassed (words : List ℕ) (line level : ℕ) : Type 0 where
   pub some : 1 ≤ line
   pub within : IsWithin words line

@@ -39,7 +39,7 @@ pub record StandsForRevised (words : List ℕ) (store : RevisedStore) : Type 0 w
   pub pairs : StandsFor words 2 (pairs_in store)
   pub revised : revised_in words ≡ store
 
--- and for no other such store
+-- words of version 2 stand for one store whose pairs have revisions, the one that is read off them, and for no other
 pub record HasOneRevisedStore (words : List ℕ) : Type 0 where
   pub stands : StandsForRevised words (revised_in words)
   pub only : (other : RevisedStore) → StandsForRevised words other → other ≡ revised_in words

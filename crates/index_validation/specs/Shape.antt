@@ -5,6 +5,7 @@ use Rattle.avl_words.specs.Lines.{word_of, IsWithin}
 use Rattle.avl_words.specs.Words.{root, RepresentsTree}
 use Rattle.avl_words.specs.Links.{high_of}
 
+-- below a line stands a balanced tree of `count` nodes
 pub record HasShape (words : List ℕ) (line count : ℕ) : Type 0 where
   pub tree : Tree ℕ
   pub stands : RepresentsTree words tree

@@ -9,7 +9,7 @@ use crate::node_checks::nodes_at;
 use crate::shape::is_balanced;
 use std::alloc::{AllocError, Global};
 
-/// Whether words stand for some store, with this version, of which there are two. They may be anything: the tree's shape is told in one turn for
+/// Whether words stand for some store, with this version, of which there are two. They may be anything: the tree's shape is checked in one turn for
 /// each pair counted, of which there are fewer than lines, and then each line is looked at a bounded number of times, with
 /// a mark of a byte for each line in use. Nothing recurses. `Err` means out of memory.
 pub fn lawful(alloc: Global, words: &[u64], version: u64) -> Result<bool, AllocError>

@@ -5,8 +5,8 @@
 //! gets a mark; one that has its mark already is used twice. Nothing recurses, so the stack that this takes is the same whatever the words are. Here
 //! is also the definition of how words represent a store, and the list of the pairs of words that passed.
 //!
-//! - Whatever the words are, it is told exactly whether a balanced tree with a given number of nodes stands below a line: `is_balanced`; a walk gives each
-//!   node of such a tree once, in order: `InOrder`.
+//! - Whatever the words are, `is_balanced` says exactly whether a balanced tree with a given number of nodes stands below a line; a walk gives each node of
+//!   such a tree once, in order: `InOrder`.
 //! - Whatever the words are, true exactly where a tree stands in them for some store with this version, of which there are two, and then for
 //!   one only, which is read off them: `lawful`; `lawful_words_have_one_store`, `words_stand_for_one_store`, `words_tell_their_store`;
 //!   `pairs_of` lists it.

@@ -67,14 +67,14 @@ words_with_fit kind first second k f s =
       fit = All-cons Small kind (first ∷ second ∷ zeros) k (All-cons Small first (second ∷ zeros) f (All-cons Small second zeros s rest));
     }
 
-told : (lines : ℕ) (image : List ℕ) (op : Op) → IsImage lines image → IsSmall op → Words 144 (reply_words (reply_to image op))
-told lines image (Raise to) i small =
+reply_fits : (lines : ℕ) (image : List ℕ) (op : Op) → IsImage lines image → IsSmall op → Words 144 (reply_words (reply_to image op))
+reply_fits lines image (Raise to) i small =
     words_with_fit 1 (raised (number_in image) to) 0 (lit< tt) (by_case Small (nat_lt (number_in image) to) to (number_in image) small (Words-at (8 * lines) image 1 i.words)) (lit< tt)
-told lines image Read i small = words_with_fit 1 (number_in image) 0 (lit< tt) (Words-at (8 * lines) image 1 i.words) (lit< tt)
-told lines image Other i small = words_with_fit 0 0 0 (lit< tt) (lit< tt) (lit< tt)
+reply_fits lines image Read i small = words_with_fit 1 (number_in image) 0 (lit< tt) (Words-at (8 * lines) image 1 i.words) (lit< tt)
+reply_fits lines image Other i small = words_with_fit 0 0 0 (lit< tt) (lit< tt) (lit< tt)
 
 pub replies : (lines : ℕ) (image op : List ℕ) → IsImage lines image → Words 144 op → Words 144 (object_step image op).1
-replies lines image op i w = told lines image (op_in op) i (op_is_small op w)
+replies lines image op i w = reply_fits lines image (op_in op) i (op_is_small op w)
 
 -- an operation that only reads leaves the image
 left_by_reading : (image : List ℕ) (op : Op) → IsTrue (is_reading op) → image_after image op ≡ image

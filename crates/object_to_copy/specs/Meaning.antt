@@ -39,7 +39,7 @@ object_step image op = (image_after image (op_in op), reply_words (reply_to imag
 
 -- an operation was done on an image: this is its reply, and this the image after it
 pub record Does (op : Op) (reply : Reply) (before now : List ℕ) : Type 0 where
-  pub told : reply ≡ reply_to before op
+  pub reply_is : reply ≡ reply_to before op
   pub after : now ≡ image_after before op
 
 -- whether an operation, or what words ask for, only reads

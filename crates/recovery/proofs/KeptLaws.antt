@@ -126,12 +126,12 @@ module _ {O : Type 0} (line_count : O → ℕ) (lawful : O → List ℕ → Type
     from = is.kept.from;
     to = subst (λ (es : List Entry). base.place ≤ table.base.place + length es) leaves.history is.kept.to;
     words = is.words ∙ ap (λ (es : List Entry). full_image (step table.object) table.base es base.place) leaves.history;
-    answered = λ c l at i x told. (
-        let b = behind leaves.whole c l (ap (λ ls. slice_get ls c) leaves.shows ∙ at) in
-        is.kept.answered c b.0 b.1 i x (ap (λ (y : Local). slice_get y.answered i) b.2 ∙ told));
-    reads = λ c l at i x told. (
-        let b = behind leaves.whole c l (ap (λ ls. slice_get ls c) leaves.shows ∙ at) in
-        is.kept.reads c b.0 b.1 i x (ap (λ (y : Local). slice_get y.seen_reads i) b.2 ∙ told));
+    answered = λ caller local at i answer listed. (
+        let whole = behind leaves.whole caller local (ap (λ ls. slice_get ls caller) leaves.shows ∙ at) in
+        is.kept.answered caller whole.0 whole.1 i answer (ap (λ (y : Local). slice_get y.answered i) whole.2 ∙ listed));
+    reads = λ caller local at i read listed. (
+        let whole = behind leaves.whole caller local (ap (λ ls. slice_get ls caller) leaves.shows ∙ at) in
+        is.kept.reads caller whole.0 whole.1 i read (ap (λ (y : Local). slice_get y.seen_reads i) whole.2 ∙ listed));
     again = is.again;
   }
 

@@ -48,10 +48,10 @@ module _ (lines : ℕ) (lawful : List ℕ → Type 0) (instance : Instance) (law
       keep.keeps lines lawful instance.step (at_place ticket) entry (at_place (ticket + 1)) before (omega (arith, small, within)) is.caller is.some (omega (arith, most, back))
       image_lawful (laws.shape (instance.step image entry.op).0 image_lawful) (laws.replies image entry.op before.object is.op) refl (full_next instance history ticket entry linked)
 
-  -- an entry says its number, and the history's reply to it
-  told_by : (ticket : ℕ) (entry : Entry) (reply : List ℕ) → IsLinked instance.base.place history ticket entry →
+  -- right after a linked entry the base says of the entry's caller its number, and the history's reply to it
+  entry_outcome : (ticket : ℕ) (entry : Entry) (reply : List ℕ) → IsLinked instance.base.place history ticket entry →
       reply_at instance.step instance.base.place (object_part instance.base.words) history ticket ≡ Some reply → outcome_of entry.caller (at_place (ticket + 1)) ≡ Applied entry.number reply
-  told_by ticket entry reply linked is =
+  entry_outcome ticket entry reply linked is =
       let from = linked.from in
       let within = linked_within instance.base.place history ticket entry linked in
       let kept = kept_at ticket entry linked in
@@ -62,13 +62,14 @@ module _ (lines : ℕ) (lawful : List ℕ → Type 0) (instance : Instance) (law
       ∙ ap (outcome_in entry.number) (kept.reply ∙ reply_of_full lines lawful instance laws base history small entries ticket entry.op from (omega (arith, within)) ∙ replied)
       ∙ applied_in entry.number reply (entries (ticket - instance.base.place) entry linked.at).some
 
-  -- another's entry leaves what is said of a caller
+  -- a linked entry of another caller leaves what the base says of this one
   left_by : (ticket : ℕ) (entry : Entry) (caller : ℕ) → caller < 8 → IsLinked instance.base.place history ticket entry → entry.caller ≢ caller → outcome_of caller (at_place (ticket + 1)) ≡ outcome_of caller (at_place ticket)
   left_by ticket entry caller few linked differs =
       let apart : (caller < entry.caller) ⊎ (entry.caller < caller) = elim (cases_order caller entry.caller) [ inl same ↦ absurd (differs (sym same)) | inr other ↦ other ] in
       let stay = (kept_at ticket entry linked).others caller few apart in
       ap (λ n. outcome_in n (slot_reply caller (at_place (ticket + 1)).words)) stay.0 ∙ ap (outcome_in (slot_number caller (at_place ticket).words)) stay.1
 
+  -- the full image after n entries says of each caller its last entry among them, and the history's reply to it
   tells_on : (n place caller : ℕ) → place ≡ instance.base.place + n → n ≤ length history → caller < 8 → TellsOutcome instance.step instance.base history (at_place place) caller
   tells_on zero place caller is within few = record {
     applied = λ ticket entry reply last replied. (let from = last.linked.from in let below = last.below in absurd (omega (arith, from, below, is)));
@@ -81,22 +82,23 @@ module _ (lines : ℕ) (lawful : List ℕ → Type 0) (instance : Instance) (law
       let before = instance.base.place + n in
       let next : place ≡ before + 1 = omega (arith, is) in
       let l = linked_below instance.base.place history before (omega arith) (omega (arith, within)) in
-      let told = tells_on n before caller refl (omega (arith, within)) few in
+      let outcome_before = tells_on n before caller refl (omega (arith, within)) few in
       subst (λ p. TellsOutcome instance.step instance.base history (at_place p) caller) (sym next) (record {
         applied = λ ticket entry reply last replied. elim (cases_eq ticket before) [
           | inl here ↦ (
               let linked = subst (λ t. IsLinked instance.base.place history t entry) here last.linked in
               ap (λ c. outcome_of c (at_place (before + 1))) (sym last.mine)
-              ∙ told_by before entry reply linked (subst (λ t. reply_at instance.step instance.base.place (object_part instance.base.words) history t ≡ Some reply) here replied))
+              ∙ entry_outcome before entry reply linked (subst (λ t. reply_at instance.step instance.base.place (object_part instance.base.words) history t ≡ Some reply) here replied))
           | inr apart ↦ (
               let below = last.below in
               let less : ticket < before = omega (arith, below, apart) in
               left_by before l.0 caller few l.1 (last.last before l.0 l.1 less (omega arith))
-              ∙ told.applied ticket entry reply (record { linked = last.linked; below = less; mine = last.mine; last = λ later other linked after small. last.last later other linked after (omega (arith, small)) }) replied)
+              ∙ outcome_before.applied ticket entry reply (record { linked = last.linked; below = less; mine = last.mine; last = λ later other linked after small. last.last later other linked after (omega (arith, small)) }) replied)
         ];
-        stays = λ none. left_by before l.0 caller few l.1 (none before l.0 l.1 (omega arith)) ∙ told.stays (λ ticket entry linked small. none ticket entry linked (omega (arith, small)));
+        stays = λ none. left_by before l.0 caller few l.1 (none before l.0 l.1 (omega arith)) ∙ outcome_before.stays (λ ticket entry linked small. none ticket entry linked (omega (arith, small)));
       })
 
+  -- the full image at each place of the history says of each caller its last entry below the place, and the history's reply to it
   pub full_tells : (place caller : ℕ) → instance.base.place ≤ place → place ≤ instance.base.place + length history → caller < 8 → TellsOutcome instance.step instance.base history (at_place place) caller
   full_tells place caller from to few = tells_on (place - instance.base.place) place caller (omega (arith, from)) (omega (arith, from, to)) few
 
@@ -110,12 +112,12 @@ module _ (lines : ℕ) (lawful : List ℕ → Type 0) (instance : Instance) (law
     is = (kept_at ticket entry linked).reply;
   }
 
-  -- another's result stays
+  -- a caller's result that stays is after it, as before, the result of the first base or a reply of the object's step
   stays_from : (caller : ℕ) (before after : List ℕ) → IsEarlierResult before after caller
       → IsEarlierResult instance.base.words before caller ⊎ IsStepsReply lawful instance.step (slot_reply caller before)
       → IsEarlierResult instance.base.words after caller ⊎ IsStepsReply lawful instance.step (slot_reply caller after)
   stays_from caller before after stay (inl same) = inl (stay.0 ∙ same.0, stay.1 ∙ same.1)
-  stays_from caller before after stay (inr told) = inr (subst (IsStepsReply lawful instance.step) (sym stay.1) told)
+  stays_from caller before after stay (inr of_step) = inr (subst (IsStepsReply lawful instance.step) (sym stay.1) of_step)
 
   results_on : (n place : ℕ) → place ≡ instance.base.place + n → n ≤ length history → HasResultsFrom lawful instance.step instance.base.words (at_place place).words
   results_on zero place is within caller few =

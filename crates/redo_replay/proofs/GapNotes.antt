@@ -12,7 +12,7 @@ use Rattle.table_invariant.proofs.HasMore.{fits_same, some_same}
 use Rattle.table_invariant.proofs.Stepping.{on_then}
 use Rattle.cx_table.specs.Right.{Right}
 use Rattle.redo_set.specs.Gaps.{KeepsNoting}
-use Rattle.redo_set.proofs.GapEnds.{told_still}
+use Rattle.redo_set.proofs.GapEnds.{tells_after_noting}
 use Rattle.replica.specs.Held.{IsHeld, unchanged_by_access}
 use Rattle.replica.specs.Laws.{image_same}
 use Rattle.replica.specs.Regions.{HasPlace}
@@ -62,7 +62,7 @@ module _ {O : Type 0} (o : Ghosts O) (r : Running O) (held : Right) (before afte
       TellsSet (o.line_count r.object) (o.lawful r.object) r.base (o.step r.object) after.known ticket pairs
   tells_noting ticket pairs same tells =
       subst (λ n. TellsSet n (o.lawful r.object) r.base (o.step r.object) after.known ticket pairs) same
-      (told_still o r pairs ticket before after leaves (subst (λ n. TellsSet n (o.lawful r.object) r.base (o.step r.object) before.known ticket pairs) (sym same) tells))
+      (tells_after_noting o r pairs ticket before after leaves (subst (λ n. TellsSet n (o.lawful r.object) r.base (o.step r.object) before.known ticket pairs) (sym same) tells))
 
 -- who is at the limit is within it
 pub at_within : (l : Local) → IsAtLimit l → IsWithinLimit l

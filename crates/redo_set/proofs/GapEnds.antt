@@ -71,7 +71,7 @@ ends_taken pairs lines lines' ends n same within are =
 shown_so : (steps : ℕ) (s after : Seated) → after ≡ with_steps steps s → after ≡ with_steps after.known.local.steps s
 shown_so steps s after is = is ∙ (λ k. with_steps (sym (ap (λ (x : Seated). x.known.local.steps) is) k) s)
 
--- what was told of a ticket is told still
+-- what a caller notes tells of a ticket's write set does not depend on how many steps it made
 tells_still : {O : Type 0} (o : Ghosts O) (r : Running O) (ticket steps : ℕ) (pairs : List ℕ) (s : Seated) → TellsSet r.lines (o.lawful r.object) r.base (o.step r.object) s.known ticket pairs →
     TellsSet r.lines (o.lawful r.object) r.base (o.step r.object) (with_steps steps s).known ticket pairs
 tells_still o r ticket steps pairs s tells = record { few = tells.few; within = tells.within; leads = tells.leads }
@@ -98,17 +98,17 @@ module _ {O : Type 0} (o : Ghosts O) (r : Running O) where
     fits = inr fits;
   }
 
-  -- a gap of a set that is told is told, in the word that names it
-  pub told_gap : (pairs : List ℕ) (ticket from to s v : ℕ) (before after : Seated) → KeepsNoting o r before after → MayNote o r ticket pairs before → LeavesGap pairs from to → gap_of r.callers s v ≡ record { ticket = ticket; from = from; to = to } →
+  -- Where what a caller notes tells a write set of a ticket, it tells each gap that this set leaves, as the word of that gap names it.
+  pub tells_gap : (pairs : List ℕ) (ticket from to s v : ℕ) (before after : Seated) → KeepsNoting o r before after → MayNote o r ticket pairs before → LeavesGap pairs from to → gap_of r.callers s v ≡ record { ticket = ticket; from = from; to = to } →
       (set_ : List ℕ) × TellsGap r.lines (o.lawful r.object) r.base (o.step r.object) after.known (gap_of r.callers s v) set_
-  told_gap pairs ticket from to s v before after leaves may gap names =
+  tells_gap pairs ticket from to s v before after leaves may gap names =
       let g : Gap = record { ticket = ticket; from = from; to = to } in
       let tells = subst (λ (x : Seated). TellsSet r.lines (o.lawful r.object) r.base (o.step r.object) x.known ticket pairs) (sym leaves.seat) (tells_still o r ticket after.known.local.steps pairs before may.tells) in
-      let told : TellsGap r.lines (o.lawful r.object) r.base (o.step r.object) after.known g pairs = record { tells = tells; off = gap } in
-      (pairs, subst (λ (x : Gap). TellsGap r.lines (o.lawful r.object) r.base (o.step r.object) after.known x pairs) (sym names) told)
+      let of_gap : TellsGap r.lines (o.lawful r.object) r.base (o.step r.object) after.known g pairs = record { tells = tells; off = gap } in
+      (pairs, subst (λ (x : Gap). TellsGap r.lines (o.lawful r.object) r.base (o.step r.object) after.known x pairs) (sym names) of_gap)
 
-  -- the set is told still once gaps were noted
-  pub told_still : (pairs : List ℕ) (ticket : ℕ) (before after : Seated) → KeepsNoting o r before after → TellsSet r.lines (o.lawful r.object) r.base (o.step r.object) before.known ticket pairs →
+  -- what a caller notes tells of a ticket's write set it tells after gaps were noted too
+  pub tells_after_noting : (pairs : List ℕ) (ticket : ℕ) (before after : Seated) → KeepsNoting o r before after → TellsSet r.lines (o.lawful r.object) r.base (o.step r.object) before.known ticket pairs →
       TellsSet r.lines (o.lawful r.object) r.base (o.step r.object) after.known ticket pairs
-  told_still pairs ticket before after leaves tells =
+  tells_after_noting pairs ticket before after leaves tells =
       subst (λ (x : Seated). TellsSet r.lines (o.lawful r.object) r.base (o.step r.object) x.known ticket pairs) (sym leaves.seat) (tells_still o r ticket after.known.local.steps pairs before tells)

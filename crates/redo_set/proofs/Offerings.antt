@@ -41,7 +41,7 @@ module _ (lines : ℕ) (lawful : List ℕ → Type 0) (base : Base) (step : List
   pub fits_still : (accesses : List Note) (first now : List ℕ) → FitsOn lines lawful base step (has_of k') accesses first now → FitsOn lines lawful base step (has_of k) accesses first now
   fits_still accesses first now f = record { fits = f.fits; stays = λ place mid chain. f.stays place mid (chain_still still.entry still.set first place mid chain) }
 
-  -- a set that is told still is, and so is one with the same pairs
+  -- What a seat tells of a ticket's write set, another that has as much tells too, and of each list with the same pairs.
   pub tells_still : k'.accesses ≡ k.accesses → (ticket : ℕ) (pairs set : List ℕ) → ((i : ℕ) → i < 2 * slice_index pairs 0 + 1 → slice_index set i ≡ slice_index pairs i) → TellsSet lines lawful base step k ticket pairs →
       TellsSet lines lawful base step k' ticket set
   tells_still accesses ticket pairs set same tells =
@@ -181,8 +181,8 @@ module _ (s : Seated) (j : ℕ) (can : CanWriteSet s.known.local j) (cells : Has
   tells_written lines lawful base step ticket pairs t named was tells other other_is =
       let cell = put_cell was.words old.offer t.known.local.steps t was.is in
       let same : ticket ≡ other = same_Some ticket other (sym named ∙ sym (ap (λ (c : Cell). c.ticket) cell) ∙ other_is) in
-      let told = tells_still lines lawful base step s.known t.known (put_still was.words old.offer t.known.local.steps t was.is) (ap (λ (x : Seated). x.known.accesses) was.is) ticket pairs was.words was.same tells in
-      subst (λ n. TellsSet lines lawful base step t.known n (cell_of t.known.local j).set) same (subst (TellsSet lines lawful base step t.known ticket) (sym (ap (λ (c : Cell). c.set) cell)) told)
+      let tells_words = tells_still lines lawful base step s.known t.known (put_still was.words old.offer t.known.local.steps t was.is) (ap (λ (x : Seated). x.known.accesses) was.is) ticket pairs was.words was.same tells in
+      subst (λ n. TellsSet lines lawful base step t.known n (cell_of t.known.local j).set) same (subst (TellsSet lines lawful base step t.known ticket) (sym (ap (λ (c : Cell). c.set) cell)) tells_words)
 
   -- a step that the limit did not allow changes nothing more
   pub writes_of : (pairs : List ℕ) (i : ℕ) (t u : Seated) → HasWritten j pairs i s t → u ≡ t → WritesSet j s u

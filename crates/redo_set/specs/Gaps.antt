@@ -72,7 +72,7 @@ abbrev pub NotesGaps : {A E : Type 0} → ℕ → Seated → Seated → Result A
 NotesGaps n before after (Ok x) = after.known.local.steps ≡ steps_on n before.known.local.steps
 NotesGaps n before after (Err e) = (k : ℕ) × (k < n) × (after.known.local.steps ≡ steps_on k before.known.local.steps)
 
--- the set of a ticket is told, and its gaps may be noted
+-- A seat of the table whose notes tell that this is a write set of the ticket: the set's gaps may be noted.
 pub record MayNote {O : Type 0} (o : Ghosts O) (r : Running O) (ticket : ℕ) (set : List ℕ) (seat : Seated) : Type 0 where
   pub of : IsSeatOf r seat
   pub small : ticket < 2 ^ 40

@@ -24,7 +24,7 @@ pub fn offer<O: Object>(
     set: &WriteSet,
 ) -> Result<(), Halt>
     requires may { MayOffer shared.now cell ticket seat.old }
-    requires told { TellsSet shared.now.lines (O.lawful shared.now.object) shared.now.base (O.step shared.now.object) seat.old.known ticket set.now }
+    requires write_set { TellsSet shared.now.lines (O.lawful shared.now.object) shared.now.base (O.step shared.now.object) seat.old.known ticket set.now }
     ensures offered { OnOk result (OffersFitting O.Object shared.now cell ticket set.now seat.old seat.new) }
     ensures leaves { KeepsOffering shared.now seat.old seat.new }
     ensures halts { OnErr result (WritesSet cell seat.old seat.new × IsAtLimit seat.new.known.local) }
@@ -59,7 +59,7 @@ fn write_differing<O: Object>(
 /// is a write set of the ticket. No step is made. What the set then has is left open.
 pub fn keep<O: Object>(shared: &Shared<O>, seat: &mut CallerSeat, ticket: u64, set: &mut WriteSet)
     requires of { IsSeatOf shared.now seat.old }
-    requires told { TellsSet shared.now.lines (O.lawful shared.now.object) shared.now.base (O.step shared.now.object) seat.old.known ticket set.old }
+    requires write_set { TellsSet shared.now.lines (O.lawful shared.now.object) shared.now.base (O.step shared.now.object) seat.old.known ticket set.old }
     ensures kept { KeepsFitting O.Object shared.now ticket set.old seat.old seat.new }
     ensures leaves { KeepsOffering shared.now seat.old seat.new }
 {

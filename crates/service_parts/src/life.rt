@@ -67,7 +67,7 @@ pub fn closed<O: Object>(
 /// A life of four callers, and after a crash one of a caller alone. From `crates/shared_bank/src/callers.rt`:
 /// ```rattle
 /// let base = Base::fresh(alloc, &bank)?;
-/// let (told, remains) = serve(rt, alloc, bank, 4, &base, &Mover { from: 0 })?;
+/// let (answers, remains) = serve(rt, alloc, bank, 4, &base, &Mover { from: 0 })?;
 /// let base = recovered(alloc, &bank, &remains, 0)?;
 /// let (found, _remains) = serve(rt, alloc, bank, 1, &base, &Looker)?;
 /// ```

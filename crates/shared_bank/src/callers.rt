@@ -37,7 +37,7 @@ pub struct Found {
 /// What the callers of a life were answered, and what was found after the loss of power that followed.
 #[derive(Clone, Copy, Debug)]
 pub struct BankLife {
-    pub told: CallCounts,
+    pub answered: CallCounts,
     pub found: Found,
 }
 
@@ -83,9 +83,9 @@ impl CallCounts {
 
 impl BankLife {
     /// What all callers were answered, and what the only one that looked found.
-    fn of(told: &[CallCounts], found: &[Found]) -> BankLife {
+    fn of(answers: &[CallCounts], found: &[Found]) -> BankLife {
         BankLife {
-            told: CallCounts::of_all(told),
+            answered: CallCounts::of_all(answers),
             found: found.first().copied().unwrap_or(NOT_FOUND),
         }
     }
@@ -99,14 +99,14 @@ pub fn two_losses<R: Wait + Threads + Sync>(
 ) -> Result<(BankLife, BankLife), AllocError> {
     let bank = Bank::of(64, ACCOUNTS, ALL);
     let base = Base::fresh(alloc, &bank)?;
-    let (told, remains) = serve(rt, alloc, bank, 4, &base, &Mover { from: 0 })?;
+    let (answers, remains) = serve(rt, alloc, bank, 4, &base, &Mover { from: 0 })?;
     let base = recovered(alloc, &bank, &remains, 0)?;
     let (found, _remains) = serve(rt, alloc, bank, 1, &base, &Looker)?;
-    let first = BankLife::of(&told, &found);
-    let (told, remains) = serve(rt, alloc, bank, 4, &base, &Mover { from: EACH })?;
+    let first = BankLife::of(&answers, &found);
+    let (answers, remains) = serve(rt, alloc, bank, 4, &base, &Mover { from: EACH })?;
     let base = recovered(alloc, &bank, &remains, 0)?;
     let (found, _remains) = serve(rt, alloc, bank, 1, &base, &Looker)?;
-    Ok((first, BankLife::of(&told, &found)))
+    Ok((first, BankLife::of(&answers, &found)))
 }
 
 /// A caller's operations: first it pays out 1,000 to each of its accounts, of what account 0 began with. Then five times it moves 5 from each

@@ -18,7 +18,7 @@ fn main(rt: HostRuntime) -> io::Result<()> {
         Ok((first, second)) => {
             println!(rt;
                 "four callers: {} transfers, {} overdrafts refused, {} audits found 64000",
-                first.told.moved, first.told.refused, first.told.right
+                first.answered.moved, first.answered.refused, first.answered.right
             )?;
             println!(rt;
                 "after a loss of power: account 0 has {}, all have {}",
@@ -26,7 +26,7 @@ fn main(rt: HostRuntime) -> io::Result<()> {
             )?;
             println!(rt;
                 "four callers: {} transfers, {} overdrafts refused, {} audits found 64000",
-                second.told.moved, second.told.refused, second.told.right
+                second.answered.moved, second.answered.refused, second.answered.right
             )?;
             println!(rt;
                 "after another: account 0 has {}, all have {}",

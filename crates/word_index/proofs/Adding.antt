@@ -138,7 +138,7 @@ module _ (x : List ℕ) (pair : List ℕ × List ℕ) (version : ℕ) (store : S
         arranged = subst (λ st. IsLaidOut now (head_of version s.last) st (with_new (order_in pair.0 x) node s.tree) (m.split.front ++ p.place ∷ m.split.rest) p.given []) same
             (relaid z (head_of version s.last) store (m.split.lower ++ pair ∷ m.split.others) s.tree (with_new (order_in pair.0 x) node s.tree) s.places (m.split.front ++ p.place ∷ m.split.rest) p.given (lines_at p.place) [] p.arranged new_order same_lines
             now relaid_now new_even (placed_insert x z m.split.front m.split.rest m.split.lower m.split.others p.place pair m.split.placed_front placed_here p.is));
-        told = ap (triples_of (m.split.front ++ p.place ∷ m.split.rest)) (sym same)
+        triples_are = ap (triples_of (m.split.front ++ p.place ∷ m.split.rest)) (sym same)
             ∙ triples_added x pair.0 m.split.front m.split.rest m.split.lower m.split.others m.split.placed_front m.below m.above pair.1 p.place revision p.revised
             ∙ ap (written_at pair.0 pair.1 revision) (sym (ap₂ triples_of m.split.places_are m.split.store_is));
       }

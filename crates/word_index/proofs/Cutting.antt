@@ -135,14 +135,14 @@ module _ (ws key : List ℕ) (version : ℕ) (store : Store) (s : StandsFor ws v
       let g = pair_is_given node now (head_of version s.last) (h.at.lower ++ h.at.after) out (h.at.front ++ h.at.rest) h.at.place h.at.pair cut_loose in
       let is : store ≡ h.at.lower ++ (key, h.document) ∷ h.at.after = h.at.store_is ∙ ap (λ p. h.at.lower ++ p ∷ h.at.after) h.pair_is in
       let same : h.at.lower ++ h.at.after ≡ without_key key store = without_itself key h.document h.at.lower h.at.after h.below h.above ∙ ap (without_key key) (sym is) in
-      let told = triples_without ws key h.at.front h.at.rest h.at.lower h.at.after h.at.placed_front h.below h.above h.document h.at.place in
+      let triples_left = triples_without ws key h.at.front h.at.rest h.at.lower h.at.after h.at.placed_front h.below h.above h.document h.at.place in
       subst (λ v. HasTriples v (head_of version s.last) (without_key key store) (removed_at key (triples_of s.places store))) (sym e)
       (subst (λ st. HasTriples (with_pair_given node now) (head_of version s.last) st (removed_at key (triples_of s.places store))) same (record {
         tree = out;
         places = h.at.front ++ h.at.rest;
         given = g.given;
         arranged = g.arranged;
-        told = told ∙ ap (removed_at key) (sym (ap₂ triples_of h.at.places_are is));
+        triples_are = triples_left ∙ ap (removed_at key) (sym (ap₂ triples_of h.at.places_are is));
       }))
 
   pub removed_there : true ≡ is_some (document_at key store)

@@ -90,8 +90,9 @@ node_within x head store tree front rest place given loose a =
 -- a pair gets a revision
 module _ (v y : List ℕ) (head : RevisionHead) (lower after : Store) (pair : List ℕ × List ℕ) (tree : Tree ℕ) (front rest : List PairLayout) (place : PairLayout) (given : List ℕ) (shape : Placed v front lower)
     (a : IsLaidOut y head (lower ++ pair ∷ after) tree (front ++ place ∷ rest) given []) (revision : ℕ) where
-  told_words : IsRenewed y (with_word place.node 7 revision y) place place.document_lines pair.1 revision
-  told_words =
+  -- storing a revision in word 7 of a pair's node replaces the revision alone
+  revision_words : IsRenewed y (with_word place.node 7 revision y) place place.document_lines pair.1 revision
+  revision_words =
       let n = place.node in
       let lines = place.document_lines in
       let now = with_word n 7 revision y in
@@ -107,12 +108,13 @@ module _ (v y : List ℕ) (head : RevisionHead) (lower after : Store) (pair : Li
         holds = subst (λ f. Holds now f lines pair.1) (sym (get_or-set_other y (8 * n + 7) (8 * n + 5) revision 0 (omega arith)))
             (holds_same y now (word_of y n 5) lines pair.1 (λ k d l. stored_elsewhere y n 7 revision (get_or lines k d) (omega arith) (apart k d l)) r.is.document);
         counted = get_or-set_other y (8 * n + 7) (8 * n + 6) revision 0 (omega arith) ∙ r.is.document_length;
-        told = get_or-set_same y (8 * n + 7) revision 0 (omega arith);
+        revised = get_or-set_same y (8 * n + 7) revision 0 (omega arith);
       }
 
-  pub told_is : IsLaidOut (with_word place.node 7 revision y) head (lower ++ pair ∷ after) tree (front ++ with_lines place place.document_lines revision ∷ rest) given []
-  told_is =
-      renewed v y head lower after pair tree front rest place given [] shape a (with_word place.node 7 revision y) place.document_lines pair.1 [] revision told_words
+  -- with a revision stored in word 7 of a pair's node the pairs stand as before, and this one has that revision
+  pub revision_is : IsLaidOut (with_word place.node 7 revision y) head (lower ++ pair ∷ after) tree (front ++ with_lines place place.document_lines revision ∷ rest) given []
+  revision_is =
+      renewed v y head lower after pair tree front rest place given [] shape a (with_word place.node 7 revision y) place.document_lines pair.1 [] revision revision_words
       (λ k. balanced k front rest place (with_lines place place.document_lines revision) given [] [] refl)
 
 module _ (x : List ℕ) (node : ℕ) (document : List ℕ) (c : CanRewrite x node document) where
@@ -162,7 +164,7 @@ module _ (x : List ℕ) (node : ℕ) (document : List ℕ) (c : CanRewrite x nod
   apart : times c.place.node old ≡ 0
   apart = (let m = once_most c.place.node in let p = once_parts c.place.node in let s = times_self c.place.node in omega (arith, m, p, s))
 
-  -- in the same blocks
+  -- a document that needs as many blocks as the old one, written into its blocks
   module _ (same : length old ≡ blocks document) (short : length document ≤ 1024) where
     filled : IsFilled x (with_chain_filled (packed 128 document) (length old) 0 (word_of x c.place.node 5) x) old (packed 128 document) 0
     filled = chain_filled (packed 128 document) old x 0 (word_of x c.place.node 5) r.is.document.chain old_within (λ k. (let m = once_most k in let p = once_parts k in omega (arith, m, p)))
@@ -191,7 +193,7 @@ module _ (x : List ℕ) (node : ℕ) (document : List ℕ) (c : CanRewrite x nod
                 stored_elsewhere y n 6 v k (omega arith) (ne (i / 7) 0 (omega arith)) (1 + i % 7) (omega arith) ∙ f.content i l ∙ ap (λ m. get_or (packed 128 document) m 0) (zero-add i) ∙ packed_word 128 i document (omega arith));
           };
           counted = get_or-set_same y (8 * n + 6) v 0 (omega arith);
-          told = get_or-set_other y (8 * n + 6) (8 * n + 7) v 0 (omega arith) ∙ f.others n apart 7 (omega arith) ∙ r.is.revised;
+          revised = get_or-set_other y (8 * n + 6) (8 * n + 7) v 0 (omega arith) ∙ f.others n apart 7 (omega arith) ∙ r.is.revised;
         }
 
     refilled_at : IsRewritten (with_word c.place.node 6 (length document) (with_chain_filled (packed 128 document) (length old) 0 (word_of x c.place.node 5) x)) c.head c.lower c.after (c.pair.0, document) c.front c.rest c.place c.place.revision
@@ -227,7 +229,7 @@ module _ (x : List ℕ) (node : ℕ) (document : List ℕ) (c : CanRewrite x nod
         node = λ i l five six seven. m.rest i l five six;
         holds = record { chain = m.first; enough = refl; packed = λ i l. absurd (omega arith) };
         counted = m.last;
-        told = m.rest 7 (omega arith) (omega arith) (omega arith) ∙ r.is.revised;
+        revised = m.rest 7 (omega arith) (omega arith) (omega arith) ∙ r.is.revised;
       }
 
   bare_is : IsLaidOut bare c.head (c.lower ++ (c.pair.0, []) ∷ c.after) c.tree (c.front ++ moved [] ∷ c.rest) c.given (old ++ [])
@@ -318,7 +320,7 @@ module _ (x : List ℕ) (node : ℕ) (document : List ℕ) (c : CanRewrite x nod
               (written_holds emptied text.1 c.head (c.lower ++ (c.pair.0, []) ∷ c.after) c.tree (c.front ++ moved [] ∷ c.rest) text.0 (blocks document) 128 (length document) (packed 128 document) document []
               (record { long = refl; packs = refl }) (omega arith) (blocks_are (length document)) w));
           counted = m.last;
-          told = m.rest 7 (omega arith) (omega arith) (omega arith) ∙ (around x text.1 c.front c.rest c.lower c.after (moved []) (c.pair.0, []) c.placed_front w.taken.arranged.nodes.pairs).is.revised;
+          revised = m.rest 7 (omega arith) (omega arith) (omega arith) ∙ (around x text.1 c.front c.rest c.lower c.after (moved []) (c.pair.0, []) c.placed_front w.taken.arranged.nodes.pairs).is.revised;
         }
 
     renewed_at : IsRewritten done c.head c.lower c.after (c.pair.0, document) c.front c.rest c.place c.place.revision
@@ -377,7 +379,7 @@ module _ (x : List ℕ) (node : ℕ) (document : List ℕ) (c : CanRewrite x nod
         tree = w.tree;
         lines = w.lines;
         given = w.given;
-        arranged = told_is x y c.head c.lower c.after (c.pair.0, document) w.tree c.front c.rest (moved w.lines) w.given c.placed_front w.arranged revision;
+        arranged = revision_is x y c.head c.lower c.after (c.pair.0, document) w.tree c.front c.rest (moved w.lines) w.given c.placed_front w.arranged revision;
       })
 
   -- as the code runs

@@ -32,10 +32,10 @@ module _ (key x : List ℕ) (store : Store) (s : StandsFor x 2 store) where
             let f : false ≡ b = sym (missing_key x key key 2 store s m) ∙ e in
             let same : store ≡ without_key key store = m.split.store_is ∙ without_nothing key m.split.lower m.split.others m.below m.above ∙ ap (without_key key) (sym m.split.store_is) in
             let are = ap₂ triples_of m.split.places_are m.split.store_is in
-            let told : triples_of s.places store ≡ removed_at key (triples_of s.places store) =
+            let triples_stay : triples_of s.places store ≡ removed_at key (triples_of s.places store) =
             are ∙ triples_apart x key m.split.front m.split.rest m.split.lower m.split.others m.split.placed_front m.below m.above ∙ ap (removed_at key) (sym are) in
             subst (λ b. RepresentsTree (cond b (with_pair_given (node_at key x) (with_node_cut key x)) x)) f
-            (subst (λ st. StandsWith x s.last st (removed_at key (triples_of s.places store))) same (subst (StandsWith x s.last store) told (stands_with x store s)))
+            (subst (λ st. StandsWith x s.last st (removed_at key (triples_of s.places store))) same (subst (StandsWith x s.last store) triples_stay (stands_with x store s)))
         | inr n ↦
             let h = place_is_at x key 2 store s node refl n in
             let t : true ≡ b = sym (here_key x key key 2 store s node h) ∙ e in

@@ -104,7 +104,7 @@ module _ (x key document : List ℕ) (version : ℕ) (store : Store) (s : Stands
           places = h.at.front ++ place ∷ h.at.rest;
           given = w.given;
           arranged = subst (λ st. IsLaidOut (with_replaced document node revision x) (head_of version s.last) st w.tree (h.at.front ++ place ∷ h.at.rest) w.given []) same w.arranged;
-          told = ap (triples_of (h.at.front ++ place ∷ h.at.rest)) here_with
+          triples_are = ap (triples_of (h.at.front ++ place ∷ h.at.rest)) here_with
               ∙ triples_replaced x key h.at.front h.at.rest h.at.lower h.at.after h.at.placed_front h.below h.above h.document h.at.place document place
               ∙ ap (written_at key document revision) (sym (ap₂ triples_of h.at.places_are here_is));
         }
@@ -305,7 +305,7 @@ module _ {x key nodes sides : List ℕ} {depth node above used old lines : ℕ} 
       new = λ z. can_add l z is_key is_document;
       over = λ ne. record {
         can = can_rewrite l ne;
-        told = (λ t. alike ne (is.0 t), λ b. is.1 (alike_back ne b));
+        is_alike = (λ t. alike ne (is.0 t), λ b. is.1 (alike_back ne b));
       };
     }
 

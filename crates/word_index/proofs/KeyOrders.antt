@@ -79,7 +79,7 @@ module _ (left right : List ℕ) (n m : ℕ) where
       let inside : k < i = elim ends [ inl h ↦ omega (arith, long, a, h) | inr h ↦ omega (arith, other, b, h) ] in
       unpacked_at n left k (omega (arith, long, a)) ∙ same k inside ∙ sym (unpacked_at m right k (omega (arith, other, b)))))
 
--- the same of bytes that are 0 behind the end
+-- the bytes of two texts differ first at `i`, where the one may have ended, with 0 behind its end, and the other has not: so the two texts compare as these bytes do
 pub early_at : (left right : List ℕ) (n m i x y : ℕ) → (n ≤ i → byte_at left i ≡ 0) → i < m → ((k : ℕ) → k < i → byte_at left k ≡ byte_at right k) → x ≡ byte_at left i → y ≡ byte_at right i → x ≢ y →
     nat_cmp x y ≡ key_cmp (unpacked n left) (unpacked m right)
 early_at left right n m i x y none b same f g ne = elim (cases_lt i n) [

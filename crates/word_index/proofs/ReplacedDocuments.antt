@@ -15,7 +15,7 @@ use Rattle.word_index.proofs.Frames.{times, times_append, times_cons, times_self
 use Rattle.word_index.proofs.NewLinks.{all_present, at_most_once}
 use Rattle.word_index.proofs.KeyPlaces.{map_append}
 
--- a tree of which no node's links have changed
+-- a node whose first three words did not change is the node that it was
 links_same : (ws now : List ℕ) (line left right high : ℕ) → length now ≡ length ws → ((i : ℕ) → i < 3 → word_of now line i ≡ word_of ws line i) → IsNode ws line left right high → IsNode now line left right high
 links_same ws now line left right high long same n = record {
   some = n.some;
@@ -25,6 +25,7 @@ links_same ws now line left right high long same n = record {
   height_is = same 2 (omega arith) ∙ n.height_is;
 }
 
+-- a tree stands after a change that left the first three words of each of its lines
 pub stands_linked : (ws now : List ℕ) (t : Tree ℕ) → length now ≡ length ws → ((line : ℕ) → tree_times line t ≢ 0 → (i : ℕ) → i < 3 → word_of now line i ≡ word_of ws line i) → RepresentsTree ws t → RepresentsTree now t
 stands_linked ws now Empty long same s = tt
 stands_linked ws now (Node l x r) long same s = (
@@ -33,7 +34,7 @@ stands_linked ws now (Node l x r) long same s = (
   stands_linked ws now r long (λ line n. same line (λ z. n (omega (arith, z)))) s.2,
 )
 
--- pairs at places, around one of them
+-- of pairs at places: those before one pair, that pair, and those behind it stand at theirs
 pub record IsAround (ws : List ℕ) (front rest : List PairLayout) (lower after : Store) (place : PairLayout) (pair : List ℕ × List ℕ) : Type 0 where
   pub placed_front : Placed ws front lower
   pub is : IsAt ws place pair
@@ -52,14 +53,15 @@ around v ws (p ∷ front) rest (q ∷ lower) after place pair n m =
 abbrev pub with_lines : PairLayout → List ℕ → ℕ → PairLayout
 with_lines place lines revision = record { node = place.node; key_lines = place.key_lines; document_lines = lines; revision = revision }
 
--- the words after: those of the pair's node that name its document and its revision, and the old lines of the document, may be others
+-- A pair's document and revision are replaced: the document stands in these lines, and no other words changed than the three of the node that say so and the old
+-- lines of the document.
 pub record IsRenewed (x now : List ℕ) (place : PairLayout) (lines document : List ℕ) (revision : ℕ) : Type 0 where
   pub long : length now ≡ length x
   pub others : (k : ℕ) → k ≢ place.node → times k place.document_lines ≡ 0 → SameLine x now k
   pub node : (i : ℕ) → i < 8 → i ≢ 5 → i ≢ 6 → i ≢ 7 → word_of now place.node i ≡ word_of x place.node i
   pub holds : Holds now (word_of now place.node 5) lines document
   pub counted : word_of now place.node 6 ≡ length document
-  pub told : word_of now place.node 7 ≡ revision
+  pub revised : word_of now place.node 7 ≡ revision
 
 module _ (v x : List ℕ) (head : RevisionHead) (lower after : Store) (pair : List ℕ × List ℕ) (tree : Tree ℕ) (front rest : List PairLayout) (place : PairLayout) (given loose : List ℕ) (shape : Placed v front lower)
     (a : IsLaidOut x head (lower ++ pair ∷ after) tree (front ++ place ∷ rest) given loose) where
@@ -67,17 +69,19 @@ module _ (v x : List ℕ) (head : RevisionHead) (lower after : Store) (pair : Li
   whole k =
       omega (arith, times_append k (flat_map lines_at (front ++ place ∷ rest) ++ given) loose, times_append k (flat_map lines_at (front ++ place ∷ rest)) given, times_middle k front rest place)
 
+  -- a line is at most once among those of the pairs, the given-back ones and the loose ones
   pub most : (k : ℕ) → times k (flat_map lines_at front) + times k (lines_at place) + times k (flat_map lines_at rest) + times k given + times k loose ≤ 1
   most k = (let w = whole k in let o = at_most_once k (word_of x 0 3) (times k (flat_map lines_at (front ++ place ∷ rest) ++ given ++ loose)) (a.once k) in omega (arith, w, o))
 
+  -- a line is as often among a pair's lines as it is the node, one of the key's and one of the document's
   pub parts : (k : ℕ) → times k (lines_at place) ≡ cond (eqb place.node k) 1 0 + times k place.key_lines + times k place.document_lines
   parts k = omega (arith, times_cons k place.node (place.key_lines ++ place.document_lines), times_append k place.key_lines place.document_lines)
 
-  -- a line `k` that is marked as not being the node of the place is another line
+  -- a line that counts 0 as the node of the place is another line
   pub not_here : (k : ℕ) → ◌≡◌ {A = ℕ} (cond (eqb place.node k) 1 0) 0 → k ≢ place.node
   not_here k z e = absurd (let o = times_self k in let y = subst (λ n. ◌≡◌ {A = ℕ} (cond (eqb n k) 1 0) 0) (sym e) z in omega (arith, o, y))
 
-  -- the header is no line of theirs
+  -- the header's line is none of the pair's lines
   none_first : times 0 (lines_at place) ≡ 0
   none_first = (let w = whole 0 in let o : times 0 (flat_map lines_at (front ++ place ∷ rest) ++ given ++ loose) ≡ 0 = a.once 0 in omega (arith, w, o))
 
@@ -86,6 +90,7 @@ module _ (v x : List ℕ) (head : RevisionHead) (lower after : Store) (pair : Li
 
   module _ (now lines document now_loose : List ℕ) (revision : ℕ) (c : IsRenewed x now place lines document revision)
       (same : (k : ℕ) → times k (flat_map lines_at (front ++ with_lines place lines revision ∷ rest) ++ given ++ now_loose) ≡ times k (flat_map lines_at (front ++ place ∷ rest) ++ given ++ loose)) where
+    -- a line that is none of the pair's is as it was
     elsewhere : (k : ℕ) → times k (lines_at place) ≡ 0 → SameLine x now k
     elsewhere k z = (let p = parts k in c.others k (not_here k (omega (arith, p, z))) (omega (arith, p, z)))
 
@@ -120,7 +125,7 @@ module _ (v x : List ℕ) (head : RevisionHead) (lower after : Store) (pair : Li
       key_length = c.node 4 (omega arith) (omega arith) (omega arith) (omega arith) ∙ r.is.key_length;
       document = c.holds;
       document_length = c.counted;
-      revised = c.told;
+      revised = c.revised;
     }
 
     -- the links of each node `k` of the tree are as they were
@@ -138,6 +143,7 @@ module _ (v x : List ℕ) (head : RevisionHead) (lower after : Store) (pair : Li
               elsewhere k (omega (arith, o, t, f, r, m, some)) i (omega arith)
         ]
 
+    -- the pairs stand where they stood, and the one pair with its new document and revision in its place
     pub renewed : IsLaidOut now head (lower ++ (pair.0, document) ∷ after) tree (front ++ with_lines place lines revision ∷ rest) given now_loose
     renewed =
         let r = around v x front rest lower after place pair shape a.nodes.pairs in

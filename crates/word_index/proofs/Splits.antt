@@ -76,36 +76,44 @@ module _ {X : Type 0} (key_of : X → List ℕ) (key : List ℕ) where
     there_in lower after below =
         passes_over lower (x ∷ after) below ∙ ap (λ o. cond (is_eq o) (Some x) (find (λ y. is_eq (key_cmp (key_of y) key)) after)) (ap (λ k. key_cmp k key) same ∙ ties_itself key)
 
--- the same of the pairs of a store
+-- the key of a pair, by which the laws of lists split at a key speak of the pairs of a store
 abbrev pub key_of_pair : List ℕ × List ℕ → List ℕ
 key_of_pair pair = pair.0
 
+-- where each key is above another, the pairs above that are all of them
 pub all_above : (key : List ℕ) (others : Store) → All (λ p. key_cmp key p.0 ≡ Less) others → pairs_above key others ≡ others
 all_above key = all_over key_of_pair key
 
+-- the pairs above a key that is missing are those behind its place
 pub above_split : (key : List ℕ) (lower others : Store) → All (λ p. key_cmp p.0 key ≡ Less) lower → All (λ p. key_cmp key p.0 ≡ Less) others → pairs_above key (lower ++ others) ≡ others
 above_split key = over_split key_of_pair key
 
+-- the pairs above a key that is there are those behind its pair
 pub above_behind : (key document : List ℕ) (lower after : Store) → All (λ p. key_cmp p.0 key ≡ Less) lower → All (λ p. key_cmp key p.0 ≡ Less) after → pairs_above key (lower ++ (key, document) ∷ after) ≡ after
 above_behind key document = over_behind key_of_pair key (key, document) refl
 
+-- the document of a key that is there is that of its pair
 pub document_there : (key document : List ℕ) (lower after : Store) → All (λ p. key_cmp p.0 key ≡ Less) lower → document_at key (lower ++ (key, document) ∷ after) ≡ Some document
 document_there key document lower after below = ap (λ o. option_map (λ p. p.1) o) (there_in key_of_pair key (key, document) refl lower after below)
 
+-- a key that is missing has no document
 pub document_missing : (key : List ℕ) (lower others : Store) → All (λ p. key_cmp p.0 key ≡ Less) lower → All (λ p. key_cmp key p.0 ≡ Less) others → document_at key (lower ++ others) ≡ None
 document_missing key lower others below above = ap (λ o. option_map (λ p. p.1) o) (missing_in key_of_pair key lower others below above)
 
--- the store without the key
+-- the pairs below a key that is there are those before its pair
 pub below_behind : (key document : List ℕ) (lower after : Store) → All (λ p. key_cmp p.0 key ≡ Less) lower → All (λ p. key_cmp key p.0 ≡ Less) after → pairs_below key (lower ++ (key, document) ∷ after) ≡ lower
 below_behind key document = under_behind key_of_pair key (key, document) refl
 
+-- the pairs below a key that is missing are those before its place
 pub below_split : (key : List ℕ) (lower others : Store) → All (λ p. key_cmp p.0 key ≡ Less) lower → All (λ p. key_cmp key p.0 ≡ Less) others → pairs_below key (lower ++ others) ≡ lower
 below_split key = under_split key_of_pair key
 
+-- the store without a key that is there has the pairs before and behind its pair
 pub without_itself : (key document : List ℕ) (lower after : Store) → All (λ p. key_cmp p.0 key ≡ Less) lower → All (λ p. key_cmp key p.0 ≡ Less) after → lower ++ after ≡ without_key key (lower ++ (key, document) ∷ after)
 without_itself key document lower after below above =
     ap (λ s. s ++ after) (sym (below_behind key document lower after below above)) ∙ ap (λ s. pairs_below key (lower ++ (key, document) ∷ after) ++ s) (sym (above_behind key document lower after below above))
 
+-- the store without a key that is missing is the store
 pub without_nothing : (key : List ℕ) (lower others : Store) → All (λ p. key_cmp p.0 key ≡ Less) lower → All (λ p. key_cmp key p.0 ≡ Less) others → lower ++ others ≡ without_key key (lower ++ others)
 without_nothing key lower others below above =
     ap (λ s. s ++ others) (sym (below_split key lower others below above)) ∙ ap (λ s. pairs_below key (lower ++ others) ++ s) (sym (above_split key lower others below above))

@@ -103,19 +103,20 @@ module _ (ws key : List ℕ) (front rest : List PairLayout) (lower others : Stor
         ap (λ (ts : List Triple). option_map (λ (t : Triple). t.1) (find (λ (t : Triple). is_eq (key_cmp t.0.0 key)) ts)) (e ∙ triples_append ws front (place ∷ rest) lower ((key, old) ∷ others) placed)
         ∙ ap (λ o. option_map (λ (t : Triple). t.1) o) (there_in key_of_triple key here refl left right left_under)
 
+    -- the pairs with one that has another document and revision are those with this written at its key
     pub triples_replaced : (document : List ℕ) (other : PairLayout) → triples_of (front ++ other ∷ rest) (lower ++ (key, document) ∷ others) ≡ written_at key document other.revision whole
     triples_replaced document other =
         triples_append ws front (other ∷ rest) lower ((key, document) ∷ others) placed ∙ sym (ap₂ (λ a b. a ++ ((key, document), other.revision) ∷ b) behind_below behind_above)
 
--- words in which pairs stand, with these revisions
+-- words in which the pairs of a store stand, which are these with their revisions
 pub record HasTriples (words : List ℕ) (head : RevisionHead) (store : Store) (triples : List Triple) : Type 0 where
   pub tree : Tree ℕ
   pub places : List PairLayout
   pub given : List ℕ
   pub arranged : IsLaidOut words head store tree places given []
-  pub told : triples_of places store ≡ triples
+  pub triples_are : triples_of places store ≡ triples
 
--- another version or last revision in the header
+-- no word changed but those of the header that have the version and the last revision
 pub record IsHeaded (before now : List ℕ) : Type 0 where
   pub long : length now ≡ length before
   pub header : (i : ℕ) → i ≢ 0 → i ≢ 6 → get_or now i 0 ≡ get_or before i 0
@@ -140,6 +141,7 @@ headed_arranged x y head store tree places given loose h a =
       no_seventh = h.header 7 (omega arith) (omega arith) ∙ a.no_seventh;
     }
 
+-- another last revision in the header leaves the pairs, the tree and the lines given back as they were
 raised_arranged : (x : List ℕ) (head : RevisionHead) (store : Store) (tree : Tree ℕ) (places : List PairLayout) (given loose : List ℕ) (last : ℕ) → IsLaidOut x head store tree places given loose →
     IsLaidOut (with_word 0 6 last x) (head_of head.version last) store tree places given loose
 raised_arranged x head store tree places given loose last a =
@@ -149,8 +151,9 @@ raised_arranged x head store tree places given loose last a =
     subst (λ h. IsLaidOut y h store tree places given loose) (ap₂ head_of version raised) (headed_arranged x y head store tree places given loose
     (record { long = length-set x 6 last; header = λ i zero six. get_or-set_other x 6 i last 0 six; lines = λ lines some. header_stored x 6 last lines (omega arith) some }) a)
 
+-- words with pairs and revisions have the same ones with another last revision in the header
 pub raised : (x : List ℕ) (head : RevisionHead) (store : Store) (triples : List Triple) (last : ℕ) → HasTriples x head store triples → HasTriples (with_word 0 6 last x) (head_of head.version last) store triples
-raised x head store triples last h = record { tree = h.tree; places = h.places; given = h.given; arranged = raised_arranged x head store h.tree h.places h.given [] last h.arranged; told = h.told }
+raised x head store triples last h = record { tree = h.tree; places = h.places; given = h.given; arranged = raised_arranged x head store h.tree h.places h.given [] last h.arranged; triples_are = h.triples_are }
 
 -- words that stand for a store in version 2, and the revisions that are read off them
 pub record StandsWith (words : List ℕ) (last : ℕ) (store : Store) (triples : List Triple) : Type 0 where
@@ -160,9 +163,11 @@ pub record StandsWith (words : List ℕ) (last : ℕ) (store : Store) (triples :
 abbrev revised_of : ℕ → List Triple → RevisedStore
 revised_of last triples = record { last = last; triples = triples }
 
+-- words that stand for a store in version 2 do so with the revisions that its places have
 pub stands_with : (x : List ℕ) (store : Store) (s : StandsFor x 2 store) → StandsWith x s.last store (triples_of s.places store)
 stands_with x store s = record { stands = s; revised = ap₂ revised_of (last_read x 2 store s) (triples_read x 2 store s) }
 
+-- words in which the pairs of a lawful store stand, with revisions that may be, stand for the store in version 2 with these
 pub stands_again : (x : List ℕ) (last : ℕ) (store : Store) (triples : List Triple) → HasTriples x (head_of 2 last) store triples → IsStore store → All (λ t. IsRevision (head_of 2 last) t.1) triples → StandsWith x last store triples
 stands_again x last store triples h lawful all =
     let s : StandsFor x 2 store = record {
@@ -173,11 +178,11 @@ stands_again x last store triples h lawful all =
       arranged = h.arranged;
       lawful = lawful;
       known = inr refl;
-      revisions = all_places (IsRevision (head_of 2 last)) x h.places store h.arranged.nodes.pairs (subst (All (λ t. IsRevision (head_of 2 last) t.1)) (sym h.told) all);
+      revisions = all_places (IsRevision (head_of 2 last)) x h.places store h.arranged.nodes.pairs (subst (All (λ t. IsRevision (head_of 2 last) t.1)) (sym h.triples_are) all);
     } in
-    record { stands = s; revised = ap₂ revised_of (last_read x 2 store s) (triples_read x 2 store s ∙ h.told) }
+    record { stands = s; revised = ap₂ revised_of (last_read x 2 store s) (triples_read x 2 store s ∙ h.triples_are) }
 
--- revisions that were given go on being right
+-- what holds of each revision holds of each that is left without a key
 pub removed_revisions : (P : ℕ → Type 0) (key : List ℕ) (triples : List Triple) → All (λ t. P t.1) triples → All (λ t. P t.1) (removed_at key triples)
 removed_revisions P key triples all = All-append (λ t. P t.1) (triples_below key triples) (triples_above key triples) (All-filter _ (λ t. P t.1) triples all) (All-filter _ (λ t. P t.1) triples all)
 
@@ -190,6 +195,7 @@ next_least last = grind (arith, nat_tests)
 later : (last revision : ℕ) → IsRevision (head_of 2 last) revision → IsRevision (head_of 2 (next_revision last)) revision
 later last revision r = (r.0, (let more = next_least last in let to = r.1 in omega arith))
 
+-- where each revision may be, each may be once a document is written with the next revision
 pub written_revisions : (key document : List ℕ) (last : ℕ) (triples : List Triple) → All (λ t. IsRevision (head_of 2 last) t.1) triples →
     All (λ t. IsRevision (head_of 2 (next_revision last)) t.1) (written_at key document (next_revision last) triples)
 written_revisions key document last triples all =

@@ -19,12 +19,12 @@ use Rattle.index_validation.proofs.OneStore.{placed_append, placed_count}
 use Rattle.index_validation.proofs.Orders.{tree_of}
 use Rattle.index_validation.proofs.Revisions.{triples_of}
 use Rattle.word_index.specs.Upgrading.{with_first_revisions, upgraded_in, first_revisions, IsMigrated}
-use Rattle.word_index.proofs.DocumentChanges.{told_is}
+use Rattle.word_index.proofs.DocumentChanges.{revision_is}
 use Rattle.word_index.proofs.ReplacedDocuments.{stands_linked, around, with_lines}
 use Rattle.word_index.proofs.Taking.{header_stored}
 use Rattle.word_index.proofs.Triples.{Triple, IsHeaded, headed_arranged, stands_again}
 
--- the new header
+-- words with a header of version 2 that says revision 1 was given last
 unfoldable pub with_header : List ℕ → List ℕ
 with_header words = with_word 0 6 1 (with_word 0 0 2 words)
 
@@ -32,35 +32,38 @@ with_header words = with_word 0 6 1 (with_word 0 0 2 words)
 abbrev first_at : PairLayout → PairLayout
 first_at place = with_lines place place.document_lines 1
 
+-- the pairs at places with revision 1 each are the pairs of the store with revision 1
 first_triples : (ws : List ℕ) (places : List PairLayout) (store : Store) → Placed ws places store → triples_of (map first_at places) store ≡ map (λ pair. (pair, 1)) store
 first_triples ws [] [] n = refl
 first_triples ws [] (q ∷ store) n = absurd n
 first_triples ws (p ∷ places) [] n = absurd n
 first_triples ws (p ∷ places) (q ∷ store) n = ap (λ (ts : List Triple). (q, 1) ∷ ts) (first_triples ws places store n.1)
 
+-- the pairs of a store with first revisions are those of the store
 first_pairs : (store : Store) → pairs_in (first_revisions store) ≡ store
 first_pairs [] = refl
 first_pairs (q ∷ store) = ap (λ s. q ∷ s) (first_pairs store)
 
+-- revision 1 may be where the last one given is 1
 first_given : (store : Store) → All (λ (t : Triple). IsRevision (head_of 2 1) t.1) (map (λ pair. (pair, 1)) store)
 first_given [] = All-nil _
 first_given (q ∷ store) =
     let here : IsRevision (head_of 2 1) 1 = (omega arith, omega arith) in
     All-cons (λ (t : Triple). IsRevision (head_of 2 1) t.1) (q, 1) (map (λ pair. (pair, 1)) store) here (first_given store)
 
--- one pair after the other gets its first revision
-firsts_told : (y : List ℕ) (head : RevisionHead) (tree : Tree ℕ) (given : List ℕ) (front rest : List PairLayout) (lower others : Store) → Placed y front lower → Placed y rest others → IsLaidOut y head (lower ++ others) tree (front ++ rest) given [] →
+-- once one pair after the other has got revision 1, the pairs stand as before, each with that revision
+firsts_laid_out : (y : List ℕ) (head : RevisionHead) (tree : Tree ℕ) (given : List ℕ) (front rest : List PairLayout) (lower others : Store) → Placed y front lower → Placed y rest others → IsLaidOut y head (lower ++ others) tree (front ++ rest) given [] →
     IsLaidOut (with_first_revisions (nodes_of rest) y) head (lower ++ others) tree (front ++ map first_at rest) given []
-firsts_told y head tree given front [] lower others n m a = a
-firsts_told y head tree given front (p ∷ rest) lower [] n m a = absurd m
-firsts_told y head tree given front (p ∷ rest) lower (q ∷ others) n m a =
+firsts_laid_out y head tree given front [] lower others n m a = a
+firsts_laid_out y head tree given front (p ∷ rest) lower [] n m a = absurd m
+firsts_laid_out y head tree given front (p ∷ rest) lower (q ∷ others) n m a =
     let now = with_word p.node 7 1 y in
-    let b = told_is y y head lower others q tree front rest p given n a 1 in
+    let b = revision_is y y head lower others q tree front rest p given n a 1 in
     let r = around y now front rest lower others (first_at p) q n b.nodes.pairs in
     let split : front ++ first_at p ∷ rest ≡ (front ++ first_at p ∷ []) ++ rest = sym (append_assoc front (first_at p ∷ []) rest) in
     let parts : lower ++ q ∷ others ≡ (lower ++ q ∷ []) ++ others = sym (append_assoc lower (q ∷ []) others) in
     let c = subst (λ ps. IsLaidOut now head ((lower ++ q ∷ []) ++ others) tree ps given []) split (subst (λ st. IsLaidOut now head st tree (front ++ first_at p ∷ rest) given []) parts b) in
-    let d = firsts_told now head tree given (front ++ first_at p ∷ []) rest (lower ++ q ∷ []) others (placed_append now front (first_at p ∷ []) lower (q ∷ []) r.placed_front (r.is, tt)) r.placed_rest c in
+    let d = firsts_laid_out now head tree given (front ++ first_at p ∷ []) rest (lower ++ q ∷ []) others (placed_append now front (first_at p ∷ []) lower (q ∷ []) r.placed_front (r.is, tt)) r.placed_rest c in
     subst (λ ps. IsLaidOut (with_first_revisions (nodes_of rest) now) head (lower ++ q ∷ others) tree ps given []) (append_assoc front (first_at p ∷ []) (map first_at rest))
     (subst (λ st. IsLaidOut (with_first_revisions (nodes_of rest) now) head st tree ((front ++ first_at p ∷ []) ++ map first_at rest) given []) (sym parts) d)
 
@@ -108,9 +111,9 @@ module _ (x : List ℕ) (store : Store) (s : StandsFor x 1 store) where
   upgraded_stands =
       let ws = with_word 0 6 1 (with_word 0 0 2 x) in
       let now = with_first_revisions (nodes_of s.places) ws in
-      let told = firsts_told ws (head_of 2 1) s.tree s.given [] s.places [] store tt headed.nodes.pairs headed in
+      let revised = firsts_laid_out ws (head_of 2 1) s.tree s.given [] s.places [] store tt headed.nodes.pairs headed in
       let w = stands_again now 1 store (map (λ pair. (pair, 1)) store)
-      (record { tree = s.tree; places = map first_at s.places; given = s.given; arranged = told; told = first_triples ws s.places store headed.nodes.pairs }) s.lawful (first_given store) in
+      (record { tree = s.tree; places = map first_at s.places; given = s.given; arranged = revised; triples_are = first_triples ws s.places store headed.nodes.pairs }) s.lawful (first_given store) in
       subst (λ ns. StandsForRevised (with_first_revisions ns ws) (first_revisions store)) (arranged_nodes x (head_of 1 s.last) store s.tree s.places s.given [] s.arranged)
       (record { pairs = subst (StandsFor now 2) (sym (first_pairs store)) w.stands; revised = w.revised })
 

@@ -15,12 +15,12 @@ SameLine before now line = (i : ℕ) → i < 8 → word_of now line i ≡ word_o
 unfoldable pub with_line_given : ℕ → List ℕ → List ℕ
 with_line_given line words = with_word 0 4 (word_of words 0 4 + 1) (with_word 0 2 line (with_word line 0 (word_of words 0 2) words))
 
--- the line can be given back
+-- a line is there, and a further one can be counted as given back
 pub record CanGive (words : List ℕ) (line : ℕ) : Type 0 where
   pub there : IsWithin words line
   pub few : word_of words 0 4 ≤ 2 ^ 32
 
--- the first lines of a chain are loose, and so are others
+-- pairs stand at places, and these lines and then others are loose
 pub record IsLoose (words : List ℕ) (head : RevisionHead) (store : Store) (tree : Tree ℕ) (places : List PairLayout) (lines others : List ℕ) : Type 0 where
   pub given : List ℕ
   pub arranged : IsLaidOut words head store tree places given (lines ++ others)
@@ -42,6 +42,7 @@ pub record IsGiven (before now : List ℕ) (head : RevisionHead) (store : Store)
   pub loose : IsLoose now head store tree places others []
   pub same : All (SameLine before now) others
 
+-- whatever pairs stood before, the loose lines of a chain of `count` are given back, and the other loose lines are as they were
 abbrev pub ChainGiven : ℕ → ℕ → List ℕ → List ℕ → Type 0
 ChainGiven first count before now =
     (head : RevisionHead) (store : Store) (tree : Tree ℕ) (places : List PairLayout) (lines others : List ℕ) → IsLoose before head store tree places lines others → IsChain before first lines → count ≡ length lines →
@@ -59,6 +60,7 @@ pub record LooseText (words : List ℕ) (node at : ℕ) : Type 0 where
   pub loose : IsLoose words head store tree places lines others
   pub text : IsTextAt words node at lines bytes
 
+-- whatever pairs stood before, the loose blocks that a node names are given back, and the other loose lines are as they were
 abbrev pub TextGiven : ℕ → ℕ → List ℕ → List ℕ → Type 0
 TextGiven node at before now =
     (head : RevisionHead) (store : Store) (tree : Tree ℕ) (places : List PairLayout) (lines others bytes : List ℕ) → IsLoose before head store tree places lines others → IsTextAt before node at lines bytes →
@@ -70,6 +72,7 @@ pub record LoosePair (words : List ℕ) (node : ℕ) (head : RevisionHead) (stor
   pub here : node ≡ place.node
   pub is : IsAt words place pair
 
+-- some pair stands at a node of its own, beside the pairs of some store
 pub record HasLoosePair (words : List ℕ) (node : ℕ) : Type 0 where
   pub head : RevisionHead
   pub store : Store
@@ -79,6 +82,7 @@ pub record HasLoosePair (words : List ℕ) (node : ℕ) : Type 0 where
   pub pair : List ℕ × List ℕ
   pub there : LoosePair words node head store tree places place pair
 
+-- whatever pairs stood before, the lines of the pair that stood beside them at this node are given back
 abbrev pub PairGiven : ℕ → List ℕ → List ℕ → Type 0
 PairGiven node before now =
     (head : RevisionHead) (store : Store) (tree : Tree ℕ) (places : List PairLayout) (place : PairLayout) (pair : List ℕ × List ℕ) → LoosePair before node head store tree places place pair → IsLoose now head store tree places [] []
@@ -88,5 +92,6 @@ pub record IsWithout (now : List ℕ) (store : Store) (key : List ℕ) (found : 
   pub after : StandsFor now 2 (without_key key store)
   pub there : found ≡ is_some (document_at key store)
 
+-- of each store that the words before stand for in version 2, the key is removed, and the answer is whether it was there
 abbrev pub IsRemoved : List ℕ → Bool → List ℕ → List ℕ → Type 0
 IsRemoved key found before now = (store : Store) → StandsFor before 2 store → IsWithout now store key found

@@ -38,6 +38,7 @@ with_pair_given node words = with_line_given node (with_text_given node 3 (with_
 unfoldable pub line_to_take : List ℕ → ℕ
 line_to_take words = if word_of words 0 2 == 0 then word_of words 0 3 else word_of words 0 2
 
+-- the next line is taken: out of the given-back ones, or else the first never given
 unfoldable pub with_line_taken : List ℕ → List ℕ
 with_line_taken words =
     if word_of words 0 2 == 0
@@ -66,10 +67,11 @@ with_new_pair pair revision words =
 abbrev pub order_in : List ℕ → List ℕ → ℕ → Ordering
 order_in key words node = key_cmp (text_at node 3 words) key
 
--- the header counts one pair more, or one less
+-- the header counts one pair more
 unfoldable pub with_one_more : List ℕ → List ℕ
 with_one_more words = with_word 0 5 (word_of words 0 5 + 1) words
 
+-- the header counts one pair less
 unfoldable pub with_one_less : List ℕ → List ℕ
 with_one_less words = with_word 0 5 (word_of words 0 5 - 1) words
 

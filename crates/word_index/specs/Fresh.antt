@@ -11,6 +11,7 @@ use Rattle.avl_words.specs.Tree.{Tree}
 abbrev pub HasRoom : List ℕ → List PairLayout → List ℕ → ℕ → Type 0
 HasRoom words places loose more = length (flat_map lines_at places) + length loose + more + 1 ≤ line_count words
 
+-- pairs stand at places, and this number of further lines can be taken
 pub record CanTake (words : List ℕ) (more : ℕ) : Type 0 where
   pub head : RevisionHead
   pub store : Store
@@ -28,11 +29,12 @@ pub record AreLinesTaken (before now : List ℕ) (head : RevisionHead) (store : 
   pub same : All (SameLine before now) loose
   pub long : length now ≡ length before
 
+-- whatever pairs stood before, with room for one line more, this line is loose now, and the other loose lines are as they were
 abbrev pub LineTaken : ℕ → List ℕ → List ℕ → Type 0
 LineTaken line before now =
     (head : RevisionHead) (store : Store) (tree : Tree ℕ) (places : List PairLayout) (given loose : List ℕ) → IsLaidOut before head store tree places given loose → HasRoom before places loose 1 → AreLinesTaken before now head store tree places (line ∷ []) loose
 
--- what a line is filled with, and that nothing else changes
+-- a line has these eight words now, and no other line changed
 pub record LineFilled (line : ℕ) (content before now : List ℕ) : Type 0 where
   pub here : (i : ℕ) → i < 8 → word_of now line i ≡ slice_index content i
   pub others : (other : ℕ) → other ≢ line → SameLine before now other
@@ -44,7 +46,7 @@ pub record IsBlock (next : ℕ) (words : List ℕ) (from : ℕ) (content : List 
   pub rest : (i : ℕ) → i < 7 → slice_index content (1 + i) ≡ slice_index words (from + i)
   pub long : length content ≡ 8
 
--- words stand in a chain of `count` new lines
+-- words from a place on stand in a chain of `count` new lines, which are loose, and the other loose lines are as they were
 pub record IsChainWritten (before now : List ℕ) (head : RevisionHead) (store : Store) (tree : Tree ℕ) (places : List PairLayout) (first count from : ℕ) (words loose : List ℕ) : Type 0 where
   pub lines : List ℕ
   pub taken : AreLinesTaken before now head store tree places lines loose
@@ -52,6 +54,7 @@ pub record IsChainWritten (before now : List ℕ) (head : RevisionHead) (store :
   pub counted : length lines ≡ count
   pub content : (i : ℕ) → i < 7 * count → word_of now (slice_index lines (i / 7)) (1 + i % 7) ≡ slice_index words (from + i)
 
+-- whatever pairs stood before, with room for `count` lines more, the text stands in a chain of `count` new lines
 abbrev pub TextWritten : List ℕ → ℕ → ℕ → List ℕ → List ℕ → Type 0
 TextWritten words count first before now =
     (head : RevisionHead) (store : Store) (tree : Tree ℕ) (places : List PairLayout) (given loose : List ℕ) → IsLaidOut before head store tree places given loose → HasRoom before places loose count →

@@ -22,6 +22,7 @@ IsInserted before now store key document New =
 IsInserted before now store key document Replaced =
     (has_room (line_count before) (with_pair key document store) ≡ true) × (is_some (document_at key store) ≡ true) × StandsFor now 2 (with_pair key document store)
 
+-- of each store that the words before stand for in version 2, the document is put at the key, or nothing changed for want of room
 abbrev pub Inserts : List ℕ → List ℕ → Inserted → List ℕ → List ℕ → Type 0
 Inserts key document inserted before now = (store : Store) → StandsFor before 2 store → IsInserted before now store key document inserted
 
@@ -41,6 +42,7 @@ pub record IsPairWritten (before now : List ℕ) (head : RevisionHead) (store : 
   pub leaf : IsNode now node 0 0 1
   pub long : length now ≡ length before
 
+-- whatever pairs stood before, with room for one more, the pair stands now at a new place beside their tree, and its node is a leaf
 abbrev pub PairWritten : List ℕ × List ℕ → ℕ → ℕ → List ℕ → List ℕ → Type 0
 PairWritten pair revision node old now =
     (head : RevisionHead) (store : Store) (tree : Tree ℕ) (places : List PairLayout) (given : List ℕ) → IsLaidOut old head store tree places given [] → HasRoom old places [] (pair_lines pair) → IsPairWritten old now head store tree places pair revision node
@@ -54,6 +56,7 @@ pub record CanAdd (words nodes sides : List ℕ) (depth : ℕ) (pair : List ℕ 
   pub is_key : IsKey pair.0
   pub is_document : IsDocument pair.1
 
+-- where the walk to a pair's key ended at nothing, and there was room for the pair, the words now are those with the pair added
 abbrev pub Adds : List ℕ → List ℕ → ℕ → List ℕ × List ℕ → ℕ → List ℕ → List ℕ → Type 0
 Adds nodes sides depth pair revision before now =
     (above : ℕ) → AtSpot false pair.0 nodes sides depth 0 above before → (i : IsIndex before) → lines_of i.store + pair_lines pair + 1 ≤ line_count before → IsKey pair.0 → IsDocument pair.1 →
@@ -64,7 +67,7 @@ pub record CanWrite (words nodes sides : List ℕ) (depth node : ℕ) (alike : B
   pub new : node ≡ 0 → CanAdd words nodes sides depth pair
   pub over : node ≢ 0 → CanExchange words node alike pair.1
 
--- and gets a revision
+-- a pair with a revision was added where the walk to its key ended at nothing, and else its document and revision replaced those of the node there
 pub record WritesAt (nodes sides : List ℕ) (depth node : ℕ) (pair : List ℕ × List ℕ) (revision : ℕ) (inserted : Inserted) (before now : List ℕ) : Type 0 where
   pub new : node ≡ 0 → (inserted ≡ New) × Adds nodes sides depth pair revision before now
   pub over : node ≢ 0 → (inserted ≡ Replaced) × (now ≡ with_replaced pair.1 node revision before)
@@ -77,6 +80,6 @@ pub record IsInsertKnown (key nodes sides : List ℕ) (depth node above used old
   pub here : LinesAt node old ws
   pub long : length ws ≡ 8 * lines
 
--- the exact answer, and the exact words
+-- the answer is what was done with the document, and the words now are those with the document put at the key
 abbrev pub PutsDocument : List ℕ → List ℕ → Inserted → List ℕ → List ℕ → Type 0
 PutsDocument key document inserted before now = (inserted ≡ inserted_in key document before) × (now ≡ with_document key document before)

@@ -42,9 +42,9 @@ pub record CanRenew (words : List ℕ) (node : ℕ) (document : List ℕ) : Type
 -- the pair of a node, with room for a document, and whether that needs as many blocks as the node's own
 pub record CanExchange (words : List ℕ) (node : ℕ) (alike : Bool) (document : List ℕ) : Type 0 where
   pub can : CanRewrite words node document
-  pub told : IsTrue alike ↔ (document_blocks node words ≡ blocks document)
+  pub is_alike : IsTrue alike ↔ (document_blocks node words ≡ blocks document)
 
--- where its document stands
+-- the document of a pair's node stands in a chain of `count` blocks from `first`, and there is room for another in its place
 pub record IsOld (words : List ℕ) (node first count : ℕ) (document : List ℕ) : Type 0 where
   pub can : CanRewrite words node document
   pub first_is : word_of words node 5 ≡ first

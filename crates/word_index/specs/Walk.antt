@@ -25,6 +25,7 @@ toward true Less = Less
 toward true Equal = Less
 toward true Greater = Greater
 
+-- how the key of a node compares for a walk to a key, or past it
 abbrev pub walk_order : Bool → List ℕ → List ℕ → ℕ → Ordering
 walk_order past key words node = toward past (order_in key words node)
 
@@ -38,18 +39,20 @@ pub record IsPassing (nodes sides : List ℕ) (order : ℕ → Ordering) (depth 
   pub on : IsOnWay nodes sides order depth node t
   pub above_is : IsFirst above (behind on.way)
 
+-- a walk is at its end in a tree; the last node at which it went left is the first behind that
 pub record IsWalkEnded (nodes sides : List ℕ) (order : ℕ → Ordering) (depth node above : ℕ) (t : Tree ℕ) : Type 0 where
   pub at : IsSpot nodes sides order depth node t
   pub above_is : IsFirst above (behind (spot order [] t).0)
 
--- both of the tree of all the ways in which words stand for a store
+-- a walk to a key, or past it, is at this depth and node in the tree of each way in which the words stand for a store
 abbrev pub OnWay : Bool → List ℕ → List ℕ → List ℕ → ℕ → ℕ → ℕ → List ℕ → Type 0
 OnWay past key nodes sides depth node above words = (version : ℕ) (store : Store) (s : StandsFor words version store) → IsPassing nodes sides (walk_order past key words) depth node above s.tree
 
+-- a walk to a key, or past it, is at its end, at this depth and node, in the tree of each way in which the words stand for a store
 abbrev pub AtSpot : Bool → List ℕ → List ℕ → List ℕ → ℕ → ℕ → ℕ → List ℕ → Type 0
 AtSpot past key nodes sides depth node above words = (version : ℕ) (store : Store) (s : StandsFor words version store) → IsWalkEnded nodes sides (walk_order past key words) depth node above s.tree
 
--- A walk of which no way is kept is at this depth of some way, or at the end of one.
+-- a walk that keeps no way is at this depth and node, by some way that it may have noted
 pub record OnSomeWay (past : Bool) (key : List ℕ) (depth node above : ℕ) (words : List ℕ) : Type 0 where
   pub nodes : List ℕ
   pub sides : List ℕ
@@ -57,22 +60,23 @@ pub record OnSomeWay (past : Bool) (key : List ℕ) (depth node above : ℕ) (wo
   pub sides_long : length sides ≡ 64
   pub on : OnWay past key nodes sides depth node above words
 
+-- a walk that keeps no way is at its end, at this node, by some way that it may have noted
 pub record AtEnd (past : Bool) (key : List ℕ) (node above : ℕ) (words : List ℕ) : Type 0 where
   pub depth : ℕ
   pub nodes : List ℕ
   pub sides : List ℕ
   pub at : AtSpot past key nodes sides depth node above words
 
--- the bound on visits
+-- this number of visits is few for each store that the words stand for: 2 to that power is at most 2 * (n + 1) ^ 2, where the store has n pairs
 abbrev pub FewVisits : ℕ → List ℕ → Type 0
 FewVisits visits words = (version : ℕ) (store : Store) → StandsFor words version store → 2 ^ visits ≤ 2 * ((length store + 1) * (length store + 1))
 
--- what a walk tells and leaves, and that its visits are few
-pub record Walks {Memory T E : Type 0} (m : Ghosts Memory) (old new : Memory) (result : Result T E) (count : ℕ) (Told : T → List ℕ → Type 0) : Type 0 where
-  pub finds : Finds m old new result Told
+-- what a walk found of the words, which it leaves as they were, and that its visits were few
+pub record Walks {Memory T E : Type 0} (m : Ghosts Memory) (old new : Memory) (result : Result T E) (count : ℕ) (Found : T → List ℕ → Type 0) : Type 0 where
+  pub finds : Finds m old new result Found
   pub visits : Always (m.stands new) (FewVisits count)
 
--- what a walk tells of words that may be there
+-- some words may stand for which this number of visits is few
 abbrev pub Walked : {Key : Type 0} → (Key → List ℕ → Type 0) → ℕ → Type 0
 Walked {Key = Key} stands visits = ∥ ((first : Key) × (now : List ℕ) × stands first now × FewVisits visits now) ∥₁
 

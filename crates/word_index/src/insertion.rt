@@ -108,7 +108,8 @@ fn put_pair<M: Memory>(
     Ok(())
 }
 
-/// Adds a pair over a write buffer. Its room covers each change in at most 16,384 lines, so that there each word that changes is stored once.
+/// Adds a pair over a write buffer. The buffer's room covers each change in at most 16,384 lines, so that there each word that changes is stored once.
+/// `Halt` comes only where no access is left; the words may then be anything.
 fn add<M: Memory>(
     mem: &mut M,
     way: &Way,

@@ -39,7 +39,8 @@ fn cut_pair<M: Memory>(mem: &mut M, way: &mut Way, node: u64) -> Result<(), Halt
     Ok(())
 }
 
-/// Takes a pair out over a write buffer. Its room covers each change in at most 16,384 lines, so that there each word that changes is stored once.
+/// Takes a pair out over a write buffer. The buffer's room covers each change in at most 16,384 lines, so that there each word that changes is stored once.
+/// `Halt` comes only where no access is left; the words may then be anything.
 fn take_out<M: Memory>(mem: &mut M, way: &mut Way, node: u64) -> Result<(), Halt>
     requires { IsStorable M.Memory mem.old (λ ws. CanCut ws way.old.nodes way.old.sides way.old.depth node) }
     ensures { Changes M.Memory mem.old mem.new result (λ _. TakesOut way.old.nodes way.old.sides way.old.depth node) }

@@ -65,7 +65,8 @@ fn replace<M: Memory>(mem: &mut M, node: u64, doc: &Doc<'_>) -> Result<(), Halt>
     renew(mem, node, first, count, doc)
 }
 
-/// Rewrites a node's document over a write buffer. Its room covers each change in at most 16,384 lines, so that there each word that changes is stored once.
+/// Rewrites a node's document over a write buffer. The buffer's room covers each change in at most 16,384 lines, so that there each word that changes is
+/// stored once. `Halt` comes only where no access is left; the words may then be anything.
 fn rewrite<M: Memory>(mem: &mut M, node: u64, doc: &Doc<'_>) -> Result<(), Halt>
     requires { IsStorable M.Memory mem.old (λ ws. CanRenew ws node (unpacked doc.now.len doc.now.words.now)) }
     ensures { Changes M.Memory mem.old mem.new result (λ _ old now. now ≡ with_rewritten (unpacked doc.now.len doc.now.words.now) node old) }

@@ -169,7 +169,7 @@ fn is_image(words: &[u64], sum: u64) -> bool {
 // Words of 0 behind a first one: how many, the first, and whether they are lawful.
 const CHECKED: [(usize, u64, bool); 3] = [(512, 7, true), (511, 7, false), (512, 8, false)];
 
-// The first row of words that are told otherwise.
+// The first row of words of which the check says otherwise.
 fn first_other_check(
     alloc: Global,
     rows: &[(usize, u64, bool)],
@@ -258,8 +258,8 @@ fn format_and_run<M: Memory>(memory: &mut M, op: &[u64; 144]) -> Result<[u64; 14
 // Whether the same over a memory with notes adds 9.
 fn adds_nine(alloc: Global) -> Result<bool, AllocError> {
     let mut memory = Noted::of(alloc, zeros(alloc, 512)?, 600)?;
-    let told = format_and_run(&mut memory, &words_of(9, 0)) == Ok(words_of(9, 0));
-    Ok(told && memory.load(1) == Ok(9) && memory.accesses() == 515)
+    let answered = format_and_run(&mut memory, &words_of(9, 0)) == Ok(words_of(9, 0));
+    Ok(answered && memory.load(1) == Ok(9) && memory.accesses() == 515)
 }
 
 #[test]

@@ -128,11 +128,11 @@ const CASES: [Case; 12] = [
 ];
 
 // Whether a region has this place, which is the number in caller 2's slot too, this reply there, and these counters.
-fn are_words(words: &[u64], number: u64, told: Reply, values: &[u64; 3]) -> bool {
+fn are_words(words: &[u64], number: u64, reply: Reply, values: &[u64; 3]) -> bool {
     words.len() == 1680
         && words[0] == number
         && words[298] == number
-        && words[299..443] == told.words()[..]
+        && words[299..443] == reply.words()[..]
         && words[1169] == values[0]
         && words[1170] == values[1]
         && words[1679] == values[2]
@@ -142,7 +142,7 @@ fn are_words(words: &[u64], number: u64, told: Reply, values: &[u64; 3]) -> bool
 fn first_other_case(alloc: Global, cases: &[Case]) -> Result<Option<usize>, AllocError> {
     let object = counters();
     let mut words = Base::fresh(alloc, &object)?.words.into_vec();
-    for (i, (op, told, values)) in cases.iter().enumerate() {
+    for (i, (op, reply, values)) in cases.iter().enumerate() {
         let number = i as u64 + 1;
         let entry = Entry {
             caller: 2,
@@ -150,7 +150,7 @@ fn first_other_case(alloc: Global, cases: &[Case]) -> Result<Option<usize>, Allo
             op: words_of(*op, 3),
         };
         match stepped(alloc, &object, words, &entry)? {
-            Some(after) if are_words(&after, number, *told, values) => words = after,
+            Some(after) if are_words(&after, number, *reply, values) => words = after,
             _ => return Ok(Some(i)),
         }
     }
@@ -181,7 +181,7 @@ fn asked<O: Object, M: Memory>(object: &O, mem: &mut M, op: &[u64; 144]) -> Resu
 }
 
 // The reply to an operation that only reads; `None` to any other.
-fn told<O: Object, M: Memory>(
+fn reading_reply<O: Object, M: Memory>(
     object: &O,
     mem: &mut M,
     op: &[u64; 144],
@@ -261,8 +261,8 @@ fn halts_early(alloc: Global) -> Result<bool, AllocError> {
     Ok(opened(&counters(), &mut short) == Err(Halt))
 }
 
-// Whether a reading is told, and no other operation is.
-fn readings_are_told(alloc: Global) -> Result<bool, AllocError> {
+// Whether a reading is answered as one, and no other operation is.
+fn readings_are_answered(alloc: Global) -> Result<bool, AllocError> {
     let object = counters();
     let mut memory = memory(alloc, None)?;
     if opened(&object, &mut memory).is_err()
@@ -270,9 +270,10 @@ fn readings_are_told(alloc: Global) -> Result<bool, AllocError> {
     {
         return Ok(false);
     }
-    let reading = told(&object, &mut memory, &read_words(5)) == Some(Ok(Reply::Value(9).words()));
-    let addition = told(&object, &mut memory, &add_words(5, 1)).is_none();
-    let nothing = told(&object, &mut memory, &[0; 144]).is_none();
+    let reading = reading_reply(&object, &mut memory, &read_words(5))
+        == Some(Ok(Reply::Value(9).words()));
+    let addition = reading_reply(&object, &mut memory, &add_words(5, 1)).is_none();
+    let nothing = reading_reply(&object, &mut memory, &[0; 144]).is_none();
     Ok(reading && addition && nothing)
 }
 
@@ -298,7 +299,7 @@ fn is_image(alloc: Global, len: usize, at: usize, word: u64) -> Result<bool, All
     counters().check(alloc, &words)
 }
 
-// The first row of words that are told otherwise.
+// The first row of words of which the check says otherwise.
 fn first_other_image(
     alloc: Global,
     rows: &[(usize, usize, u64, bool)],
@@ -317,7 +318,7 @@ fn counters_stay_below_their_bound(rt: HostRuntime) -> Result<(), Fail> {
     holds(&rt, first_other_case(alloc, &CASES)?.is_none());
     holds(&rt, first_other_need(alloc, &ACCESSES)?.is_none());
     holds(&rt, halts_early(alloc)?);
-    holds(&rt, readings_are_told(alloc)?);
+    holds(&rt, readings_are_answered(alloc)?);
     holds(&rt, first_other_image(alloc, &IMAGES)?.is_none());
     holds(&rt, counters().lines() == 64 && counters().version() == 1);
     Ok(())

@@ -374,7 +374,7 @@ fn tell(words: &mut [u64; 168], lie: Lie) -> bool {
 }
 
 // The words of the image of a version with its lie.
-fn told(version: u64, lie: Lie) -> Option<[u64; 168]> {
+fn with_lie(version: u64, lie: Lie) -> Option<[u64; 168]> {
     let mut words = IMAGE;
     if version != 1 && !tell(&mut words, UPGRADE) {
         return None;
@@ -392,13 +392,13 @@ fn is_lawful(
     lie: Lie,
     count: usize,
 ) -> Result<Option<bool>, AllocError> {
-    match told(version, lie) {
+    match with_lie(version, lie) {
         Some(words) if count <= 168 => Ok(Some(lawful(alloc, &words[..count], version)?)),
         _ => Ok(None),
     }
 }
 
-// The first lie that is told otherwise in a version.
+// The first lie of which the check says otherwise in a version.
 fn first_other_lie(
     alloc: Global,
     version: u64,
@@ -428,7 +428,7 @@ const COUNTS: [(usize, bool); 11] = [
     (168, true),
 ];
 
-// The first number of words of the image that is told otherwise.
+// The first number of words of the image of which the check says otherwise.
 fn first_other_count(
     alloc: Global,
     version: u64,
@@ -443,7 +443,7 @@ fn first_other_count(
 }
 
 // Whether what is a lie in both versions is found in one, and what is none is not.
-fn are_told(alloc: Global, version: u64) -> Result<bool, AllocError> {
+fn are_judged(alloc: Global, version: u64) -> Result<bool, AllocError> {
     Ok(
         first_other_lie(alloc, version, &HEADERS, false)?.is_none()
             && first_other_lie(alloc, version, &TREES, false)?.is_none()
@@ -458,8 +458,8 @@ fn are_told(alloc: Global, version: u64) -> Result<bool, AllocError> {
 #[test]
 fn lies_are_found(rt: HostRuntime) -> Result<(), Fail> {
     let alloc = rt.alloc();
-    holds(&rt, are_told(alloc, 1)?);
-    holds(&rt, are_told(alloc, 2)?);
+    holds(&rt, are_judged(alloc, 1)?);
+    holds(&rt, are_judged(alloc, 2)?);
     Ok(())
 }
 
@@ -525,7 +525,7 @@ fn becomes(alloc: Global, words: &mut [u64], wanted: &[u64]) -> Result<bool, All
 // The first truth of which another than the header's words and the nodes' last words changes, or of these not all.
 fn first_other_upgrade(alloc: Global, truths: &[Lie]) -> Result<Option<usize>, AllocError> {
     for (i, truth) in truths.iter().enumerate() {
-        let (Some(mut words), Some(wanted)) = (told(1, truth), told(2, truth)) else {
+        let (Some(mut words), Some(wanted)) = (with_lie(1, truth), with_lie(2, truth)) else {
             return Ok(Some(i));
         };
         if !becomes(alloc, &mut words, &wanted)? {
@@ -567,7 +567,7 @@ fn lists(
     rows: &[(&[u8], &[u8])],
     revisions: &[u64],
 ) -> Result<bool, AllocError> {
-    let Some(words) = told(2, lie) else {
+    let Some(words) = with_lie(2, lie) else {
         return Ok(false);
     };
     if !lawful(alloc, &words, 2)? {

@@ -78,7 +78,7 @@ fn an_image_of_version_1_is_upgraded(rt: HostRuntime) -> Result<(), Fail> {
     Ok(())
 }
 
-/// Whether a row is answered as told.
+/// Whether a row's operation is answered as the row says.
 fn is_answered<M: Memory>(store: &DocStore, mem: &mut M, row: &(Row, Row)) -> bool
     requires size { M.size mem.old ≡ 8 * store.now.lines }
     requires writable { IsTrue (M.writable mem.old) }
@@ -93,7 +93,7 @@ fn is_answered<M: Memory>(store: &DocStore, mem: &mut M, row: &(Row, Row)) -> bo
     }
 }
 
-/// Whether each row is answered as told.
+/// Whether each row's operation is answered as the row says.
 fn are_answered_in<M: Memory>(store: &DocStore, mem: &mut M, rows: &[(Row, Row)]) -> bool
     requires size { M.size mem.old ≡ 8 * store.now.lines }
     requires writable { IsTrue (M.writable mem.old) }
@@ -121,7 +121,7 @@ const GREATEST: [(Row, Row); 7] = [
     ((7, "a", "4", 0), (12, "", "", 18446744073709551615)),
 ];
 
-/// Whether each row is answered as told in an image whose last revision is this one.
+/// Whether each row's operation is answered as the row says in an image whose last revision is this one.
 fn are_answered_after(alloc: Global, last: u64, rows: &[(Row, Row)]) -> Result<bool, AllocError> {
     let store = DocStore::of(4);
     let mut words = SECOND_VERSION;

@@ -121,7 +121,7 @@ pub(crate) fn meant(
     }
 }
 
-/// Whether the plain program answers an operation as told. No operation is answered by zeros.
+/// Whether the plain program answers an operation as wanted. No operation is answered by zeros.
 fn is_meant(
     alloc: Global,
     pairs: &mut Pairs,
@@ -162,7 +162,7 @@ pub(crate) fn opened<M: Memory>(store: &DocStore, mem: &mut M) -> Result<(), Hal
     store.format(mem)
 }
 
-/// Whether the store and the plain program answer a row as told.
+/// Whether the store and the plain program answer a row's operation as the row says.
 fn is_answered<M: Memory>(
     alloc: Global,
     store: &DocStore,
@@ -186,7 +186,7 @@ fn is_answered<M: Memory>(
     }
 }
 
-/// Whether the store, empty before, and the plain program answer each row as told.
+/// Whether the store, empty before, and the plain program answer each row's operation as the row says.
 fn both_answer<M: Memory>(
     alloc: Global,
     store: &DocStore,
@@ -217,7 +217,7 @@ pub(crate) fn memory(alloc: Global, lines: u64) -> Result<VecMemory, AllocError>
     Ok(VecMemory::of(words, None))
 }
 
-/// Whether each row is answered as told in `lines` lines, by the plain program from these pairs on.
+/// Whether each row's operation is answered as the row says in `lines` lines, by the plain program from these pairs on.
 pub(crate) fn are_answered_with(
     alloc: Global,
     lines: u64,
@@ -231,7 +231,7 @@ pub(crate) fn are_answered_with(
     both_answer(alloc, &DocStore::of(lines), &mut mem, pairs, rows)
 }
 
-/// Whether each row is answered as told in `lines` lines.
+/// Whether each row's operation is answered as the row says in `lines` lines.
 pub(crate) fn are_answered(
     alloc: Global,
     lines: u64,
@@ -474,8 +474,8 @@ fn commands_have_their_replies(rt: HostRuntime) -> Result<(), Fail> {
     Ok(())
 }
 
-/// Whether each operation is told to be a reading or none.
-fn are_told(store: &DocStore, rows: &[(Row, bool)]) -> bool {
+/// Whether each operation is taken for a reading exactly where its row says so.
+fn are_recognized(store: &DocStore, rows: &[(Row, bool)]) -> bool {
     for (ask, want) in rows {
         if store.reads(&words_of(*ask)) != *want {
             return false;
@@ -485,8 +485,8 @@ fn are_told(store: &DocStore, rows: &[(Row, bool)]) -> bool {
 }
 
 #[test]
-fn readings_are_told(rt: HostRuntime) {
+fn readings_are_recognized(rt: HostRuntime) {
     let store = DocStore::of(64);
-    holds(&rt, are_told(&store, &READINGS));
+    holds(&rt, are_recognized(&store, &READINGS));
     holds(&rt, store.lines() == 64 && store.version() == 2);
 }

@@ -28,7 +28,7 @@ const SHAPES: [(u64, u32, bool); 9] = [
     (u64::MAX, 1, false),
 ];
 
-// The first row that is told otherwise of these words.
+// The first row of which the check of these words says otherwise.
 fn first_other_shape(words: &[u64], rows: &[(u64, u32, bool)]) -> Option<usize>
     requires { IsPartLength (length words.now) }
 {
@@ -55,7 +55,7 @@ fn are_walked(words: &[u64]) -> bool
 }
 
 #[test]
-fn shapes_are_told_and_walked(rt: HostRuntime) {
+fn shapes_are_found_and_walked(rt: HostRuntime) {
     holds(&rt, first_other_shape(&TREE, &SHAPES).is_none());
     holds(&rt, is_balanced(&TREE, 2, 3) && are_walked(&TREE));
 }

@@ -7,7 +7,7 @@ use Rattle.cx_base.specs.WordLaws.{Words-set, Words-at}
 use Rattle.cx_base.proofs.MemoryLemmas.{always_at_most}
 use Rattle.write_buffer.specs.Buffering.{IsFree, Covers, IsHeldBack, Shows}
 
--- a number put into a list
+-- a number put into a list at `n` stands there
 there : (xs : List ℕ) (n v : ℕ) → n < length xs → slice_index (slice_set xs n v) n ≡ v
 there xs n v l = get_or-set_same xs n v 0 l
 
@@ -20,7 +20,7 @@ pub covers_none : (places values under now : List ℕ) → Covers 0 places value
 covers_none places values under now c =
     ext_get_or 0 now under c.long (λ at l. c.free at (λ i below. absurd (omega (arith, below))))
 
--- one word more, as it stands behind
+-- where the memory behind has `x` at a free place, the words in front are also the words behind with one word more put over them, `x` at this place
 pub covers_more : (count at x : ℕ) (places values under now : List ℕ) → count < length places → count < length values → IsFree places count at → Covers count places values under now → slice_index under at ≡ x →
     Covers (count + 1) (slice_set places count at) (slice_set values count x) under now
 covers_more count at x places values under now p v free c e = record {
@@ -33,7 +33,7 @@ covers_more count at x places values under now p v free c e = record {
   free = λ a f. c.free a (λ i l e'. f i (omega (arith, l)) (beside places count i at (λ same. omega (arith, l, same)) ∙ e'));
 }
 
--- one word less, where it is as it stands behind: the words are still those behind with the others put over them
+-- where the last word held back is what the memory behind has there, the words in front are also the words behind with the others alone put over them
 pub covers_less : (count at x : ℕ) (places values under now : List ℕ) → count < length places → count < length values → slice_index under at ≡ x →
     Covers (count + 1) (slice_set places count at) (slice_set values count x) under now → Covers count places values under now
 covers_less count at x places values under now p v e c = record {
@@ -51,7 +51,7 @@ covers_less count at x places values under now p v e c = record {
   ];
 }
 
--- a word that is held back becomes another
+-- where a word held back gets another value, so does the word in front at its place
 pub covers_put : (count i at v : ℕ) (places values under now : List ℕ) → i < count → count ≤ length values → slice_index places i ≡ at → at < length now →
     ((j k : ℕ) → j < count → k < count → slice_index places j ≡ slice_index places k → j ≡ k) →
     Covers count places values under now → Covers count places (slice_set values i v) under (slice_set now at v)
@@ -65,7 +65,7 @@ covers_put count i at v places values under now l few e within apart c = record 
   free = λ a f. beside now at a v (λ s. f i l (e ∙ sym s)) ∙ c.free a f;
 }
 
--- a free word becomes another, behind and in front
+-- where a free word is replaced both behind and in front, the words in front are still those behind with the words held back put over them
 pub covers_both : (count at v : ℕ) (places values under now : List ℕ) → at < length under → IsFree places count at → Covers count places values under now →
     Covers count places values (slice_set under at v) (slice_set now at v)
 covers_both count at v places values under now within free c = record {
@@ -78,12 +78,12 @@ covers_both count at v places values under now within free c = record {
   ];
 }
 
--- a number put back
+-- a number that was replaced in a list and is put back gives the list again
 put_back : (xs : List ℕ) (i v w : ℕ) → slice_index xs i ≡ w → slice_set (slice_set xs i v) i w ≡ xs
 put_back xs i v w e = set-set xs i v w ∙ ap (slice_set xs i) (sym e) ∙ set-get_or xs i 0
 
 module _ {Key : Type 0} where
-  -- a load behind gives the word that was found there
+  -- a load of a place that is held back gives what was found there, for the memory behind has it still
   pub found_there : {old new : Key → List ℕ → Type 0} (size count i at x : ℕ) (places found values : List ℕ) → i < count → slice_index places i ≡ at →
       ∥ ((key : Key) × (now : List ℕ) × new key now) ∥₁ → IsHeldBack old size count places found values → Loaded at x old new → x ≡ slice_index found i
   found_there {new = new} size count i at x places found values l e some h d =
@@ -93,7 +93,7 @@ module _ {Key : Type 0} where
       let down : f ≤ x = always_at_most new some f x (λ key u s. (let q = same key u s in omega (arith, q))) in
       omega (arith, up, down)
 
-  -- a load of a free word
+  -- a load of a free word in front is the load of it behind
   pub shows_load : {old new : Key → List ℕ → Type 0} (size count at x : ℕ) (places values : List ℕ) → IsFree places count at → Loaded at x old new →
       Loaded at x (Shows old size count places values) (Shows new size count places values)
   shows_load size count at x places values free d = record {
@@ -101,7 +101,7 @@ module _ {Key : Type 0} where
     on = λ key now s e. record { under = s.under; stood = d.on key s.under s.stood (sym (s.over.free at free) ∙ e); over = s.over; words = s.words };
   }
 
-  -- a load of a free word, which is held back from then on
+  -- a load of a free word in front is the load of it behind, also where the word is held back from then on
   pub shows_push : {old new : Key → List ℕ → Type 0} (size count at x : ℕ) (places found values : List ℕ) → count < 192 → IsHeldBack old size count places found values → IsFree places count at → Loaded at x old new →
       Loaded at x (Shows old size count places values) (Shows new size (count + 1) (slice_set places count at) (slice_set values count x))
   shows_push size count at x places found values room h free d =
@@ -120,7 +120,7 @@ module _ {Key : Type 0} where
             record { under = t.under; stood = t.stood; over = covers_more count at x places values t.under now p v free t.over (d.back key t.under t.stood).1; words = t.words });
       }
 
-  -- a load of a word that is held back
+  -- a load of a word that is held back gives its value, for a load of its place behind
   pub shows_held : {old new : Key → List ℕ → Type 0} (size count i at x : ℕ) (places found values : List ℕ) → i < count → slice_index places i ≡ at → x ≡ slice_index found i →
       IsHeldBack old size count places found values → Loaded at x old new → Loaded at (slice_index values i) (Shows old size count places values) (Shows new size count places values)
   shows_held size count i at x places found values l e same h d = record {
@@ -135,7 +135,7 @@ module _ {Key : Type 0} where
     };
   }
 
-  -- a store to a word that is held back
+  -- a store to a word that is held back replaces its value alone, for a load of its place behind
   pub shows_put : {old new : Key → List ℕ → Type 0} (size count i at x v : ℕ) (places found values : List ℕ) → i < count → v < 2 ^ 64 → slice_index places i ≡ at → x ≡ slice_index found i →
       IsHeldBack old size count places found values → Loaded at x old new → Stored at v (Shows old size count places values) (Shows new size count places (slice_set values i v))
   shows_put size count i at x v places found values l fits e same h d =
@@ -165,7 +165,7 @@ module _ {Key : Type 0} where
         };
       }
 
-  -- a store to a free word
+  -- a store to a free word in front is the store to it behind
   pub shows_store : {old new : Key → List ℕ → Type 0} (size count at v : ℕ) (places values : List ℕ) → at < size → v < 2 ^ 64 → ((key : Key) (u : List ℕ) → old key u → Words size u) → IsFree places count at → Stored at v old new →
       Stored at v (Shows old size count places values) (Shows new size count places values)
   shows_store size count at v places values inside fits words free d = record {
@@ -196,7 +196,7 @@ module _ {Key : Type 0} where
         });
   }
 
--- the next word held back is stored
+-- once the first `i` words held back are put over the words before, and word `i` is stored, the first `i + 1` are
 pub covers_stored : (i count : ℕ) (places values before now : List ℕ) → i < count → slice_index places i < length now →
     ((j k : ℕ) → j < count → k < count → slice_index places j ≡ slice_index places k → j ≡ k) →
     Covers i places values before now → Covers (i + 1) places values before (slice_set now (slice_index places i) (slice_index values i))
@@ -212,7 +212,7 @@ covers_stored i count places values before now l within apart c =
       free = λ a f. beside now at a v (λ s. f i (omega arith) (sym s)) ∙ c.free a (λ j m. f j (omega (arith, m)));
     }
 
--- it is as it was found
+-- once the first `i` words held back are put over the words before, and word `i` is what was found behind it, the first `i + 1` are
 pub covers_kept : (i count : ℕ) (places found values before now : List ℕ) → i < count → slice_index values i ≡ slice_index found i → slice_index before (slice_index places i) ≡ slice_index found i →
     ((j k : ℕ) → j < count → k < count → slice_index places j ≡ slice_index places k → j ≡ k) →
     Covers i places values before now → Covers (i + 1) places values before now
@@ -247,7 +247,7 @@ module _ {Key : Type 0} where
   }
 
 module _ {Key : Type 0} where
-  -- the same of all pairs that stand
+  -- for all words that may stand: once the first `i` words held back are put over those before, and word `i` is stored, the first `i + 1` are
   pub becomes_stored : {old mid new : Key → List ℕ → Type 0} (size i count : ℕ) (places found values : List ℕ) → i < count → IsHeldBack old size count places found values →
       ((key : Key) (now : List ℕ) → mid key now → Words size now) → Becomes old mid (Covers i places values) → Stored (slice_index places i) (slice_index values i) mid new → Becomes old new (Covers (i + 1) places values)
   becomes_stored size i count places found values l h words b d = record {

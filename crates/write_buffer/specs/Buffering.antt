@@ -23,7 +23,7 @@ pub record AreHinted (places : List ℕ) (count : ℕ) (hints : List ℕ) : Type
   pub few : length hints ≡ 256
   pub set : (i : ℕ) → i < count → 1 ≤ slice_index hints (slice_index places i % 256)
 
--- the words behind, with those that are held back put over them
+-- the words in front are the words behind with those that are held back put over them
 pub record Covers (count : ℕ) (places values under now : List ℕ) : Type 0 where
   pub long : length now ≡ length under
   pub held : (i : ℕ) → i < count → slice_index now (slice_index places i) ≡ slice_index values i
@@ -40,7 +40,7 @@ pub record IsHeldBack {Key : Type 0} (stands : Key → List ℕ → Type 0) (siz
   pub apart : (i j : ℕ) → i < count → j < count → slice_index places i ≡ slice_index places j → i ≡ j
   pub known : Always stands (λ under. (i : ℕ) → i < count → slice_index under (slice_index places i) ≡ slice_index found i)
 
--- a pair that stands: words behind, covered
+-- words in front stand for a key: some words behind do, and those in front are these with the words that are held back put over them
 pub record Shows {Key : Type 0} (stands : Key → List ℕ → Type 0) (size count : ℕ) (places values : List ℕ) (key : Key) (now : List ℕ) : Type 0 where
   pub under : List ℕ
   pub stood : stands key under
@@ -48,6 +48,7 @@ pub record Shows {Key : Type 0} (stands : Key → List ℕ → Type 0) (size cou
   pub words : Words size now
 
 module _ {Key : Type 0} where
+  -- the words in front are as many as the memory has, each of 64 bits
   pub shows_words : {stands : Key → List ℕ → Type 0} (size count : ℕ) (places values : List ℕ) → (key : Key) (now : List ℕ) → Shows stands size count places values key now → Words size now
   shows_words size count places values key now s = s.words
 
@@ -56,16 +57,19 @@ abbrev covered : ℕ → List ℕ → List ℕ → List ℕ → List ℕ
 covered zero places values under = under
 covered (suc n) places values under = slice_set (covered n places values under) (slice_index places n) (slice_index values n)
 
+-- putting words over others leaves as many
 covered_long : (n : ℕ) (places values under : List ℕ) → length (covered n places values under) ≡ length under
 covered_long zero places values under = refl
 covered_long (suc n) places values under = length-set (covered n places values under) (slice_index places n) (slice_index values n) ∙ covered_long n places values under
 
+-- at a free place the words are as those behind
 covered_free : (n : ℕ) (places values under : List ℕ) (at : ℕ) → IsFree places n at → slice_index (covered n places values under) at ≡ slice_index under at
 covered_free zero places values under at free = refl
 covered_free (suc n) places values under at free =
     get_or-set_other (covered n places values under) (slice_index places n) at (slice_index values n) 0 (λ e. free n (omega arith) (sym e))
     ∙ covered_free n places values under at (λ i l. free i (omega (arith, l)))
 
+-- at the place of each word that is held back, and each is held back once, its value stands
 covered_held : (n : ℕ) (places values under : List ℕ) → ((i : ℕ) → i < n → slice_index places i < length under) →
     ((i j : ℕ) → i < n → j < n → slice_index places i ≡ slice_index places j → i ≡ j) →
     (i : ℕ) → i < n → slice_index (covered n places values under) (slice_index places i) ≡ slice_index values i
@@ -80,13 +84,14 @@ covered_held (suc n) places values under within apart i l =
           ∙ covered_held n places values under (λ j m. within j (omega (arith, m))) (λ j k m o. apart j k (omega (arith, m)) (omega (arith, o))) i (let d : i ≢ n = other in omega (arith, l, d))
     ]
 
+-- words of 64 bits stay so where such words are put over them
 covered_words : (size n : ℕ) (places values under : List ℕ) → ((i : ℕ) → i < n → slice_index values i < 2 ^ 64) → Words size under → Words size (covered n places values under)
 covered_words size zero places values under small w = w
 covered_words size (suc n) places values under small w =
     Words-set size (covered n places values under) (slice_index places n) (slice_index values n) (small n (omega arith)) (covered_words size n places values under (λ i l. small i (omega (arith, l))) w)
 
 module _ {Key : Type 0} where
-  -- some pair stands, since one does behind it
+  -- some words in front stand for a key, since some behind do
   pub shows_some : {stands : Key → List ℕ → Type 0} (size count : ℕ) (places found values : List ℕ) → IsHeldBack stands size count places found values →
       ((key : Key) (now : List ℕ) → stands key now → Words size now) →
       ∥ ((key : Key) × (now : List ℕ) × stands key now) ∥₁ →

@@ -16,7 +16,7 @@ returns-clause-headed g c = λ table kind place region words known running writt
     headed 2 kind table.callers table.lines (root_code_of table.callers place 0) words written.head (inr refl) known (omega (arith, long)) running.some running.few running.enough running.small
 
 pub returns-clause-taken_up : goal.returns-clause-taken_up
-returns-clause-taken_up g c = λ table kind place region words answer running lawful written told.
+returns-clause-taken_up g c = λ table kind place region words answer running lawful written answered.
     let o = table.object in
     let q = g.O.Object in
     let base = base_at place region in
@@ -28,4 +28,4 @@ returns-clause-taken_up g c = λ table kind place region words answer running la
     (c.lawful_bases_are_accepted.ensures o image recovered (has_size kind table.callers table.lines place region words running.some lawful.size.long written image says)
     (subst (LawfulBase (q.line_count o) (q.lawful o)) (sym same) of) is)))
     (λ b same. subst NumbersWithin (sym same) of.numbers)
-    answer told
+    answer answered

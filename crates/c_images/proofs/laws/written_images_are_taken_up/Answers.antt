@@ -10,9 +10,9 @@ returns-clause-headed g c = λ r kind choice words known whole written.
     headed 1 kind r.callers r.lines (left_root r choice) words written.head (inl refl) known (omega (arith, long)) whole.some whole.few whole.enough whole.small
 
 pub returns-clause-taken_up : goal.returns-clause-taken_up
-returns-clause-taken_up g c = λ table seats r kind choice words answer opened leaves written told.
+returns-clause-taken_up g c = λ table seats r kind choice words answer opened leaves written answered.
     let o = table.object in
     taken_up (g.O.Object.version_number o) (g.O.Object.lawful o) (g.O.Object.old_format o) words
     (IsKeptBy g.O.Object.line_count g.O.Object.lawful g.O.Object.step table seats r choice)
     (λ image says recovered is. c.closed_tables_recover.ensures table seats r choice image recovered opened leaves (left_of kind choice r words image written says) is)
-    (λ base kept. kept.again.numbers) answer told
+    (λ base kept. kept.again.numbers) answer answered

@@ -7,16 +7,16 @@ use Rattle.doc_model.proofs.table.replace_at.Goals as goal
 pub returns-then-not-has_room : goal.returns-then-not-has_room
 returns-then-not-has_room c =
     let same = ap (λ s. s.triples) c.table.view_is in
-    let told = rw (c.deref.ensures.value, c.deref-2.ensures.value, take_rest, same) at (sym c.if-not-has_room.true ∙ c.has_room.ensures) in
+    let room_fails = rw (c.deref.ensures.value, c.deref-2.ensures.value, take_rest, same) at (sym c.if-not-has_room.true ∙ c.has_room.ensures) in
     no_room c.args.lines c.args.table.now c.args.key.now c.args.doc.now
-    (room_at c.args.table.now.triples c.args.key.now c.args.doc.now c.args.table.now.last c.args.lines c.args.at false c.requires told)
+    (room_at c.args.table.now.triples c.args.key.now c.args.doc.now c.args.table.now.last c.args.lines c.args.at false c.requires room_fails)
 
 pub returns : goal.returns
 returns c =
     let same = ap (λ s. s.triples) c.table.view_is in
-    let told = rw (c.deref.ensures.value, c.deref-2.ensures.value, take_rest, same) at (sym c.if-not-has_room.false ∙ c.has_room.ensures) in
+    let room_passes = rw (c.deref.ensures.value, c.deref-2.ensures.value, take_rest, same) at (sym c.if-not-has_room.false ∙ c.has_room.ensures) in
     let key_stays = ap (λ t. t.0.0) (c.pair.view_is ∙ c.index_mut-pair.ensures.value ∙ ap (λ s. slice_index_or s c.args.at c.index_mut-pair.result.now) same) ∙ c.requires.has_key c.index_mut-pair.result.now in
     let given = c.revision_after-revision.ensures ∙ ap (λ s. next_revision s.last) c.table.view_is in
-    let room = room_at c.args.table.now.triples c.args.key.now c.args.doc.now c.args.table.now.last c.args.lines c.args.at true c.requires told in
+    let room = room_at c.args.table.now.triples c.args.key.now c.args.doc.now c.args.table.now.last c.args.lines c.args.at true c.requires room_passes in
     is_put c.args.lines c.args.table.now c.args.key.now c.args.doc.now true _ room (search rules)
     (written_at c.args.table.now.triples c.args.key.now c.args.doc.now c.args.table.now.last c.args.at c.revision_after-revision.result c.table.inside.pairs.items c.pair.inside.key c.in_ok-doc.doc c.requires same key_stays c.in_ok-doc.ensures given)

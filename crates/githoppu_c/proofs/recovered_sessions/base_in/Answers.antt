@@ -9,4 +9,4 @@ returns-in-Ok-clause-told g c =
     let object = c.args.object.now in
     let words = c.args.words.now in
     taken (IsReplyOfKind c.args.kind) (IsTakenUp (o.version_number object) (o.lawful object) (o.old_format object) words) (IsWordsFault (o.version_number object) (o.lawful object) (o.old_format object) words)
-    c.in-Ok.base c.with_replies.result c.in-Ok.ensures.told tt c.with_replies.ensures
+    c.in-Ok.base c.with_replies.result c.in-Ok.ensures.answered tt c.with_replies.ensures

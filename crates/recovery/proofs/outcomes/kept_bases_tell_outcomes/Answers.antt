@@ -18,8 +18,8 @@ returns g c = λ table seats r choice caller base opened leaves kept few.
     let entries = entries_of instance closed law opened.base.numbers in
     let at = base.place in
     let to = subst (λ (es : List Entry). at ≤ table.base.place + length es) (sym leaves.history) kept.to in
-    let told = full_tells (g.O.Object.line_count o) (g.O.Object.lawful o) instance
+    let outcome = full_tells (g.O.Object.line_count o) (g.O.Object.lawful o) instance
     (record { keeps = g.met.O.Object.keeps o; shape = λ words fits. (g.met.O.Object.shape o words fits).0; replies = g.met.O.Object.replies o })
     opened.base law.history law.tickets.below entries at caller kept.from to few in
-    let here = subst (λ (es : List Entry). TellsOutcome step table.base es (record { place = at; words = full_image step table.base es at }) caller) leaves.history told in
+    let here = subst (λ (es : List Entry). TellsOutcome step table.base es (record { place = at; words = full_image step table.base es at }) caller) leaves.history outcome in
     subst (λ (ws : List ℕ). TellsOutcome step table.base r.trail.history (record { place = at; words = ws }) caller) (sym kept.words) here

@@ -5,7 +5,7 @@ use Rattle.cx_core.specs.State.{one_more}
 use Rattle.table_invariant.specs.Seats.{Seated}
 use Rattle.redo_set.specs.Gaps.{LeavesGap, NotesGaps, steps_on}
 use Rattle.redo_set.proofs.GapCounts.{steps_next}
-use Rattle.redo_set.proofs.GapEnds.{begins_at, noting_more, noting_none, told_gap}
+use Rattle.redo_set.proofs.GapEnds.{begins_at, noting_more, noting_none, tells_gap}
 use Rattle.redo_set.proofs.gaps.note_each.Goals as goal
 
 pub loop-k-init : goal.loop-k-init
@@ -23,7 +23,7 @@ note_gap-requires-clause-gap g c =
     let word = c.gap_word-word.result in
     let names : gap_of t.callers slot word ≡ record { ticket = c.args.ticket; from = from; to = to } =
     ap (λ n. gap_of n slot word) (sym callers) ∙ ap (λ s. gap_of c.callers-callers.result s word) c.gap_slot-slot.ensures.value ∙ c.gap_word-word.ensures in
-    told_gap g.O.Object t c.args.set.now c.args.ticket from to slot word c.args.seat.now c.loop-k.seat was.leaves c.requires.may
+    tells_gap g.O.Object t c.args.set.now c.args.ticket from to slot word c.args.seat.now c.loop-k.seat was.leaves c.requires.may
     (subst (λ f. LeavesGap c.args.set.now f to) (sym was.at) (c.requires.ends.each k c.loop-k-test.true)) names
 
 pub loop-k-preserved : goal.loop-k-preserved

@@ -57,7 +57,7 @@ pub offer-requires-clause-of_ticket : goal.offer-requires-clause-of_ticket
 offer-requires-clause-of_ticket g c =
     let r = c.args.shared.now in
     tells_written c.args.seat.now c.args.cell c.requires.may.can c.number.ensures.cells r.lines (g.O.Object.lawful r.object) r.base (g.O.Object.step r.object) c.args.ticket c.args.set.now c.loop-i.seat c.requires.may.named
-    (all_written c.loop-i.i c.len.result (slice_index c.args.set.now 0) c.args.cell c.args.set.now c.args.seat.now c.loop-i.seat c.loop-i-test.false c.loop-i.auto.i-end c.len.ensures.count c.loop-i.invariant.written) c.requires.told
+    (all_written c.loop-i.i c.len.result (slice_index c.args.set.now 0) c.args.cell c.args.set.now c.args.seat.now c.loop-i.seat c.loop-i-test.false c.loop-i.auto.i-end c.len.ensures.count c.loop-i.invariant.written) c.requires.write_set
 
 pub returns-in_err-write_differing-clause-leaves : goal.returns-in_err-write_differing-clause-leaves
 returns-in_err-write_differing-clause-leaves g c =

@@ -7,7 +7,7 @@ pub full_step-requires-clause-lawful : goal.full_step-requires-clause-lawful
 unfolding object_part
 full_step-requires-clause-lawful g c =
     let Lawful : List ℕ → Type 0 = g.O.Object.lawful c.args.object.now in
-    let told : IsTrue c.in_ok-lawful.lawful = search rules in
+    let passes : IsTrue c.in_ok-lawful.lawful = search rules in
     let image : c.split_at.result.1.now ≡ drop 1168 c.of-memory.result.words.items =
     c.split_at.ensures.back ∙ ap (drop 1168) (c.deref.ensures.value ∙ sym c.of-memory.ensures.words) in
-    known_always (λ region. Lawful (drop 1168 region)) c.of-memory.result.words.items (subst Lawful image (c.in_ok-lawful.ensures.0 told))
+    known_always (λ region. Lawful (drop 1168 region)) c.of-memory.result.words.items (subst Lawful image (c.in_ok-lawful.ensures.0 passes))

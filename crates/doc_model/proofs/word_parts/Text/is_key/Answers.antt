@@ -1,6 +1,6 @@
 use Rattle.std.proofs.Common.{◌≡◌, ◌<◌, ◌⊎◌, inl, inr, refl, sym, ap, ◌∙◌, arith}
 use Rattle.doc_model.specs.WordParts.{is_key}
-use Rattle.doc_model.proofs.WordTexts.{too_short_or_long, long_enough, key_told, visible_told}
+use Rattle.doc_model.proofs.WordTexts.{too_short_or_long, long_enough, key_by_test, visible_unpacked}
 use Rattle.doc_model.proofs.word_parts.Text.is_key.Goals as goal
 use Rattle.doc_model.proofs.word_parts.Text.is_key.Goals.{then-self-eq0-via-then-self-eq0, then-self-eq0-via-else-self-eq0+then-self-gt64}
 
@@ -11,11 +11,11 @@ returns-then-self-eq0 g c =
       | then-self-eq0-via-then-self-eq0 w ↦ inl (omega arith)
       | then-self-eq0-via-else-self-eq0+then-self-gt64 w ↦ inr (omega arith)
     ] in
-    too_short_or_long t.len 64 _ out ∙ sym (key_told t.words.now t.len _ refl) ∙ ap is_key c.self.view_is
+    too_short_or_long t.len 64 _ out ∙ sym (key_by_test t.words.now t.len _ refl) ∙ ap is_key c.self.view_is
 
 pub returns : goal.returns
 returns g c =
     let t = c.self.inside in
     let answer = c.are_between.result in
-    let told = visible_told t.words.now t.len answer c.are_between.ensures in
-    long_enough t.len 64 answer (omega arith) (omega arith) ∙ sym (key_told t.words.now t.len answer told) ∙ ap is_key c.self.view_is
+    let visible = visible_unpacked t.words.now t.len answer c.are_between.ensures in
+    long_enough t.len 64 answer (omega arith) (omega arith) ∙ sym (key_by_test t.words.now t.len answer visible) ∙ ap is_key c.self.view_is

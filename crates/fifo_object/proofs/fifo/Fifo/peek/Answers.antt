@@ -16,4 +16,4 @@ pub returns : goal.returns
 returns g c =
     let ends = c.in_ok-ends.ends in
     found (IfOk-weaker c.item_reply.result (λ _. Reads (g.M.Memory.stands c.ends.new.mem) (g.M.Memory.stands c.item_reply.new.mem) (λ now. c.item_reply.new.reply ≡ words_of_item 3 (item_at now ends.head))) _
-    (λ _ f. Reads-then c.in_ok-ends.ensures.finds.done f (λ ws r told. some_front ws c.item_reply.new.reply ends.head ends.count r.0 r.1 c.if-ends-eq0.false told)) c.item_reply.ensures.done) (search rules) (search rules) (search rules)
+    (λ _ f. Reads-then c.in_ok-ends.ensures.finds.done f (λ ws r reply_is. some_front ws c.item_reply.new.reply ends.head ends.count r.0 r.1 c.if-ends-eq0.false reply_is)) c.item_reply.ensures.done) (search rules) (search rules) (search rules)

@@ -19,7 +19,7 @@ returns g c =
     let reply = c.item_reply.new.reply in
     let next = (ends.head + 1) % (lines - 1) in
     let read : Reads (g.M.Memory.stands c.args.mem.now) (g.M.Memory.stands c.item_reply.new.mem) (λ ws. ((queue_head ws ≡ ends.head) × (count_in ws ≡ ends.count)) × (reply ≡ words_of_item 3 (item_at ws ends.head))) =
-    Reads-then c.in_ok-ends.ensures.finds.done c.in_ok-item_reply.ensures.done (λ ws r told. (r, told)) in
+    Reads-then c.in_ok-ends.ensures.finds.done c.in_ok-item_reply.ensures.done (λ ws r reply_is. (r, reply_is)) in
     let headed : Becomes (g.M.Memory.stands c.args.mem.now) (g.M.Memory.stands c.store.new.self) (λ x z. (z ≡ slice_set x 1 next) × (queue_head x ≡ ends.head) × (count_in x ≡ ends.count) × (reply ≡ words_of_item 3 (item_at x ends.head))) =
     Becomes-store (Becomes-from-read read) c.in_ok-store.ensures.stands
     (λ first x y s r. (
