@@ -61,7 +61,7 @@ abbrev pub reads_weigh : (SeenRead → ℕ) → List Seated → ℕ
 reads_weigh h xs = total_weight (λ (x : Seated). total_weight h x.known.local.seen_reads) xs
 
 abbrev pub hand : Option ServiceView → ℕ → List ℕ → List Seated → List AnsweredCall → List SeenRead → List Returned → LenderPass
-hand home parts placed held told shown returned = record { home = home; parts = parts; placed = placed; held = held; told = told; shown = shown; returned = returned }
+hand home parts placed held told_calls shown returned = record { home = home; parts = parts; placed = placed; held = held; told_calls = told_calls; shown = shown; returned = returned }
 
 -- the parts of the right to know the whole
 abbrev pub all_parts : ℕ
@@ -81,17 +81,17 @@ opened_pass home = hand (Some home) all_parts [] [] [] [] []
 
 -- a caller was put into the queue for the first time
 abbrev pub with_placed : LenderPass → Seated → LenderPass
-with_placed v x = hand v.home v.parts (v.placed ++ x.known.local.number ∷ []) v.held v.told v.shown v.returned
+with_placed v x = hand v.home v.parts (v.placed ++ x.known.local.number ∷ []) v.held v.told_calls v.shown v.returned
 
 -- a caller was taken out: it is held, as it was then
 abbrev pub with_taken : LenderPass → Seated → LenderPass
-with_taken v x = hand v.home v.parts v.placed (x ∷ v.held) v.told v.shown v.returned
+with_taken v x = hand v.home v.parts v.placed (x ∷ v.held) v.told_calls v.shown v.returned
 
 -- the first of those held was given back: the calls that it has more are told, the reads that it has more are shown, and both of its states are noted
 abbrev pub given_from : LenderPass → List Seated → Seated → LenderPass
 given_from v [] x = v
 given_from v (y ∷ rest) x =
-    hand v.home v.parts v.placed rest (v.told ++ drop (length (calls_of y)) (calls_of x)) (v.shown ++ drop (length y.known.local.seen_reads) x.known.local.seen_reads)
+    hand v.home v.parts v.placed rest (v.told_calls ++ drop (length (calls_of y)) (calls_of x)) (v.shown ++ drop (length y.known.local.seen_reads) x.known.local.seen_reads)
     (v.returned ++ record { taken = y; back = x } ∷ [])
 
 abbrev pub with_given : LenderPass → Seated → LenderPass
@@ -111,14 +111,14 @@ IsFirstOf (y ∷ rest) x = GoesOnCalling y x
 
 -- a pass without one part, and a pass with that part alone
 abbrev pub cut_left : LenderPass → LenderPass
-cut_left v = hand v.home (v.parts - 1) v.placed v.held v.told v.shown v.returned
+cut_left v = hand v.home (v.parts - 1) v.placed v.held v.told_calls v.shown v.returned
 
 abbrev pub cut_right : LenderPass → LenderPass
 cut_right v = hand v.home 1 [] [] [] [] []
 
 -- what two passes know and hold, in one
 abbrev pub both : LenderPass → LenderPass → LenderPass
-both v w = hand v.home (v.parts + w.parts) (v.placed ++ w.placed) (v.held ++ w.held) (v.told ++ w.told) (v.shown ++ w.shown) (v.returned ++ w.returned)
+both v w = hand v.home (v.parts + w.parts) (v.placed ++ w.placed) (v.held ++ w.held) (v.told_calls ++ w.told_calls) (v.shown ++ w.shown) (v.returned ++ w.returned)
 
 -- it knows this service, or it has no part
 abbrev pub FitsHome : Shown → ℕ → Option ServiceView → Type 0
@@ -128,7 +128,7 @@ FitsHome r parts (Some home) = shown_by home ≡ r
 pub record IsPassIdle (v : LenderPass) : Type 0 where
   pub placed : v.placed ≡ []
   pub held : v.held ≡ []
-  pub told : v.told ≡ []
+  pub told_calls : v.told_calls ≡ []
   pub shown : v.shown ≡ []
 
 pub record FitsHand (r : Shown) (v : LenderPass) : Type 0 where
@@ -145,7 +145,7 @@ pub record KeepsCallers (items : List Seated) (views : List LenderPass) : Type 0
   pub parts : total_weight (λ (v : LenderPass). v.parts) views ≡ all_parts
   pub room : total_weight (λ (v : LenderPass). length v.placed) views ≤ service.callers
   pub callers : (h : ℕ → ℕ) → total_weight (λ (v : LenderPass). total_weight h v.placed) views ≡ total_weight (λ (v : LenderPass). numbers_weigh h v.held) views + numbers_weigh h items
-  pub calls : (h : AnsweredCall → ℕ) → total_weight (λ (v : LenderPass). total_weight h v.told) views ≡ total_weight (λ (v : LenderPass). calls_weigh h v.held) views + calls_weigh h items
+  pub calls : (h : AnsweredCall → ℕ) → total_weight (λ (v : LenderPass). total_weight h v.told_calls) views ≡ total_weight (λ (v : LenderPass). calls_weigh h v.held) views + calls_weigh h items
   pub reads : (h : SeenRead → ℕ) → total_weight (λ (v : LenderPass). total_weight h v.shown) views ≤ total_weight (λ (v : LenderPass). reads_weigh h v.held) views + reads_weigh h items
 
 -- the callers are kept, or the queue is new
@@ -179,7 +179,7 @@ IsCallerTaken v x w = IsCallerAt v.home x × (w ≡ with_taken v x) × (length v
 -- All that was placed is with this pass or in the queue, the calls told to it are theirs, and the reads shown to it are among theirs.
 pub record IsPassWhole (v : LenderPass) (items : List Seated) : Type 0 where
   pub callers : (h : ℕ → ℕ) → total_weight h v.placed ≡ numbers_weigh h v.held + numbers_weigh h items
-  pub calls : (h : AnsweredCall → ℕ) → total_weight h v.told ≡ calls_weigh h v.held + calls_weigh h items
+  pub calls : (h : AnsweredCall → ℕ) → total_weight h v.told_calls ≡ calls_weigh h v.held + calls_weigh h items
   pub reads : (h : SeenRead → ℕ) → total_weight h v.shown ≤ reads_weigh h v.held + reads_weigh h items
 
 -- what a pass learns of the queue: there is room in it for what the pass holds, and a pass with every part learns the whole
@@ -194,12 +194,12 @@ pub record IsPassOpened {O : Type 0} (r : Running O) (limits : List ℕ) (v : Le
   pub parts : v.parts ≡ all_parts
   pub placed : v.placed ≡ []
   pub held : v.held ≡ []
-  pub told : v.told ≡ []
+  pub told_calls : v.told_calls ≡ []
   pub shown : v.shown ≡ []
 
 -- the calls that a pass was told, once it gave this caller back
-abbrev pub hand_told : LenderPass → Seated → List AnsweredCall
-hand_told v x = (with_given v x).told
+abbrev pub told_calls_after_giving : LenderPass → Seated → List AnsweredCall
+told_calls_after_giving v x = (with_given v x).told_calls
 
-abbrev pub told_with : ℕ → Linked → Answer → AnsweredCall
-told_with n entry answer = record { caller = n; entry = entry; answer = answer }
+abbrev pub call_with : ℕ → Linked → Answer → AnsweredCall
+call_with n entry answer = record { caller = n; entry = entry; answer = answer }
