@@ -78,7 +78,7 @@ limits_of lent = limits_at (view lent.pass).home
 -- the client was told nothing more, and shown nothing more, and no caller was given back
 pub record TellsSame (before after : Lent) : Type 0 where
   pub limits : limits_of after ≡ limits_of before
-  pub told : (view after.pass).told ≡ (view before.pass).told
+  pub told_calls : (view after.pass).told_calls ≡ (view before.pass).told_calls
   pub shown : (view after.pass).shown ≡ (view before.pass).shown
   pub returned : (view after.pass).returned ≡ (view before.pass).returned
 
@@ -150,7 +150,7 @@ pub record ShowsRead {O : Type 0} (r : Running O) (table : TableId) (op : List �
   pub read : SeenRead
   pub is : read ≡ record { place = seen.place; op = op; reply = seen.reply; before = length asked.known.local.answered }
   pub from : floor ≤ seen.place
-  pub tells : (view after.pass).told ≡ (view before.pass).told
+  pub tells : (view after.pass).told_calls ≡ (view before.pass).told_calls
   pub shows : (h : SeenRead → ℕ) → total_weight h (view before.pass).shown + h read ≤ total_weight h (view after.pass).shown
 
 -- No cell of the caller is idle that was asked, as it was when it entered the queue, and the client keeps it. The caller is the one that the call began
@@ -273,7 +273,7 @@ pub record IsGivenBack {O : Type 0} (r : Running O) (table : TableId) (before af
   pub lent : IsLentTo r table after
   pub back : after.kept ≡ None
   pub limits : limits_of after ≡ limits_of before
-  pub tells : (view after.pass).told ≡ (view before.pass).told
+  pub tells : (view after.pass).told_calls ≡ (view before.pass).told_calls
   pub shows : (h : SeenRead → ℕ) → total_weight h (view before.pass).shown ≤ total_weight h (view after.pass).shown
 
 -- a caller was asked that had seen the place, the one that the client kept or else one out of the queue, and was given back

@@ -43,7 +43,7 @@ pub record AreCallersPlaced {O : Type 0} (r : Running O) (clients : ℕ) (v : Le
   pub parts : v.parts + clients ≡ all_parts
   pub placed : v.placed ≡ range_with_len 0 r.callers
   pub held : v.held ≡ []
-  pub told : v.told ≡ []
+  pub told_calls : v.told_calls ≡ []
   pub shown : v.shown ≡ []
 
 -- there is room for this many callers and clients
@@ -108,7 +108,7 @@ pub record IsClosed {O : Type 0} (r : Running O) (instance : Instance) (clients 
   pub handed : List Handed
   pub leaves : ClosingWitness r instance (seats_of handed) remains
   pub order : IsLinearizedBy leaves
-  pub told : AreCallsTold r (lents_of clients) handed
+  pub are_told : AreCallsTold r (lents_of clients) handed
   pub answered : (calls : List (List Call)) → AllZip (HasCalls r) clients calls → AreAnswered instance remains.trail.history remains.trail.locals calls
   -- each of these calls is an operation of a caller, which stands in the one order of all
   pub ordered : (calls : List (List Call)) → AllZip (HasCalls r) clients calls → All (All (StandsIn remains.trail.locals order.one_order.order)) calls
@@ -119,5 +119,5 @@ pub record IsClosed {O : Type 0} (r : Running O) (instance : Instance) (clients 
 pub record IsLeftOpen {O : Type 0} (r : Running O) (clients : List Client) (kept : PoolKept O) : Type 0 where
   pub service : kept.service ≡ r
   pub seats : AreSeats r (seats_of kept.callers.items)
-  pub told : AreCallsTold r (lents_of clients) kept.callers.items
+  pub are_told : AreCallsTold r (lents_of clients) kept.callers.items
   pub former : kept.clients.items ≡ map former_of clients
