@@ -17,7 +17,7 @@ use Rattle.c_sessions.specs.declared.steps.Called.TheVariants.{Done, Pending, Ag
 
 -- what a call gives back stands of a caller of this service, and this was done
 pub record HandsBack {O : Type 0} (r : Running O) (handed : Handed) (Done : Type 0) : Type 0 where
-  pub ready : IsHandedOf r handed
+  pub of : IsHandedOf r handed
   pub done : Done
 
 -- the place that a session tells after a call, which told this one before
