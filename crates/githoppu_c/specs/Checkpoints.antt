@@ -43,7 +43,7 @@ pub record TookImage {O : Type 0} (o : Ghosts O) (kind : ℕ) (before after : Se
 
 -- a session took an image where there are as many words as it takes, which is the number that is told; else nothing is changed
 pub record TakesAs {O : Type 0} (o : Ghosts O) (kind : ℕ) (before after : Session O) (words_before words : List ℕ) (needed : ℕ) (code : ℤ) : Type 0 where
-  pub told : needed ≡ checkpoint_words (arc_value before.service)
+  pub needed_is : needed ≡ checkpoint_words (arc_value before.service)
   pub took : ((length words_before ≡ checkpoint_words (arc_value before.service)) × TookImage o kind before after words code)
       ⊎ ((length words_before ≢ checkpoint_words (arc_value before.service)) × (code ≡ pos 7) × (words ≡ words_before) × (after ≡ before))
 

@@ -48,7 +48,7 @@ OfBoth documents queue program before after = ⊥
 abbrev pub KeepsReplies : {O : Type 0} → ReplyKind → Running O → Type 0
 KeepsReplies replies r = HoldsReplies (IsReplyOfKind replies) r.base.words
 
--- What C may call: a session that is ready, a service with all its callers that is still to be closed, or with those that the last session found, and what a
+-- What C may call: an open session, a service with all its callers that is still to be closed, or with those that the last session found, and what a
 -- closed one left. The service was opened with results that keep replies.
 abbrev pub IsContentCallable : {O : Type 0} → Ghosts O → ReplyKind → HandleState O → Type 0
 IsContentCallable o replies (Session session) = IsSessionOpen session × KeepsReplies replies (arc_value session.service)
@@ -60,12 +60,12 @@ IsContentCallable o replies Gone = Unit {0}
 abbrev pub IsCallable : AnyHandleState → Type 0
 IsCallable = OfAny (IsContentCallable store_ghosts Document) (IsContentCallable queue_ghosts QueueReplies) (IsContentCallable program_ghosts ProgramReplies)
 
--- a call leaves what C may call, and this was done
+-- a call leaves a content of this object that C may call, and this was done
 pub record LeavesContentCallable {O : Type 0} (o : Ghosts O) (replies : ReplyKind) (after : HandleState O) (Done : Type 0) : Type 0 where
   pub callable : IsContentCallable o replies after
   pub done : Done
 
--- the same of a content of any object
+-- a call leaves what C may call, of whichever object, and this was done
 pub record LeavesCallable (after : AnyHandleState) (Done : Type 0) : Type 0 where
   pub callable : IsCallable after
   pub done : Done

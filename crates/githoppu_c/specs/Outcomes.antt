@@ -48,7 +48,7 @@ RefusesBase words code = (fault : WordsFault) × IsBaseFault words fault × (cod
 
 -- the base that words say, which has a region's words before the object part, or why they say none
 pub record TellsBase (words : List ℕ) (answer : Result Base ℤ) : Type 0 where
-  pub told : MatchResult answer (IsBaseIn words) (RefusesBase words)
+  pub base : MatchResult answer (IsBaseIn words) (RefusesBase words)
   pub long : IfOk answer (λ base. 1168 ≤ length base.words)
 
 -- why nothing is told: there is no such session, or the words are refused
