@@ -47,9 +47,9 @@ pub new_of : {O : Type 0} (object : O) (lines callers : ℕ) (limits : List ℕ)
 new_of object lines callers limits base service seats starts = (limits, starts.opened)
 
 -- a service that was started from a base is served, and what was told of its callers is so
-pub told_of : {O T : Type 0} (o : Ghosts O) (object : O) (callers : ℕ) (base : Base) (tells : Running O → Seated → Seated → T → Type 0) (service : Running O) (new seats : List Seated) (told : List T) (r : Remains) → IsOpen o object callers base service
-    → AreNew service callers new → IsClosedLinearizable service (instance_at service o.step o.only_reads) seats r → TellsEach (tells service) new seats told → IsServedBy o object callers base tells r told
-told_of o object callers base tells service new seats told r is are_new leaves tells_so = record {
+pub served_by : {O T : Type 0} (o : Ghosts O) (object : O) (callers : ℕ) (base : Base) (tells : Running O → Seated → Seated → T → Type 0) (service : Running O) (new seats : List Seated) (outputs : List T) (r : Remains) → IsOpen o object callers base service
+    → AreNew service callers new → IsClosedLinearizable service (instance_at service o.step o.only_reads) seats r → TellsEach (tells service) new seats outputs → IsServedBy o object callers base tells r outputs
+served_by o object callers base tells service new seats outputs r is are_new leaves tells_so = record {
   served = record {
     left = record { table = service; seats = seats; object_is = is.object_is; opened = is.opened; leaves = leaves.leaves; order = leaves.order };
     callers_are = is.callers_are;
