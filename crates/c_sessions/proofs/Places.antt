@@ -148,12 +148,12 @@ module _ {O : Type 0} (r : Running O) (place : ℕ) where
 abbrev after : {O : Type 0} → Session O → Handed → ℕ → Session O
 after s h place = record { service = s.service; exit = s.exit; handed = Some h; place = place }
 
--- it is open, and the call came to this
+-- the session is open after a call, and the call came to this
 pub record Left {O : Type 0} (s : Session O) (h : Handed) (place reached : ℕ) (come_to : Running O → Handed → Handed → Type 0) : Type 0 where
   pub opened : IsSessionOpen (after s h place)
   pub stands : SessionStands s (after s h place) reached (come_to (arc_value s.service))
 
--- so it is where what stands of the caller goes on to this, of what stood before the call and had seen the session's place
+-- a call leaves the session so where what stands of the caller goes on to this, of what stood before the call and had seen the session's place
 pub left_by : {O : Type 0} (come_to : Running O → Handed → Handed → Type 0) (s : Session O) (b h : Handed) (service : Running O) (place reached : ℕ) → service ≡ arc_value s.service → IsSessionOpen s → s.handed ≡ Some b → place ≡ reached
     → IsHandedOf service h → come_to service b h → (IsHandedOf service b → HasSeenPlace service s.place b → Goes service (handed_number b) s.place reached h) → Left s h place reached come_to
 left_by come_to s b h service place reached same opened at is of came going =

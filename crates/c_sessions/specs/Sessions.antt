@@ -87,7 +87,7 @@ CallsIn reads op tries before called after reply = SessionStands before after (p
 abbrev pub FinishesIn : {O : Type 0} → ℕ → Session O → Called → Session O → List ℕ → Type 0
 FinishesIn tries before called after reply = SessionStands before after (place_after called before.place) (λ b a. FinishesFrom (arc_value before.service) tries b called a reply)
 
--- and so did catching up with a place
+-- catching up with a place had this result
 abbrev pub SeesIn : {O : Type 0} → ℕ → Session O → SessionCatchUp → Session O → Type 0
 SeesIn place before sight after = SessionStands before after (place_seen sight place before.place) (λ b a. CatchesUpFrom (arc_value before.service) place b sight a)
 

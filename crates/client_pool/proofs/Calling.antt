@@ -23,29 +23,35 @@ use Rattle.client_pool.specs.declared.call.Call.{Call}
 use Rattle.client_pool.specs.declared.call.Call.TheVariants.{Entry, Look}
 use Rattle.client_pool.specs.declared.client.Client.{Client}
 
+-- the floor behind calls is that of the last one
 pub floor_more : (floor : ℕ) (calls : List Call) (call : Call) → floor_after floor (calls ++ call ∷ []) ≡ next_place_of call
 floor_more floor [] call = refl
 floor_more floor (c ∷ calls) call = floor_more (next_place_of c) calls call
 
+-- one call more is in turn where its answer holds at or above the floor behind the others
 pub in_turn_more : (floor : ℕ) (calls : List Call) (call : Call) → AreInTurn floor calls → floor_after floor calls ≤ answer_place_of call → AreInTurn floor (calls ++ call ∷ [])
 in_turn_more floor [] call turn from = (from, tt)
 in_turn_more floor (c ∷ calls) call turn from = (turn.0, in_turn_more (next_place_of c) calls call turn.1 from)
 
+-- one entry more among calls is the last of their entries
 pub entries_more : (calls : List Call) (call : AnsweredCall) → entries_called (calls ++ Entry call ∷ []) ≡ entries_called calls ++ call ∷ []
 entries_more [] call = refl
 entries_more (Entry t ∷ calls) call = ap (λ (l : List AnsweredCall). t ∷ l) (entries_more calls call)
 entries_more (Look x ∷ calls) call = entries_more calls call
 
+-- a read more among calls leaves their entries as they are
 pub entries_same : (calls : List Call) (read : SeenRead) → entries_called (calls ++ Look read ∷ []) ≡ entries_called calls
 entries_same [] read = refl
 entries_same (Entry t ∷ calls) read = ap (λ (l : List AnsweredCall). t ∷ l) (entries_same calls read)
 entries_same (Look x ∷ calls) read = entries_same calls read
 
+-- an entry more among calls leaves their reads as they are
 pub reads_same : (calls : List Call) (call : AnsweredCall) → reads_called (calls ++ Entry call ∷ []) ≡ reads_called calls
 reads_same [] call = refl
 reads_same (Entry t ∷ calls) call = reads_same calls call
 reads_same (Look x ∷ calls) call = ap (λ (l : List SeenRead). x ∷ l) (reads_same calls call)
 
+-- one read more among calls is the last of their reads
 pub reads_more : (calls : List Call) (read : SeenRead) → reads_called (calls ++ Look read ∷ []) ≡ reads_called calls ++ read ∷ []
 reads_more [] read = refl
 reads_more (Entry t ∷ calls) read = reads_more calls read
@@ -78,7 +84,7 @@ module _ {O : Type 0} (r : Running O) (table : TableId) (before after : Client) 
         };
       }
 
-  -- it is of the caller that was asked
+  -- a read beside the queue is of the caller that was asked, which was given back
   pub read_is : (op : List ℕ) (floor : ℕ) (first caller : Seated) (seen : Seen) → ComesFrom r first caller → (s : ShowsRead r table op floor caller before.lent after.lent seen) → ReturnsFirst before.lent after.lent first s.now
       → IsReadShown r op before.lent after.lent s.read
   read_is op floor first caller seen came s back = record {

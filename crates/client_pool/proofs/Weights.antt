@@ -48,7 +48,7 @@ list_is (x ∷ xs) (y ∷ ys) lt =
     let are = both_are (one_at x y) (same_list xs ys) lt in
     ap (λ (k : ℕ). k ∷ xs) (one_is x y are.0) ∙ ap (λ (l : List ℕ). y ∷ l) (list_is xs ys are.1)
 
--- 1 at a call, and 0 at others
+-- 1 where two calls are the same, and 0 at others
 abbrev pub same_call : AnsweredCall → AnsweredCall → ℕ
 same_call t u =
     both_of (one_at t.caller u.caller)
@@ -89,7 +89,7 @@ call_is t u lt =
     ∙ ap (λ k. call_of u.caller u.entry.ticket u.entry.entry.caller u.entry.entry.number u.entry.entry.op k t.answer.reply) (one_is t.answer.ticket u.answer.ticket f.0)
     ∙ ap (λ l. call_of u.caller u.entry.ticket u.entry.entry.caller u.entry.entry.number u.entry.entry.op u.answer.ticket l) (list_is t.answer.reply u.answer.reply f.1)
 
--- and of reads
+-- 1 where two reads are the same, and 0 at others
 abbrev pub same_read : SeenRead → SeenRead → ℕ
 same_read x y = both_of (one_at x.place y.place) (both_of (same_list x.op y.op) (both_of (same_list x.reply y.reply) (one_at x.before y.before)))
 

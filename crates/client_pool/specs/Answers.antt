@@ -29,11 +29,12 @@ pub record IsReadOf (instance : Instance) (history : List HistoryEntry) (read : 
   pub to : read.place ≤ instance.base.place + length history
   pub reply : read.reply ≡ reply_after instance history read.place read.op
 
+-- a call is one of the history: as an entry of it, or as a read at a place in it
 abbrev pub IsCallOf : Instance → List HistoryEntry → Call → Type 0
 IsCallOf instance history (Entry call) = IsEntryOf instance history call
 IsCallOf instance history (Look read) = IsReadOf instance history read
 
--- the entry and its answer stand in the lists of the caller that is named, both at this index, and the read in those of some caller
+-- the entry and its answer stand in the lists of the caller that is named, both at this index
 pub record IsCallersEntry (locals : List Local) (call : AnsweredCall) : Type 0 where
   pub local : Local
   pub of_caller : slice_get locals call.caller ≡ Some local
@@ -41,6 +42,7 @@ pub record IsCallersEntry (locals : List Local) (call : AnsweredCall) : Type 0 w
   pub own : slice_get local.own index ≡ Some call.entry
   pub answered : slice_get local.answered index ≡ Some call.answer
 
+-- the read stands in the list of some caller, at this index
 pub record IsCallersRead (locals : List Local) (read : SeenRead) : Type 0 where
   pub caller : ℕ
   pub local : Local
@@ -48,6 +50,7 @@ pub record IsCallersRead (locals : List Local) (read : SeenRead) : Type 0 where
   pub index : ℕ
   pub seen : slice_get local.seen_reads index ≡ Some read
 
+-- a call is one of these callers'
 abbrev pub IsCallersCall : List Local → Call → Type 0
 IsCallersCall locals (Entry call) = IsCallersEntry locals call
 IsCallersCall locals (Look read) = IsCallersRead locals read

@@ -35,11 +35,12 @@ abbrev pub answered_by : Call → Answered
 answered_by (Entry call) = Updated call.caller call.answer
 answered_by (Look read) = Read (record { place = read.place; reply = read.reply })
 
--- where its answer holds, and below which place no later answer of the client does
+-- the place at which the answer of a call holds: of an entry its ticket, and of a read its place
 abbrev pub answer_place_of : Call → ℕ
 answer_place_of (Entry call) = call.answer.ticket
 answer_place_of (Look read) = read.place
 
+-- the place below which no later answer of the client holds: behind an entry the next one, and behind a read its own
 abbrev pub next_place_of : Call → ℕ
 next_place_of (Entry call) = call.answer.ticket + 1
 next_place_of (Look read) = read.place
@@ -54,12 +55,13 @@ abbrev pub AreInTurn : ℕ → List Call → Type 0
 AreInTurn floor [] = Unit {0}
 AreInTurn floor (call ∷ calls) = (floor ≤ answer_place_of call) × AreInTurn (next_place_of call) calls
 
--- the entries among calls, and the reads
+-- the entries among calls, in order
 abbrev pub entries_called : List Call → List AnsweredCall
 entries_called [] = []
 entries_called (Entry call ∷ calls) = call ∷ entries_called calls
 entries_called (Look read ∷ calls) = entries_called calls
 
+-- the reads among calls, in order
 abbrev pub reads_called : List Call → List SeenRead
 reads_called [] = []
 reads_called (Entry call ∷ calls) = reads_called calls
@@ -82,7 +84,7 @@ IsClientOf r table client = IsLentTo r table client.lent
 abbrev pub MayCall : {O : Type 0} → (O → List ℕ → Bool) → Pool O → Client → Type 0
 MayCall reads pool client = MayLend reads pool client.lent
 
--- its number, the limits of its service's callers, and what it has for the closing
+-- a client keeps its number, the limits of its service's callers, and what it has for the closing
 pub record IsSameClient (before after : Client) : Type 0 where
   pub number : after.number ≡ before.number
   pub limits : limits_of after.lent ≡ limits_of before.lent
@@ -177,7 +179,7 @@ pub record WantsRoom (before after : Client) : Type 0 where
 abbrev pub HaltsClientUpdate : {O : Type 0} → Running O → List ℕ → Seated → StoppedSeat → Type 0
 HaltsClientUpdate r op asked stopped = HaltsBesideQueue r asked stopped ⊎ UpdateHalted r op asked stopped
 
--- how a read does
+-- how a read of this operation stops its caller: in seeing what is below the floor, or in the read itself
 abbrev pub HaltsClientRead : {O : Type 0} → Running O → List ℕ → Seated → StoppedSeat → Type 0
 HaltsClientRead r op asked stopped = HaltsBesideQueue r asked stopped ⊎ ReadStops r op asked stopped
 

@@ -71,7 +71,7 @@ pub record IsClosing {O : Type 0} (r : Running O) (table : TableId) (clients : �
   pub handed_room : IsRoomFor r.callers closing.handed_room
   pub out : IsRoomFor r.callers closing.out
 
--- the last of clients has it
+-- the last of these clients has what closing their pool takes
 pub record HasLast {O : Type 0} (r : Running O) (table : TableId) (clients : List Client) : Type 0 where
   pub front : List Client
   pub last : Client
@@ -94,10 +94,11 @@ pub record AreNewClients {O : Type 0} (r : Running O) (table : TableId) (limits 
   pub limits_are : All (λ (c : Client). limits_of c.lent ≡ limits) clients
   pub calls : All (λ (c : Client). HasCalls r c []) clients
 
--- what was lent to clients, and what they are beside it
+-- what was lent to each of these clients, in order
 abbrev pub lents_of : List Client → List Lent
 lents_of clients = map (λ (c : Client). c.lent) clients
 
+-- what a client is beside what was lent to it
 abbrev pub former_of : Client → FormerClient
 former_of c = record { number = c.number; floor = c.floor; answers = c.answers }
 

@@ -50,7 +50,7 @@ module _ {O : Type 0} (any : Session O → AnyHandleState) (replies : ReplyKind)
   recovered_boxes items kind taken faulty words goes few (Ok v) made = are_recovered taken goes few (items v) made
   recovered_boxes items kind taken faulty words goes few (Err code) is = inr (few, inr (inl is))
 
--- the same refusal, where two kinds of replies are one
+-- a refusal by one kind of replies is one by an equal kind
 pub kind_refused : {O : Type 0} (o : Ghosts O) (object : O) (words : List ℕ) (a b : ReplyKind) (code : ℤ) → a ≡ b → IsRefusal (IsObjectFault o a object words) code → IsRefusal (IsObjectFault o b object words) code
 kind_refused o object words a b code same refused = subst (λ k. IsRefusal (IsObjectFault o k object words) code) same refused
 

@@ -54,6 +54,7 @@ ContentCheckpoints o kind words_before words needed code (ContentSession before)
 ContentCheckpoints o kind words_before words needed code (ContentSession before) after = ⊥
 ContentCheckpoints o kind words_before words needed code before after = (after ≡ before) × (words ≡ words_before) × (needed ≡ 0) × (code ≡ pos 6)
 
+-- a session of any of the three objects took an image so, or was called out of turn
 abbrev pub CheckpointsSession : AnyHandleState → AnyHandleState → List ℕ → List ℕ → ℕ → ℤ → Type 0
 CheckpointsSession before after words_before words needed code =
     OfBoth (ContentCheckpoints store_ghosts 1 words_before words needed code) (ContentCheckpoints queue_ghosts 2 words_before words needed code)

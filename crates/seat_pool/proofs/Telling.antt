@@ -52,6 +52,7 @@ module _ {O : Type 0} (r : Running O) where
       same_calls after n (before.known.local.own ++ e ∷ []) (before.known.local.answered ++ answer ∷ []) done.links.number done.links.own done.answered
       ∙ one_more_call n before.known.local.own before.known.local.answered e answer same
 
+  -- a caller that an update answered is given back: the pass is told the update's entry with its answer, and nothing else
   pub are_told : (op : List ℕ) (taken before after : Seated) (rest : List Seated) (answer : Answer) (v : LenderPass) → v.held ≡ taken ∷ rest → StaysIdle r taken before → UpdateDone r op before after answer
       → IsFirstOf v.held after × (told_calls_after_giving v after ≡ v.told_calls ++ call_with before.known.local.number (next_entry r before.known.local op answer.ticket) answer ∷ [])
   are_told op taken before after rest answer v holds idle done =
@@ -82,7 +83,7 @@ module _ {O : Type 0} (r : Running O) where
         ap (λ l. (given_from v l now).shown) holds ∙ ap (λ l. v.shown ++ l) new,
       )
 
-  -- and may be kept
+  -- a caller without answered calls since it was taken may be kept by its client
   pub idle_kept : (taken now : Seated) → StaysIdle r taken now → Gathers r (taken ∷ []) (Idle now ∷ [])
   idle_kept taken now idle = record {
     of = All-push (IsHandedOf r) [] (Idle now) (All-nil (IsHandedOf r)) idle.caller;
@@ -146,6 +147,7 @@ module _ {O : Type 0} (r : Running O) where
         (λ a. none (record { place = a.0; op = op; reply = a.1; before = length before.known.local.answered } ∷ []) halted.caller halted.keeps.number calls a.2)
         halted.reads
 
+  -- a caller that an update or a read stopped may be kept by its client
   pub are_kept : (op : List ℕ) (taken before : Seated) (s : StoppedSeat) → StaysIdle r taken before → UpdateHalted r op before s ⊎ ReadHalted r op before s → Gathers r (taken ∷ []) (Stopped s ∷ [])
   are_kept op taken before s idle (inl halted) = ⊎_elim (unlinked_ op taken before s idle halted) (linked_ op taken before s idle halted) halted.lists
   are_kept op taken before s idle (inr halted) = looked_ op taken before s idle halted

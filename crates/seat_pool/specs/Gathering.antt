@@ -22,6 +22,7 @@ IsHandedOf r (Idle seat) = IsCallerOf r seat
 IsHandedOf r (Linked seat) = IsLinkedOf r seat
 IsHandedOf r (Stopped stopped) = IsStoppedOf r stopped.seat
 
+-- the number of a caller, in whatever state it is
 abbrev pub handed_number : Handed → ℕ
 handed_number g = (seat_of g).known.local.number
 
@@ -29,7 +30,7 @@ handed_number g = (seat_of g).known.local.number
 abbrev pub handed_calls : (AnsweredCall → ℕ) → Handed → ℕ
 handed_calls h g = total_weight h (calls_of (seat_of g))
 
--- the weight of its reads
+-- the weight of the reads that a caller made beside the queue
 abbrev pub handed_reads : (SeenRead → ℕ) → Handed → ℕ
 handed_reads h g = total_weight h (seat_of g).known.local.seen_reads
 
@@ -39,8 +40,8 @@ if_stopped h (Idle seat) = 0
 if_stopped h (Linked seat) = 0
 if_stopped h (Stopped stopped) = h stopped.seat.known.local.number
 
--- These are the callers that are held, each once, in whatever state they are now. Each has the answered calls that it had when it was taken, and a
--- stopped one at most one more, which was told to nobody; and it has the reads that it had.
+-- What is gathered are the callers that a pass holds, each once, in whatever state they are now. Each has the answered calls that it had when it was taken, and
+-- a stopped one at most one more, which was told to nobody; and it has the reads that it had.
 pub record Gathers {O : Type 0} (r : Running O) (held : List Seated) (gathered : List Handed) : Type 0 where
   pub of : All (IsHandedOf r) gathered
   pub numbers : (h : ℕ → ℕ) → total_weight (λ (g : Handed). h (handed_number g)) gathered ≡ numbers_weigh h held
@@ -71,13 +72,15 @@ pub record IsLentOf {O : Type 0} (r : Running O) (table : TableId) (lent : Lent)
   pub placed : (view lent.pass).placed ≡ []
   pub kept : Gathers r (view lent.pass).held (kept_list lent.kept)
 
--- the weight of the calls that were told to a client, of the reads that it was shown, and of the caller that it keeps
+-- the weight of the calls that were told to a client
 abbrev pub lent_calls : (AnsweredCall → ℕ) → Lent → ℕ
 lent_calls h lent = total_weight h (view lent.pass).told_calls
 
+-- the weight of the reads that a client was shown
 abbrev pub lent_reads : (SeenRead → ℕ) → Lent → ℕ
 lent_reads h lent = total_weight h (view lent.pass).shown
 
+-- the weight of the caller that a client keeps, where it keeps one
 abbrev pub lent_kept : (Handed → ℕ) → Lent → ℕ
 lent_kept f lent = total_weight f (kept_list lent.kept)
 

@@ -13,7 +13,7 @@ use std::alloc::{AllocError, Global};
 use std::sync::Wait;
 use std::thread::{Threads, map_vec};
 
-/// The result of a worker: the caller that it was lent, in whatever state it is, and what it has to tell.
+/// The result of a worker: the caller that it was lent, in whatever state it is, and its output, which is what it has to tell.
 #[derive(Drop)]
 pub struct Worked<T> {
     pub caller: Handed,
@@ -25,7 +25,7 @@ pub trait Worker<O: Object> {
     /// What each has to tell.
     type Output: Send + Drop;
 
-    /// What is so of a caller of which this is told: of its service, and its seat as it was lent and as it is handed back.
+    /// What is so of a caller whose worker has this output: of its service, and its seat as it was lent and as it is handed back.
     ghost tells: { Self → Running O → Seated → Seated → Self.Output → Type 0 };
 
     /// Does it for one caller, and hands that caller back. Each caller's runs on a thread of its own.
@@ -34,7 +34,7 @@ pub trait Worker<O: Object> {
         ensures { IsWorked service.now (tells self.now) caller result.caller result.output };
 }
 
-/// Gives each caller to the worker, all at once, and joins them: the callers, and what was told, in order. Where a thread cannot be started
+/// Gives each caller to the worker, all at once, and joins them: the callers, and the outputs, in order. Where a thread cannot be started
 /// the calling thread does its work. `Err` means out of memory, and drops the callers.
 pub fn work_together<O: Object + Send + Sync, R: Threads + Wait + Sync, W: Worker<O> + Sync>(
     rt: &R,
@@ -86,7 +86,7 @@ fn each_works<O: Object + Send + Sync, R: Threads + Wait + Sync, W: Worker<O> + 
     )
 }
 
-/// The callers and what was told, taken apart.
+/// The callers and the outputs, taken apart.
 fn parted<T: Drop>(alloc: Global, all: Vec<Worked<T>>) -> Result<(Vec<Handed>, Vec<T>), AllocError>
     ensures callers { IfOk result (λ r. r.0.items ≡ map (λ w. w.caller) all.items) }
     ensures outputs { IfOk result (λ r. r.1.items ≡ map (λ w. w.output) all.items) }
